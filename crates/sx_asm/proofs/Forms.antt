@@ -2,6 +2,7 @@
 use Rattle.std.proofs.Common.{◌≡◌, ℕ, ◌<◌, ◌≤◌, ◌%◌, Bool, true, false, ◌&&◌, ◌||◌, List, [], refl, sym, ap, ◌∙◌, arith}
 use Rattle.std.specs.Prelude.{IsTrue, ◌↔◌, ◌==◌, nat_lt, nat_le}
 use Rattle.std.proofs.lemmas.Bool.Decides.{nat_tests}
+use Rattle.std.proofs.lemmas.Bool.{and_parts, and_from}
 use Rattle.sx_isa.specs.declared.instruction.Operand.{Operand}
 use Rattle.sx_isa.specs.declared.instruction.Operand.TheVariants.{Reg, Indexed, Indirect, Increment, Symbolic, Absolute, Immediate, Const}
 use Rattle.sx_isa.specs.declared.instruction.Op1.{Op1}
@@ -66,30 +67,19 @@ tested true b f g = sym (f refl)
 tested false true f g = g refl
 tested false false f g = refl
 
-pub and_first : (a b : Bool) → (a && b) ≡ true → a ≡ true
-and_first true b h = refl
-and_first false b h = h
-
-pub and_second : (a b : Bool) → (a && b) ≡ true → b ≡ true
-and_second true b h = h
-and_second false b h = absurd (cc)
-
-pub and_both : (a b : Bool) → a ≡ true → b ≡ true → (a && b) ≡ true
-and_both a b h k = rw (h, k) refl
-
 pub two_tested : (op : Op2) (byte : Bool) (s d : Operand) (r : Bool) → HasWord s → HasWord d → (IsTrue r ↔ IsInstruction (Two op byte s d))
     → r ≡ (is_source s && is_destination d)
 two_tested op byte s d r v w e =
     tested r (is_source s && is_destination d)
-    (λ h. and_both (is_source s) (is_destination d) (source_test s (e.0 h).0) (destination_test d (e.0 h).1))
-    (λ h. e.1 (source_true s v (and_first (is_source s) (is_destination d) h), destination_true d w (and_second (is_source s) (is_destination d) h)))
+    (λ h. and_from (is_source s) (is_destination d) (source_test s (e.0 h).0) (destination_test d (e.0 h).1))
+    (λ h. e.1 (source_true s v (and_parts (is_source s) (is_destination d) h).0, destination_true d w (and_parts (is_source s) (is_destination d) h).1))
 
 pub one_tested : (op : Op1) (byte : Bool) (s : Operand) (r : Bool) → HasWord s → (IsTrue r ↔ IsInstruction (One op byte s))
     → r ≡ (is_source s && is_allowed op byte s)
 one_tested op byte s r v e =
     tested r (is_source s && is_allowed op byte s)
-    (λ h. and_both (is_source s) (is_allowed op byte s) (source_test s (e.0 h).0) (e.0 h).1)
-    (λ h. e.1 (source_true s v (and_first (is_source s) (is_allowed op byte s) h), and_second (is_source s) (is_allowed op byte s) h))
+    (λ h. and_from (is_source s) (is_allowed op byte s) (source_test s (e.0 h).0) (e.0 h).1)
+    (λ h. e.1 (source_true s v (and_parts (is_source s) (is_allowed op byte s) h).0, (and_parts (is_source s) (is_allowed op byte s) h).1))
 
 -- the labels' addresses change no form
 pub same_source : (labels : List Label) (at : ℕ) (w : Written) → is_source (operand_at labels at w) ≡ is_source (operand_at [] 0 w)
@@ -141,7 +131,7 @@ destination_at labels at w o h e f = destination_true o f (ap is_destination e �
 
 pub allowed_at : (labels : List Label) (at : ℕ) (op : Op1) (byte : Bool) (w : Written) → (is_source (operand_at [] 0 w) && is_allowed op byte (operand_at [] 0 w)) ≡ true
     → is_allowed op byte (operand_at labels at w) ≡ true
-allowed_at labels at op byte w h = rw (same_value labels at w) (and_second (is_source (operand_at [] 0 w)) (is_allowed op byte (operand_at [] 0 w)) h)
+allowed_at labels at op byte w h = rw (same_value labels at w) (and_parts (is_source (operand_at [] 0 w)) (is_allowed op byte (operand_at [] 0 w)) h).1
 
 -- what a jump reaches has an offset of ten bits
 pub near_offset : (next target : ℕ) → target < 65536 → next < 65536 → in_reach next target ≡ true → IsOffset (offset (distance next target))
@@ -151,7 +141,7 @@ near_offset next target t n h = by_sign (nat_lt (distance next target) 32768) re
     d = omega arith
 
     near : (nat_le (distance next target) 1022 || nat_le 64512 (distance next target)) ≡ true
-    near = and_second (target % 2 == 0) (nat_le (distance next target) 1022 || nat_le 64512 (distance next target)) h
+    near = (and_parts (target % 2 == 0) (nat_le (distance next target) 1022 || nat_le 64512 (distance next target)) h).1
 
     by_sign : (b : Bool) → nat_lt (distance next target) 32768 ≡ b → IsOffset (offset (distance next target))
     by_sign true e = rw e (let k : distance next target < 32768 = grind (arith, nat_tests, e) in let l : distance next target ≤ 1022 = grind (arith, nat_tests, k, near) in omega (arith, l))

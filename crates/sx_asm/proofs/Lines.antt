@@ -1,7 +1,8 @@
 -- Lines of a text, read one after the other.
-use Rattle.std.proofs.Common.{◌≡◌, ℕ, ◌+◌, ◌-◌, ◌≤◌, Bool, true, false, ◌&&◌, List, [], ◌∷◌, ◌++◌, length, Some, None, refl, sym, ap, ◌∙◌, append_assoc, arith}
+use Rattle.std.proofs.Common.{◌≡◌, ℕ, ◌+◌, ◌-◌, ◌≤◌, Bool, true, false, List, [], ◌∷◌, ◌++◌, length, Some, None, refl, sym, ap, ◌∙◌, append_assoc, arith}
 use Rattle.std.specs.Prelude.{Option, Result, Ok, Err, nat_le, ok_or}
 use Rattle.std.proofs.lemmas.Bool.Decides.{nat_tests}
+use Rattle.std.proofs.lemmas.Bool.{and_parts}
 use Rattle.sx_asm.specs.declared.written.Item.{Item}
 use Rattle.sx_asm.specs.declared.written.Entry.{Entry}
 use Rattle.sx_asm.specs.declared.error.AsmError.{AsmError}
@@ -21,13 +22,9 @@ taken_more line (x ∷ xs) = by_test (is_newline x) refl
     by_test true e = rw e refl
     by_test false e = rw e (by_parts (parts is_newline xs))
 
-both_true : (a b : Bool) → (a && b) ≡ true → b ≡ true
-both_true true b h = h
-both_true false b h = absurd (cc)
-
 pub fits_left : (left : ℕ) (line xs : List ℕ) → line_fits left line (parts is_newline xs) ≡ true → length line + 1 ≤ left
 fits_left left line xs h =
-    let b : nat_le (taken line (parts is_newline xs)) left ≡ true = both_true (nat_le (length line) 4096) _ h in
+    let b : nat_le (taken line (parts is_newline xs)) left ≡ true = (and_parts (nat_le (length line) 4096) _ h).1 in
     let k : taken line (parts is_newline xs) ≤ left = grind (arith, nat_tests, b) in
     omega (arith, k, taken_more line xs)
 

@@ -4,6 +4,7 @@ use Rattle.std.proofs.Common.{sym, ap, ◌∙◌, subst, arith, Some, None, leng
 use Rattle.std.specs.Prelude.{◌==◌, nat_lt, nat_le, Option, Result, Ok, slice_index}
 use Rattle.std.specs.List.{list_all}
 use Rattle.std.proofs.lemmas.Bool.Decides.{nat_tests}
+use Rattle.std.proofs.lemmas.Bool.{and_from}
 use Rattle.sx_isa.specs.declared.instruction.Instr.{Instr}
 use Rattle.sx_isa.specs.declared.instruction.Instr.TheVariants as instr
 use Rattle.sx_isa.specs.Reading.{instruction_at}
@@ -21,7 +22,6 @@ use Rattle.sx_asm.specs.Shown.{word_text, word_from, line_of, listed}
 use Rattle.sx_asm.specs.Listing.{listing}
 use Rattle.sx_asm.specs.Laws.{EachByte}
 use Rattle.sx_asm.proofs.Parts.{no}
-use Rattle.sx_asm.proofs.Forms.{and_both}
 use Rattle.sx_asm.proofs.Lines.{taken_more}
 use Rattle.sx_asm.proofs.ShownOperands.{is_inner}
 use Rattle.sx_asm.proofs.Reassembles.{Lined, lined, word_lined, lined_again, all_pass}
@@ -214,7 +214,7 @@ empty_line = refl
 
 reads_none : (n left at : ℕ) (bytes : List ℕ) → length bytes ≡ 0 → Reads n left at bytes []
 reads_none n left at [] h =
-    let k : line_fits left [] [] ≡ true = and_both (nat_le 0 4096) (nat_le 0 left) refl (grind (arith, nat_tests)) in
+    let k : line_fits left [] [] ≡ true = and_from (nat_le 0 4096) (nat_le 0 left) refl (grind (arith, nat_tests)) in
     record {
       es = [];
       done = rw (k, empty_line) refl;
@@ -228,7 +228,7 @@ read_next : (n left : ℕ) (line rest : List ℕ) (item : Item) (es : List Entry
 read_next n left line rest item es inner short fits says done =
     let t : taken line (parts is_newline rest) ≤ left = omega (arith, taken_more line rest, fits) in
     let k : line_fits left line (parts is_newline rest) ≡ true =
-    and_both (nat_le (length line) 4096) (nat_le (taken line (parts is_newline rest)) left) (grind (arith, nat_tests, short)) (grind (arith, nat_tests, t)) in
+    and_from (nat_le (length line) 4096) (nat_le (taken line (parts is_newline rest)) left) (grind (arith, nat_tests, short)) (grind (arith, nat_tests, t)) in
     let d : read_lines (n + 1) (left - taken line (parts is_newline rest)) (parts is_newline rest) ≡ Ok es =
     ap (λ (m : ℕ). read_lines (n + 1) (left - m) (parts is_newline rest)) (sym (taken_more line rest)) ∙ done in
     ap (read_lines n left) (parts_line line rest inner) ∙ (rw (k, says, d) refl)

@@ -1,8 +1,9 @@
 -- Texts that are read as tokens, part by part.
-use Rattle.std.proofs.Common.{◌≡◌, ℕ, zero, suc, ◌<◌, Bool, true, false, ◌&&◌, ◌||◌, List, [], ◌∷◌, ◌++◌, refl, ap, ◌∙◌, arith, subst}
+use Rattle.std.proofs.Common.{◌≡◌, ℕ, zero, suc, ◌<◌, Bool, true, false, ◌||◌, List, [], ◌∷◌, ◌++◌, refl, ap, ◌∙◌, arith, subst}
 use Rattle.std.specs.Prelude.{◌==◌}
 use Rattle.std.specs.List.{list_all}
 use Rattle.std.proofs.lemmas.Bool.Decides.{nat_tests}
+use Rattle.std.proofs.lemmas.Bool.{and_right, eqb-true}
 use Rattle.sx_lex.specs.Lexed.{begins_comment}
 use Rattle.sx_asm.specs.declared.written.Token.{Token}
 use Rattle.sx_asm.specs.Tokens.{is_word_byte, joins, onto, runs, is_gap, token_of, tokens_in}
@@ -16,10 +17,6 @@ NotWord (b ∷ bs) = is_word_byte b ≡ false
 pub no : {A : Type 0} → false ≡ true → A
 no h = absurd (cc)
 
-and_false : (b : Bool) → (b && false) ≡ false
-and_false true = refl
-and_false false = refl
-
 pub all_first : (p : ℕ → Bool) (x : ℕ) (xs : List ℕ) → list_all p (x ∷ xs) ≡ true → p x ≡ true
 all_first p x xs h = by_test (p x) refl
   where
@@ -30,38 +27,34 @@ all_first p x xs h = by_test (p x) refl
 pub all_rest : (p : ℕ → Bool) (x : ℕ) (xs : List ℕ) → list_all p (x ∷ xs) ≡ true → list_all p xs ≡ true
 all_rest p x xs h = rw (all_first p x xs h) at h
 
--- (alone, so that no test of the byte stands among what is searched)
-is_of : (a k : ℕ) → (a == k) ≡ true → a ≡ k
-is_of a k e = grind (arith, nat_tests, e)
-
 not_hash : (a : ℕ) → is_word_byte a ≡ true → (a == 35) ≡ false
 not_hash a h = by_test (a == 35) refl
   where
     by_test : (b : Bool) → (a == 35) ≡ b → (a == 35) ≡ false
     by_test false e = e
-    by_test true e = no (rw (is_of a 35 e) at h)
+    by_test true e = no (rw (eqb-true a 35 e) at h)
 
 not_slash : (a : ℕ) → is_word_byte a ≡ true → (a == 47) ≡ false
 not_slash a h = by_test (a == 47) refl
   where
     by_test : (b : Bool) → (a == 47) ≡ b → (a == 47) ≡ false
     by_test false e = e
-    by_test true e = no (rw (is_of a 47 e) at h)
+    by_test true e = no (rw (eqb-true a 47 e) at h)
 
 not_gap : (a : ℕ) (bs : List ℕ) → is_word_byte a ≡ true → is_gap (a ∷ bs) ≡ false
 not_gap a bs h = by_test (a == 32) (a == 9) refl refl
   where
     by_test : (s t : Bool) → (a == 32) ≡ s → (a == 9) ≡ t → is_gap (a ∷ bs) ≡ false
     by_test false false e f = rw (e, f) refl
-    by_test true t e f = no (rw (is_of a 32 e) at h)
-    by_test false true e f = no (rw (is_of a 9 f) at h)
+    by_test true t e f = no (rw (eqb-true a 32 e) at h)
+    by_test false true e f = no (rw (eqb-true a 9 f) at h)
 
 not_comment : (a : ℕ) (bs : List ℕ) → is_word_byte a ≡ true → begins_comment (a ∷ bs) ≡ false
 not_comment a [] h = refl
 not_comment a (b ∷ bs) h = rw (not_slash a h) refl
 
 apart : (a c : ℕ) → is_word_byte a ≡ true → is_word_byte c ≡ false → joins a c ≡ false
-apart a c h n = rw (h, n, not_hash a h, not_slash a h) (and_false (a == c))
+apart a c h n = rw (h, n, not_hash a h, not_slash a h) (and_right (a == c) false refl)
 
 runs_word : (a : ℕ) (bs rest : List ℕ) → is_word_byte a ≡ true → list_all is_word_byte bs ≡ true → NotWord rest
     → runs (a ∷ (bs ++ rest)) ≡ (a ∷ bs) ∷ runs rest
@@ -76,7 +69,7 @@ runs_word a (b ∷ bs) rest h k n =
 runs_sign : (c : ℕ) (rest : List ℕ) → is_word_byte c ≡ false → (c == 35 || c == 47) ≡ false → runs (c ∷ rest) ≡ (c ∷ []) ∷ runs rest
 runs_sign c [] w s = refl
 runs_sign c (d ∷ ds) w s =
-    let j : joins c d ≡ false = rw (w, s) (and_false (c == d)) in rw (run_of d ds, j) refl
+    let j : joins c d ≡ false = rw (w, s) (and_right (c == d) false refl) in rw (run_of d ds, j) refl
 
 runs_hash : (rest : List ℕ) → runs (35 ∷ 48 ∷ rest) ≡ (35 ∷ []) ∷ runs (48 ∷ rest)
 runs_hash rest = rw (run_of 48 rest) refl

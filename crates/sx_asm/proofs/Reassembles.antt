@@ -4,6 +4,7 @@ use Rattle.std.proofs.lemmas.List.{append-nil}
 use Rattle.std.specs.Prelude.{codes, ◌==◌, nat_lt, nat_le, Result, Ok, ℤ, pos, negsuc}
 use Rattle.std.specs.List.{list_all}
 use Rattle.std.proofs.lemmas.Bool.Decides.{nat_tests}
+use Rattle.std.proofs.lemmas.Bool.{and_from}
 use Rattle.sx_isa.specs.declared.instruction.Operand.{Operand}
 use Rattle.sx_isa.specs.declared.instruction.Op1.{Op1}
 use Rattle.sx_isa.specs.declared.instruction.Op2.{Op2}
@@ -29,7 +30,7 @@ use Rattle.sx_asm.specs.Reading.{◌>>=◌, is_newline, parts, items_in, items_o
 use Rattle.sx_asm.specs.Meaning.{further, distance, offset, extension, size, operand_at, labels_at, words_at, bytes_of, code_of}
 use Rattle.sx_asm.specs.Assembled.{is_source, is_destination, has_form, formed, names_known, named, label_count, in_reach, reaches, reached, stands, code_or_fault, assembled}
 use Rattle.sx_asm.specs.Shown.{hex, operand_text, source_size, target, shown, word_text}
-use Rattle.sx_asm.proofs.Forms.{source_test, destination_test, same_source, same_destination, same_value, and_both}
+use Rattle.sx_asm.proofs.Forms.{source_test, destination_test, same_source, same_destination, same_value}
 use Rattle.sx_asm.proofs.ShownTokens.{IsToken, hex_token, op2_token, op1_token, jump_token, sancus_token}
 use Rattle.sx_asm.proofs.ShownOperands.{HasPlace, place_source, place_destination, operand_tokens, reads_token, reads_operand, reads_last, written_of}
 use Rattle.sx_asm.proofs.ShownOperands.{says_operand, parts_operand, is_plain, plain_operand, operand_back, extension_back, known_back, IsFine, all_append}
@@ -49,7 +50,7 @@ unfolding read
 read_one text item f g =
     let short : length text ≤ 4096 = f.1 in
     let k : line_fits 262144 text [] ≡ true =
-    and_both (nat_le (length text) 4096) (nat_le (length text) 262144) (grind (arith, nat_tests, short)) (grind (arith, nat_tests, short)) in
+    and_from (nat_le (length text) 4096) (nat_le (length text) 262144) (grind (arith, nat_tests, short)) (grind (arith, nat_tests, short)) in
     ap (read_lines 1 262144) (parts_none is_newline text f.0) ∙ (rw (k, g) refl)
 
 pub all_pass : (a b c d : Result (Unit {0}) AsmError) (x : List ℕ) → a ≡ Ok tt → b ≡ Ok tt → c ≡ Ok tt → d ≡ Ok tt
@@ -185,7 +186,7 @@ two_lined op byte src dst at hs hd =
     ap (λ (n : ℕ). spelling (instr.Two op byte (operand_at [] p ws) (operand_at [] (further at (2 + n)) wd))) x
     ∙ ap (λ (s : Operand). spelling (instr.Two op byte s (operand_at [] q wd))) a ∙ ap (λ (d : Operand). spelling (instr.Two op byte src d)) b in
     let form : has_form (Two op byte ws wd) ≡ true =
-    and_both (is_source (operand_at [] 0 ws)) (is_destination (operand_at [] 0 wd))
+    and_from (is_source (operand_at [] 0 ws)) (is_destination (operand_at [] 0 wd))
     (sym (same_source [] p ws) ∙ ap is_source a ∙ source_test src hs)
     (sym (same_destination [] q wd) ∙ ap is_destination b ∙ destination_test dst hd) in
     record {
@@ -197,7 +198,7 @@ two_lined op byte src dst at hs hd =
       no_label = λ more. refl;
       no_count = refl;
       form = form;
-      known = and_both _ _ (known_back p src) (known_back q dst);
+      known = and_from _ _ (known_back p src) (known_back q dst);
       reach = refl;
       sized = omega (arith, x, y, length-append (place_of src).words (place_of dst).words);
       few = omega (arith, x, y, extension_few ws, extension_few wd, length-append (place_of src).words (place_of dst).words);
@@ -231,7 +232,7 @@ one_lined op byte arg at hs allowed =
     let b : is_allowed op byte (operand_at [] 0 w) ≡ true =
     rw (sym (same_value [] p w)) (ap (is_allowed op byte) a ∙ allowed) in
     let form : has_form (One op byte w) ≡ true =
-    and_both (is_source (operand_at [] 0 w)) (is_allowed op byte (operand_at [] 0 w))
+    and_from (is_source (operand_at [] 0 w)) (is_allowed op byte (operand_at [] 0 w))
     (sym (same_source [] p w) ∙ ap is_source a ∙ source_test arg hs) b in
     record {
       item = One op byte w;
@@ -328,7 +329,7 @@ near_back n (negsuc k) w h =
 reach_back : (n : ℕ) (o : ℤ) → n < 65536 → n % 2 ≡ 0 → IsOffset o → in_reach n (target n o) ≡ true
 reach_back n o w e h =
     let z : (target n o % 2 == 0) ≡ true = rw (target_even n o e h) refl in
-    and_both (target n o % 2 == 0) (nat_le (distance n (target n o)) 1022 || nat_le 64512 (distance n (target n o))) z (near_back n o w h)
+    and_from (target n o % 2 == 0) (nat_le (distance n (target n o)) 1022 || nat_le 64512 (distance n (target n o))) z (near_back n o w h)
 
 jump_lined : (cond at : ℕ) (o : ℤ) → cond < 8 → IsOffset o → at % 2 ≡ 0
     → Lined at (shown (instr.Jump cond o) at) (spelling (instr.Jump cond o))

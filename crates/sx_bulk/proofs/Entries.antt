@@ -5,7 +5,7 @@ use Rattle.std.specs.List.{list_all}
 use Rattle.std.specs.Str.{is_utf8, IsAscii}
 use Rattle.std.proofs.lemmas.Bool.Decides.{nat_tests}
 use Rattle.std.proofs.lemmas.Str.{is_utf8-from_IsUtf8, IsUtf8-from_ascii}
-use Rattle.sx_lex.proofs.Found.{and_left, and_right}
+use Rattle.std.proofs.lemmas.Bool.{and_parts}
 use Rattle.hex.specs.Hex.{decode_pairs}
 use Rattle.toml.specs.Data.{Members}
 use Rattle.toml.specs.Parse.{parse_document}
@@ -59,8 +59,8 @@ table = (_, refl)
 
 all_ascii : (bs : List ℕ) → list_all (λ b. nat_lt b 128) bs ≡ true → IsAscii bs
 all_ascii [] h i = omega arith
-all_ascii (b ∷ bs) h zero = let e : nat_lt b 128 ≡ true = and_left (nat_lt b 128) (list_all (λ b. nat_lt b 128) bs) h in grind (arith, nat_tests, e)
-all_ascii (b ∷ bs) h (suc i) = all_ascii bs (and_right (nat_lt b 128) (list_all (λ b. nat_lt b 128) bs) h) i
+all_ascii (b ∷ bs) h zero = let e : nat_lt b 128 ≡ true = (and_parts (nat_lt b 128) (list_all (λ b. nat_lt b 128) bs) h).0 in grind (arith, nat_tests, e)
+all_ascii (b ∷ bs) h (suc i) = all_ascii bs (and_parts (nat_lt b 128) (list_all (λ b. nat_lt b 128) bs) h).1 i
 
 utf8 : is_utf8 head ≡ true
 unfolding head

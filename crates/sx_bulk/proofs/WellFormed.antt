@@ -3,9 +3,9 @@ use Rattle.std.proofs.Common.{◌≡◌, ℕ, zero, suc, ◌+◌, ◌-◌, ◌*�
 use Rattle.std.specs.Prelude.{Result, Ok, IsOk, is_ok, if◌then◌else◌}
 use Rattle.std.specs.List.{list_all}
 use Rattle.std.proofs.lemmas.List.{append-nil}
+use Rattle.std.proofs.lemmas.Bool.{and_parts}
 use Rattle.sx_asm.specs.Assembled.{assembled}
 use Rattle.sx_io.specs.Numbers.{number_of}
-use Rattle.sx_lex.proofs.Found.{and_left, and_right}
 use Rattle.sx_sched.specs.declared.lines.LineError.{LineError}
 use Rattle.sx_sched.specs.Lines.{Sense, Give}
 use Rattle.sx_sched.specs.Words.{text_behind, words_of}
@@ -70,7 +70,7 @@ are_good : (those : List (List ℕ)) → list_all (λ text. is_ok (said_line ass
 are_good [] h = no_more
 are_good (text ∷ more) h =
     let rest : Bool = list_all (λ text. is_ok (said_line assembled names text)) more in
-    and_left (is_ok (said_line assembled names text)) rest h also are_good more (and_right (is_ok (said_line assembled names text)) rest h)
+    (and_parts (is_ok (said_line assembled names text)) rest h).0 also are_good more (and_parts (is_ok (said_line assembled names text)) rest h).1
 
 setup_good : AreGood setup
 unfolding said_line words_of names number_of setup

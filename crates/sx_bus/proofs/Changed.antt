@@ -34,10 +34,6 @@ pub places_of-powered_on : (devices : List (ℕ × Kind)) → places_of (powered
 places_of-powered_on [] = refl
 places_of-powered_on (d ∷ rest) = ap (λ (places : List ℕ). d.0 ∷ places) (places_of-powered_on rest)
 
-pub set-with_sample : (windows : List Window) (device value : ℕ) (d : Window) → device < length windows →
-    set windows device (record (get_or windows device d) { value = value; fresh = true }) ≡ with_sample windows device value
-set-with_sample windows device value d h = set_changed (λ w. record w { value = value; fresh = true }) windows device d _ h refl
-
 abbrev IsSample : Window → Type 0
 IsSample w = w.value < 32768
 

@@ -2,7 +2,7 @@
 use Rattle.std.proofs.Common.{◌≡◌, ℕ, ◌||◌, false, List, [], ◌∷◌, ◌++◌, Option, refl, ap, ◌∙◌}
 use Rattle.std.specs.List.{list_any}
 use Rattle.std.proofs.lemmas.List.Folds.{list_any-append}
-use Rattle.sx_lists.proofs.Truths.{or_false}
+use Rattle.std.proofs.lemmas.Bool.{or_parts}
 use Rattle.sx_rules.specs.declared.section.Section.{Section}
 use Rattle.sx_trace.specs.declared.items.Item.{Item}
 use Rattle.sx_trace.specs.declared.items.Item.TheVariants as item
@@ -33,7 +33,7 @@ stop_budget _ h = refl
 stops_budgets : (is : List Item) → list_any is_stop is ≡ false → list_any is_budget is ≡ false
 stops_budgets [] h = refl
 stops_budgets (i ∷ is) h =
-    let both = or_false (is_stop i) (list_any is_stop is) h in
+    let both = or_parts (is_stop i) (list_any is_stop is) h in
     ap (λ b. b || list_any is_budget is) (stop_budget i both.0) ∙ stops_budgets is both.1
 
 -- `done` and a reset aren't

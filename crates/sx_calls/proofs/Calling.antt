@@ -1,7 +1,7 @@
 -- A call does what the invocation says.
-use Rattle.std.proofs.Common.{◌≡◌, ℕ, ◌+◌, ◌%◌, ◌<◌, ◌≤◌, ◌==◌, Bool, true, if◌then◌else◌, List, [], ◌∷◌, ◌++◌, length, Some, sym, ◌∙◌, ap, subst, arith}
+use Rattle.std.proofs.Common.{◌≡◌, ℕ, ◌+◌, ◌<◌, ◌≤◌, ◌==◌, Bool, true, if◌then◌else◌, List, [], ◌∷◌, ◌++◌, length, Some, sym, ◌∙◌, ap, subst, arith}
 use Rattle.std.specs.Prelude.{nat_lt}
-use Rattle.std.proofs.lemmas.Bool.{and_parts, eq-eqb, eqb-true, ltb-true}
+use Rattle.std.proofs.lemmas.Bool.{and_parts, eq-eqb, ltb-true}
 use Rattle.sx_lists.proofs.Lists.{get_same}
 use Rattle.sx_lang.specs.Sizes.{module_cost}
 use Rattle.sx_mean.specs.Ends.{ends_of}
@@ -13,6 +13,7 @@ use Rattle.sx_trace.specs.declared.items.Item.TheVariants as item
 use Rattle.sx_machine.specs.declared.kinds.Event.{Event}
 use Rattle.sx_machine.specs.State.{State, reset}
 use Rattle.sx_machine.specs.NodeLaws.{shapes}
+use Rattle.sx_machine.proofs.RunsByTable.{start_even}
 use Rattle.sx_invoke.specs.Setup.{Call}
 use Rattle.sx_invoke.specs.ModuleState.{state_of}
 use Rattle.sx_invoke.specs.Marks.{Mark}
@@ -35,13 +36,6 @@ use Rattle.sx_calls.proofs.Registering.{all_set, node_twice, called_asks, called
 use Rattle.sx_calls.proofs.Middle.{Middle}
 use Rattle.sx_calls.proofs.Running.{Ended, Ending, IsLeft, IsBroken}
 use Rattle.sx_calls.proofs.Finishing.{finishes, stands}
-
--- a public section begins at an even address below the end of memory
-even_entry : (l : Layout) → good_bounds l ≡ true → l.pub_from % 2 ≡ 0
-even_entry l h =
-    let a = (and_parts (nat_lt l.pub_from l.pub_to) _ h).1 in
-    let b = (and_parts (nat_lt l.priv_from l.priv_to) _ a).1 in
-    eqb-true (l.pub_from % 2) 0 (and_parts ((l.pub_from % 2) == 0) _ b).0
 
 low_entry : (l : Layout) → good_bounds l ≡ true → l.pub_to ≤ 0xFFE0 → l.pub_from < 65536
 low_entry l h le = let a = ltb-true l.pub_from l.pub_to (and_parts (nat_lt l.pub_from l.pub_to) _ h).0 in omega (arith, a, le)
@@ -85,7 +79,7 @@ module _ (set : Setting) (w : World) (c : Callee) (e input output : ℕ) (sound 
   finished =
       finishes set w c sound h before.regs 0 v (get_same w.nodes c.site.node before c.node h.there)
       (called_is_node c e input output el il ol (low_entry c.site.layout dep.bounds dep.text_end) h.idle h.node)
-      (called_enters c e input output h.node.registers.sixteen (even_entry c.site.layout dep.bounds))
+      (called_enters c e input output h.node.registers.sixteen (start_even c.site.layout dep.bounds))
 
   abbrev act : World → Acted
   act w0 = then_ (set_all c.site.node (call_registers c.site e input output) w0) (finish set c.site.node)

@@ -1,24 +1,15 @@
 -- The steps from a module's entry come to an end within the bound.
-use Rattle.std.proofs.Common.{◌≡◌, ℕ, ◌+◌, ◌≤◌, List, [], Option, Some, None, refl, sym, ◌∙◌, ap, arith}
+use Rattle.std.proofs.Common.{◌≡◌, ℕ, ◌+◌, ◌≤◌, List, [], Some, sym, ◌∙◌, ap, arith}
 use Rattle.std.specs.Prelude.{slice_get}
-use Rattle.sx_lang.specs.declared.tree.DeviceKind.{DeviceKind}
 use Rattle.sx_lang.specs.declared.tree.DeviceKind.TheVariants as declared
 use Rattle.sx_lang.specs.Sizes.{module_cost}
 use Rattle.sx_mean.specs.Application.{declared_kind}
 use Rattle.sx_check.proofs.Accepted.{accepted}
-use Rattle.sx_rules.specs.declared.section.Layout.{Layout}
-use Rattle.sx_bus.specs.declared.devices.Kind.{Kind}
-use Rattle.sx_bus.specs.declared.devices.Window.{Window}
-use Rattle.sx_bus.specs.Devices.{device_at}
-use Rattle.sx_machine.specs.declared.kinds.Event.{Event}
 use Rattle.sx_machine.specs.declared.kinds.Event.TheVariants as event
 use Rattle.sx_machine.specs.State.{State}
 use Rattle.sx_machine.specs.Node.{IsNode}
 use Rattle.sx_machine.specs.NodeLaws.{shapes}
-use Rattle.sx_machine.specs.Run.{device_of}
 use Rattle.sx_machine.specs.Step.{pc_of}
-use Rattle.sx_machine.proofs.Devices.{device_at_same, window_same, device_of_parts}
-use Rattle.sx_invoke.specs.Devices.{Drives, HasDevices}
 use Rattle.sx_invoke.specs.Progress.{Invoked}
 use Rattle.sx_invoke.specs.Invocation.{invoke}
 use Rattle.sx_image.specs.Image.{Enters, StandsProtected, call_at, progress_at}
@@ -26,41 +17,17 @@ use Rattle.sx_run.specs.Setting.{Setting, windows_at}
 use Rattle.sx_run.specs.State.{World}
 use Rattle.sx_run.specs.Run.{FINISH_STEPS}
 use Rattle.sx_run.specs.Law.{image_at, devices_of, IsSoundSetting, IsDeployedModule}
-use Rattle.sx_run.proofs.steps.Entry.{shapes_on}
+use Rattle.sx_run.proofs.steps.Entry.{shapes_on, has_devices_same, quiet_left}
 use Rattle.sx_calls.specs.Calls.{Callee, IsCallable, setup_of}
 use Rattle.sx_calls.proofs.Middle.{first_middle}
 use Rattle.sx_calls.proofs.Running.{Ended, runs}
 
 -- Devices of the same places and kinds.
 
-device_of_from : (a : List Window) (at k : ℕ) (w : Window) → device_at a at ≡ Some k → slice_get a k ≡ Some w → device_of a at ≡ Some (k, w)
-device_of_from a at k w d g = rw (d, g) refl
-
-drives_same : (a b : List Window) (kind : Kind) (l : Layout) → shapes a ≡ shapes b → Drives a kind l → Drives b kind l
-drives_same a b kind l e h =
-    let p = device_of_parts a l.priv_from h.device h.window h.found in
-    let v = window_same a b h.device h.window e p.1 in
-    record {
-      device = h.device;
-      window = v.0;
-      found = device_of_from b l.priv_from h.device v.0 (sym (device_at_same a b l.priv_from e) ∙ p.0) v.1;
-      at_start = v.2 ∙ h.at_start;
-      kind = v.3 ∙ h.kind;
-      alone = λ at lo hi. sym (device_at_same a b at e) ∙ h.alone at lo hi;
-    }
-
-has_devices_same : (a b : List Window) (kind : Option DeviceKind) (l : Layout) → shapes a ≡ shapes b → HasDevices a kind l → HasDevices b kind l
-has_devices_same a b None l e h = λ at lo hi. sym (device_at_same a b at e) ∙ h at lo hi
-has_devices_same a b (Some declared.Sensor) l e h = drives_same a b _ l e h
-has_devices_same a b (Some declared.Actuator) l e h = drives_same a b _ l e h
-
 -- a module's cost is below the most steps of a call
 enough_steps : (cost : ℕ) → cost ≤ 262144 → 4096 + cost ≤ FINISH_STEPS
 unfolding FINISH_STEPS
 enough_steps cost le = omega (arith, le)
-
-quiet_left : (id : ℕ) → ◌≡◌ {A = Event} event.Quiet (event.Left id) → ⊥
-quiet_left id e = cc
 
 -- A `finish` from the module's entry, on the node with these registers.
 

@@ -1,9 +1,10 @@
 -- What a step of a deployed module shows is its marks, and after them that it is done, where it left.
-use Rattle.std.proofs.Common.{◌≡◌, ℕ, zero, suc, List, [], ◌∷◌, ◌++◌, Some, refl, sym, ◌∙◌, ap}
+use Rattle.std.proofs.Common.{◌≡◌, ℕ, List, [], ◌∷◌, ◌++◌, Some, refl, sym, ◌∙◌, ap}
 use Rattle.std.proofs.lemmas.List.{append_assoc}
 use Rattle.sx_rules.specs.declared.section.Section.{Section}
 use Rattle.sx_bus.specs.declared.devices.Window.{Window}
-use Rattle.sx_bus.specs.Devices.{cleared, all_stale, stale}
+use Rattle.sx_bus.specs.Devices.{cleared, all_stale}
+use Rattle.sx_bus.proofs.Changed.{all_stale_cleared}
 use Rattle.sx_trace.specs.declared.items.Item.{Item}
 use Rattle.sx_machine.specs.declared.kinds.Touch.{Touch}
 use Rattle.sx_machine.specs.declared.kinds.Touch.TheVariants as touch
@@ -75,17 +76,11 @@ devices_shapes (Unwrapped header body own ∷ ms) ds = devices_shapes ms ds
 devices_shapes (Sampled k v ∷ ms) ds = devices_shapes ms (cleared ds k) ∙ cleared_shapes ds k
 devices_shapes (Actuated k v ∷ ms) ds = devices_shapes ms ds
 
--- a reset makes all devices stale, whatever was read before
-cleared_stale : (ds : List Window) (k : ℕ) → all_stale (cleared ds k) ≡ all_stale ds
-cleared_stale [] k = refl
-cleared_stale (d ∷ ds) zero = refl
-cleared_stale (d ∷ ds) (suc k) = ap (λ r. stale d ∷ r) (cleared_stale ds k)
-
 pub devices_stale : (ms : List Mark) (ds : List Window) → all_stale (devices_after ms ds) ≡ all_stale ds
 devices_stale [] ds = refl
 devices_stale (Wrapped header body own ∷ ms) ds = devices_stale ms ds
 devices_stale (Unwrapped header body own ∷ ms) ds = devices_stale ms ds
-devices_stale (Sampled k v ∷ ms) ds = devices_stale ms (cleared ds k) ∙ cleared_stale ds k
+devices_stale (Sampled k v ∷ ms) ds = devices_stale ms (cleared ds k) ∙ all_stale_cleared ds k
 devices_stale (Actuated k v ∷ ms) ds = devices_stale ms ds
 
 replayed_devices : (own : ℕ) (live : List Section) (ts : List Touch) (a b : List Window) → Replays live own ts a b → b ≡ devices_after (marks_of_touches ts) a

@@ -1,8 +1,8 @@
 -- The registers of a call are set, one after the other, where no module runs.
-use Rattle.std.proofs.Common.{◌≡◌, ◌≢◌, ℕ, ◌-◌, ◌%◌, ◌<◌, ◌==◌, Bool, if◌then◌else◌, List, [], ◌∷◌, length, Some, None, sym, ◌∙◌, ap, arith}
+use Rattle.std.proofs.Common.{◌≡◌, ℕ, ◌-◌, ◌%◌, ◌<◌, ◌==◌, Bool, if◌then◌else◌, List, [], ◌∷◌, length, Some, None, sym, ◌∙◌, ap, arith}
 use Rattle.std.specs.Prelude.{slice_get, slice_set, slice_index}
 use Rattle.std.proofs.lemmas.Bool.{eq-eqb}
-use Rattle.std.proofs.lemmas.List.{get_or-set_same, get_or-set_other, length-set}
+use Rattle.std.proofs.lemmas.List.{get_or-set_same, get_or-set_other, length-set, set-set}
 use Rattle.sx_ledger.specs.Made.{Made}
 use Rattle.sx_machine.specs.declared.kinds.Refused.TheVariants.{Busy}
 use Rattle.sx_machine.specs.Registers.{set_reg}
@@ -16,7 +16,7 @@ use Rattle.sx_run.specs.State.{World, Acted}
 use Rattle.sx_run.specs.Acts.{only, then_, with_node, at_node, done_on}
 use Rattle.sx_run.specs.Run.{Register, set_on, set_all}
 use Rattle.sx_lists.proofs.Lists.{get_same}
-use Rattle.sx_run.proofs.steps.Stretch.{set_set, set_same}
+use Rattle.sx_run.proofs.steps.Stretch.{set_same}
 use Rattle.sx_calls.specs.Calls.{Callee, called}
 use Rattle.sx_gives.specs.Gives.{asked}
 
@@ -34,14 +34,14 @@ accepted : (s : State) (r : Register) (w : World) (n : ℕ) → s.cur ≡ 0
 accepted s r w n idle =
     ap (λ (b : Bool). done_on w n [] (unless (if b then None else Some Busy) s (record { state = with_register s r; shown = tt }))) (eq-eqb s.cur 0 idle)
 
-same_node : (w : World) (n : ℕ) (s : State) → slice_get w.nodes n ≡ Some s → w ≡ with_node w n s w.ledger w.steps
+pub same_node : (w : World) (n : ℕ) (s : State) → slice_get w.nodes n ≡ Some s → w ≡ with_node w n s w.ledger w.steps
 same_node w n s there =
     ap (λ ns. record { nodes = ns; packets = w.packets; deployer = w.deployer; ledger = w.ledger; lines = w.lines; steps = w.steps }) (sym (set_same w.nodes n s there))
 
 -- a node that changed twice
 pub node_twice : (w : World) (n : ℕ) (s t : State) (a b : List Made) (j k : ℕ) → with_node (with_node w n s a j) n t b k ≡ with_node w n t b k
 node_twice w n s t a b j k =
-    ap (λ ns. record { nodes = ns; packets = w.packets; deployer = w.deployer; ledger = b; lines = w.lines; steps = k }) (set_set w.nodes n s t)
+    ap (λ ns. record { nodes = ns; packets = w.packets; deployer = w.deployer; ledger = b; lines = w.lines; steps = k }) (set-set w.nodes n s t)
 
 pub all_set : (rs : List Register) (w : World) (n : ℕ) (s : State) → slice_get w.nodes n ≡ Some s → s.cur ≡ 0
     → set_all n rs w ≡ record { world = with_node w n (with_registers s rs) w.ledger w.steps; items = [] }
@@ -58,12 +58,6 @@ all_set (r ∷ rs) w n s there idle =
 
 -- what the registers then are
 
-get_there : (regs : List ℕ) (r v : ℕ) → r < length regs → slice_index (slice_set regs r v) r ≡ v
-get_there regs r v lt = get_or-set_same regs r v 0 lt
-
-get_else : (regs : List ℕ) (r k v : ℕ) → k ≢ r → slice_index (slice_set regs r v) k ≡ slice_index regs k
-get_else regs r k v ne = get_or-set_other regs r k v 0 ne
-
 pub called_asks : (c : Callee) (e input output : ℕ) → length c.node.regs ≡ 16 → call_at (called c (asked e input output)) ≡ asked e input output
 called_asks c e input output size =
     let r1 : List ℕ = slice_set c.node.regs 12 e in
@@ -75,13 +69,13 @@ called_asks c e input output size =
     let l2 : length r2 ≡ 16 = length-set r1 13 input ∙ l1 in
     let l3 : length r3 ≡ 16 = length-set r2 14 output ∙ l2 in
     let first : slice_index (slice_set r4 0 pc) 12 ≡ e =
-    get_else r4 0 12 pc (λ h. omega (arith, h)) ∙ get_else r3 15 12 0 (λ h. omega (arith, h)) ∙ get_else r2 14 12 output (λ h. omega (arith, h))
-    ∙ get_else r1 13 12 input (λ h. omega (arith, h)) ∙ get_there c.node.regs 12 e (omega (arith, size)) in
+    get_or-set_other r4 0 12 pc 0 (λ h. omega (arith, h)) ∙ get_or-set_other r3 15 12 0 0 (λ h. omega (arith, h)) ∙ get_or-set_other r2 14 12 output 0 (λ h. omega (arith, h))
+    ∙ get_or-set_other r1 13 12 input 0 (λ h. omega (arith, h)) ∙ get_or-set_same c.node.regs 12 e 0 (omega (arith, size)) in
     let second : slice_index (slice_set r4 0 pc) 13 ≡ input =
-    get_else r4 0 13 pc (λ h. omega (arith, h)) ∙ get_else r3 15 13 0 (λ h. omega (arith, h)) ∙ get_else r2 14 13 output (λ h. omega (arith, h)) ∙ get_there r1 13 input (omega (arith, l1)) in
+    get_or-set_other r4 0 13 pc 0 (λ h. omega (arith, h)) ∙ get_or-set_other r3 15 13 0 0 (λ h. omega (arith, h)) ∙ get_or-set_other r2 14 13 output 0 (λ h. omega (arith, h)) ∙ get_or-set_same r1 13 input 0 (omega (arith, l1)) in
     let third : slice_index (slice_set r4 0 pc) 14 ≡ output =
-    get_else r4 0 14 pc (λ h. omega (arith, h)) ∙ get_else r3 15 14 0 (λ h. omega (arith, h)) ∙ get_there r2 14 output (omega (arith, l2)) in
-    let last : slice_index (slice_set r4 0 pc) 15 ≡ 0 = get_else r4 0 15 pc (λ h. omega (arith, h)) ∙ get_there r3 15 0 (omega (arith, l3)) in
+    get_or-set_other r4 0 14 pc 0 (λ h. omega (arith, h)) ∙ get_or-set_other r3 15 14 0 0 (λ h. omega (arith, h)) ∙ get_or-set_same r2 14 output 0 (omega (arith, l2)) in
+    let last : slice_index (slice_set r4 0 pc) 15 ≡ 0 = get_or-set_other r4 0 15 pc 0 (λ h. omega (arith, h)) ∙ get_or-set_same r3 15 0 0 (omega (arith, l3)) in
     ap (λ x. record { entry = x; input = slice_index (slice_set r4 0 pc) 13; output = slice_index (slice_set r4 0 pc) 14; back = slice_index (slice_set r4 0 pc) 15 }) first
     ∙ ap (λ x. record { entry = e; input = x; output = slice_index (slice_set r4 0 pc) 14; back = slice_index (slice_set r4 0 pc) 15 }) second
     ∙ ap (λ x. record { entry = e; input = input; output = x; back = slice_index (slice_set r4 0 pc) 15 }) third
@@ -98,7 +92,7 @@ called_enters c e input output size even =
     let l2 : length r2 ≡ 16 = length-set r1 13 input ∙ l1 in
     let l3 : length r3 ≡ 16 = length-set r2 14 output ∙ l2 in
     let l4 : length r4 ≡ 16 = length-set r3 15 0 ∙ l3 in
-    get_there r4 0 (c.site.layout.pub_from - c.site.layout.pub_from % 2) (omega (arith, l4)) ∙ omega (arith, even)
+    get_or-set_same r4 0 (c.site.layout.pub_from - c.site.layout.pub_from % 2) 0 (omega (arith, l4)) ∙ omega (arith, even)
 
 -- it is a node
 pub called_is_node : (c : Callee) (e input output : ℕ) → e < 65536 → input < 65536 → output < 65536 → c.site.layout.pub_from < 65536 → c.node.cur ≡ 0

@@ -38,7 +38,7 @@ own_site site mem sec layout provider text =
     ((bytes_eq-Decides (public_bytes sec.layout mem) site.text).1 text)))
 
 -- the first that passes a test is the only one
-first_is : {X : Type 0} → (test : X → Bool) (xs : List X) (m : ℕ) (x : X) → slice_get xs m ≡ Some x → test x ≡ true
+pub first_is : {X : Type 0} → (test : X → Bool) (xs : List X) (m : ℕ) (x : X) → slice_get xs m ≡ Some x → test x ≡ true
     → ((k : ℕ) (y : X) → slice_get xs k ≡ Some y → test y ≡ true → k ≡ m) → position_from test 0 xs ≡ Some m
 first_is test xs m x here is one = by_place (position_from test 0 xs) refl
   where

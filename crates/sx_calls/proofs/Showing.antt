@@ -27,12 +27,12 @@ use Rattle.sx_calls.specs.Shown.{marks_observed}
 use Rattle.sx_calls.specs.FourCalls.{emitted, entries_of}
 use Rattle.sx_calls.proofs.Observing.{observed_append}
 
-entries_append : (m : ℕ) (xs ys : List Mark) → entries_of m (xs ++ ys) ≡ entries_of m xs ++ entries_of m ys
-entries_append m [] ys = refl
-entries_append m (Wrapped header body own ∷ xs) ys = ap (λ (r : List Made). made_entry (maker.Module m) NO_TARGET 0 header body ∷ r) (entries_append m xs ys)
-entries_append m (Unwrapped header body own ∷ xs) ys = entries_append m xs ys
-entries_append m (Sampled k v ∷ xs) ys = entries_append m xs ys
-entries_append m (Actuated k v ∷ xs) ys = entries_append m xs ys
+pub marks_entries : (m : ℕ) (xs ys : List Mark) → entries_of m (xs ++ ys) ≡ entries_of m xs ++ entries_of m ys
+marks_entries m [] ys = refl
+marks_entries m (Wrapped header body own ∷ xs) ys = ap (λ (r : List Made). made_entry (maker.Module m) NO_TARGET 0 header body ∷ r) (marks_entries m xs ys)
+marks_entries m (Unwrapped header body own ∷ xs) ys = marks_entries m xs ys
+marks_entries m (Sampled k v ∷ xs) ys = marks_entries m xs ys
+marks_entries m (Actuated k v ∷ xs) ys = marks_entries m xs ys
 
 outs_append : (m : ℕ) (xs ys : List ℕ) → map (λ u. item.Out m u) (xs ++ ys) ≡ map (λ u. item.Out m u) xs ++ map (λ u. item.Out m u) ys
 outs_append m [] ys = refl
@@ -53,7 +53,7 @@ module _ (app : AppTree) (n m boot : ℕ) where
       ∙ ap (λ (o : Observed). let r = marks_observed app n m boot ys o.ledger in record { items = o.items ++ r.items; ledger = r.ledger }) (f ledger)
       ∙ ap (λ (r : Observed). record { items = map (λ u. item.Out m u) us ++ r.items; ledger = r.ledger }) (g one)
       ∙ ap (λ is. record { items = is; ledger = one ++ entries_of m ys }) (sym (outs_append m us vs))
-      ∙ ap (λ l. record { items = map (λ u. item.Out m u) (us ++ vs); ledger = l }) (append_assoc ledger (entries_of m xs) (entries_of m ys) ∙ ap (λ es. ledger ++ es) (sym (entries_append m xs ys)))
+      ∙ ap (λ l. record { items = map (λ u. item.Out m u) (us ++ vs); ledger = l }) (append_assoc ledger (entries_of m xs) (entries_of m ys) ∙ ap (λ es. ledger ++ es) (sym (marks_entries m xs ys)))
 
   module _ (su : Setup) where
     packet_shows : (v k : ℕ) (ends : List EndState) → Shows (packet_made su v k ends).marks []

@@ -1,7 +1,7 @@
 -- What the ten rules give.
 use Rattle.std.proofs.Common.{◌≡◌, ◌≢◌, ℕ, ◌≤◌, ◌⊎◌, inl, inr, Bool, true, false, ◌||◌, ◌&&◌, not, List, [], ◌∷◌, length, None, nat_lt, nat_le, count_by, refl, sym, ap, ◌∙◌, subst, arith}
 use Rattle.std.specs.List.{list_any, All, AllPairs}
-use Rattle.std.proofs.lemmas.Bool.{ltb-false}
+use Rattle.std.proofs.lemmas.Bool.{ltb-false, or_parts, both_ways, or_right}
 use Rattle.std.proofs.lemmas.Bool.Decides.{nat_tests}
 use Rattle.std.proofs.lemmas.List.Elements.{All-nil, All-cons, All-weaker}
 use Rattle.sx_lang.specs.declared.tree.Decl.{Decl}
@@ -15,8 +15,9 @@ use Rattle.sx_check.specs.Bounds.{block_counts, block_emits, block_sends, is_inp
 use Rattle.sx_check.specs.Rules.{breaks, breaks_cells, breaks_cost, breaks_depth, breaks_duplicate, breaks_kind, breaks_locals, breaks_nodes, breaks_packets}
 use Rattle.sx_check.specs.Rules.{breaks_repeat, breaks_unknown, emits_nowhere, first_broken, is_too_deep, samples_blindly}
 use Rattle.sx_check.specs.Accepted.{HasLength, IsAcceptedModule, IsCount, IsFine, IsProper}
-use Rattle.sx_check.proofs.Keeps.{In, both_false, keeps, none_is, uses_in}
+use Rattle.sx_check.proofs.Keeps.{In, keeps, none_is, uses_in}
 use Rattle.sx_check.proofs.Distinct.{all_not, apart, none_counted, pairs_weaker, same-refl, same-true, same_input-refl}
+use Rattle.sx_lists.proofs.Truths.{and_not}
 
 -- Declarations
 
@@ -32,11 +33,11 @@ this_or all x y n later h more = go (same x y) refl h
 -- a name that is declared is declared once
 once : (ds all : List Decl) (x : List ℕ) → list_any (is_repeated all) ds ≡ false → list_any (declares x) ds ≡ true → count_by (declares x) all ≤ 1
 once [] all x r h = absurd (cc)
-once (Device kind ∷ ds) all x r h = once ds all x (both_false _ _ r).1 h
-once (Input y ∷ ds) all x r h = this_or all x y (both_false _ _ r).0 (list_any (declares x) ds) h (once ds all x (both_false _ _ r).1)
-once (Output y ∷ ds) all x r h = this_or all x y (both_false _ _ r).0 (list_any (declares x) ds) h (once ds all x (both_false _ _ r).1)
-once (Var y n ∷ ds) all x r h = this_or all x y (both_false _ _ r).0 (list_any (declares x) ds) h (once ds all x (both_false _ _ r).1)
-once (Array y n ∷ ds) all x r h = this_or all x y (both_false _ _ r).0 (list_any (declares x) ds) h (once ds all x (both_false _ _ r).1)
+once (Device kind ∷ ds) all x r h = once ds all x (or_parts _ _ r).1 h
+once (Input y ∷ ds) all x r h = this_or all x y (or_parts _ _ r).0 (list_any (declares x) ds) h (once ds all x (or_parts _ _ r).1)
+once (Output y ∷ ds) all x r h = this_or all x y (or_parts _ _ r).0 (list_any (declares x) ds) h (once ds all x (or_parts _ _ r).1)
+once (Var y n ∷ ds) all x r h = this_or all x y (or_parts _ _ r).0 (list_any (declares x) ds) h (once ds all x (or_parts _ _ r).1)
+once (Array y n ∷ ds) all x r h = this_or all x y (or_parts _ _ r).0 (list_any (declares x) ds) h (once ds all x (or_parts _ _ r).1)
 
 declared_once : (ds : List Decl) → list_any (is_repeated ds) ds ≡ false → (x : List ℕ) → count_by (declares x) ds ≤ 1
 declared_once ds r x = go (list_any (declares x) ds) refl
@@ -47,11 +48,11 @@ declared_once ds r x = go (list_any (declares x) ds) refl
 
 device_once : (ds all : List Decl) → list_any (is_repeated all) ds ≡ false → list_any is_device ds ≡ true → count_by is_device all ≤ 1
 device_once [] all r h = absurd (cc)
-device_once (Device kind ∷ ds) all r h = ltb-false 1 (count_by is_device all) (both_false _ _ r).0
-device_once (Input y ∷ ds) all r h = device_once ds all (both_false _ _ r).1 h
-device_once (Output y ∷ ds) all r h = device_once ds all (both_false _ _ r).1 h
-device_once (Var y n ∷ ds) all r h = device_once ds all (both_false _ _ r).1 h
-device_once (Array y n ∷ ds) all r h = device_once ds all (both_false _ _ r).1 h
+device_once (Device kind ∷ ds) all r h = ltb-false 1 (count_by is_device all) (or_parts _ _ r).0
+device_once (Input y ∷ ds) all r h = device_once ds all (or_parts _ _ r).1 h
+device_once (Output y ∷ ds) all r h = device_once ds all (or_parts _ _ r).1 h
+device_once (Var y n ∷ ds) all r h = device_once ds all (or_parts _ _ r).1 h
+device_once (Array y n ∷ ds) all r h = device_once ds all (or_parts _ _ r).1 h
 
 one_device : (ds : List Decl) → list_any (is_repeated ds) ds ≡ false → count_by is_device ds ≤ 1
 one_device ds r = go (list_any is_device ds) refl
@@ -61,7 +62,7 @@ one_device ds r = go (list_any is_device ds) refl
     go false e = omega (arith, none_counted is_device ds e)
 
 in_bounds : (n k : ℕ) → (not (nat_le 1 n) || not (nat_le n k)) ≡ false → (1 ≤ n) × (n ≤ k)
-in_bounds n k h = let b = both_false (not (nat_le 1 n)) (not (nat_le n k)) h in (grind (arith, nat_tests, b.0), grind (arith, nat_tests, b.1))
+in_bounds n k h = let b = or_parts (not (nat_le 1 n)) (not (nat_le n k)) h in (grind (arith, nat_tests, b.0), grind (arith, nat_tests, b.1))
 
 lengths : (ds : List Decl) → list_any is_misfit ds ≡ false → All HasLength ds
 lengths [] h = All-nil HasLength
@@ -69,7 +70,7 @@ lengths (Device kind ∷ ds) h = All-cons HasLength _ ds tt (lengths ds h)
 lengths (Input x ∷ ds) h = All-cons HasLength _ ds tt (lengths ds h)
 lengths (Output x ∷ ds) h = All-cons HasLength _ ds tt (lengths ds h)
 lengths (Var x n ∷ ds) h = All-cons HasLength _ ds tt (lengths ds h)
-lengths (Array x n ∷ ds) h = let b = both_false (not (nat_le 1 n) || not (nat_le n 1024)) (list_any is_misfit ds) h in All-cons HasLength _ ds (in_bounds n 1024 b.0) (lengths ds b.1)
+lengths (Array x n ∷ ds) h = let b = or_parts (not (nat_le 1 n) || not (nat_le n 1024)) (list_any is_misfit ds) h in All-cons HasLength _ ds (in_bounds n 1024 b.0) (lengths ds b.1)
 
 -- Names
 
@@ -77,8 +78,8 @@ lengths (Array x n ∷ ds) h = let b = both_false (not (nat_le 1 n) || not (nat_
 proper : (ds : List Decl) (us : List Use) → list_any (is_unknown ds) us ≡ false → list_any (is_misused ds) us ≡ false → All (IsProper ds) us
 proper ds [] n m = All-nil (IsProper ds)
 proper ds (used role x seen ∷ us) n m =
-    let k = both_false _ _ n in
-    let u = both_false _ _ m in
+    let k = or_parts _ _ n in
+    let u = or_parts _ _ m in
     All-cons (IsProper ds) _ us (must (is_declared ds x) (is_seen seen x) (list_any (declares_as role x) ds) (is_local role x seen) k.0 u.0) (proper ds us k.1 u.1)
   where
     must : (d s v l : Bool) → not (d || s) ≡ false → ((d || s) && not (v || l)) ≡ false → (l ≡ true) ⊎ (v ≡ true)
@@ -97,37 +98,19 @@ all_in P (h ∷ hs) f = All-cons P h hs (f h (inl refl)) (all_in P hs (λ g i. f
 some_is : (P : HandlerTree → Bool) (h : HandlerTree) (hs : List HandlerTree) → In h hs → P h ≡ true → list_any P hs ≡ true
 some_is P h [] i e = absurd i
 some_is P h (x ∷ hs) (inl q) e = ap (λ b. b || list_any P hs) (ap P q ∙ e)
-some_is P h (x ∷ hs) (inr i) e = or_true (P x) (some_is P h hs i e)
-  where
-    or_true : (a : Bool) {b : Bool} → b ≡ true → (a || b) ≡ true
-    or_true true e = refl
-    or_true false e = e
-
--- where the handlers have one of these, the declarations have one of those
-driven : (a b : Bool) → (a && not b) ≡ false → a ≡ true → b ≡ true
-driven a true n e = refl
-driven true false n e = absurd (cc)
-driven false false n e = absurd (cc)
+some_is P h (x ∷ hs) (inr i) e = or_right (P x) _ (some_is P h hs i e)
 
 untaken : (ds : List Decl) (h : HandlerTree) → has_taken ds h ≡ false → All (λ x. (is_declared ds x ≡ false) × (count_by (same x) (locals h) ≤ 1)) (locals h)
 unfolding has_taken is_taken
 untaken ds h n = All-weaker (λ x. is_taken ds h x ≡ false) (λ x. (is_declared ds x ≡ false) × (count_by (same x) (locals h) ≤ 1))
-    (λ x e. (let b = both_false (is_declared ds x) (nat_lt 1 (count_by (same x) (locals h))) e in (b.0, ltb-false 1 (count_by (same x) (locals h)) b.1)))
+    (λ x e. (let b = or_parts (is_declared ds x) (nat_lt 1 (count_by (same x) (locals h))) e in (b.0, ltb-false 1 (count_by (same x) (locals h)) b.1)))
     (locals h) (all_not (is_taken ds h) (locals h) n)
 
 differ : (r : List ℕ → List ℕ → Bool) (own : (x : List ℕ) → r x x ≡ true) (x y : List ℕ) → r x y ≡ false → x ≢ y
-differ r own x y n e = clash (r x y) (subst (λ z. r x z ≡ true) e (own x)) n
-  where
-    clash : (b : Bool) → b ≡ true → b ≡ false → ⊥
-    clash true p q = cc
-    clash false p q = cc
+differ r own x y n e = both_ways (r x y) n (subst (λ z. r x z ≡ true) e (own x))
 
 handled_apart : (g h : HandlerTree) → same_input g.input h.input ≡ false → g.input ≢ h.input
-handled_apart g h n e = clash (same_input g.input h.input) (subst (λ z. same_input g.input z ≡ true) e (same_input-refl g.input)) n
-  where
-    clash : (b : Bool) → b ≡ true → b ≡ false → ⊥
-    clash true p q = cc
-    clash false p q = cc
+handled_apart g h n e = both_ways (same_input g.input h.input) n (subst (λ z. same_input g.input z ≡ true) e (same_input-refl g.input))
 
 handled_once : (hs : List HandlerTree) → list_any (is_handled_twice hs) hs ≡ false → AllPairs (λ g h. g.input ≢ h.input) hs
 unfolding is_handled_twice
@@ -152,11 +135,11 @@ module _ (m : ModuleTree) (checked : first_broken m ≡ None) where
 
   blind : (list_any is_sample m.handlers && not (list_any is_sensor m.decls)) ≡ false
   unfolding samples_blindly
-  blind = (both_false _ _ (both_false _ _ misused).1).0
+  blind = (or_parts _ _ (or_parts _ _ misused).1).0
 
   nowhere : (list_any (λ h. block_emits h.body) m.handlers && not (list_any is_actuator m.decls)) ≡ false
   unfolding emits_nowhere
-  nowhere = (both_false _ _ (both_false _ _ misused).1).1
+  nowhere = (or_parts _ _ (or_parts _ _ misused).1).1
 
   deep : list_any is_too_deep m.handlers ≡ false
   unfolding breaks breaks_depth
@@ -188,11 +171,11 @@ module _ (m : ModuleTree) (checked : first_broken m ≡ None) where
 
   pub fine : (h : HandlerTree) → In h m.handlers → IsFine m h
   fine h i =
-      let low = both_false _ _ (none_is is_too_deep h m.handlers i deep) in
+      let low = or_parts _ _ (none_is is_too_deep h m.handlers i deep) in
       let free_of = λ (x : List ℕ). (is_declared m.decls x ≡ false) × (count_by (same x) (locals h) ≤ 1) in
-      let free = untaken m.decls h (none_is (has_taken m.decls) h m.handlers i (both_false _ _ (both_false _ _ repeated).1).0) in
+      let free = untaken m.decls h (none_is (has_taken m.decls) h m.handlers i (or_parts _ _ (or_parts _ _ repeated).1).0) in
       record {
-        proper = proper m.decls (handler_uses h) (uses_in (is_unknown m.decls) h m.handlers i unknown) (uses_in (is_misused m.decls) h m.handlers i (both_false _ _ misused).0);
+        proper = proper m.decls (handler_uses h) (uses_in (is_unknown m.decls) h m.handlers i unknown) (uses_in (is_misused m.decls) h m.handlers i (or_parts _ _ misused).0);
         few_locals = ltb-false 16 _ (none_is (λ h. nat_lt 16 (length (locals h))) h m.handlers i crowded);
         distinct = pairs_weaker (λ x y. same x y ≡ false) (λ x y. x ≢ y) (differ same same-refl) (locals h)
             (apart same same-refl (locals h) (All-weaker free_of (λ x. count_by (same x) (locals h) ≤ 1) (λ x p. p.1) (locals h) free));
@@ -202,20 +185,20 @@ module _ (m : ModuleTree) (checked : first_broken m ≡ None) where
         counts = All-weaker (λ n. is_miscounted n ≡ false) IsCount (λ n e. in_bounds n 256 e) (block_counts h.body)
             (all_not is_miscounted (block_counts h.body) (none_is (λ h. list_any is_miscounted (block_counts h.body)) h m.handlers i turns));
         sends = ltb-false 16 _ (none_is (λ h. nat_lt 16 (block_sends h.body)) h m.handlers i sending);
-        samples = λ e. driven _ _ blind (some_is is_sample h m.handlers i (ap (λ x. same_input None x) e));
-        emits = λ e. driven _ _ nowhere (some_is (λ h. block_emits h.body) h m.handlers i e);
+        samples = λ e. and_not _ _ blind (some_is is_sample h m.handlers i (ap (λ x. same_input None x) e));
+        emits = λ e. and_not _ _ nowhere (some_is (λ h. block_emits h.body) h m.handlers i e);
       }
 
   pub accepted : IsAcceptedModule m
   accepted =
-      let r = both_false _ _ repeated in
-      let l = both_false _ _ large in
-      let p = both_false _ _ l.1 in
-      let c = both_false _ _ long in
+      let r = or_parts _ _ repeated in
+      let l = or_parts _ _ large in
+      let p = or_parts _ _ l.1 in
+      let c = or_parts _ _ long in
       record {
         declared_once = declared_once m.decls r.0;
         one_device = one_device m.decls r.0;
-        handled_once = handled_once m.handlers (both_false _ _ r.1).1;
+        handled_once = handled_once m.handlers (or_parts _ _ r.1).1;
         handlers = all_in (IsFine m) m.handlers fine;
         cost = ltb-false 262144 _ dear;
         nodes = ltb-false 512 _ l.0;

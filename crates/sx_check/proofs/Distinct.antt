@@ -3,12 +3,11 @@ use Rattle.std.proofs.Common.{◌≡◌, ℕ, ◌+◌, ◌≤◌, Bool, true, fa
 use Rattle.std.specs.Prelude.{nat_eq}
 use Rattle.std.specs.Cmp.Lexicographic.{pointwise}
 use Rattle.std.specs.List.{list_any, All, AllPairs}
-use Rattle.std.proofs.lemmas.Bool.{eqb-true, eq-eqb}
+use Rattle.std.proofs.lemmas.Bool.{eqb-true, eq-eqb, or_parts}
 use Rattle.std.proofs.lemmas.List.Elements.{All-nil, All-cons, All-head, All-tail, All-weaker}
 use Rattle.std.proofs.lemmas.List.Kept.{AllPairs-cons}
 use Rattle.std.proofs.lemmas.List.Sums.{sum_by-cons}
 use Rattle.sx_check.specs.Names.{same, same_input}
-use Rattle.sx_check.proofs.Keeps.{both_false}
 
 pub same-true : (x y : List ℕ) → same x y ≡ true → x ≡ y
 same-true [] [] h = refl
@@ -36,7 +35,7 @@ module _ {A : Type 0} where
   pub none_counted : (p : A → Bool) (xs : List A) → list_any p xs ≡ false → count_by p xs ≡ 0
   none_counted p [] h = refl
   none_counted p (x ∷ xs) h =
-      let b = both_false (p x) (list_any p xs) h in
+      let b = or_parts (p x) (list_any p xs) h in
       let c = ap {B = ℕ} (λ t. cond t 1 0) b.0 in
       omega (arith, count_by-cons p x xs, c, none_counted p xs b.1)
 
@@ -51,7 +50,7 @@ module _ {A : Type 0} where
   -- none of the elements is so
   pub all_not : (p : A → Bool) (xs : List A) → list_any p xs ≡ false → All (λ x. p x ≡ false) xs
   all_not p [] h = All-nil (λ x. p x ≡ false)
-  all_not p (x ∷ xs) h = let b = both_false (p x) (list_any p xs) h in All-cons (λ x. p x ≡ false) x xs b.0 (all_not p xs b.1)
+  all_not p (x ∷ xs) h = let b = or_parts (p x) (list_any p xs) h in All-cons (λ x. p x ≡ false) x xs b.0 (all_not p xs b.1)
 
   none_later : (r : A → A → Bool) (x : A) (xs : List A) → r x x ≡ true → count_by (r x) (x ∷ xs) ≤ 1 → All (λ y. r x y ≡ false) xs
   none_later r x xs own few = all_not (r x) xs (go (list_any (r x) xs) refl)

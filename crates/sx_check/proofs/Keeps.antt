@@ -1,7 +1,8 @@
 -- A module that breaks no rule breaks none of the ten.
-use Rattle.std.proofs.Common.{◌≡◌, ◌⊎◌, inl, inr, Bool, true, false, ◌||◌, List, [], ◌∷◌, Some, None, refl, ap, sym, ◌∙◌, if◌then◌else◌}
+use Rattle.std.proofs.Common.{◌≡◌, ◌⊎◌, inl, inr, Bool, true, false, List, [], ◌∷◌, Some, None, refl, ap, sym, ◌∙◌, if◌then◌else◌}
 use Rattle.std.specs.List.{find, list_any}
 use Rattle.std.proofs.lemmas.List.Folds.{list_any-append}
+use Rattle.std.proofs.lemmas.Bool.{or_parts}
 use Rattle.sx_lang.specs.Tree.{HandlerTree, ModuleTree}
 use Rattle.sx_check.specs.Rules.{first_broken, breaks}
 use Rattle.sx_check.specs.declared.rules.Rule.{Rule}
@@ -30,10 +31,6 @@ keeps m h =
     let k = none_here p Cells ([]) j.1 in
     λ r. elim r as (λ r. breaks m r ≡ false) [ Duplicate ↦ a.0 | Unknown ↦ b.0 | Kind ↦ c.0 | Depth ↦ d.0 | Locals ↦ e.0 | Repeat ↦ f.0 | Packets ↦ g.0 | Cost ↦ i.0 | Nodes ↦ j.0 | Cells ↦ k.0 ]
 
-pub both_false : (a b : Bool) → (a || b) ≡ false → (a ≡ false) × (b ≡ false)
-both_false true b h = absurd (cc)
-both_false false b h = (refl, h)
-
 -- the handler is one of these
 abbrev pub In : HandlerTree → List HandlerTree → Type 0
 In h [] = ⊥
@@ -42,11 +39,11 @@ In h (x ∷ hs) = (x ≡ h) ⊎ In h hs
 -- what none of the handlers is, the handler isn't
 pub none_is : (P : HandlerTree → Bool) (h : HandlerTree) (hs : List HandlerTree) → In h hs → list_any P hs ≡ false → P h ≡ false
 none_is P h [] i n = absurd i
-none_is P h (x ∷ hs) (inl e) n = ap P (sym e) ∙ (both_false _ _ n).0
-none_is P h (x ∷ hs) (inr i) n = none_is P h hs i (both_false _ _ n).1
+none_is P h (x ∷ hs) (inl e) n = ap P (sym e) ∙ (or_parts _ _ n).0
+none_is P h (x ∷ hs) (inr i) n = none_is P h hs i (or_parts _ _ n).1
 
 -- what no use of the handlers is, no use of the handler is
 pub uses_in : (F : Use → Bool) (h : HandlerTree) (hs : List HandlerTree) → In h hs → list_any F (handlers_uses hs) ≡ false → list_any F (handler_uses h) ≡ false
 uses_in F h [] i n = absurd i
-uses_in F h (x ∷ hs) (inl e) n = ap (λ h. list_any F (handler_uses h)) (sym e) ∙ (both_false _ _ (sym (list_any-append F (handler_uses x) (handlers_uses hs)) ∙ n)).0
-uses_in F h (x ∷ hs) (inr i) n = uses_in F h hs i (both_false _ _ (sym (list_any-append F (handler_uses x) (handlers_uses hs)) ∙ n)).1
+uses_in F h (x ∷ hs) (inl e) n = ap (λ h. list_any F (handler_uses h)) (sym e) ∙ (or_parts _ _ (sym (list_any-append F (handler_uses x) (handlers_uses hs)) ∙ n)).0
+uses_in F h (x ∷ hs) (inr i) n = uses_in F h hs i (or_parts _ _ (sym (list_any-append F (handler_uses x) (handlers_uses hs)) ∙ n)).1

@@ -1,5 +1,5 @@
 -- What follows for `dis` from what it wrote and read.
-use Rattle.std.proofs.Common.{◌≡◌, ◌∙◌, ◌⊎◌, inl, inr, ℕ, ◌+◌, Bool, true, false, List, [], ◌∷◌, ◌++◌, length, refl, sym, ap, arith, Option, Some, None}
+use Rattle.std.proofs.Common.{◌≡◌, ◌∙◌, ◌⊎◌, inl, inr, ℕ, ◌+◌, Bool, List, [], ◌∷◌, ◌++◌, length, refl, sym, ap, arith, Option, Some, None}
 use Rattle.sx_io.specs.Streams.{SourceAt, SinkAt}
 use Rattle.sx_io.specs.Reading.{Answer, Line, End, Long, Fault, Ended, Broken, scan}
 use Rattle.std.specs.Prelude.{IsTrue}
@@ -7,8 +7,6 @@ use Rattle.sx_told.specs.Reads.{anything}
 use Rattle.sx_told.specs.Told.{CommandEnds, CommandAt, Output, Told, command_at, out_of_memory}
 use Rattle.sx_told.proofs.Laws.{told-all, told-quiet, told-reads}
 use Rattle.sx_told.proofs.Endings.{pick, Faultless, Unfinished, faultless, unfinished}
-use Rattle.sx_command.specs.Output.{end_line}
-use Rattle.sx_command_asm.specs.Listing.{listing}
 use Rattle.sx_command_asm.specs.Disassembling.{HexInput, Bytes, BadLine, Unread, in_front, on_line, hex_input, line_bytes, is_listed, unlisted, dis_lines, dis_bytes, dis_given, dis_all, DisTold}
 use Rattle.sx_command_asm.specs.Kept.{ReadsGiven}
 use Rattle.sx_command.proofs.Ends.{faults_of}
@@ -91,14 +89,6 @@ never_zero : (at : ℕ) (bytes : List ℕ) → (dis_all at (scan dis_lines Broke
 never_zero at bytes e =
     let answers = scan dis_lines Broken [] bytes in
     unfinished_none 1 answers (unfinished dis_lines [] bytes) (zero_bytes at (hex_input 1 answers) e)
-
-pub listed_bytes : (at : ℕ) (bytes : List ℕ) → is_listed at (length bytes) ≡ true
-    → dis_bytes at bytes ≡ record { text = listing at bytes ++ end_line; status = 0 }
-listed_bytes at bytes e = rw e refl
-
-pub unlisted_bytes : (at : ℕ) (bytes : List ℕ) → is_listed at (length bytes) ≡ false
-    → dis_bytes at bytes ≡ unlisted
-unlisted_bytes at bytes e = rw e refl
 
 -- the lines were read, and what they write was told
 pub told_given : {tells to_tell : Bool} {s0 s1 : SourceAt} {k0 k1 : SinkAt} {status : ℕ}

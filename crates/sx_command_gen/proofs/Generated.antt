@@ -1,5 +1,6 @@
 -- What follows for `gen` from what it wrote.
 use Rattle.std.proofs.Common.{◌≡◌, inl, inr, ℕ, ◌∙◌, Bool, List, [], refl, sym, ap, arith, Result, Ok, Err, ◌≤◌, ◌⊎◌, subst}
+use Rattle.std.proofs.lemmas.Bool.{cases_eq}
 use Rattle.sx_asm.specs.Assembled.{assembled}
 use Rattle.sx_io.specs.Streams.{SinkAt}
 use Rattle.sx_told.specs.Told.{CommandEnds, out_of_memory, Output, behind}
@@ -69,14 +70,11 @@ gen_status mac texts n (Ok d) =
     let x = schedule assembled d.names 1 (workload n) in told_status n (run set (switched_on set) x.lines) x.stop
 gen_status mac texts n (Err f) = refl
 
-is_or_not : (a b : ℕ) → (a ≡ b) ⊎ (a ≡ b → ⊥)
-is_or_not a b = grind arith
-
 exactly : {mac : Mac} {n : ℕ} {to_tell : Bool} {k0 k1 : SinkAt} {status : ℕ} (w : GenWith mac n to_tell k0 k1 status) (meaning : Meaning) → IsMeaning meaning
     → (count.Rose k0.faults k1.faults → ⊥) → (status ≡ out_of_memory) ⊎ (status ≡ found_status (schedule_status assembled) (meaning bulk.head) (workload n))
 exactly {mac} {n} {to_tell} {k0} {k1} {status} w meaning is quiet =
     let e = w.ends meaning is in
-    elim (is_or_not status out_of_memory) [
+    elim (cases_eq status out_of_memory) [
       | inl six ↦ inl six
       | inr six ↦ inr ((e.whole (λ five. quiet (omega (arith, e.fault five))) six).0 ∙ gen_status mac w.texts n (meaning bulk.head))
     ]

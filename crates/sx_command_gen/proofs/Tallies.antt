@@ -1,6 +1,6 @@
 -- How the run of the workload stands between two of its lines.
 use Rattle.std.proofs.Common.{◌≡◌, ◌∙◌, ℕ, suc, ◌+◌, ◌-◌, ◌*◌, ◌<◌, ◌≤◌, Bool, List, [], ◌∷◌, ◌++◌, length, take, refl, sym, ap, subst, arith, append_assoc, length-append, Result, Ok, Err}
-use Rattle.std.specs.Prelude.{cond, IfErr, OnOk}
+use Rattle.std.specs.Prelude.{cond, IfErr}
 use Rattle.std.specs.List.{count_by}
 use Rattle.std.proofs.Math.Seq.{take-append_seam}
 use Rattle.std.proofs.lemmas.List.{append-nil}
@@ -81,10 +81,6 @@ left_begun n names set = refl
 pub acts_from : (names : NameLists) (set : Setting) (held left : Held) (number : ℕ) (text : List ℕ) (items : List Item) (line : Line) → judged_line assembled names number text ≡ Ok line
     → Acts set line held left [] items → ActsFrom names set held left number text items
 acts_from names set held left number text items line e h = λ w st. record { line = line; keeps = e; stands = (h w st).0; made = (h w st).1 }
-
-pub on_ok : {X E : Type 0} {P Q : Type 0} (r : Result X E) → (P → Q) → OnOk r P → OnOk r Q
-on_ok (Ok x) h p = h p
-on_ok (Err e) h p = p
 
 pub no_memory : {X : Type 0} (names : NameLists) (number : ℕ) (text : List ℕ) (r : Result X Stopped) → IfErr r (λ e. e ≡ OutOfMemory) → IfErr r (λ e. LineStopsAt names number text e)
 no_memory names number text (Ok x) h = h

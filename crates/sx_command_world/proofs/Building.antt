@@ -1,9 +1,9 @@
 -- What the compiler asks of a module holds in an accepted deployment, and the images that it gives realize the modules.
-use Rattle.std.proofs.Common.{◌≡◌, ◌∙◌, ℕ, ◌+◌, ◌<◌, ◌≤◌, ◌||◌, ◌⊎◌, inl, inr, Bool, true, false, List, [], ◌∷◌, ◌++◌, length, map, refl, sym, ap, subst, arith}
+use Rattle.std.proofs.Common.{◌≡◌, ◌∙◌, ℕ, ◌+◌, ◌<◌, ◌≤◌, ◌⊎◌, inl, inr, false, List, [], ◌∷◌, ◌++◌, length, map, refl, sym, ap, subst, arith}
 use Rattle.std.proofs.Common.{Option, Some, None, nat_lt, zero, suc, Result, Ok, Err, IfOk}
 use Rattle.std.specs.Prelude.{slice_get, slice_index_or}
 use Rattle.std.specs.List.{list_any}
-use Rattle.std.proofs.lemmas.Bool.{ltb-false}
+use Rattle.std.proofs.lemmas.Bool.{ltb-false, or_parts}
 use Rattle.sx_lang.specs.Tree.{Statement, Defines, Assigns, Stores, Chooses, Repeats, Sends, Emits, Block, Done, Then, ModuleTree, HandlerTree}
 use Rattle.sx_lang.specs.declared.tree.Decl.{Decl}
 use Rattle.sx_rules.specs.declared.section.Layout.{Layout}
@@ -49,15 +49,11 @@ mutual
   same_block f g h ds Done = refl
   same_block f g h ds (Then s b) = rw (same_statement f g h ds s, same_block f g h ds b) refl
 
-neither : (a b : Bool) → (a || b) ≡ false → (a ≡ false) × (b ≡ false)
-neither true b h = absurd (cc h)
-neither false b h = (refl, h)
-
 send_few : (f g : ℕ → ℕ) → ((o : ℕ) → f o ≡ g o) → (m : ModuleTree) (hs : List HandlerTree)
     → list_any (λ (h : HandlerTree). nat_lt 16 (block_packets g m.decls h.body)) hs ≡ false → SendFew f m hs
 send_few f g e m [] h = tt
 send_few f g e m (x ∷ hs) h =
-    let both = neither (nat_lt 16 (block_packets g m.decls x.body)) (list_any (λ (h : HandlerTree). nat_lt 16 (block_packets g m.decls h.body)) hs) h in
+    let both = or_parts (nat_lt 16 (block_packets g m.decls x.body)) (list_any (λ (h : HandlerTree). nat_lt 16 (block_packets g m.decls h.body)) hs) h in
     (subst (λ (n : ℕ). n ≤ 16) (sym (same_block f g e m.decls x.body)) (ltb-false 16 (block_packets g m.decls x.body) both.0), send_few f g e m hs both.1)
 
 -- ---- what the compiler asks

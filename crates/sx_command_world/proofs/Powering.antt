@@ -73,6 +73,3 @@ one_node set all nodes new node i keys key lt at e made h =
     let rest = nodes_from set (i + 1) (drop (i + 1) keys) in
     ap (λ (ns : List State). ns ++ rest) e ∙ append_assoc nodes (node ∷ []) rest ∙ ap (λ (s : State). nodes ++ s ∷ rest) made
     ∙ ap (λ (ks : List (List ℕ)). nodes ++ nodes_from set i ks) (sym left) ∙ h
-
-pub all_nodes : (set : Setting) (all nodes : List State) (i : ℕ) (keys : List (List ℕ)) → length keys ≤ i → nodes ++ nodes_from set i (drop i keys) ≡ all → nodes ≡ all
-all_nodes set all nodes i keys le h = sym (append-nil nodes) ∙ ap (λ (ks : List (List ℕ)). nodes ++ nodes_from set i ks) (sym (drop_all i keys le)) ∙ h

@@ -32,6 +32,7 @@ use Rattle.sx_compile.proofs.Begun.{state_in_memory}
 use Rattle.sx_compile.proofs.Regular.{runs_regular}
 use Rattle.sx_tmpl.proofs.Texts.Entering.{outside_window}
 use Rattle.sx_compile.proofs.Written.{Written, returns_written, stand_same}
+use Rattle.sx_compile.proofs.Returning.{violates_returns, returns_same}
 
 module _ (s : Setup) (code : Code) (before : State) (result : Invoked) (Sim : Conf → Watched → Type 0) (performs : Performs s code before result Sim) (B : Violation → List Mark → Type 0) (Q : Conf
     → Type 0)
@@ -75,19 +76,13 @@ pieces_or_good : (s : Setup) (call : Call) (p q : Progress) (status : ℕ) → p
 unfolding invoke
 pieces_or_good s call p q status none h = go (returns_inside s call) (is_no_entry s call) (is_bad_window s call.input in_window_size) (is_bad_window s call.output out_window_size) refl h
   where
-    never : (v : Violation) (x : Progress) (b : ℕ) (y : Progress) → Violates v x ≡ Returns b y → ⊥
-    never v x b y h = cc
-
-    same : (a b : ℕ) (x y : Progress) → Returns a x ≡ Returns b y → x ≡ y
-    same a b x y h = cc
-
     none_in : (a : ℕ) → Returns a p ≡ Returns status q → q.pieces ≡ []
-    none_in a h = ap (λ (x : Progress). x.pieces) (sym (same a status p q h)) ∙ none
+    none_in a h = ap (λ (x : Progress). x.pieces) (sym (returns_same a status p q h)) ∙ none
 
     go : (a b c d : Bool) → is_bad_window s call.output out_window_size ≡ d
         → (if a then Violates bad.Illegal p else if b then Returns no_entry p else if c || d then Returns bad_window p else entered s call p) ≡ Returns status q
         → (q.pieces ≡ []) ⊎ (is_bad_window s call.output out_window_size ≡ false)
-    go true b c d w h = absurd (never bad.Illegal p status q h)
+    go true b c d w h = absurd (violates_returns bad.Illegal p status q h)
     go false true c d w h = inl (none_in 2 h)
     go false false true d w h = inl (none_in 3 h)
     go false false false true w h = inl (none_in 3 h)
@@ -98,13 +93,10 @@ returns_out : (s : Setup) (call : Call) (p q : Progress) (status : ℕ) → invo
 unfolding invoke
 returns_out s call p q status h = go (returns_inside s call) h
   where
-    never : (v : Violation) (x : Progress) (b : ℕ) (y : Progress) → Violates v x ≡ Returns b y → ⊥
-    never v x b y h = cc
-
     go : (a : Bool) → (if a then Violates bad.Illegal p else if is_no_entry s call then Returns no_entry p else if has_bad_windows s call then Returns bad_window p else entered s call p) ≡ Returns
         status q → a ≡ false
     go false h = refl
-    go true h = absurd (never bad.Illegal p status q h)
+    go true h = absurd (violates_returns bad.Illegal p status q h)
 
 same_prefix : (a b : List Mark) → a ≡ b → HasPrefix b a
 same_prefix a b e = ([], append-nil a ∙ e)

@@ -4,6 +4,7 @@ use Rattle.std.proofs.Common.{Result, Ok, Err, refl, sym, ap, ◌∙◌, subst, 
 use Rattle.std.specs.Prelude.{if◌then◌else◌, nat_lt, find}
 use Rattle.std.proofs.Math.Nat.{suc-mul}
 use Rattle.std.proofs.lemmas.List.{length-append}
+use Rattle.std.proofs.lemmas.Option.{none-some, same_Some}
 use Rattle.sx_lang.specs.declared.tree.Decl.{Decl}
 use Rattle.sx_lang.specs.Tree.{Statement, Defines, Assigns, Stores, Chooses, Repeats, Sends, Emits, Block, Done, Then, HandlerTree, ModuleTree}
 use Rattle.sx_check.specs.Names.{same_input}
@@ -32,7 +33,7 @@ use Rattle.sx_invoke.specs.Entries.{attest, sample_read, number_taken, end_keyed
 use Rattle.sx_invoke.specs.Protocol.{event_size, key_size, value_size, last_number}
 use Rattle.sx_invoke.proofs.ByEntry.{by_entry}
 use Rattle.sx_mean.specs.EndLaws.{senders}
-use Rattle.sx_lower.proofs.Packets.{senders-cons}
+use Rattle.sx_mean.proofs.Ends.{senders-cons}
 use Rattle.sx_compile.specs.Laws.{FewPieces}
 use Rattle.sx_lower.specs.Lowering.{SendFew}
 
@@ -103,27 +104,18 @@ module _ (ds : List Decl) (ends : List End) where
 -- the acts of an event make at most 16 packets
 
 find_few : (links : ℕ → ℕ) (m : ModuleTree) (test : HandlerTree → Bool) (hs : List HandlerTree) (h : HandlerTree) → SendFew links m hs → find test hs ≡ Some h → block_packets links m.decls h.body ≤ 16
-find_few links m test [] h few e = absurd (none_some e)
-  where
-    none_some : ◌≡◌ {A = Option HandlerTree} None (Some h) → ⊥
-    none_some e = cc
+find_few links m test [] h few e = absurd (none-some h e)
 find_few links m test (x ∷ hs) h few e = go (test x) e (λ e. find_few links m test hs h few.1 e)
   where
-    same : ◌≡◌ {A = Option HandlerTree} (Some x) (Some h) → x ≡ h
-    same e = cc
-
     go : (b : Bool) → cond b (Some x) (find test hs) ≡ Some h → (find test hs ≡ Some h → block_packets links m.decls h.body ≤ 16) → block_packets links m.decls h.body ≤ 16
-    go true e f = subst (λ (y : HandlerTree). block_packets links m.decls y.body ≤ 16) (same e) few.0
+    go true e f = subst (λ (y : HandlerTree). block_packets links m.decls y.body ≤ 16) (same_Some x h e) few.0
     go false e f = f e
 
 handler_few : (links : ℕ → ℕ) (m : ModuleTree) (e : SourceEvent) (h : HandlerTree) → SendFew links m m.handlers → handler_at m e ≡ Some h → block_packets links m.decls h.body ≤ 16
 handler_few links m (event.Input j v) h few e = go (nth (input_names m.decls) j) e
   where
     go : (x : Option (List ℕ)) → handler_of_name x m.handlers ≡ Some h → block_packets links m.decls h.body ≤ 16
-    go None e = absurd (none_some e)
-      where
-        none_some : ◌≡◌ {A = Option HandlerTree} None (Some h) → ⊥
-        none_some e = cc
+    go None e = absurd (none-some h e)
     go (Some x) e = find_few links m (λ h. same_input (Some x) h.input) m.handlers h few e
 handler_few links m (event.Sample v) h few e = find_few links m (λ h. same_input None h.input) m.handlers h few e
 

@@ -36,6 +36,7 @@ use Rattle.sx_ir.specs.Meaning.{OperationResult, saved, do_op, next, when, on_to
 use Rattle.sx_ir.specs.Sound.{are_sealed, is_even, is_free, is_sound_op, may_change}
 use Rattle.sx_stub.proofs.Mem.{word_same, get-put_bytes_other}
 use Rattle.sx_lists.specs.Truth.{truth}
+use Rattle.sx_tmpl.proofs.Running.Outcomes.{ok_same}
 
 -- a place to return to is the one that was, or the next one
 abbrev pub ReturnsFrom : Conf → Option ℕ → Type 0
@@ -92,21 +93,15 @@ bytes_kept priv o bs far = word_same priv (put_bytes priv o bs) 10 10 refl refl 
 length-read_bytes : (s : Setup) (devices : List Window) (mem : List ℕ) (a n : ℕ) (bs : List ℕ) → read_bytes s devices mem a n ≡ Ok bs → length bs ≡ n
 unfolding read_bytes
 length-read_bytes s devices mem a zero bs e = ap length (sym (ok_same [] bs e))
-  where
-    ok_same : (x y : List ℕ) → ◌≡◌ {A = Result (List ℕ) Violation} (Ok x) (Ok y) → x ≡ y
-    ok_same x y e = cc
 length-read_bytes s devices mem a (suc n) bs e = go (read_byte s devices mem a) (read_bytes s devices mem (a + 1) n) e (λ rest f. length-read_bytes s devices mem (a + 1) n rest f)
   where
     err_ok : (v : Violation) → ◌≡◌ {A = Result (List ℕ) Violation} (Err v) (Ok bs) → ⊥
     err_ok v e = cc
 
-    ok_same : (x : List ℕ) → ◌≡◌ {A = Result (List ℕ) Violation} (Ok x) (Ok bs) → x ≡ bs
-    ok_same x e = cc
-
     go : (r : Result ℕ Violation) (t : Result (List ℕ) Violation) → then_ r (λ b. then_ t (λ bs. Ok (b ∷ bs))) ≡ Ok bs → ((rest : List ℕ) → t ≡ Ok rest → length rest ≡ n) → length bs ≡ suc n
     go (Err v) t e f = absurd (err_ok v e)
     go (Ok b) (Err v) e f = absurd (err_ok v e)
-    go (Ok b) (Ok rest) e f = ap length (sym (ok_same (b ∷ rest) e)) ∙ ap suc (f rest refl)
+    go (Ok b) (Ok rest) e f = ap length (sym (ok_same (b ∷ rest) bs e)) ∙ ap suc (f rest refl)
 
 beside : (size o n : ℕ) → may_change size o n ≡ true → Beside o n
 beside size o n h = go (or_cases (nat_le (o + n) 6) (nat_le 14 o) (and_parts (is_free size o n) (nat_le (o + n) 6 || nat_le 14 o) h).1)

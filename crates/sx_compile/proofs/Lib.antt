@@ -15,3 +15,4 @@ pub mod BodyText
 pub mod Handling
 pub mod BodyDoes
 pub mod Links
+pub mod Returning

@@ -1,7 +1,8 @@
 -- The handlers' parts in a module's whole code.
-use Rattle.std.proofs.Common.{◌≡◌, ℕ, zero, suc, ◌+◌, ◌<◌, ◌≤◌, List, [], ◌∷◌, ◌++◌, length, Option, Some, None, refl, ap, ◌∙◌, subst, arith}
+use Rattle.std.proofs.Common.{◌≡◌, ℕ, zero, suc, ◌+◌, ◌≤◌, List, [], ◌∷◌, ◌++◌, length, Some, refl, ap, ◌∙◌, subst, arith}
 use Rattle.std.specs.Prelude.{slice_get}
 use Rattle.std.proofs.lemmas.List.{append-nil, append_assoc}
+use Rattle.std.proofs.lemmas.Option.{none-some, same_Some}
 use Rattle.sx_lang.specs.declared.tree.Decl.{Decl}
 use Rattle.sx_lang.specs.Sizes.{handler_cost, handlers_cost, module_cost}
 use Rattle.sx_lang.specs.Tree.{HandlerTree}
@@ -19,34 +20,20 @@ use Rattle.sx_lower.proofs.Reacts.{lowered_reacts}
 use Rattle.sx_stub.specs.Invokes.{StartsWith}
 use Rattle.sx_stub.specs.Joined.{PartsDo}
 use Rattle.sx_stub.specs.Stub.{returns, stub_code, stub_ops}
+use Rattle.sx_stub.proofs.Made.{first_of}
 use Rattle.sx_compile.specs.Compiled.{compiled_ops, compiled_parts}
-
--- the start of a list
-front_of : (xs ys : List Ir) (i : ℕ) → i < length xs → slice_get (xs ++ ys) i ≡ slice_get xs i
-front_of [] ys i lt = absurd (omega (arith, lt))
-front_of (x ∷ xs) ys zero lt = refl
-front_of (x ∷ xs) ys (suc i) lt = front_of xs ys i (omega (arith, lt))
 
 -- each handler's part is listed
 part_listed : (ds : List Decl) (ends : List End) (hs : List HandlerTree) (p k : ℕ) (h : HandlerTree) → slice_get hs k ≡ Some h
     → (from : ℕ) × (to : ℕ) × (slice_get (handlers_parts ds ends p hs) k ≡ Some (from, to))
-part_listed ds ends [] p k h e = absurd (none_some e)
-  where
-    none_some : ◌≡◌ {A = Option HandlerTree} None (Some h) → ⊥
-    none_some e = cc
+part_listed ds ends [] p k h e = absurd (none-some h e)
 part_listed ds ends (x ∷ hs) p zero h e = (p, p + length (handler_code ds ends p x), refl)
 part_listed ds ends (x ∷ hs) p (suc k) h e = part_listed ds ends hs (p + length (handler_code ds ends p x)) k h e
 
 -- a handler costs no more than its module
 cost_within : (hs : List HandlerTree) (k : ℕ) (h : HandlerTree) → slice_get hs k ≡ Some h → handler_cost h ≤ handlers_cost hs
-cost_within [] k h e = absurd (none_some e)
-  where
-    none_some : ◌≡◌ {A = Option HandlerTree} None (Some h) → ⊥
-    none_some e = cc
-cost_within (x ∷ hs) zero h e = let c = ap handler_cost (some_same e) in omega (arith, c)
-  where
-    some_same : ◌≡◌ {A = Option HandlerTree} (Some x) (Some h) → x ≡ h
-    some_same e = cc
+cost_within [] k h e = absurd (none-some h e)
+cost_within (x ∷ hs) zero h e = let c = ap handler_cost (same_Some x h e) in omega (arith, c)
 cost_within (x ∷ hs) (suc k) h e = let c = cost_within hs k h e in omega (arith, c)
 
 -- the code begins with the entry protocol
@@ -55,7 +42,7 @@ unfolding compiled_ops
 starts s i lt =
     let stub = stub_code s.tree s.ends in
     let bodies = handlers_code s.tree.decls s.ends (length (stub_ops s.tree s.ends)) s.tree.handlers in
-    ap (λ (l : List Ir). slice_get l i) (append_assoc stub (returns 5) bodies) ∙ front_of stub (returns 5 ++ bodies) i lt
+    ap (λ (l : List Ir). slice_get l i) (append_assoc stub (returns 5) bodies) ∙ first_of stub (returns 5 ++ bodies) i lt
 
 -- each part does its handler
 pub parts_do : (s : Setup) → IsLowerable s.tree s.ends → PartsDo s (compiled_ops s.tree s.ends) (compiled_parts s.tree s.ends) (module_cost s.tree)

@@ -13,10 +13,10 @@ use Rattle.sx_ir.specs.declared.ir.Ir.TheVariants as ir
 use Rattle.sx_ir.specs.declared.ir.IrOp.{IrOp}
 use Rattle.sx_ir.specs.declared.ir.IrOp.TheVariants as op
 use Rattle.sx_ir.specs.Sizes.{bytes, has_routine, is_packet, op_bytes, operator_bytes, ops_bytes, routines}
+use Rattle.sx_ir.proofs.Appended.{ops_bytes-append}
 use Rattle.sx_lower.specs.Lowered.{handlers_code}
 use Rattle.sx_lower.specs.Lowering.{AreHandlerOps, IsHandlerOp, IsLowerable, IsSender}
 use Rattle.sx_lower.proofs.Reacts.{lowered_fits}
-use Rattle.sx_lower.proofs.Sizes.{ops_bytes-append}
 use Rattle.sx_stub.specs.Sound.{is_plain}
 use Rattle.sx_stub.specs.Stub.{is_receiving, is_to, stub_ops}
 use Rattle.sx_stub.proofs.StubFits.{stub_fits}

@@ -1,9 +1,9 @@
 -- What an invocation that returns has written outside.
-use Rattle.std.proofs.Common.{◌≡◌, ℕ, zero, suc, ◌+◌, ◌*◌, ◌<◌, ◌≤◌, ⊎_elim, Bool, true, false, ◌&&◌, ◌||◌, not, List, [], ◌∷◌, ◌++◌, length, get_or, set}
+use Rattle.std.proofs.Common.{◌≡◌, ℕ, zero, suc, ◌+◌, ◌*◌, ◌<◌, ◌≤◌, ⊎_elim, Bool, true, false, ◌&&◌, not, List, [], ◌∷◌, ◌++◌, length, get_or, set}
 use Rattle.std.proofs.Common.{take, Option, Some, None, Result, Ok, Err, refl, sym, ap, ◌∙◌, subst, arith}
 use Rattle.std.specs.Prelude.{slice_index, if◌then◌else◌, nat_le, nat_lt}
 use Rattle.std.proofs.lemmas.List.{get_or-set_other, get_or-set_same, length-set, length-append, ext_get_or}
-use Rattle.std.proofs.lemmas.Bool.{true≢false, lt-ltb, le-leb, le-ltb, cases_lt, or_parts}
+use Rattle.std.proofs.lemmas.Bool.{true≢false, lt-ltb, le-leb, le-ltb, cases_lt, or_parts, and_right}
 use Rattle.sx_mean.specs.declared.events.End.{End}
 use Rattle.sx_mean.specs.declared.events.Act.{Act}
 use Rattle.sx_mean.specs.declared.events.Act.TheVariants.{Send, Emit}
@@ -19,13 +19,12 @@ use Rattle.sx_bus.specs.Devices.{device_at}
 use Rattle.sx_tag.specs.Wrap.{wrapped, crypt}
 use Rattle.sx_machine.specs.Memory.{word}
 use Rattle.sx_machine.specs.Memory.{bytes_from}
-use Rattle.sx_machine.specs.Ranges.{meets}
 use Rattle.sx_invoke.specs.Setup.{Setup, Call}
 use Rattle.sx_tag.specs.Mac.{IsTag}
 use Rattle.sx_invoke.specs.Marks as mark
 use Rattle.sx_invoke.specs.ModuleState.{EndState, end_of}
 use Rattle.sx_invoke.specs.Windows.{write_byte, write_bytes, then_, unless_device, is_bad_window, in_window_size, out_window_size}
-use Rattle.sx_invoke.specs.Progress.{Progress, Invoked, Returns, Violates, Course, Going, Broken, and_on, finished}
+use Rattle.sx_invoke.specs.Progress.{Progress, Invoked, Returns, Course, Going, Broken, and_on, finished}
 use Rattle.sx_invoke.specs.Acts.{with_piece, copied_to, with_packet, event_packet, wrap_counted, with_packets, with_act, with_acts, actuated, own_window, handled}
 use Rattle.sx_mean.specs.Ends.{is_sending}
 use Rattle.sx_invoke.specs.Invocation.{invoke, has_bad_windows}
@@ -39,6 +38,8 @@ use Rattle.sx_stub.proofs.Packets.{bytes_from_get}
 use Rattle.sx_invoke.proofs.PiecesMarked.{bytes_more, packet_length, tag_length}
 use Rattle.sx_machine.proofs.Lengths.{length-bytes_from}
 use Rattle.sx_tmpl.proofs.Running.Outcomes.{ok_same}
+use Rattle.sx_tmpl.proofs.Texts.Entering.{window_short}
+use Rattle.sx_compile.proofs.Returning.{returns_same, violates_returns}
 
 -- only places where pieces go changed, there the pieces stand, and the out-window holds them
 pub record Written (s : Setup) (call : Call) (before : List ℕ) (p : Progress) : Type 0 where
@@ -165,20 +166,11 @@ module _ (s : Setup) (call : Call) (tag : IsTag s.mac) (before : List ℕ) (room
       (λ (lo : call.output ≤ at). ⊎_elim
       (λ (hi : at < call.output + bytes_in ps). let more = bytes_more ps piece in
       ap (λ (b : Bool). nat_le call.output at && (nat_lt at (call.output + bytes_in ps) && b)) (address_false (ps ++ piece ∷ []) at e lo (omega (arith, hi, more)))
-      ∙ false_twice (nat_le call.output at) (nat_lt at (call.output + bytes_in ps)))
+      ∙ and_right (nat_le call.output at) (nat_lt at (call.output + bytes_in ps) && false) (and_right (nat_lt at (call.output + bytes_in ps)) false refl))
       (λ (hi : call.output + bytes_in ps ≤ at). ap (λ (b : Bool). nat_le call.output at && (b && may s.live s.section.id Write at)) (le-ltb at (call.output + bytes_in ps) hi)
-      ∙ false_once (nat_le call.output at))
+      ∙ and_right (nat_le call.output at) false refl)
       (cases_lt at (call.output + bytes_in ps)))
       (cases_lt at call.output)
-    where
-      false_once : (b : Bool) → (b && false) ≡ false
-      false_once true = refl
-      false_once false = refl
-
-      false_twice : (a b : Bool) → (a && (b && false)) ≡ false
-      false_twice true true = refl
-      false_twice true false = refl
-      false_twice false b = refl
 
   -- a piece more
   piece_more : (piece : List ℕ) (p q : Progress) → with_piece s call piece p ≡ Going q → Whole p → length piece ≡ 24 → length q.pieces ≤ 16 → Whole q
@@ -324,12 +316,6 @@ module _ (s : Setup) (call : Call) (tag : IsTag s.mac) (before : List ℕ) (room
   Ended : Progress → Invoked → Type 0
   Ended p r = (status : ℕ) (q : Progress) → r ≡ Returns status q → length q.pieces ≤ 16 → Written s call before q
 
-  returns_same : (a b : ℕ) (x y : Progress) → Returns a x ≡ Returns b y → x ≡ y
-  returns_same a b x y h = cc
-
-  violates_returns : (v : Violation) (x : Progress) (b : ℕ) (y : Progress) → Violates v x ≡ Returns b y → ⊥
-  violates_returns v x b y h = cc
-
   first_whole : (p : Progress) → p.pieces ≡ [] → p.mem ≡ before → Whole p
   first_whole p none same = record {
     full = ap (λ (l : List (List ℕ)). bytes_in l) none ∙ sym (ap (λ (l : List (List ℕ)). 24 * length l) none);
@@ -390,10 +376,6 @@ nothing_written s call p r none e f = record {
   fits = subst (λ (l : List (List ℕ)). bytes_in l ≤ 384) (sym (e ∙ none)) (omega arith);
 }
 
-window_room : (s : Setup) (a : ℕ) → is_bad_window s a 384 ≡ false → a + 384 ≤ 65536
-window_room s a h = ⊎_elim (λ (p : 65536 < a + 384). absurd (true≢false (sym (ap (λ (b : Bool). b || meets a 384 s.section.layout.priv_from s.section.layout.priv_to) (lt-ltb 65536 (a + 384) p))
-    ∙ h))) (λ (p : a + 384 ≤ 65536). p) (cases_lt 65536 (a + 384))
-
 pub returns_written : (s : Setup) (call : Call) (p q : Progress) (status : ℕ) → IsTag s.mac → p.pieces ≡ [] → length p.mem ≡ 65536
     → invoke s call p ≡ Returns status q → length q.pieces ≤ 16 → Written s call p.mem q
 unfolding Ended
@@ -401,7 +383,7 @@ returns_written s call p q status tag none size h few =
     by_entry s call p (λ r. r ≡ Returns status q → Written s call p.mem q)
     (record {
       refused = λ a. nothing a p refl refl;
-      violated = λ v e. absurd (never v p status q e);
+      violated = λ v e. absurd (violates_returns v p status q e);
       keyed = λ good k packet body. nothing all_done (end_keyed k packet (take key_size body) p) refl refl;
       attested = λ good ask e. attest_ended s call tag p.mem (room good) p ask none refl status q e few;
       taken = λ good o packet body. handles good (event.Input o.1.port (word body 0)) (number_taken o.0 packet (take value_size body) (end_of p.state.ends o.0) p) refl refl;
@@ -409,17 +391,11 @@ returns_written s call p q status tag none size h few =
     })
     h
   where
-    same_of : (a b : ℕ) (x y : Progress) → Returns a x ≡ Returns b y → x ≡ y
-    same_of a b x y h = cc
-
-    never : (v : Violation) (x : Progress) (b : ℕ) (y : Progress) → Violates v x ≡ Returns b y → ⊥
-    never v x b y h = cc
-
     nothing : (a : ℕ) (r : Progress) → r.pieces ≡ p.pieces → r.mem ≡ p.mem → Returns a r ≡ Returns status q → Written s call p.mem q
-    nothing a r e f g = subst (Written s call p.mem) (same_of a status r q g) (nothing_written s call p r none e f)
+    nothing a r e f g = subst (Written s call p.mem) (returns_same a status r q g) (nothing_written s call p r none e f)
 
     room : has_bad_windows s call ≡ false → call.output + 384 ≤ length p.mem
-    room good = let r = window_room s call.output (or_parts (is_bad_window s call.input in_window_size) (is_bad_window s call.output out_window_size) good).1 in omega (arith, r, size)
+    room good = let r = window_short s call.output (or_parts (is_bad_window s call.input in_window_size) (is_bad_window s call.output out_window_size) good).1 in omega (arith, r, size)
 
     handles : has_bad_windows s call ≡ false → (e : SourceEvent) (r : Progress) → r.pieces ≡ p.pieces → r.mem ≡ p.mem → finished (handled s call e r) ≡ Returns status q → Written s call p.mem q
     handles good e r ep em g = handles_ended s call tag p.mem (room good) e p r none refl ep em status q g few
@@ -429,5 +405,5 @@ pub handled_written : (s : Setup) (call : Call) (e : SourceEvent) (p q : Progres
     → handled s call e p ≡ Going q → length q.pieces ≤ 16 → Written s call p.mem q
 unfolding Ended
 handled_written s call e p q tag none size window goes few =
-    let r = window_room s call.output window in
+    let r = window_short s call.output window in
     finishes s call tag p.mem (omega (arith, r, size)) (handled s call e) p none refl (handler_adds s call tag p.mem (omega (arith, r, size)) e p) 1 q (ap finished goes) few

@@ -1,6 +1,6 @@
 -- A private section of zeros represents the initial state.
 use Rattle.sx_compile.specs.Laws.{ZerosInitial}
-use Rattle.std.proofs.Common.{◌≡◌, ℕ, zero, suc, ◌+◌, ◌%◌, ◌<◌, List, [], ◌∷◌, ◌++◌, length, get_or, replicate, refl, sym, ap, ◌∙◌, arith}
+use Rattle.std.proofs.Common.{◌≡◌, ℕ, zero, suc, ◌+◌, ◌%◌, ◌<◌, List, [], ◌∷◌, ◌++◌, length, replicate, refl, sym, ap, ◌∙◌, arith}
 use Rattle.sx_lang.specs.declared.tree.Decl.{Decl}
 use Rattle.sx_lang.specs.declared.tree.Decl.TheVariants.{Device, Input, Output, Var, Array}
 use Rattle.sx_mean.specs.declared.events.End.{End}
@@ -12,11 +12,7 @@ use Rattle.sx_invoke.specs.ModuleState.{EndState, end_state, end_states, initial
 use Rattle.sx_lang.specs.Words.{DeclHasWords, DeclsHaveWords}
 use Rattle.sx_stub.proofs.Mem.{bytes_from_same}
 use Rattle.sx_stub.proofs.Slots.{end_state_is}
-
-zero_at : (n k : ℕ) → ◌≡◌ {A = ℕ} (get_or (replicate n 0) k 0) 0
-zero_at zero k = refl
-zero_at (suc n) zero = refl
-zero_at (suc n) (suc k) = zero_at n k
+use Rattle.sx_lists.proofs.Lists.{zero_at}
 
 zero_word : (n a : ℕ) → word (replicate n 0) a ≡ 0
 zero_word n a = let p = zero_at n (Rattle.sx_machine.specs.Memory.even a) in let q = zero_at n (Rattle.sx_machine.specs.Memory.even a + 1) in omega (arith, p, q)

@@ -1,9 +1,9 @@
 -- A module is called in a settled world, and the packets that it made are taken: the world is settled again.
 use Rattle.std.proofs.Common.{◌≡◌, ◌≢◌, ℕ, suc, ◌+◌, ◌≤◌, List, [], ◌∷◌, ◌++◌, length, length-append, Some, slice_get, append_assoc, refl, sym, ◌∙◌, ap, subst, arith}
 use Rattle.std.specs.Prelude.{All, slice_set}
+use Rattle.std.proofs.lemmas.List.{set-set}
 use Rattle.sx_rules.specs.declared.section.Section.{Section}
 use Rattle.sx_rules.specs.Access.{Lives, Sections}
-use Rattle.sx_bus.specs.declared.devices.Window.{Window}
 use Rattle.sx_mean.specs.Application.{PartTree}
 use Rattle.sx_trace.specs.declared.items.Item.{Item}
 use Rattle.sx_trace.specs.declared.items.Item.TheVariants as item
@@ -12,6 +12,7 @@ use Rattle.sx_tag.specs.Mac.{IsTag}
 use Rattle.sx_machine.specs.State.{State}
 use Rattle.sx_machine.specs.Node.{IsNode}
 use Rattle.sx_machine.specs.NodeLaws.{shapes}
+use Rattle.sx_machine.proofs.Devices.{same_places}
 use Rattle.sx_image.specs.Image.{private_bytes, public_bytes}
 use Rattle.sx_invoke.specs.Windows.{two}
 use Rattle.sx_invoke.specs.Acts.{event_header}
@@ -24,7 +25,6 @@ use Rattle.sx_run.specs.State.{World, Acted}
 use Rattle.sx_run.specs.Acts.{then_, with_node}
 use Rattle.sx_run.specs.Run.{after_line, call, line_counted, run}
 use Rattle.sx_run.specs.Law.{IsSoundSetting}
-use Rattle.sx_run.proofs.steps.Stretch.{set_set}
 use Rattle.sx_lists.proofs.Lists.{get_same}
 use Rattle.sx_calls.specs.Shown.{devices_after}
 use Rattle.sx_calls.specs.FourCalls.{CallDoes, CallEffect}
@@ -151,14 +151,8 @@ module _ (set : Setting) (sound : IsSoundSetting set) (room : HasRoom set) (c : 
     high3 = record {
       sections = λ x l. before.high.sections x (subst (λ (z : Sections). Lives z.live x) does.returned.sections l);
       devices = subst (λ ps. All (λ at. 512 ≤ at) ps)
-          (places_same s1.devices u.devices (sym does.returned.windows)) before.high.devices;
+          (same_places s1.devices u.devices (sym does.returned.windows)) before.high.devices;
     }
-      where
-        places_same : (a b : List Window) → shapes a ≡ shapes b → Rattle.sx_bus.specs.Devices.places_of a ≡ Rattle.sx_bus.specs.Devices.places_of b
-        places_same a b same =
-            Rattle.sx_run.proofs.accepted.Windows.places_shapes a
-            ∙ ap (λ zs. Rattle.std.specs.Prelude.map (λ (p : ℕ × Rattle.sx_bus.specs.declared.devices.Kind.Kind). p.0) zs) same
-            ∙ sym (Rattle.sx_run.proofs.accepted.Windows.places_shapes b)
 
     takes : Takes set w3 (take_lines n 0x80 k) (packet_items (length w3.packets) 24 k) effect.pieces
     takes =
@@ -199,7 +193,7 @@ module _ (set : Setting) (sound : IsSoundSetting set) (room : HasRoom set) (c : 
           texts = λ x l. does.returned.texts x (still x l) ∙ before.stays.texts x l;
           others = λ x l ne. does.returned.others x (still x l) ne ∙ before.stays.others x l ne;
           state = does.returned.state ∙ makes.state;
-          nodes = takes.nodes ∙ ap (λ (ns : List State). slice_set ns n u) before.nodes ∙ set_set w.nodes n s1 u;
+          nodes = takes.nodes ∙ ap (λ (ns : List State). slice_set ns n u) before.nodes ∙ set-set w.nodes n s1 u;
           packets = takes.packets ∙ ap (λ (ps : List (List ℕ)). w1.packets ++ ps) makes.pieces ∙ ap (λ (zs : List (List ℕ)). zs ++ pieces_of set (all_sent c) ys) before.packets;
           deployer = takes.deployer ∙ before.deployer;
           ledger = takes.ledger ∙ ap (λ (es : List Made). w1.ledger ++ es) makes.entries ∙ ap (λ (zs : List Made). zs ++ entries_for m (all_sent c) ys) before.ledger;

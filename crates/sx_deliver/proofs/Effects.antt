@@ -15,7 +15,7 @@ use Rattle.sx_mean.specs.React.{react}
 use Rattle.sx_mean.proofs.ValidApplications.{valid_applications}
 use Rattle.sx_trace.specs.declared.items.Item.{Item}
 use Rattle.sx_machine.specs.State.{State}
-use Rattle.sx_invoke.specs.ModuleState.{EndState, ModuleState}
+use Rattle.sx_invoke.specs.ModuleState.{EndState}
 use Rattle.sx_run.specs.Setting.{Site, Setting}
 use Rattle.sx_run.specs.Observation.{from_of, sender_of}
 use Rattle.sx_run.specs.State.{World}
@@ -27,6 +27,7 @@ use Rattle.sx_calls.specs.FourCalls.{emitted}
 use Rattle.sx_honest.specs.Plain.{Output, Waiting, act_sends, acts_emit, acts_send}
 use Rattle.sx_honest.specs.Course.{Course}
 use Rattle.sx_setup.proofs.forms.Settled.{Settled, all_sent, module_as, open_end}
+use Rattle.sx_setup.proofs.KeyLoop.{state_with}
 use Rattle.sx_deliver.proofs.Leaving.{Among, acts_leave, ends_kept}
 use Rattle.sx_deliver.proofs.Making.{sends_are, sends_over}
 
@@ -89,9 +90,6 @@ node_there set sound valid c w settled m q site part sited =
 
 pub site_there : (set : Setting) → IsSoundSetting set → (m : ℕ) (q : PartTree) → slice_get set.app.parts m ≡ Some q → (site : Site) × (slice_get set.sites m ≡ Some site)
 site_there set sound m q part = (let a = get_within set.app.parts m q part in let b = sound.sites in get_some set.sites m (omega (arith, a, b)))
-
-abbrev pub state_with : List ℕ → List EndState → ModuleState
-state_with cells ends = record { cells = cells; ends = ends }
 
 -- A course after an event of the m-th module, where these values wait from before.
 module _ (set : Setting) (c : Course) (m : ℕ) (acts : List Act) (past2 rest : List Waiting) (new : List ℕ) (outs : List Output) (items : List Item) (sent : past2 ++ rest ≡ all_sent c) where

@@ -1,16 +1,14 @@
 -- The receiving end of a connection is found among the ends of the module that it goes to.
 use Rattle.std.proofs.Common.{◌≡◌, ℕ, zero, suc, ◌+◌, ◌==◌, ◌&&◌, Bool, true, false, if◌then◌else◌, List, [], ◌∷◌, Option, Some, None, slice_get, refl, sym, ◌∙◌, ap, subst, arith}
 use Rattle.std.specs.List.{cons_option}
-use Rattle.std.proofs.lemmas.Bool.{eq-eqb, ne_eqb}
+use Rattle.std.proofs.lemmas.Bool.{eq-eqb, ne_eqb, and_right}
 use Rattle.std.proofs.lemmas.Option.{same_Some}
 use Rattle.sx_lang.specs.declared.sides.Side.TheVariants.{From, To}
 use Rattle.sx_mean.specs.declared.apps.Link.{Link}
 use Rattle.sx_mean.specs.declared.events.End.{End}
 use Rattle.sx_mean.specs.Ends.{ends_after, receiving, sending}
 use Rattle.sx_invoke.specs.Entries.{end_found, end_is}
-
-abbrev pub placed : ℕ → End → Option (ℕ × End)
-placed k e = Some (k, e)
+use Rattle.sx_setup.proofs.KeyLoop.{placed}
 
 -- the first receiving end of a connection, from the i-th end on
 pub record IsFound (c i : ℕ) (es : List End) (e : End) : Type 0 where
@@ -29,10 +27,6 @@ found_past (Some x) c i es e other f =
       there = r.there;
     }
 
-neither : (b : Bool) → (b && false) ≡ false
-neither true = refl
-neither false = refl
-
 abbrev sent_end : ℕ → Link → End
 sent_end c l = record { link = c; side = From; port = l.output }
 
@@ -43,7 +37,7 @@ sending_not : (n p c : ℕ) (l : Link) (x : End) → sending n p l ≡ Some x �
 sending_not n p c l x e = go (l.from == p) e
   where
     go : (b : Bool) → (if b then Some (sent_end n l) else None) ≡ Some x → end_is c To x ≡ false
-    go true e = subst (λ (z : End). end_is c To z ≡ false) (same_Some (sent_end n l) x e) (neither (n == c))
+    go true e = subst (λ (z : End). end_is c To z ≡ false) (same_Some (sent_end n l) x e) (and_right (n == c) false refl)
     go false e = absurd cc
 
 receiving_not : (n p c : ℕ) (l : Link) (x : End) → (n ≡ c → ⊥) → receiving n p l ≡ Some x → end_is c To x ≡ false

@@ -1,5 +1,5 @@
 -- Each module's cells, and each value on its way, are words: an event leaves them so.
-use Rattle.std.proofs.Common.{◌≡◌, ℕ, zero, suc, ◌+◌, ◌<◌, inl, inr, Bool, true, false, if◌then◌else◌, List, [], ◌∷◌, length, map, Some, slice_get, refl, sym, ◌∙◌, ap, subst, arith}
+use Rattle.std.proofs.Common.{◌≡◌, ℕ, suc, ◌+◌, ◌<◌, inl, inr, Bool, true, false, if◌then◌else◌, List, [], ◌∷◌, length, map, Some, slice_get, refl, sym, ◌∙◌, ap, subst, arith}
 use Rattle.std.specs.Prelude.{slice_index_or, slice_set}
 use Rattle.std.specs.List.{All}
 use Rattle.std.proofs.lemmas.Bool.{cases_eq}
@@ -17,6 +17,7 @@ use Rattle.sx_mean.specs.React.{value_of}
 use Rattle.sx_mean.specs.Words.{ActsOnWord, AreCells}
 use Rattle.sx_mean.proofs.Words.{cells_begin, reactions_keep_words}
 use Rattle.sx_honest.specs.Plain.{Plain, Waiting, act_sends, acts_send, over, plain_start, reacted, reaction}
+use Rattle.sx_honest.proofs.Setup.{first_cells_at}
 use Rattle.sx_deliver.specs.Laws.{HaveWords}
 
 -- a value on its way is a word
@@ -30,11 +31,6 @@ pub record InWords (app : AppTree) (s : Plain) : Type 0 where
 
 -- at the start
 
-cells_at : (qs : List PartTree) (m : ℕ) (q : PartTree) → slice_get qs m ≡ Some q → slice_index_or (map (λ (q : PartTree). initial_cells q.tree.decls) qs) m [] ≡ initial_cells q.tree.decls
-cells_at [] m q e = absurd cc
-cells_at (x ∷ qs) zero q e = ap (λ (z : PartTree). initial_cells z.tree.decls) (same_Some x q e)
-cells_at (x ∷ qs) (suc m) q e = cells_at qs m q e
-
 as_many : (qs : List PartTree) → length (map (λ (q : PartTree). initial_cells q.tree.decls) qs) ≡ length qs
 as_many [] = refl
 as_many (q ∷ qs) = ap (λ (k : ℕ). suc k) (as_many qs)
@@ -42,7 +38,7 @@ as_many (q ∷ qs) = ap (λ (k : ℕ). suc k) (as_many qs)
 pub words_start : (app : AppTree) → HaveWords app → InWords app (plain_start app)
 words_start app words = record {
   many = as_many app.parts;
-  cells = λ m q there. subst (λ (cs : List ℕ). AreCells q.tree.decls cs) (sym (cells_at app.parts m q there)) (cells_begin q.tree.decls (words m q there).decls);
+  cells = λ m q there. subst (λ (cs : List ℕ). AreCells q.tree.decls cs) (sym (first_cells_at app.parts m q there)) (cells_begin q.tree.decls (words m q there).decls);
   waiting = All-nil HasWord;
 }
 

@@ -25,7 +25,7 @@ use Rattle.sx_machine.specs.State.{State}
 use Rattle.sx_invoke.specs.Setup.{Setup}
 use Rattle.sx_invoke.specs.ModuleState.{EndState, end_of, with_end}
 use Rattle.sx_invoke.specs.Acts.{event_header, event_packet}
-use Rattle.sx_invoke.specs.Marks.{Mark, Wrapped, Unwrapped, Sampled, Actuated}
+use Rattle.sx_invoke.specs.Marks.{Wrapped}
 use Rattle.sx_invoke.specs.Windows.{two}
 use Rattle.sx_run.specs.Setting.{Setting, Site}
 use Rattle.sx_run.specs.Deployer.{connection_key}
@@ -34,6 +34,8 @@ use Rattle.sx_gives.specs.Effect.{Effect, act_made, acts_made, also, emit_marks,
 use Rattle.sx_calls.specs.Shown.{devices_after}
 use Rattle.sx_calls.specs.Calls.{setup_of}
 use Rattle.sx_calls.specs.FourCalls.{entries_of}
+use Rattle.sx_calls.proofs.Observing.{devices_append}
+use Rattle.sx_calls.proofs.Showing.{marks_entries}
 use Rattle.sx_honest.specs.Plain.{Waiting, act_sends, acts_send, over}
 use Rattle.sx_honest.specs.Course.{count_over}
 use Rattle.sx_honest.proofs.Lists.{words-few}
@@ -65,22 +67,6 @@ entries_append m all [] vs = ap (λ zs. entries_for m zs vs) (sym (append-nil al
 entries_append m all (w ∷ ws) vs =
     ap (λ (es : List Made). entry_of m all w ∷ es)
     (entries_append m (all ++ w ∷ []) ws vs ∙ ap (λ zs. entries_for m (all ++ w ∷ []) ws ++ entries_for m zs vs) (append_assoc all (w ∷ []) ws))
-
--- Marks, one after the other.
-
-marks_entries : (m : ℕ) (a b : List Mark) → entries_of m (a ++ b) ≡ entries_of m a ++ entries_of m b
-marks_entries m [] b = refl
-marks_entries m (Wrapped header body own ∷ a) b = ap (λ (es : List Made). made_entry (maker.Module m) NO_TARGET 0 header body ∷ es) (marks_entries m a b)
-marks_entries m (Unwrapped header body own ∷ a) b = marks_entries m a b
-marks_entries m (Sampled k v ∷ a) b = marks_entries m a b
-marks_entries m (Actuated k v ∷ a) b = marks_entries m a b
-
-pub marks_devices : (a b : List Mark) (ds : List Window) → devices_after (a ++ b) ds ≡ devices_after b (devices_after a ds)
-marks_devices [] b ds = refl
-marks_devices (Wrapped header body own ∷ a) b ds = marks_devices a b ds
-marks_devices (Unwrapped header body own ∷ a) b ds = marks_devices a b ds
-marks_devices (Sampled k v ∷ a) b ds = marks_devices a b _
-marks_devices (Actuated k v ∷ a) b ds = marks_devices a b ds
 
 -- An end at its place.
 
@@ -176,7 +162,7 @@ module _ (set : Setting) (m : ℕ) (q : PartTree) (site : Site) (sec : Section) 
     entries =
         marks_entries m d.marks (rest d.ends).marks ∙ ap (λ (zs : List Made). zs ++ entries_of m (rest d.ends).marks) a.entries
         ∙ ap (λ (zs : List Made). entries_for m all ws ++ zs) b.entries ∙ sym (entries_append m all ws vs);
-    quiet = λ ds. marks_devices d.marks (rest d.ends).marks ds ∙ b.quiet (devices_after d.marks ds) ∙ a.quiet ds;
+    quiet = λ ds. devices_append d.marks (rest d.ends).marks ds ∙ b.quiet (devices_after d.marks ds) ∙ a.quiet ds;
   }
 
   -- one packet

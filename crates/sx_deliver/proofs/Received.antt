@@ -64,15 +64,16 @@ use Rattle.sx_setup.proofs.Acting.{packet_given}
 use Rattle.sx_setup.proofs.Bytes.{bytes_put}
 use Rattle.sx_setup.proofs.Free.{with_mem}
 use Rattle.sx_setup.proofs.KeyTaking.{put_serves, served_callable, served_low, served_put}
-use Rattle.sx_setup.proofs.Packets.{AreBytes, all_bytes, cipher_bytes, tag_bytes}
+use Rattle.sx_setup.proofs.Packets.{AreBytes, all_bytes, cipher_bytes, tag_bytes, both_bytes}
 use Rattle.sx_setup.proofs.Sites.{section_at}
+use Rattle.sx_setup.proofs.KeyLoop.{placed}
 use Rattle.sx_deliver.specs.Laws.{HaveWords}
 use Rattle.sx_deliver.specs.Schedule.{delivery_lines, take_lines}
 use Rattle.sx_deliver.proofs.ByLine.{call_shown, delivery_shown}
 use Rattle.sx_deliver.proofs.Calling.{Before, CalledThere, Follows, Makes, called_there, event_size, stays}
 use Rattle.sx_deliver.proofs.Effects.{emits_same, node_there, others_after, own_after, sends_few, sent_by, site_there}
 use Rattle.sx_deliver.proofs.Fitting.{delivery_is}
-use Rattle.sx_deliver.proofs.Found.{IsFound, end_there, placed}
+use Rattle.sx_deliver.proofs.Found.{IsFound, end_there}
 use Rattle.sx_deliver.proofs.Going.{Leads, Stands}
 use Rattle.sx_deliver.proofs.InWords.{HasWord, reacted_words, words_with}
 use Rattle.sx_deliver.proofs.Leaving.{ends_passed}
@@ -81,10 +82,6 @@ use Rattle.sx_deliver.proofs.Making.{Makes as MakesPackets}
 use Rattle.sx_deliver.proofs.Serving.{own_section, served_at}
 
 -- An event's packet is bytes.
-
-both_bytes : (xs ys : List ℕ) → AreBytes xs → AreBytes ys → AreBytes (xs ++ ys)
-both_bytes [] ys h g = g
-both_bytes (x ∷ xs) ys h g = (h.0, both_bytes xs ys h.1 g)
 
 two_bytes : (v : ℕ) → IsWord v → (v % 256 < 256) × (v / 256 < 256)
 two_bytes v h = (omega arith, omega (arith, h))

@@ -16,6 +16,7 @@ use Rattle.sx_mean.specs.Ends.{ends_of}
 use Rattle.sx_machine.specs.State.{State}
 use Rattle.sx_machine.specs.Node.{IsNode}
 use Rattle.sx_machine.specs.NodeLaws.{shapes}
+use Rattle.sx_machine.proofs.Devices.{places_in}
 use Rattle.sx_model.proofs.Written.{at_set}
 use Rattle.sx_image.specs.Image.{private_bytes, public_bytes}
 use Rattle.sx_invoke.specs.ModuleState.{state_of}
@@ -23,7 +24,6 @@ use Rattle.sx_run.specs.Setting.{Site, Setting, windows_at}
 use Rattle.sx_run.specs.Observation.{sender_of}
 use Rattle.sx_run.specs.State.{World}
 use Rattle.sx_run.specs.Law.{IsSoundSetting}
-use Rattle.sx_run.proofs.accepted.Windows.{places_shapes}
 use Rattle.sx_run.proofs.steps.Bystanders.{apart_self}
 use Rattle.sx_run.proofs.steps.Entry.{shapes_on}
 use Rattle.sx_run.proofs.steps.Steps.{bounds_of}
@@ -69,7 +69,7 @@ module _ (set : Setting) (sound : IsSoundSetting set) (room : HasRoom set) (c : 
       let stands = settled.nodes n s there in
       let xs = windows_at n set.app.devices set.places in
       let places : places_of (powered_on xs) ≡ places_of s.devices =
-      places_shapes (powered_on xs) ∙ ap (λ (zs : List (ℕ × Kind)). map (λ (p : ℕ × Kind). p.0) zs) (shapes_on xs ∙ sym stands.devices) ∙ sym (places_shapes s.devices) in
+      places_in (powered_on xs) ∙ ap (λ (zs : List (ℕ × Kind)). map (λ (p : ℕ × Kind). p.0) zs) (shapes_on xs ∙ sym stands.devices) ∙ sym (places_in s.devices) in
       record {
         sections = λ x l.
             let f = in_sections set n 1 set.sites x (subst (λ (z : Sections). Lives z.live x) stands.sections l) in

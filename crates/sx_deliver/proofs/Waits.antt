@@ -10,10 +10,10 @@ use Rattle.sx_run.specs.Ledger.{is_made, made_entry, same_entry}
 use Rattle.sx_run.specs.Observation.{sender_of}
 use Rattle.sx_run.specs.State.{World}
 use Rattle.sx_run.proofs.tie.Lists.{get_before}
+use Rattle.sx_run.proofs.tie.Entries.{made_in}
 use Rattle.sx_honest.specs.Plain.{Waiting}
 use Rattle.sx_honest.specs.Course.{count_over}
 use Rattle.sx_setup.proofs.forms.Settled.{IsOnItsWay, event_of}
-use Rattle.sx_setup.proofs.Packets.{made_in}
 use Rattle.sx_deliver.proofs.Making.{entries_for, entry_of, pieces_of}
 
 -- a value of two lists, one after the other, is one of the first or of the second

@@ -3,6 +3,7 @@ use Rattle.std.proofs.Common.{◌≡◌, ℕ, ◌+◌, ◌==◌, if◌then◌els
 use Rattle.std.proofs.Common.{subst, ◌∙◌, arith, append_assoc, append-nil, length-append}
 use Rattle.std.specs.List.{list_any}
 use Rattle.std.proofs.lemmas.Bool.Decides.{nat_tests}
+use Rattle.std.proofs.lemmas.Bool.{eq-eqb, or_parts}
 use Rattle.sx_mean.specs.declared.apps.Link.{Link}
 use Rattle.sx_stage.specs.Stage.{made_after}
 use Rattle.sx_stage.specs.declared.fault.Sort.TheVariants.{Module}
@@ -14,7 +15,6 @@ use Rattle.sx_deploy.specs.declared.placing.Placement.{Placement}
 use Rattle.sx_deploy.specs.Sources.{Coded}
 use Rattle.sx_deploy.specs.Places.{ModuleSections, Span, data_of, is_misplaced, is_outside, layout_of, meet, meets_module, placed_module, placement_of, sections_of, text_of}
 use Rattle.sx_deploy.specs.Law.{AreApartSpans, AreBeside}
-use Rattle.sx_lists.proofs.Truths.{or_false}
 
 pub and_false : (a b : Bool) → (a && b) ≡ false → a ≡ true → b ≡ false
 and_false true b h t = h
@@ -22,7 +22,7 @@ and_false false b h t = absurd (cc)
 
 pub none-any : {A : Type 0} (p : A → Bool) (xs : List A) → list_any p xs ≡ false → Each (λ x. p x ≡ false) xs
 none-any p [] h = tt
-none-any p (x ∷ xs) h = let parts = or_false (p x) (list_any p xs) h in (parts.0, none-any p xs parts.1)
+none-any p (x ∷ xs) h = let parts = or_parts (p x) (list_any p xs) h in (parts.0, none-any p xs parts.1)
 
 pub each-weaker : {A : Type 0} (P Q : A → Type 0) → ((x : A) → P x → Q x) → (xs : List A) → Each P xs → Each Q xs
 each-weaker P Q k [] h = tt
@@ -37,14 +37,8 @@ pub pair-snoc : {A : Type 0} (R : A → A → Type 0) (xs : List A) (y : A) → 
 pair-snoc R [] y h p = (tt, tt)
 pair-snoc R (x ∷ xs) y h p = (each-snoc (R x) xs y h.0 p.0, pair-snoc R xs y h.1 p.1)
 
-apart-meet : (a b : Span) → meet a b ≡ false → AreApartSpans b a
+pub apart-meet : (a b : Span) → meet a b ≡ false → AreApartSpans b a
 apart-meet a b h = grind (arith, nat_tests)
-
-equal-tests : (a b : ℕ) → a ≡ b → (a == b) ≡ true
-equal-tests a b h = grind (arith, nat_tests)
-
-pub tests-equal : (a b : ℕ) → (a == b) ≡ true → a ≡ b
-tests-equal a b h = grind (arith, nat_tests)
 
 module _ (devices : List DeviceEntry) (links : List Link) where
   -- where a module stands
@@ -85,18 +79,18 @@ module _ (devices : List DeviceEntry) (links : List Link) where
     where
       go : p.node ≡ s.node → AreApartSpans (text_of p) s.text × AreApartSpans (text_of p) s.data_part × AreApartSpans (data_of p) s.text × AreApartSpans (data_of p) s.data_part
       go same =
-          let parts = and_false (p.node == s.node) _ h (equal-tests p.node s.node same) in
-          let halves = or_false (meet s.text (text_of p) || meet s.text (data_of p)) _ parts in
-          let text = or_false (meet s.text (text_of p)) _ halves.0 in
-          let own = or_false (meet s.data_part (text_of p)) _ halves.1 in
+          let parts = and_false (p.node == s.node) _ h (eq-eqb p.node s.node same) in
+          let halves = or_parts (meet s.text (text_of p) || meet s.text (data_of p)) _ parts in
+          let text = or_parts (meet s.text (text_of p)) _ halves.0 in
+          let own = or_parts (meet s.data_part (text_of p)) _ halves.1 in
           (apart-meet s.text (text_of p) text.0, apart-meet s.data_part (text_of p) own.0, apart-meet s.text (data_of p) text.1, apart-meet s.data_part (data_of p) own.1)
 
   keeps : (done : List Placement) (m : Coded) (b : Placement) → EachPair AreBeside done → placed_module devices links done m ≡ Ok b → EachPair AreBeside (done ++ b ∷ [])
   keeps done m b old h =
       let s = sections_of devices links (length done) m in
       let one = one_placed done m b h in
-      let parts = or_false ((is_outside s.text || is_outside s.data_part) || meet s.text s.data_part) _ one.0 in
-      let earlier = or_false (list_any (meets_module s) done) _ parts.1 in
+      let parts = or_parts ((is_outside s.text || is_outside s.data_part) || meet s.text s.data_part) _ one.0 in
+      let earlier = or_parts (list_any (meets_module s) done) _ parts.1 in
       pair-snoc AreBeside done b old (each-weaker (λ (p : Placement). meets_module s p ≡ false) (λ (p : Placement). AreBeside p b)
       (λ p e. beside s p b one.1 e) done (none-any (meets_module s) done earlier.0))
 

@@ -1,6 +1,7 @@
 -- No two modules drive one device: their private sections would meet at its place.
 use Rattle.std.proofs.Common.{◌≡◌, ℕ, ◌+◌, ◌-◌, ◌<◌, ◌≤◌, ◌==◌, if◌then◌else◌, Bool, true, false, ◌&&◌, cond, List, [], ◌∷◌, length, map, count_by, min, Option}
 use Rattle.std.proofs.Common.{Some, None, refl, sym, ap, subst, ◌∙◌, ◌⊎◌, inl, inr, arith}
+use Rattle.std.proofs.lemmas.Bool.{eqb-true, and_parts}
 use Rattle.sx_lang.specs.Sizes.{module_data_size}
 use Rattle.sx_lang.specs.declared.tree.DeviceKind.{DeviceKind}
 use Rattle.sx_mean.specs.Application.{declared_kind, is_at, is_driven, same_kind}
@@ -17,8 +18,7 @@ use Rattle.sx_deploy.specs.Ties.{app_device, byte, start_device}
 use Rattle.sx_deploy.specs.Places.{ends_of, start_of}
 use Rattle.sx_deploy.specs.Law.{AreBeside}
 use Rattle.sx_check.proofs.Distinct.{count_by-cons}
-use Rattle.sx_deploy.proofs.Apart.{EachPair, stand, stand_after, tests-equal}
-use Rattle.sx_lists.proofs.Truths.{and_true}
+use Rattle.sx_deploy.proofs.Apart.{EachPair, stand, stand_after}
 
 -- a device is on one node
 one_node : (es : List AppDevice) (d n k : ℕ) (x y : DeviceKind) → is_at es d n x ≡ true → is_at es d k y ≡ true → n ≡ k
@@ -28,7 +28,7 @@ one_node (e ∷ es) d n k x y h i = by_case (d == 0) h i (one_node es (d - 1) n 
     by_case : (b : Bool) → (if b then (e.node == n) && same_kind e.kind x else is_at es (d - 1) n x) ≡ true
         → (if b then (e.node == k) && same_kind e.kind y else is_at es (d - 1) k y) ≡ true
         → (is_at es (d - 1) n x ≡ true → is_at es (d - 1) k y ≡ true → n ≡ k) → n ≡ k
-    by_case true p q rest = sym (tests-equal e.node n (and_true _ _ p).0) ∙ tests-equal e.node k (and_true _ _ q).0
+    by_case true p q rest = sym (eqb-true e.node n (and_parts _ _ p).0) ∙ eqb-true e.node k (and_parts _ _ q).0
     by_case false p q rest = rest p q
 
 driven_node : (es : List AppDevice) (d n k : ℕ) (x y : Option DeviceKind) → is_driven es n (Some d) x ≡ true → is_driven es k (Some d) y ≡ true → n ≡ k
@@ -36,7 +36,7 @@ driven_node es d n k None y h i = absurd (cc)
 driven_node es d n k (Some x) None h i = absurd (cc)
 driven_node es d n k (Some x) (Some y) h i = one_node es d n k x y h i
 
-same_bytes : (a b : ℕ) → a < 255 → b < 255 → min a 255 ≡ min b 255 → a ≡ b
+pub same_bytes : (a b : ℕ) → a < 255 → b < 255 → min a 255 ≡ min b 255 → a ≡ b
 same_bytes a b h k e = omega arith
 
 -- what rules 5 to 9 say of a module and its device
@@ -80,7 +80,7 @@ module _ (devices : List DeviceEntry) (links : List Link) (few : length devices 
   unlike n k m c (start.Device a) (start.Device b) e f p q apart = by_case (byte a == byte b) refl
     where
       by_case : (t : Bool) → (byte a == byte b) ≡ t → t ≡ false
-      by_case true h = absurd (two_drivers n k a b m c e f p q apart (tests-equal (byte a) (byte b) h))
+      by_case true h = absurd (two_drivers n k a b m c e f p q apart (eqb-true (byte a) (byte b) h))
       by_case false h = refl
 
   abbrev pub IsUnlike : Coded → Coded → Type 0
@@ -99,7 +99,7 @@ carried : (d x y : Option ℕ) → same_device d x ≡ true → same_device x y 
 carried None x y h k = absurd (cc)
 carried (Some a) None y h k = absurd (cc)
 carried (Some a) (Some b) None h k = refl
-carried (Some a) (Some b) (Some c) h k = let same : b ≡ a = sym (tests-equal a b h) in subst (λ (n : ℕ). (n == c) ≡ false) same k
+carried (Some a) (Some b) (Some c) h k = let same : b ≡ a = sym (eqb-true a b h) in subst (λ (n : ℕ). (n == c) ≡ false) same k
 
 abbrev pub drives_too : Option ℕ → Coded → Bool
 drives_too d c = same_device d (start_device c.start)

@@ -1,6 +1,6 @@
 -- What rule 6 leaves.
 use Rattle.std.proofs.Common.{◌≡◌, ℕ, ◌≤◌, List, [], ◌∷◌, ◌++◌, length, None, Bool, true, false, nat_lt, arith, refl, zero, suc, get_or, ◌<◌, ◌+◌, length-append, if◌then◌else◌, Some}
-use Rattle.std.proofs.lemmas.Bool.Decides.{nat_tests}
+use Rattle.std.proofs.lemmas.Bool.{ltb-false}
 use Rattle.sx_stage.specs.Lines.{entries, first_bad, whole}
 use Rattle.sx_stage.specs.declared.fault.Sort.TheVariants.{Node, Device, Module, Connection}
 use Rattle.sx_stage.proofs.Tested.{clear, entries-None, whole-None}
@@ -14,19 +14,16 @@ pub record AreFew (e : EntryLists) : Type 0 where
   pub modules : length e.modules ≤ 32
   pub links : length e.links ≤ 64
 
-at_most : (k n : ℕ) → nat_lt k n ≡ false → n ≤ k
-at_most k n h = grind (arith, nat_tests)
-
 pub few : (e : EntryLists) → counts_fault e ≡ None → AreFew e
 few e h =
     let lines = clear (whole 6 Node (nat_lt 16 (length e.nodes)) ∷ entries 6 Node (is_crowded e.modules) e.nodes ∷ whole 6 Device (nat_lt 32 (length e.devices))
     ∷ whole 6 Module (nat_lt 32 (length e.modules)) ∷ whole 6 Connection (nat_lt 64 (length e.links)) ∷ []) h in
     record {
-      nodes = at_most 16 (length e.nodes) (whole-None 6 Node _ lines.0);
+      nodes = ltb-false 16 (length e.nodes) (whole-None 6 Node _ lines.0);
       crowds = entries-None 6 Node (is_crowded e.modules) e.nodes lines.1.0;
-      devices = at_most 32 (length e.devices) (whole-None 6 Device _ lines.1.1.0);
-      modules = at_most 32 (length e.modules) (whole-None 6 Module _ lines.1.1.1.0);
-      links = at_most 64 (length e.links) (whole-None 6 Connection _ lines.1.1.1.1.0);
+      devices = ltb-false 32 (length e.devices) (whole-None 6 Device _ lines.1.1.0);
+      modules = ltb-false 32 (length e.modules) (whole-None 6 Module _ lines.1.1.1.0);
+      links = ltb-false 64 (length e.links) (whole-None 6 Connection _ lines.1.1.1.1.0);
     }
 
 -- a line that no entry breaks is kept at each, after as many as its place says

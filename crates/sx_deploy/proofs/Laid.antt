@@ -1,10 +1,11 @@
 -- Where the modules of an accepted deployment stand.
 use Rattle.std.proofs.Common.{◌≡◌, ℕ, zero, suc, ◌+◌, ◌<◌, ◌≤◌, ◌==◌, ◌%◌, if◌then◌else◌, Bool, true, false, ◌||◌, ◌&&◌, not, nat_lt, nat_le, List, [], ◌∷◌}
-use Rattle.std.proofs.Common.{◌++◌, length, map, min, Some, None, slice_get, IfSome, IsSome, Ok, refl, sym, ap, subst, ◌∙◌, ◌⊎◌, inl, inr, arith, append_assoc}
+use Rattle.std.proofs.Common.{◌++◌, length, map, Some, None, slice_get, IfSome, IsSome, Ok, refl, sym, ap, subst, ◌∙◌, ◌⊎◌, inl, inr, arith, append_assoc}
 use Rattle.std.proofs.Common.{append-nil, length-append}
 use Rattle.std.specs.List.{list_any, All, AllPairs}
 use Rattle.std.proofs.lemmas.Bool.Decides.{nat_tests}
 use Rattle.std.proofs.lemmas.Option.{slice_get-get_or, slice_get-map}
+use Rattle.std.proofs.lemmas.Bool.{eqb-true, eq-eqb, ltb-false, leb-false, and_parts, or_parts}
 use Rattle.sx_lang.specs.Sizes.{module_weight, module_data_size}
 use Rattle.sx_mean.specs.Application.{ends_from, ends_to}
 use Rattle.sx_mean.specs.declared.apps.Link.{Link}
@@ -24,39 +25,21 @@ use Rattle.sx_deploy.specs.Places.{placed_module, sections_of, span, start_of, t
 use Rattle.sx_mean.specs.Application.{PartTree}
 use Rattle.sx_deploy.specs.Deployment.{Deployed, part_of}
 use Rattle.sx_deploy.specs.Law.{AreApartSpans, AreLaid, IsInside, IsLaid, IsWordPlace, Word, standing, words_of}
-use Rattle.sx_deploy.proofs.Apart.{EachPair, none-any, one_placed, and_false, pair-snoc, stand, stand_after, tests-equal}
-use Rattle.sx_deploy.proofs.ValidApp.{each-map, each-weaker, each-both}
-use Rattle.sx_lists.proofs.Truths.{and_true, or_false}
+use Rattle.sx_deploy.proofs.Apart.{EachPair, none-any, one_placed, and_false, pair-snoc, stand, stand_after, each-weaker, apart-meet}
+use Rattle.sx_deploy.proofs.ValidApp.{each-map, each-both}
+use Rattle.sx_deploy.proofs.Drivers.{same_bytes}
 
 apart : (a b : Span) → meet a b ≡ false → AreApartSpans a b
 apart a b h = grind (arith, nat_tests)
 
-apart_back : (a b : Span) → meet a b ≡ false → AreApartSpans b a
-apart_back a b h = grind (arith, nat_tests)
-
 even : (n : ℕ) → (n % 2 == 1) ≡ false → n % 2 ≡ 0
 even n h = grind (arith, nat_tests)
 
-at_least : (n k : ℕ) → nat_lt n k ≡ false → k ≤ n
-at_least n k h = grind (arith, nat_tests)
-
-at_most : (n k : ℕ) → nat_lt k n ≡ false → n ≤ k
-at_most n k h = grind (arith, nat_tests)
-
-under : (n k : ℕ) → nat_le k n ≡ false → n < k
-under n k h = grind (arith, nat_tests)
-
 inside : (s : Span) → is_outside s ≡ false → IsInside s
 inside s h =
-    let halves = or_false (s.from % 2 == 1 || nat_lt s.from 0x0200) _ h in
-    let first = or_false (s.from % 2 == 1) _ halves.0 in
-    record { even = even s.from first.0; low = at_least s.from 0x0200 first.1; high = at_most s.to 0xFFE0 halves.1 }
-
-same_bytes : (a b : ℕ) → a < 255 → b < 255 → min a 255 ≡ min b 255 → a ≡ b
-same_bytes a b h k e = omega arith
-
-equal-tests : (a b : ℕ) → a ≡ b → (a == b) ≡ true
-equal-tests a b h = grind (arith, nat_tests)
+    let halves = or_parts (s.from % 2 == 1 || nat_lt s.from 0x0200) _ h in
+    let first = or_parts (s.from % 2 == 1) _ halves.0 in
+    record { even = even s.from first.0; low = ltb-false s.from 0x0200 first.1; high = ltb-false 0xFFE0 s.to halves.1 }
 
 has_device : (s : Start) → drives s ≡ true → IsSome (start_device s)
 has_device (start.At at) h = absurd (cc)
@@ -91,12 +74,12 @@ one_clear : (m : Coded) (s : ModuleSections) → s.node ≡ m.node → s.drives 
     → holds_word s d ≡ false → IsClear (part_of m) (layout_of s) (word d)
 one_clear m s n v small d there h same =
     let nodes : d.node ≡ s.node = same_bytes d.node m.node (omega arith) (omega arith) same ∙ sym n in
-    by_own (is_own s d) refl (λ own. and_false (d.node == s.node && not (is_own s d)) _ h (rw (equal-tests d.node s.node nodes, own) refl))
+    by_own (is_own s d) refl (λ own. and_false (d.node == s.node && not (is_own s d)) _ h (rw (eq-eqb d.node s.node nodes, own) refl))
   where
     by_own : (b : Bool) → is_own s d ≡ b → (is_own s d ≡ false → (meet s.text (span d.at 2) || meet s.data_part (span d.at 2)) ≡ false)
         → (IsSome (start_device m.start) × (d.at ≡ s.data_part.from)) ⊎ (AreApartSpans (span d.at 2) s.text × AreApartSpans (span d.at 2) s.data_part)
-    by_own true e k = let parts = and_true s.drives (d.at == s.data_part.from) e in inl (has_device m.start (sym v ∙ parts.0), tests-equal d.at s.data_part.from parts.1)
-    by_own false e k = let parts = or_false (meet s.text (span d.at 2)) _ (k e) in inr (apart_back s.text (span d.at 2) parts.0, apart_back s.data_part (span d.at 2) parts.1)
+    by_own true e k = let parts = and_parts s.drives (d.at == s.data_part.from) e in inl (has_device m.start (sym v ∙ parts.0), eqb-true d.at s.data_part.from parts.1)
+    by_own false e k = let parts = or_parts (meet s.text (span d.at 2)) _ (k e) in inr (apart-meet s.text (span d.at 2) parts.0, apart-meet s.data_part (span d.at 2) parts.1)
 
 -- each has it with each that comes later: by places
 pub pair-all : {A : Type 0} (R : A → A → Type 0) (xs : List A) → EachPair R xs → AllPairs R xs
@@ -129,19 +112,19 @@ each_first bad P k earlier (x ∷ xs) h = by_case (bad earlier x) refl h (each_f
 
 word_place : (e : List DeviceEntry) (d : DeviceEntry) → is_bad_place e d ≡ false → IsWordPlace (word d)
 word_place e d h =
-    let all = or_false ((d.at % 2 == 1 || nat_lt d.at 0x0200) || nat_le 0xFFE0 d.at) _ h in
-    let three = or_false (d.at % 2 == 1 || nat_lt d.at 0x0200) _ all.0 in
-    let two = or_false (d.at % 2 == 1) _ three.0 in
-    record { even = even d.at two.0; low = at_least d.at 0x0200 two.1; high = under d.at 0xFFE0 three.1 }
+    let all = or_parts ((d.at % 2 == 1 || nat_lt d.at 0x0200) || nat_le 0xFFE0 d.at) _ h in
+    let three = or_parts (d.at % 2 == 1 || nat_lt d.at 0x0200) _ all.0 in
+    let two = or_parts (d.at % 2 == 1) _ three.0 in
+    record { even = even d.at two.0; low = ltb-false d.at 0x0200 two.1; high = leb-false 0xFFE0 d.at three.1 }
 
 abbrev pub ArePlaced : DeviceEntry → DeviceEntry → Type 0
 ArePlaced d e = d.node ≡ e.node → ¬ (d.at ≡ e.at)
 
 two_places : (e : List DeviceEntry) (d : DeviceEntry) → is_bad_place e d ≡ false → Each (λ y. ArePlaced y d) e
 two_places e d h =
-    let all = or_false ((d.at % 2 == 1 || nat_lt d.at 0x0200) || nat_le 0xFFE0 d.at) _ h in
+    let all = or_parts ((d.at % 2 == 1 || nat_lt d.at 0x0200) || nat_le 0xFFE0 d.at) _ h in
     each-weaker (λ (y : DeviceEntry). (y.node == d.node && y.at == d.at) ≡ false) (λ (y : DeviceEntry). ArePlaced y d)
-    (λ y f node at. (let t : (y.node == d.node && y.at == d.at) ≡ true = rw (equal-tests y.node d.node node, equal-tests y.at d.at at) refl in let x : true ≡ false = sym t ∙ f in cc))
+    (λ y f node at. (let t : (y.node == d.node && y.at == d.at) ≡ true = rw (eq-eqb y.node d.node node, eq-eqb y.at d.at at) refl in let x : true ≡ false = sym t ∙ f in cc))
     e (none-any (λ (y : DeviceEntry). y.node == d.node && y.at == d.at) e all.1)
 
 pub words_places : (ds : List DeviceEntry) → first_bad is_bad_place [] ds ≡ None → Each IsWordPlace (map word ds)
@@ -186,10 +169,10 @@ module _ (d : Deployed) (devices : List DeviceEntry) (links : List Link) (total 
       let n = length done in
       let s = sections_of devices links n m in
       let one = one_placed devices links done m p h in
-      let halves = or_false ((is_outside s.text || is_outside s.data_part) || meet s.text s.data_part) _ one.0 in
-      let own = or_false (is_outside s.text || is_outside s.data_part) _ halves.0 in
-      let ranges = or_false (is_outside s.text) _ own.0 in
-      let others = or_false (list_any (meets_module s) done) _ halves.1 in
+      let halves = or_parts ((is_outside s.text || is_outside s.data_part) || meet s.text s.data_part) _ one.0 in
+      let own = or_parts (is_outside s.text || is_outside s.data_part) _ halves.0 in
+      let ranges = or_parts (is_outside s.text) _ own.0 in
+      let others = or_parts (list_any (meets_module s) done) _ halves.1 in
       let count : ends_of links n ≡ ends_from d.app.links n + ends_to d.app.links n =
       (let e : ends_from links n + ends_to links n ≤ 16 = ends n k in
       let cut : ends_of links n ≡ ends_from links n + ends_to links n = omega (arith, e) in

@@ -22,20 +22,6 @@ at_next : (output : Bool) (decls : List Decl) (name : List ℕ) (before i : ℕ)
     → Passed output decls name before (drop i decls) → Passed output decls name before (d ∷ drop (i + 1) decls)
 at_next output decls name before i d k e p = subst (λ r. Passed output decls name before r) (next_in decls i d k e) p
 
-pub passes_none : (output : Bool) (decls : List Decl) (name : List ℕ) (before i : ℕ) (d : Decl) → i < length decls → d ≡ get_or decls i d → port_in output d ≡ None
-    → Passed output decls name before (drop i decls) → Passed output decls name before (drop (i + 1) decls)
-passes_none output decls name before i d k e n p =
-    let q = at_next output decls name before i d k e p in
-    record { place = rw n at q.place; count = rw n at q.count }
-
-pub passes_other : (output : Bool) (decls : List Decl) (name : List ℕ) (before i : ℕ) (d : Decl) (x : List ℕ) → i < length decls → d ≡ get_or decls i d → port_in output d ≡ Some x
-    → bytes_eq x name ≡ false → Passed output decls name before (drop i decls) → Passed output decls name (before + 1) (drop (i + 1) decls)
-passes_other output decls name before i d x k e s f p =
-    let q = at_next output decls name before i d k e p in
-    let place : before + (1 + position_or_len (is_called name) (port_names output (drop (i + 1) decls))) ≡ position_or_len (is_called name) (port_names output decls) = rw (s, f) at q.place in
-    let count : before + suc (length (port_names output (drop (i + 1) decls))) ≡ length (port_names output decls) = rw s at q.count in
-    record { place = omega (arith, place); count = omega (arith, count) }
-
 pub finds : (output : Bool) (decls : List Decl) (name : List ℕ) (before i : ℕ) (d : Decl) (x : List ℕ) → i < length decls → d ≡ get_or decls i d → port_in output d ≡ Some x
     → bytes_eq x name ≡ true → Passed output decls name before (drop i decls) → Some before ≡ place_of (port_names output decls) name
 finds output decls name before i d x k e s f p =

@@ -20,12 +20,12 @@ use Rattle.sx_deploy.specs.Ties.{app_device, byte, has_many_ends}
 use Rattle.sx_deploy.specs.Deployment.{Deployed, IsRead, app_of, arranged, part_of}
 use Rattle.sx_deploy.specs.Law.{AreBeside, AreLaid, IsSoundDeployment, IsWordPlace, Word, standing}
 use Rattle.sx_deploy.proofs.Accepted.{Accepted, accepted}
-use Rattle.sx_deploy.proofs.Apart.{all_beside, all_stand, stand_after}
+use Rattle.sx_deploy.proofs.Apart.{all_beside, all_stand, stand_after, each-weaker}
 use Rattle.sx_deploy.proofs.Drivers.{IsFit}
 use Rattle.sx_deploy.proofs.Few.{AreFew, few, tested-at}
 use Rattle.sx_deploy.proofs.Laid.{AreWordsApart, IsFitting, laid_from, pair-all, standing-map, word, words-map, words_apart, words_places}
 use Rattle.sx_deploy.proofs.Parts.{are_parts, coded_words, sensors_same}
-use Rattle.sx_deploy.proofs.ValidApp.{AreFit, each-all-back, each-map, each-weaker, fits, placed_modules, valid_app}
+use Rattle.sx_deploy.proofs.ValidApp.{AreFit, each-all-back, each-map, fits, placed_modules, valid_app}
 
 no_module : Coded
 no_module = record { name = []; node = 0; provider = 0; text = 0; start = start.At 0; tree = record { decls = []; handlers = [] } }

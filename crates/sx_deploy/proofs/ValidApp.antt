@@ -4,6 +4,7 @@ use Rattle.std.proofs.Common.{count_by, Some, None, Ok, refl, sym, ap, subst, �
 use Rattle.std.specs.List.{list_any, All}
 use Rattle.std.proofs.lemmas.Bool.Decides.{nat_tests}
 use Rattle.std.proofs.lemmas.List.{length-map}
+use Rattle.std.proofs.lemmas.Bool.{not-false}
 use Rattle.sx_mean.specs.Application.{AppTree, PartTree, declared_kind, ends_from, ends_to, is_driven, sends_too_much}
 use Rattle.sx_mean.specs.Validity.{any_part, is_crowded, is_loose, is_misplaced, is_overloaded, is_stray, is_too_large, is_valid, is_wrong, same_device}
 use Rattle.sx_mean.specs.declared.apps.AppDevice.{AppDevice}
@@ -29,12 +30,11 @@ use Rattle.sx_deploy.specs.declared.placing.Placement.{Placement}
 use Rattle.sx_deploy.specs.Deployment.{Deployed, IsRead, app_of, part_of}
 use Rattle.sx_deploy.proofs.Accepted.{Accepted, accepted, passes-None}
 use Rattle.sx_deploy.proofs.Counted.{count_by-map}
-use Rattle.sx_deploy.proofs.Apart.{EachPair, all_beside}
+use Rattle.sx_deploy.proofs.Apart.{EachPair, all_beside, each-weaker}
 use Rattle.sx_deploy.proofs.Drivers.{IsFit, all_unlike, one_drives}
 use Rattle.sx_deploy.proofs.Few.{AreFew, few, tested-at}
 use Rattle.sx_deploy.proofs.Linked.{IsLinked, all_linked, as_many}
 use Rattle.sx_deploy.proofs.Pairs.{pairs, pairs-count, pairs-each, pairs-length}
-use Rattle.sx_lists.proofs.Truths.{not_false}
 
 pub each-all-back : {A : Type 0} (P : A → Type 0) (xs : List A) → All P xs → Each P xs
 each-all-back P [] h = tt
@@ -43,10 +43,6 @@ each-all-back P (x ∷ xs) h = (h zero x (omega arith), each-all-back P xs (λ i
 pub each-map : {A B : Type 0} (v : A → B) (P : B → Type 0) (xs : List A) → Each (λ x. P (v x)) xs → Each P (map v xs)
 each-map v P [] h = tt
 each-map v P (x ∷ xs) h = (h.0, each-map v P xs h.1)
-
-pub each-weaker : {A : Type 0} (P Q : A → Type 0) → ((x : A) → P x → Q x) → (xs : List A) → Each P xs → Each Q xs
-each-weaker P Q k [] h = tt
-each-weaker P Q k (x ∷ xs) h = (k x h.0, each-weaker P Q k xs h.1)
 
 pub any-none : {A : Type 0} (p : A → Bool) (xs : List A) → Each (λ x. p x ≡ false) xs → list_any p xs ≡ false
 any-none p [] h = refl
@@ -212,7 +208,7 @@ fits d a k f =
     each-both (λ (m : Coded). (m.node < length e.nodes) × IsThere m.start (length e.devices))
     (λ (m : Coded). not (is_driven (map app_device e.devices) (byte m.node) (start_device m.start) (declared_kind m.tree.decls)) ≡ false)
     (IsFit e.devices)
-    (λ m p q. record { node = (let n : m.node < length e.nodes = p.0 in omega (arith, n, small)); there = p.1; driven = not_false _ q }) a.modules placed_there driven in
+    (λ m p q. record { node = (let n : m.node < length e.nodes = p.0 in omega (arith, n, small)); there = p.1; driven = not-false _ q }) a.modules placed_there driven in
     let many : length a.modules ≡ length e.modules = pairs-length e.modules a.modules ps in
     let few_modules : length a.modules ≤ 32 = (let n : length e.modules ≤ 32 = f.modules in omega (arith, many, n)) in
     let stands = placed_modules e.devices a.links a.modules a.placements a.placed in

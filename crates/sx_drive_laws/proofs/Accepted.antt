@@ -1,16 +1,14 @@
 -- So it is for each accepted deployment.
-use Rattle.std.proofs.Common.{◌≡◌, ℕ, zero, suc, ◌<◌, Bool, true, List, [], ◌∷◌, map, Option, Some, None, Ok, IsSome, slice_get, refl, sym, ◌∙◌, ap, subst}
+use Rattle.std.proofs.Common.{◌≡◌, ℕ, ◌<◌, Bool, List, Option, Some, None, Ok, IsSome, slice_get, refl, sym, ◌∙◌, ap, subst}
 use Rattle.std.specs.Prelude.{All, option_and_then}
-use Rattle.std.proofs.lemmas.Option.{same_Some}
-use Rattle.sx_mean.specs.declared.apps.AppDevice.{AppDevice}
 use Rattle.sx_tag.specs.Mac.{Mac, IsTag}
-use Rattle.sx_mean.specs.Application.{AppTree, is_sensor}
-use Rattle.sx_model.specs.Step.{kind_is}
+use Rattle.sx_mean.specs.Application.{AppTree}
 use Rattle.sx_deploy.specs.Deployment.{Deployed, IsRead}
 use Rattle.sx_deploy.specs.Law.{IsSoundDeployment}
 use Rattle.sx_deploy.proofs.Sound.{sound}
 use Rattle.sx_run.specs.Accepted.{AreByteTexts, AreImages, setting_of}
 use Rattle.sx_run.proofs.accepted.Settled.{settled}
+use Rattle.sx_run.proofs.accepted.FormedLines.{sensor_at}
 use Rattle.sx_honest.specs.Plain.{driver_of as driver_in}
 use Rattle.sx_setup.proofs.Accepting.{has_room}
 use Rattle.sx_drive.specs.Honest.{Reading, callee_at}
@@ -38,11 +36,6 @@ accepted_is_driven text d h mac texts tag images bytes readings all uncut =
 
 -- A sensor that a module drives.
 
-sensor_kind : (ds : List AppDevice) (i : ℕ) → slice_get (map (λ (x : AppDevice). is_sensor x.kind) ds) i ≡ Some true → kind_is is_sensor (slice_get ds i) ≡ true
-sensor_kind [] i e = absurd cc
-sensor_kind (x ∷ ds) zero e = same_Some (is_sensor x.kind) true e
-sensor_kind (x ∷ ds) (suc i) e = sensor_kind ds i e
-
 driver_there : (app : AppTree) (o : Option ℕ) → IsSome (option_and_then (callee_at app) o) → (p : ℕ) × (o ≡ Some p)
 driver_there app None some = absurd cc
 driver_there app (Some p) some = (p, refl)
@@ -55,7 +48,7 @@ driven_is_reading d acc r driven low =
     let p = driver_there d.app (driver_in d.app r.device) some in
     record {
       sampling = record {
-        sensor = sensor_kind d.app.devices r.device (ap (λ (bs : List Bool). slice_get bs r.device) (sym acc.sensors) ∙ driven.sensor);
+        sensor = sensor_at d.app.devices r.device (ap (λ (bs : List Bool). slice_get bs r.device) (sym acc.sensors) ∙ driven.sensor);
         driver = p.0;
         driven = p.1;
       };

@@ -8,7 +8,7 @@ use Rattle.sx_stage.specs.Stage.{made_after}
 use Rattle.sx_stage.specs.declared.fault.Sort.TheVariants.{Node, Device, Module, Connection}
 use Rattle.sx_stage.proofs.Each.{Each, each-snoc, all-each, bind-Ok, made-each}
 use Rattle.sx_entries.specs.Rows.{node_row, device_row, module_row, link_row}
-use Rattle.sx_entries.specs.Arrays.{Arrays, RowLists, arrays_of, in_top, listed, made_in, rows_in, rows_of}
+use Rattle.sx_entries.specs.Arrays.{RowLists, arrays_of, in_top, listed, made_in, rows_in, rows_of}
 use Rattle.sx_entries.specs.Entries.{EntryLists, device_made, device_named, fresh, link_made, link_named, module_made, module_named, node_made, node_named, not_reserved, place_among, start_named}
 use Rattle.sx_entries.specs.Law.{AreEntries, AreNamed, EntriesKeep, IsThere}
 use Rattle.sx_entries.specs.declared.rows.NodeRow.{NodeRow}
@@ -126,10 +126,6 @@ pub record HaveForm (rows : RowLists) : Type 0 where
 listed-form : (rows : List NodeRow) → Each (λ (r : NodeRow). IsForm r.name) rows → Each (λ (r : NodeRow). IsForm r.name) (listed rows)
 listed-form [] h = (refl, tt)
 listed-form (row ∷ rows) h = h
-
-in_top-Ok : (o : Option Arrays) (a : Arrays) → in_top o ≡ Ok a → o ≡ Some a
-in_top-Ok None a h = absurd (cc)
-in_top-Ok (Some b) a h = cc
 
 forms : (t : Members) (rows : RowLists) → rows_of t ≡ Ok rows → HaveForm rows
 forms t rows h =

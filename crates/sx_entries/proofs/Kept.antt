@@ -4,6 +4,7 @@ use Rattle.std.specs.Str.{bytes_eq}
 use Rattle.std.proofs.lemmas.List.Folds.{list_all-append, list_any-append}
 use Rattle.std.proofs.lemmas.List.{map-append}
 use Rattle.std.proofs.lemmas.List.Quantifiers.{position-Some}
+use Rattle.std.proofs.lemmas.Bool.{and_parts, or_parts, not-true}
 use Rattle.sx_lang.specs.Form.{is_name}
 use Rattle.sx_trace.specs.Names.{deployer}
 use Rattle.sx_trace.specs.ValidNames.{has_name, no_repeat}
@@ -12,7 +13,6 @@ use Rattle.sx_stage.specs.declared.fault.Sort.{Sort}
 use Rattle.sx_entries.specs.Entries.{has_entry, fresh, place_among, not_reserved}
 use Rattle.sx_entries.specs.Law.{AreNamed}
 use Rattle.sx_entries.proofs.RowForms.{IsForm}
-use Rattle.sx_lists.proofs.Truths.{and_true, or_false, not_true}
 use Rattle.sx_lists.proofs.Texts.{bytes_eq-sym}
 
 -- a name that isn't among the others, after them
@@ -22,9 +22,9 @@ still_new names x y h e = rw (list_any-append (λ n. bytes_eq n y) names (x ∷ 
 apart-snoc : (names : List (List ℕ)) (x : List ℕ) → no_repeat names ≡ true → has_name names x ≡ false → no_repeat (names ++ x ∷ []) ≡ true
 apart-snoc [] x h n = refl
 apart-snoc (y ∷ ys) x h n =
-    let parts = and_true (not (has_name ys y)) (no_repeat ys) h in
-    let new = or_false (bytes_eq y x) (has_name ys x) n in
-    let first : has_name (ys ++ x ∷ []) y ≡ false = still_new ys x y (not_true _ parts.0) new.0 in
+    let parts = and_parts (not (has_name ys y)) (no_repeat ys) h in
+    let new = or_parts (bytes_eq y x) (has_name ys x) n in
+    let first : has_name (ys ++ x ∷ []) y ≡ false = still_new ys x y (not-true _ parts.0) new.0 in
     let rest : no_repeat (ys ++ x ∷ []) ≡ true = apart-snoc ys x parts.1 new.1 in
     rw (first, rest) refl
 

@@ -5,6 +5,7 @@ use Rattle.std.specs.Str.{bytes_eq}
 use Rattle.std.proofs.lemmas.Bool.Decides.{nat_tests}
 use Rattle.sx_trace.specs.Names.{place_of}
 use Rattle.sx_trace.proofs.Indexed.{position-map}
+use Rattle.sx_lists.proofs.Numbers.{less_by_one}
 
 -- the place of a name among the names is the place of its entry
 pub place_entry : {B : Type 0} (name_of : B → List ℕ) (entries : List B) (name : List ℕ) (o : Option ℕ) → o ≡ place_of (map name_of entries) name
@@ -18,9 +19,6 @@ is_some-cond false n = refl
 first : (l : ℕ) → nat_lt 0 (suc l) ≡ true
 first l = grind (arith, nat_tests)
 
-after : (n l : ℕ) → nat_lt (1 + n) (suc l) ≡ nat_lt n l
-after n l = grind (arith, nat_tests)
-
 -- a list has an item that passes where it has a place for one
 pub some_any : {X : Type 0} (p : X → Bool) (xs : List X) → is_some (position p xs) ≡ list_any p xs
 some_any p [] = refl
@@ -29,4 +27,4 @@ some_any p (x ∷ xs) = by (p x) refl (some_any p xs)
     by : (b : Bool) → p x ≡ b → is_some (position p xs) ≡ list_any p xs → is_some (position p (x ∷ xs)) ≡ list_any p (x ∷ xs)
     by true e h = rw e (is_some-cond (nat_lt 0 (suc (length xs))) 0 ∙ first (length xs))
     by false e h = rw e (is_some-cond (nat_lt (1 + position_or_len p xs) (suc (length xs))) (1 + position_or_len p xs)
-        ∙ after (position_or_len p xs) (length xs) ∙ sym (is_some-cond (nat_lt (position_or_len p xs) (length xs)) (position_or_len p xs)) ∙ h)
+        ∙ less_by_one (position_or_len p xs) (length xs) ∙ sym (is_some-cond (nat_lt (position_or_len p xs) (length xs)) (position_or_len p xs)) ∙ h)

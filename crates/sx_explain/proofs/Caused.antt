@@ -3,11 +3,10 @@ use Rattle.std.proofs.Common.{◌≡◌, ℕ, zero, suc, ◌+◌, ◌*◌, ◌/�
 use Rattle.std.proofs.Common.{Option, Some, None, slice_get, append_assoc, add-zero, refl, sym, ap, ◌∙◌, subst, arith}
 use Rattle.std.specs.Prelude.{is_some, slice_set, IsSome}
 use Rattle.std.specs.List.{cons_option, list_any}
-use Rattle.std.proofs.lemmas.Bool.{and_parts, eq-eqb, eqb-true}
+use Rattle.std.proofs.lemmas.Bool.{and_parts, eq-eqb, eqb-true, or_parts}
 use Rattle.std.proofs.lemmas.List.{length-append}
 use Rattle.std.proofs.lemmas.Option.{same_Some, slice_get_within}
 use Rattle.sx_lang.specs.declared.sides.Side.TheVariants.{From, To}
-use Rattle.sx_check.proofs.Keeps.{both_false}
 use Rattle.sx_mean.specs.declared.apps.Link.{Link}
 use Rattle.sx_mean.specs.declared.events.Act.{Act}
 use Rattle.sx_mean.specs.declared.events.Act.TheVariants.{Send}
@@ -23,7 +22,7 @@ use Rattle.sx_trace.specs.declared.items.Item.{Item}
 use Rattle.sx_trace.specs.declared.items.Item.TheVariants.{Sense, Read, Take, Out}
 use Rattle.sx_model.specs.State.{EndView, FIELDS, Model, Present, Standing, power_on}
 use Rattle.sx_model.specs.Step.{device_of, ◌>>?◌, changed_views, idle, is_word, state_if, step}
-use Rattle.sx_model.specs.Reaction.{field_at, is_from, sends}
+use Rattle.sx_model.specs.Reaction.{field_at, is_from}
 use Rattle.sx_model.specs.Epochs.{open_epoch}
 use Rattle.sx_model.specs.Renewal.{takes}
 use Rattle.sx_model.specs.Legal.{Legal, after}
@@ -286,7 +285,7 @@ at_item app (x ∷ before) item behind s h =
 latest_none : (test ends : Item → Bool) → ((i : Item) → ends i ≡ false → test i ≡ false) → (n : ℕ) (items : List Item) → list_any ends items ≡ false → latest test n items ≡ None
 latest_none test ends quiet n [] h = refl
 latest_none test ends quiet n (i ∷ is) h =
-    let b = both_false (ends i) (list_any ends is) h in
+    let b = or_parts (ends i) (list_any ends is) h in
     let none = latest_none test ends quiet (n + 1) is b.1 in
     let no : test i ≡ false = quiet i b.0 in
     rw (none, no) refl

@@ -10,10 +10,6 @@ use Rattle.sx_explain.specs.Judging.{judged}
 use Rattle.sx_explain.specs.Followed.{items_after, FillsFor, Follows, IsFullFor, Seen, Stands, answered, taken_in}
 use Rattle.sx_explain.proofs.Following.{answers, caught_up, follows, same_forged}
 
-pub on_err_any : {X E : Type 0} (r : Result X E) (Q : Type 0) → Q → OnErr r Q
-on_err_any (Ok x) Q q = tt
-on_err_any (Err x) Q q = q
-
 module _ (app : AppTree) (items : List Item) (item : Item) (old mid new : Seen) (h : Follows app items old) (e : old.has_forged ≡ false)
     (is : mid ≡ record old { causes = mid.causes; behind = None }) (fills : FillsFor old.behind old.model.sent old.causes mid.causes) (all : IsFullFor old.behind app.links old.model mid.causes) where
   stands : Stands app items mid

@@ -2,7 +2,7 @@
 use Rattle.std.proofs.Common.{◌≡◌, ℕ, ◌+◌, ◌≤◌, Bool, true, false, if◌then◌else◌, List, [], ◌∷◌, ◌++◌, length, Some, refl, ap, ◌∙◌, subst, arith}
 use Rattle.std.specs.List.{list_any}
 use Rattle.std.proofs.lemmas.List.{length-append}
-use Rattle.sx_check.proofs.Keeps.{both_false}
+use Rattle.std.proofs.lemmas.Bool.{or_parts}
 use Rattle.sx_mean.specs.Application.{AppTree}
 use Rattle.sx_mean.specs.Validity.{is_valid}
 use Rattle.sx_trace.specs.declared.items.Item.{Item}
@@ -25,7 +25,7 @@ none_before (i ∷ is) = at (is_forged i) refl (none_before is)
 none_front : (front rest : List Item) → list_any is_forged (front ++ rest) ≡ false → list_any is_forged front ≡ false
 none_front [] rest h = refl
 none_front (i ∷ is) rest h =
-    let b = both_false (is_forged i) (list_any is_forged (is ++ rest)) h in
+    let b = or_parts (is_forged i) (list_any is_forged (is ++ rest)) h in
     let i = b.0 in
     rw i (none_front is rest b.1)
 

@@ -15,7 +15,7 @@ use Rattle.sx_model.specs.State.{Model}
 use Rattle.sx_model.specs.Reaction.{is_from}
 use Rattle.sx_model.specs.Epochs.{open_epoch}
 use Rattle.sx_explain.specs.Causes.{or_else, word_of}
-use Rattle.sx_explain.specs.Filling.{Fills, IsFull, IsFullAt, IsFullEnd, IsFullOf, at_field, ends_at, full}
+use Rattle.sx_explain.specs.Filling.{Fills, IsFullAt, IsFullEnd, IsFullOf, at_field, ends_at, full}
 
 -- how many there are with those that aren't written
 pub length_full : (n count : ℕ) (xs : List ℕ) → length xs ≤ count → length (full n count xs) ≡ count
@@ -51,11 +51,6 @@ get_full n (c ∷ cs) (w ∷ ws) zero h = refl
 get_full n (c ∷ cs) (w ∷ ws) (suc p) h =
     let e : suc (length ws) - suc (length cs) ≡ length ws - length cs = omega arith in
     rw e (get_full n cs ws p (omega (arith, h)))
-
-pub get_within : {X : Type 0} → (xs : List X) (i : ℕ) → i < length xs → (x : X) × (slice_get xs i ≡ Some x)
-get_within [] i h = absurd (omega (arith, h))
-get_within (x ∷ xs) zero h = (x, refl)
-get_within (x ∷ xs) (suc i) h = get_within xs i (omega (arith, h))
 
 -- a list at a field, and a word there
 pub field_word : (ss : List (List ℕ)) (field place : ℕ) → slice_get (at_field ss field) place ≡ word_of ss field place
@@ -144,16 +139,6 @@ pub record LinksDone (n : ℕ) (links : List Link) (s : Model) (m : ℕ) (start 
   pub size : ends ≡ length done
   pub few : ends ≤ 2 * count
   pub all : (k : ℕ) (e : End) → slice_get done k ≡ Some e → is_from e.side ≡ true → IsFullAt s.sent now e.link (open_epoch s m k)
-
-pub links_none : (n : ℕ) (links : List Link) (s : Model) (m : ℕ) (start : List (List ℕ)) → LinksDone n links s m start start 0 0
-links_none n links s m start = record {
-  fills = fills_none n s.sent start;
-  done = [];
-  parts = refl;
-  size = refl;
-  few = omega arith;
-  all = λ k e there _. absurd (let z : None ≡ Some e = there in cc);
-}
 
 -- what has its numbers at an end keeps them
 full_at_kept : (n : ℕ) (sent a b : List (List ℕ)) (c : ℕ) (o : Option ℕ) → Fills n sent a b → IsFullAt sent a c o → IsFullAt sent b c o
@@ -252,11 +237,6 @@ none_left [] zero h = refl
 none_left [] (suc count) h = refl
 none_left (l ∷ ls) zero h = absurd (omega (arith, h))
 none_left (l ∷ ls) (suc count) h = none_left ls count (omega (arith, h))
-
-pub links_all : (n : ℕ) (links : List Link) (s : Model) (m : ℕ) (start now : List (List ℕ)) (count ends : ℕ) → length links ≤ count → LinksDone n links s m start now count ends → IsFull links s m now
-links_all n links s m start now count ends h d k e there from =
-    let is : ends_after 0 m links ≡ d.done = (d.parts ∙ ap (λ ls. d.done ++ ends_after count m ls) (none_left links count h) ∙ append-nil d.done) in
-    d.all k e (subst (λ es. slice_get es k ≡ Some e) is there) from
 
 -- one number more
 pub fill_turn : (n count at : ℕ) (xs start ys : List ℕ) → (full n count xs ≡ full n count start) × (length xs ≡ at) → at < count → ys ≡ xs ++ n ∷ []

@@ -1,5 +1,5 @@
 -- What a judge keeps goes on to stand for the items so far.
-use Rattle.std.proofs.Common.{◌≡◌, ℕ, zero, suc, ◌+◌, ◌-◌, ◌*◌, ◌/◌, ◌%◌, ◌<◌, ◌≤◌, inl, inr, ◌⊎◌, ◌==◌, ◌||◌, ◌&&◌, Bool, true, false, if◌then◌else◌, List, []}
+use Rattle.std.proofs.Common.{◌≡◌, ℕ, zero, suc, ◌+◌, ◌*◌, ◌/◌, ◌%◌, ◌<◌, ◌≤◌, inl, inr, ◌⊎◌, ◌==◌, ◌||◌, ◌&&◌, Bool, true, false, if◌then◌else◌, List, []}
 use Rattle.std.proofs.Common.{◌∷◌, ◌++◌, length, replicate, nat_lt, Option, Some, None, slice_get, add-zero, refl, sym, ap, ◌∙◌, subst, arith}
 use Rattle.std.specs.Prelude.{is_none, is_some, slice_set}
 use Rattle.std.specs.List.{list_any}
@@ -22,16 +22,16 @@ use Rattle.sx_model.specs.Legal.{after, before, is_forged}
 use Rattle.sx_model.specs.Consequences.{begins_event}
 use Rattle.sx_model.proofs.Along.{some_of}
 use Rattle.sx_model.proofs.Steps.{Cases, by_step}
-use Rattle.sx_lists.proofs.Lists.{get_same}
+use Rattle.sx_lists.proofs.Lists.{get_same, get_some}
 use Rattle.sx_model.proofs.Written.{get_other}
 use Rattle.sx_explain.specs.Causes.{appended, cause, gives, latest, or_else, word_of}
 use Rattle.sx_explain.specs.Filling.{IsFullAt, at_field, full}
 use Rattle.sx_explain.specs.declared.judge.Judged.TheVariants as verdict
 use Rattle.sx_explain.specs.declared.numbers.Latest.{Latest}
-use Rattle.sx_explain.specs.Judging.{judged, said, first_forged}
+use Rattle.sx_explain.specs.Judging.{judged, said}
 use Rattle.sx_explain.specs.Followed.{items_after}
 use Rattle.sx_explain.specs.Followed.{FillsFor, Follows, HasAll, IsFullFor, IsOf, Seen, Stands, answered, found, noted, numbers_of, taken_in, taken_of}
-use Rattle.sx_explain.proofs.Filled.{field_word, full_all, get_full, get_within, length_full, length_under, none_at}
+use Rattle.sx_explain.proofs.Filled.{field_word, full_all, get_full, length_full, length_under, none_at}
 use Rattle.sx_explain.proofs.After.{after_more, some_next}
 use Rattle.sx_explain.proofs.Caused.{field_low, step_grows}
 
@@ -77,9 +77,6 @@ before_front (i ∷ is) rest h = at (is_forged i) h (before_front is rest)
     at true h more = absurd cc
     at false h more = ap (λ (xs : List Item). i ∷ xs) (more h)
 
-before_all : (items : List Item) → list_any is_forged items ≡ false → before items ≡ items
-before_all items h = ap before (sym (append-nil items)) ∙ before_front items [] h ∙ append-nil items
-
 before_still : (items : List Item) (item : Item) → list_any is_forged items ≡ true → before (items ++ item ∷ []) ≡ before items
 before_still [] item h = absurd cc
 before_still (i ∷ is) item h = at (is_forged i) h (before_still is item)
@@ -113,27 +110,6 @@ few_taken (i ∷ is) = at (is_forged i) (few_taken is)
     at : (b : Bool) → taken_of is ≤ length is → length (if b then [] else i ∷ before is) + (if b || list_any is_forged is then 1 else 0) ≤ suc (length is)
     at true h = omega arith
     at false h = omega (arith, h)
-
--- how many are legal, and where the first that is forged is
-pub legal_count : (app : AppTree) (items : List Item) (j : Seen) → Follows app items j → (if j.has_forged then j.taken - 1 else j.taken) ≡ length (before items)
-legal_count app items j h =
-    let f = h.forged in
-    let t = h.taken in
-    rw f (at (list_any is_forged items) t)
-  where
-    at : (b : Bool) → j.taken ≡ length (before items) + (if b then 1 else 0) → (if b then j.taken - 1 else j.taken) ≡ length (before items)
-    at true t = omega (arith, t)
-    at false t = omega (arith, t)
-
-pub forged_number : (app : AppTree) (items : List Item) (j : Seen) → Follows app items j → (if j.has_forged then Some j.taken else None) ≡ first_forged items
-forged_number app items j h =
-    let f = h.forged in
-    let t = h.taken in
-    rw f (at (list_any is_forged items) t)
-  where
-    at : (b : Bool) → j.taken ≡ length (before items) + (if b then 1 else 0) → (if b then Some j.taken else None) ≡ (if b then Some (length (before items) + 1) else None)
-    at true t = ap (λ (n : ℕ). Some n) t
-    at false t = refl
 
 pub appended_more : (app : AppTree) (field place n : ℕ) (items : List Item) (s t u : Model) (item : Item) → after app s items ≡ Some t → step app t item ≡ Some u
     → appended app field place n s (items ++ item ∷ []) ≡ or_else (appended app field place n s items) (if is_some (word_of u.sent field place) then Some (n + length items) else None)
@@ -212,7 +188,7 @@ step_stays app s t item field e =
     elim (cases_lt (length (at_field t.sent field)) (length (at_field s.sent field))) [
       | inl lt ↦
           let k = length (at_field t.sent field) in
-          let w = get_within (at_field s.sent field) k lt in
+          let w = get_some (at_field s.sent field) k lt in
           let there = (step_grows app s item t e).stays field k w.0 (sym (field_word s.sent field k) ∙ w.1) in
           let short = slice_get_within (at_field t.sent field) k w.0 (field_word t.sent field k ∙ there) in
           absurd (omega (arith, short))
@@ -229,7 +205,7 @@ pub step_comes : (app : AppTree) (s t : Model) (item : Item) (field : ℕ) → l
     → length (at_field s.sent field) < length (at_field t.sent field) → Comes app t item field
 step_comes app s t item field wide e lt =
     let k = length (at_field s.sent field) in
-    let w = get_within (at_field t.sent field) k lt in
+    let w = get_some (at_field t.sent field) k lt in
     let new : word_of t.sent field k ≡ Some w.0 = (sym (field_word t.sent field k) ∙ w.1) in
     let old : word_of s.sent field k ≡ None = (sym (field_word s.sent field k) ∙ slice_get_past (at_field s.sent field) k (omega arith)) in
     let x = (step_grows app s item t e).comes field k w.0 old new in
@@ -269,7 +245,7 @@ pub put_latest : (test : ℕ → Item → Bool) (xs : List (Option ℕ)) (items 
 put_latest test xs items item at n is number within old k =
     elim (cases_eq at k) [
       | inl s ↦
-          let there = get_within xs at within in
+          let there = get_some xs at within in
           let new : latest (test k) 1 (items ++ item ∷ []) ≡ Some n =
           (latest_more (test k) 1 items item ∙ ap (λ b. if b then Some (1 + length items) else latest (test k) 1 items) (is k ∙ eq-eqb at k s) ∙ ap (λ (n : ℕ). Some n) (sym number)) in
           let here : slice_get (slice_set xs at (Some n)) k ≡ Some (Some n) =
@@ -532,10 +508,6 @@ unjudged_follows app items item j h e =
       taken = h.taken ∙ sym (taken_still items item f);
       stands = λ n. absurd (let z : true ≡ false = (sym e ∙ n) in cc);
     }
-
-is_none_of : {A : Type 0} → (o : Option A) → is_some o ≡ false → is_none o ≡ true
-is_none_of None h = refl
-is_none_of (Some x) h = absurd cc
 
 -- an item after items none of which was forged
 judged_now : (app : AppTree) (items : List Item) (item : Item) (o : Option Model) → list_any is_forged items ≡ false → after app (power_on app) (items ++ item ∷ []) ≡ o

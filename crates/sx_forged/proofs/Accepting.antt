@@ -1,6 +1,6 @@
 -- What a deployed module's code unwraps, and under which key.
 use Rattle.std.proofs.Common.{◌≡◌, ℕ, zero, suc, ◌+◌, ◌*◌, ◌≤◌, ◌==◌, Bool, true, false, cond, List, [], ◌∷◌, ◌++◌, length, take, slice_index, Some, None, refl, sym, ◌∙◌, ap, subst, arith}
-use Rattle.std.specs.Prelude.{slice_get, bit_xor, option_and_then}
+use Rattle.std.specs.Prelude.{slice_get, option_and_then}
 use Rattle.std.specs.List.{position_from}
 use Rattle.std.proofs.lemmas.Bool.{and_parts, eqb-true}
 use Rattle.std.proofs.lemmas.List.{append-nil}
@@ -27,7 +27,7 @@ use Rattle.sx_image.specs.Image.{call_at, progress_at}
 use Rattle.sx_image.specs.Realizes.{Underway, Aborted, Exited}
 use Rattle.sx_run.specs.Setting.{Setting, Site, is_at_site, deployed, module_of}
 use Rattle.sx_run.specs.Ledger.{header_of, body_of}
-use Rattle.sx_run.specs.Wire.{is_ask, is_set_key_header, is_event_header, begins, link_in, epoch_in, last_in, value_in}
+use Rattle.sx_run.specs.Wire.{is_ask, is_set_key_header, is_event_header, begins}
 use Rattle.sx_run.specs.Deployer.{list_at, key_of, connection_key}
 use Rattle.sx_run.specs.Law.{IsSoundSetting}
 use Rattle.sx_run.proofs.tie.Lists.{some_inj, get_within, get_some}
@@ -46,31 +46,6 @@ pub length_take : (n : ℕ) (xs : List ℕ) → n ≤ length xs → length (take
 length_take zero xs h = refl
 length_take (suc n) [] h = absurd (omega (arith, h))
 length_take (suc n) (x ∷ xs) h = ap suc (length_take n xs (omega (arith, h)))
-
-xor_twice : (a b : ℕ) → bit_xor (bit_xor a b) b ≡ a
-xor_twice a b = Rattle.std.specs.Int.Bits.xor_assoc a b b ∙ ap (bit_xor a) (Rattle.std.specs.Int.Bits.xor_self b) ∙ Rattle.std.specs.Int.Bits.xor_zero_r a
-
-xor_bytes_twice : (bytes stream : List ℕ) → length bytes ≤ length stream → xor_bytes (xor_bytes bytes stream) stream ≡ bytes
-xor_bytes_twice [] stream h = refl
-xor_bytes_twice (b ∷ bytes) [] h = absurd (omega arith)
-xor_bytes_twice (b ∷ bytes) (s ∷ stream) h =
-    ap (λ (n : ℕ). n ∷ xor_bytes (xor_bytes bytes stream) stream) (xor_twice b s)
-    ∙ ap (λ (rest : List ℕ). b ∷ rest) (xor_bytes_twice bytes stream (omega arith))
-
-xor_bytes_long : (bytes stream : List ℕ) → length bytes ≤ length stream → length (xor_bytes bytes stream) ≡ length bytes
-xor_bytes_long [] stream h = refl
-xor_bytes_long (b ∷ bytes) [] h = absurd (omega arith)
-xor_bytes_long (b ∷ bytes) (s ∷ stream) h = ap suc (xor_bytes_long bytes stream (omega arith))
-
-pub crypt_twice : (mac : Mac) (key ad body : List ℕ) → GivesTags mac → length body ≤ 32 → crypt mac key ad (crypt mac key ad body) ≡ body
-unfolding crypt
-crypt_twice mac key ad body gives h =
-    xor_bytes_twice body (stream mac key ad) (omega (arith, gives key (0x53 ∷ length ad ∷ (ad ++ 0 ∷ []))))
-
-pub crypt_long : (mac : Mac) (key ad body : List ℕ) → GivesTags mac → length body ≤ 32 → length (crypt mac key ad body) ≡ length body
-unfolding crypt
-crypt_long mac key ad body gives h =
-    xor_bytes_long body (stream mac key ad) (omega (arith, gives key (0x53 ∷ length ad ∷ (ad ++ 0 ∷ []))))
 
 pub crypt_none : (mac : Mac) (key ad body : List ℕ) → GivesTags mac → crypt mac key ad body ≡ [] → body ≡ []
 unfolding crypt

@@ -2,7 +2,7 @@
 use Rattle.std.proofs.Common.{◌≡◌, ℕ, zero, suc, ◌+◌, ◌≤◌, ◌/◌, ◌==◌, ◌||◌, not, inl, inr, Bool, true, false, if◌then◌else◌, List, [], ◌∷◌, length, drop}
 use Rattle.std.proofs.Common.{Option, Some, None, Result, Ok, Err, refl, sym, ◌∙◌, ap, subst, arith}
 use Rattle.std.specs.Prelude.{slice_get, slice_set}
-use Rattle.std.proofs.lemmas.Bool.{true≢false, eqb-true}
+use Rattle.std.proofs.lemmas.Bool.{true≢false, eqb-true, cases_eq}
 use Rattle.sx_trace.specs.declared.items.Item.TheVariants as item
 use Rattle.sx_mean.specs.declared.apps.AppDevice.{AppDevice}
 use Rattle.sx_rules.specs.declared.access.Violation.{Violation}
@@ -30,7 +30,7 @@ use Rattle.sx_guard.specs.Script.{Look, Script, End, Do, look, looks}
 use Rattle.sx_guard.specs.Lines.{all, ends, where_node, steps, finishing, unless_running, pieces, setting_of, loading, calling, line_script, script_of}
 use Rattle.sx_guard.proofs.Places.{get_map, get_map_none}
 use Rattle.sx_forged.specs.Moments.{Moment, moment_from, moment}
-use Rattle.sx_forged.proofs.Reaching.{answer_keeps, same_or_not}
+use Rattle.sx_forged.proofs.Reaching.{answer_keeps}
 
 -- every node was reset at most so often
 abbrev pub Few : ℕ → World → Type 0
@@ -91,7 +91,7 @@ module _ (set : Setting) (w : World) where
       → (m : ℕ) (u : State) → slice_get ns m ≡ Some u → u.boot ≤ j
   one_few k j n s t ns h le there low e m u g =
       let g2 : slice_get (slice_set w.nodes n t) m ≡ Some u = subst (λ (z : List State). slice_get z m ≡ Some u) e g in
-      elim (same_or_not m n) [
+      elim (cases_eq m n) [
         | inl same ↦
             let is = ap (λ (z : State). z.boot) (some_inj t u (sym (get_same w.nodes n t s there) ∙ subst (λ k. slice_get (slice_set w.nodes n t) k ≡ Some u) same g2)) in
             omega (arith, low, is)
@@ -182,7 +182,7 @@ done_reset set k (Show i) w h = more_few k (done set (Show i) w).world (done_mil
 step_few : (set : Setting) (k n : ℕ) (w : World) (a b : Look) → Few k w → slice_get (looks w) n ≡ Some a
     → slice_get (looks (done set (Step n) w).world) n ≡ Some b → b.boot ≡ a.boot → Few k (done set (Step n) w).world
 step_few set k n w a b h la lb same m u g =
-    elim (same_or_not m n) [
+    elim (cases_eq m n) [
       | inl e ↦
           let there = subst (λ (i : ℕ). slice_get (done set (Step n) w).world.nodes i ≡ Some u) e g in
           let bu : Some (look u) ≡ Some b = sym (get_map look (done set (Step n) w).world.nodes n u there) ∙ lb in

@@ -1,17 +1,13 @@
 -- Open ends have the keys of their fields, and an invocation keeps that, where the key that it takes is that of its header.
-use Rattle.std.proofs.Common.{◌≡◌, ℕ, zero, suc, ◌+◌, ◌*◌, ◌<◌, ◌==◌, Bool, true, false, cond, ◌&&◌, ◌||◌, not, if◌then◌else◌, List, [], ◌∷◌, ◌++◌, length}
+use Rattle.std.proofs.Common.{◌≡◌, ℕ, zero, suc, ◌+◌, ◌*◌, ◌<◌, ◌==◌, Bool, true, false, cond, ◌||◌, not, if◌then◌else◌, List, [], ◌∷◌, ◌++◌}
 use Rattle.std.proofs.Common.{take, drop, Option, Some, None, Result, Ok, Err, refl, sym, ◌∙◌, ap, subst, arith}
 use Rattle.std.specs.Prelude.{nat_lt, slice_index}
-use Rattle.std.proofs.lemmas.Bool.{and_parts, eqb-true, true≢false}
+use Rattle.std.proofs.lemmas.Bool.{and_parts, eqb-true, true≢false, cond_both}
+use Rattle.std.proofs.lemmas.Option.{none-some}
 use Rattle.sx_lang.specs.declared.sides.Side.{Side}
 use Rattle.sx_lang.specs.declared.sides.Side.TheVariants.{To}
 use Rattle.sx_mean.specs.declared.events.End.{End}
-use Rattle.sx_mean.specs.declared.events.Act.{Act}
-use Rattle.sx_mean.specs.declared.events.Act.TheVariants.{Send, Emit}
-use Rattle.sx_mean.specs.declared.events.SourceEvent.{SourceEvent}
 use Rattle.sx_mean.specs.declared.events.SourceEvent.TheVariants as event
-use Rattle.sx_mean.specs.React.{react}
-use Rattle.sx_mean.specs.Ends.{is_sending}
 use Rattle.sx_rules.specs.declared.access.Violation.{Violation}
 use Rattle.sx_rules.specs.declared.access.Violation.TheVariants as bad
 use Rattle.sx_bus.specs.declared.devices.Window.{Window}
@@ -24,9 +20,9 @@ use Rattle.sx_invoke.specs.Setup.{Setup, Call}
 use Rattle.sx_invoke.specs.Marks as mark
 use Rattle.sx_invoke.specs.Marks.{Mark}
 use Rattle.sx_invoke.specs.ModuleState.{EndState, end_of, with_end, epoch_of, link_of, initial_ends}
-use Rattle.sx_invoke.specs.Windows.{write_bytes, read_bytes}
-use Rattle.sx_invoke.specs.Progress.{Progress, Invoked, Returns, Violates, Course, Going, Broken, and_on, finished}
-use Rattle.sx_invoke.specs.Acts.{with_piece, copied_to, with_packet, event_packet, wrap_counted, with_packets, with_act, with_acts, actuated, own_window, handled}
+use Rattle.sx_invoke.specs.Windows.{read_bytes}
+use Rattle.sx_invoke.specs.Progress.{Progress, Invoked, Returns, Violates, Course, Going, Broken, finished}
+use Rattle.sx_invoke.specs.Acts.{with_piece, own_window, handled}
 use Rattle.sx_invoke.specs.Protocol.{set_key_entry, attest_entry, input_entry, set_key_size, set_key_kind, ask_size, ask_kind, event_size, event_kind, no_entry}
 use Rattle.sx_invoke.specs.Protocol.{bad_window, other_kind, no_end, past_number, no_sample, last_number, key_size, value_size, header_size, key_tag_at}
 use Rattle.sx_invoke.specs.Protocol.{value_tag_at}
@@ -34,6 +30,7 @@ use Rattle.sx_invoke.specs.Invocation.{entered, invoke, returns_inside, is_no_en
 use Rattle.sx_invoke.specs.Entries.{received, with_received, is_kind, set_key, set_key_at, key_opened, is_keyed, attest, input, input_at, event_numbered}
 use Rattle.sx_invoke.specs.Entries.{event_opened, sample, sample_of, sample_read, number_taken, field_in, second_in, header_in, end_on, end_found, end_is}
 use Rattle.sx_invoke.specs.Entries.{side_of}
+use Rattle.sx_invoke.proofs.Courses.{Kept, come_to, handler_keeps, piece_keeps}
 use Rattle.sx_forged.proofs.Opening.{AllMarks}
 
 -- the key of a connection field
@@ -141,66 +138,21 @@ module _ (set : Setting) (s : Setup) (call : Call) (p0 : Progress) where
   abbrev Ends : Progress → Type 0
   Ends p = KeyedEnds set s.ends p.state.ends
 
-  abbrev on : Course → Progress
-  on (Going p) = p
-  on (Broken v p) = p
-
-  abbrev Keeps : (Progress → Course) → Type 0
-  Keeps f = (p : Progress) → Ends p → Ends (on (f p))
-
-  keeps_then : (f g : Progress → Course) → Keeps f → Keeps g → Keeps (λ x. and_on (f x) g)
-  keeps_then f g a b p h = go (f p) (a p h)
-    where
-      go : (x : Course) → Ends (on x) → Ends (on (and_on x g))
-      go (Going q) h = b q h
-      go (Broken v q) h = h
-
-  piece_keeps : (piece : List ℕ) → Keeps (with_piece s call piece)
-  piece_keeps piece p h = go (write_bytes s p.devices p.mem (call.output + event_size * length p.pieces) piece)
-    where
-      go : (r : Result (List ℕ) Violation) → Ends (on (copied_to r (record p { pieces = p.pieces ++ piece ∷ [] })))
-      go (Err v) = h
-      go (Ok mem) = h
-
-  packet_keeps : (v k : ℕ) → Keeps (with_packet s call v k)
-  unfolding with_packet
-  packet_keeps v k p h = go ((end_of p.state.ends k).is_open && nat_lt (end_of p.state.ends k).number last_number)
-    where
-      go : (b : Bool) → Ends (on (if b then with_piece s call (event_packet s (end_of p.state.ends k) v) (wrap_counted k (end_of p.state.ends k) v p) else Going p))
-      go true = piece_keeps (event_packet s (end_of p.state.ends k) v) (wrap_counted k (end_of p.state.ends k) v p) (same_keyed set s.ends p.state.ends k _ h)
-      go false = h
-
-  packets_keep : (output v k : ℕ) (es : List End) → Keeps (with_packets s call output v k es)
-  packets_keep output v k [] p h = h
-  packets_keep output v k (e ∷ es) p h = go (is_sending output e.side e.port) (packets_keep output v (k + 1) es)
-    where
-      go : (b : Bool) → Keeps (with_packets s call output v (k + 1) es)
-          → Ends (on (if b then and_on (with_packet s call v k p) (with_packets s call output v (k + 1) es) else with_packets s call output v (k + 1) es p))
-      go true rest = keeps_then (with_packet s call v k) (with_packets s call output v (k + 1) es) (packet_keeps v k) rest p h
-      go false rest = rest p h
-
-  act_keeps : (a : Act) → Keeps (with_act s call a)
-  act_keeps (Send output v) p h = packets_keep output v 0 s.ends p h
-  act_keeps (Emit v) p h = go (own_window s p.devices)
-    where
-      go : (o : Option (ℕ × Window)) → Ends (actuated v o p)
-      go None = h
-      go (Some d) = h
-
-  acts_keep : (acts : List Act) → Keeps (with_acts s call acts)
-  acts_keep [] p h = h
-  acts_keep (a ∷ acts) p h = keeps_then (with_act s call a) (with_acts s call acts) (act_keeps a) (acts_keep acts) p h
-
-  handler_keeps : (e : SourceEvent) → Keeps (handled s call e)
-  unfolding handled
-  handler_keeps e p h = let done = react s.tree e p.state.cells in acts_keep done.acts (record p { state = record p.state { cells = done.cells } }) h
+  kept : Kept s Ends
+  kept = record {
+    more_pieces = λ p new h. h;
+    other_memory = λ p new h. h;
+    other_cells = λ p new h. h;
+    wraps = λ p v k e at side o h. same_keyed set s.ends p.state.ends k _ h;
+    writes = λ p device v h. h;
+  }
 
   -- where the marks' keys are right, the ends at the end are keyed
   abbrev pub Good : Invoked → Type 0
   Good (Returns status p) = AllMarks (KeyMark set) p.marks → KeyedEnds set s.ends p.state.ends
   Good (Violates v p) = Unit {0}
 
-  finished_keeps : (x : Course) → Ends (on x) → Good (finished x)
+  finished_keeps : (x : Course) → Ends (come_to x) → Good (finished x)
   finished_keeps (Going p) h = λ m. h
   finished_keeps (Broken v p) h = tt
 
@@ -209,23 +161,16 @@ module _ (set : Setting) (s : Setup) (call : Call) (p0 : Progress) where
   back (x ∷ a) b h = back a b h.1
 
   module _ (start : KeyedEnds set s.ends p0.state.ends) where
-    either : (b : Bool) (x y : Invoked) → (b ≡ true → Good x) → (b ≡ false → Good y) → Good (if b then x else y)
-    either true x y a b = a refl
-    either false x y a b = b refl
-
     by_packet : (r : Result (List ℕ) Violation) (kind : ℕ) (rest : List ℕ → Invoked) → ((packet : List ℕ) → Good (rest packet)) → Good (received r kind rest p0)
     by_packet (Err v) kind rest f = tt
-    by_packet (Ok packet) kind rest f = either (is_kind kind packet) (rest packet) (Returns other_kind p0) (λ g. f packet) (λ g m. start)
+    by_packet (Ok packet) kind rest f = cond_both (is_kind kind packet) (rest packet) (Returns other_kind p0) Good (λ g. f packet) (λ g m. start)
 
     by_side : (packet : List ℕ) (o : Option Side) → (e : Option (ℕ × End)) → end_on (link_of (field_in packet)) s.ends o ≡ e → Good (set_key_at s packet e p0)
     by_side packet o None f = λ m. start
-    by_side packet None (Some e) f = absurd (none_some e f)
-      where
-        none_some : (e : ℕ × End) → ◌≡◌ {A = Option (ℕ × End)} None (Some e) → ⊥
-        none_some e f = cc
+    by_side packet None (Some e) f = absurd (none-some e f)
     by_side packet (Some side) (Some e) f =
         let u = unwrapped s.mac s.section.key (header_in packet) (take key_size (drop header_size packet)) (drop key_tag_at packet) in
-        either (is_keyed (end_of p0.state.ends e.0) (field_in packet)) (Returns no_end p0) (key_opened e.0 packet u p0) (λ g m. start) (λ g. by_tag u)
+        cond_both (is_keyed (end_of p0.state.ends e.0) (field_in packet)) (Returns no_end p0) (key_opened e.0 packet u p0) Good (λ g m. start) (λ g. by_tag u)
       where
         by_tag : (u : Option (List ℕ)) → Good (key_opened e.0 packet u p0)
         by_tag None = λ m. start
@@ -243,25 +188,25 @@ module _ (set : Setting) (s : Setup) (call : Call) (p0 : Progress) where
         by_tag e None = λ m. start
         by_tag e (Some body) =
             let q = number_taken e.0 packet (take value_size body) (end_of p0.state.ends e.0) p0 in
-            finished_keeps (handled s call (event.Input e.1.port (word body 0)) q) (handler_keeps (event.Input e.1.port (word body 0)) q (same_keyed set s.ends p0.state.ends e.0 _ start))
+            finished_keeps (handled s call (event.Input e.1.port (word body 0)) q) (handler_keeps s call Ends kept (event.Input e.1.port (word body 0)) q (same_keyed set s.ends p0.state.ends e.0 _ start))
 
         by_number : (e : ℕ × End) → Good (event_numbered s call e packet (end_of p0.state.ends e.0) p0)
         by_number e =
             let state = end_of p0.state.ends e.0 in
             let u = unwrapped s.mac state.key (header_in packet) (take value_size (drop header_size packet)) (drop value_tag_at packet) in
-            either (nat_lt (second_in packet) state.number || (second_in packet == last_number)) (Returns past_number p0) (event_opened s call e packet u p0) (λ g m. start) (λ g. by_tag e u)
+            cond_both (nat_lt (second_in packet) state.number || (second_in packet == last_number)) (Returns past_number p0) (event_opened s call e packet u p0) Good (λ g m. start) (λ g. by_tag e u)
 
         by_end : (e : Option (ℕ × End)) → Good (input_at s call packet e p0)
         by_end None = λ m. start
         by_end (Some e) =
             let state = end_of p0.state.ends e.0 in
-            either (not state.is_open || not (epoch_of state.field == epoch_of (field_in packet))) (Returns no_end p0) (event_numbered s call e packet state p0) (λ g m. start) (λ g. by_number e)
+            cond_both (not state.is_open || not (epoch_of state.field == epoch_of (field_in packet))) (Returns no_end p0) (event_numbered s call e packet state p0) Good (λ g m. start) (λ g. by_number e)
 
     by_attest : (ask : List ℕ) → Good (attest s call ask p0)
     by_attest ask =
         let tag = (wrapped s.mac s.section.key ask []).tag in
         let q = record p0 { marks = p0.marks ++ mark.Wrapped ask [] true ∷ [] } in
-        finished_keeps (with_piece s call tag q) (piece_keeps tag q start)
+        finished_keeps (with_piece s call tag q) (piece_keeps s call Ends kept tag q start)
 
     by_sample : Good (sample s call p0)
     by_sample = by_device (own_window s p0.devices)
@@ -270,8 +215,8 @@ module _ (set : Setting) (s : Setup) (call : Call) (p0 : Progress) where
         by_device None = λ m. start
         by_device (Some d) =
             let q = sample_read d p0 in
-            either d.1.fresh (finished (handled s call (event.Sample d.1.value) q)) (Returns no_sample p0)
-            (λ g. finished_keeps (handled s call (event.Sample d.1.value) q) (handler_keeps (event.Sample d.1.value) q start)) (λ g m. start)
+            cond_both d.1.fresh (finished (handled s call (event.Sample d.1.value) q)) (Returns no_sample p0) Good
+            (λ g. finished_keeps (handled s call (event.Sample d.1.value) q) (handler_keeps s call Ends kept (event.Sample d.1.value) q start)) (λ g m. start)
 
     by_entries : Good (entered s call p0)
     unfolding entered
@@ -280,11 +225,11 @@ module _ (set : Setting) (s : Setup) (call : Call) (p0 : Progress) where
         let x2 = with_received s call event_size event_kind p0 (λ packet. input s call packet p0) in
         let x1 = with_received s call ask_size ask_kind p0 (λ packet. attest s call packet p0) in
         let x0 = with_received s call set_key_size set_key_kind p0 (λ packet. set_key s packet p0) in
-        either (call.entry == set_key_entry) x0 (if call.entry == attest_entry then x1 else if call.entry == input_entry then x2 else x3)
+        cond_both (call.entry == set_key_entry) x0 (if call.entry == attest_entry then x1 else if call.entry == input_entry then x2 else x3) Good
         (λ g. by_packet (read_bytes s p0.devices p0.mem call.input set_key_size) set_key_kind (λ packet. set_key s packet p0) (λ packet. by_side packet (side_of (second_in packet)) _ refl))
-        (λ g. either (call.entry == attest_entry) x1 (if call.entry == input_entry then x2 else x3)
+        (λ g. cond_both (call.entry == attest_entry) x1 (if call.entry == input_entry then x2 else x3) Good
         (λ g. by_packet (read_bytes s p0.devices p0.mem call.input ask_size) ask_kind (λ packet. attest s call packet p0) by_attest)
-        (λ g. either (call.entry == input_entry) x2 x3
+        (λ g. cond_both (call.entry == input_entry) x2 x3 Good
         (λ g. by_packet (read_bytes s p0.devices p0.mem call.input event_size) event_kind (λ packet. input s call packet p0) by_event)
         (λ g. by_sample)))
 
@@ -292,7 +237,7 @@ module _ (set : Setting) (s : Setup) (call : Call) (p0 : Progress) where
     pub invoke_keyed : Good (invoke s call p0)
     unfolding invoke
     invoke_keyed =
-        either (returns_inside s call) (Violates bad.Illegal p0) (if is_no_entry s call then Returns no_entry p0 else if has_bad_windows s call then Returns bad_window p0 else entered s call p0)
+        cond_both (returns_inside s call) (Violates bad.Illegal p0) (if is_no_entry s call then Returns no_entry p0 else if has_bad_windows s call then Returns bad_window p0 else entered s call p0) Good
         (λ g. tt)
-        (λ g. either (is_no_entry s call) (Returns no_entry p0) (if has_bad_windows s call then Returns bad_window p0 else entered s call p0) (λ g m. start)
-        (λ g. either (has_bad_windows s call) (Returns bad_window p0) (entered s call p0) (λ g m. start) (λ g. by_entries)))
+        (λ g. cond_both (is_no_entry s call) (Returns no_entry p0) (if has_bad_windows s call then Returns bad_window p0 else entered s call p0) Good (λ g m. start)
+        (λ g. cond_both (has_bad_windows s call) (Returns bad_window p0) (entered s call p0) Good (λ g m. start) (λ g. by_entries)))

@@ -2,17 +2,17 @@
 use Rattle.std.proofs.Common.{◌≡◌, ℕ, ◌+◌, ◌-◌, ◌*◌, ◌%◌, ◌/◌, ◌<◌, ◌≤◌, ◌==◌, ◌&&◌, ◌⊎◌, inl, inr, Bool, true, false, cond, List, [], ◌∷◌, ◌++◌, length, take}
 use Rattle.std.proofs.Common.{drop, replicate, slice_index, Option, Some, None, Ok, refl, sym, ◌∙◌, ap, subst, arith}
 use Rattle.std.specs.Prelude.{slice_get, bytes_eq}
-use Rattle.std.proofs.lemmas.Bool.{true≢false, and_parts, eqb-true, eq-eqb, or_left, or_right}
+use Rattle.std.proofs.lemmas.Bool.{true≢false, and_parts, eqb-true, and_from}
 use Rattle.sx_trace.specs.declared.items.Item.TheVariants as item
 use Rattle.sx_lang.specs.declared.sides.Side.TheVariants.{To}
 use Rattle.sx_mean.specs.Application.{PartTree}
 use Rattle.sx_mean.specs.Ends.{ends_of}
-use Rattle.sx_ledger.specs.declared.entry.Maker.{Maker}
 use Rattle.sx_ledger.specs.declared.entry.Maker.TheVariants as maker
 use Rattle.sx_rules.specs.declared.section.Section.{Section}
 use Rattle.sx_rules.specs.Access.{Lives, section_of}
 use Rattle.sx_tag.specs.Mac.{Mac, GivesTags}
 use Rattle.sx_tag.specs.Wrap.{crypt, padded, unwrapped, wrap_tag}
+use Rattle.sx_tag.proofs.UnwrapsWrapped.{crypt-crypt}
 use Rattle.sx_machine.specs.declared.kinds.Event.{Event}
 use Rattle.sx_machine.specs.declared.kinds.Event.TheVariants as event
 use Rattle.sx_machine.specs.declared.kinds.Exchange.{Exchange}
@@ -29,15 +29,15 @@ use Rattle.sx_invoke.specs.Entries.{header_in, field_in}
 use Rattle.sx_image.specs.Watched.{violation_of, marks_of, marks_of_touches, marks_of_event}
 use Rattle.sx_image.specs.Image.{call_at, progress_at}
 use Rattle.sx_sched.specs.Lines.{Line}
-use Rattle.sx_run.specs.Setting.{Setting, Site, is_at_site, module_of}
-use Rattle.sx_run.specs.Ledger.{Made, NO_TARGET, made_entry, same_maker, same_entry, is_made, header_of, body_of}
+use Rattle.sx_run.specs.Setting.{Setting, module_of}
+use Rattle.sx_run.specs.Ledger.{Made, NO_TARGET, made_entry, is_made, header_of, body_of}
 use Rattle.sx_run.specs.Wire.{is_ask, challenge_in, is_set_key_header, is_event_header, link_in, epoch_in}
 use Rattle.sx_run.specs.Deployer.{connection_key}
 use Rattle.sx_run.specs.Observation.{Observed, with_items, event_seen, has_wrapped, touch_items, sender_of, has_end}
 use Rattle.sx_run.specs.State.{World}
 use Rattle.sx_run.specs.Acts.{after_step}
 use Rattle.sx_run.specs.Law.{IsSoundSetting}
-use Rattle.sx_run.proofs.tie.Entries.{bytes_same}
+use Rattle.sx_run.proofs.tie.Entries.{bytes_same, made_in}
 use Rattle.sx_run.proofs.tie.Lists.{get_within, get_some}
 use Rattle.sx_run.proofs.steps.Entry.{at_site}
 use Rattle.sx_run.proofs.steps.Machine.{onward}
@@ -54,13 +54,10 @@ use Rattle.sx_forged.proofs.Fields.{field_key, field_is, found_keyed}
 use Rattle.sx_forged.proofs.Sending.{Sent, wraps_sent, sent_sender}
 use Rattle.sx_forged.proofs.Keyed.{key_shows, NodeKeyed}
 use Rattle.sx_forged.proofs.Keeping.{TurnOn, turn_on}
-use Rattle.sx_forged.proofs.Accepting.{Runner, runner_at, section_key, unwrap_quiet, take_front, crypt_twice, key_long, prefix_of, all_front, all_back, key_begins, event_begins, ask_long}
+use Rattle.sx_forged.proofs.Accepting.{Runner, runner_at, section_key, unwrap_quiet, take_front, key_long, prefix_of, all_front, all_back, key_begins, event_begins, ask_long}
 
 all_true : (a b c : Bool) → a ≡ true → b ≡ true → c ≡ true → (a && (b && c)) ≡ true
 all_true a b c e f g = rw (e, f, g) refl
-
-two_true : (a b : Bool) → a ≡ true → b ≡ true → (a && b) ≡ true
-two_true a b e f = rw (e, f) refl
 
 no_ask : (a b c : Bool) → c ≡ false → (a && (b && c)) ≡ false
 no_ask true true c e = e
@@ -89,7 +86,7 @@ opened_by mac key header cipher tag plain e = by (bytes_eq tag (take 16 (mac key
 body_back : (mac : Mac) (key header cipher plain body : List ℕ) (n : ℕ) → GivesTags mac → length body ≡ n → n ≤ 32 → crypt mac key header body ≡ cipher
     → plain ≡ padded (crypt mac key header cipher) → take n plain ≡ body
 body_back mac key header cipher plain body n gives long few c is =
-    let back : crypt mac key header cipher ≡ body = ap (crypt mac key header) (sym c) ∙ crypt_twice mac key header body gives (omega (arith, long, few)) in
+    let back : crypt mac key header cipher ≡ body = ap (crypt mac key header) (sym c) ∙ crypt-crypt mac key header body gives (omega (arith, long, few)) in
     ap (take n) (is ∙ ap padded back) ∙ ap (λ (k : ℕ). take k (padded body)) (sym long) ∙ take_front body (replicate (32 - length body) 0)
 
 event_long : (header : List ℕ) → is_event_header header ≡ true → length header ≡ 6
@@ -124,25 +121,6 @@ other_told s call p header body true small e h =
 abbrev SentParts : List ℕ → List ℕ → Bool → Type 0
 SentParts header body own = ((own ≡ true) × (is_ask header ≡ true) × (body ≡ [])) ⊎ ((own ≡ false) × (is_event_header header ≡ true) × (length body ≡ 2))
 
-nat_is : (n : ℕ) → (n == n) ≡ true
-nat_is n = eq-eqb n n refl
-
-bytes_are : (a : List ℕ) → bytes_eq a a ≡ true
-bytes_are [] = refl
-bytes_are (x ∷ a) = two_true (x == x) (bytes_eq a a) (nat_is x) (bytes_are a)
-
-maker_is : (m : Maker) → same_maker m m ≡ true
-maker_is maker.Deployer = refl
-maker_is (maker.Module k) = nat_is k
-
-entry_is : (e : Made) → same_entry e e ≡ true
-entry_is e = two_true (same_maker e.maker e.maker) _ (maker_is e.maker) (two_true (e.target == e.target) _ (nat_is e.target)
-    (two_true (e.boot == e.boot) _ (nat_is e.boot) (two_true (bytes_eq e.header e.header) (bytes_eq e.body e.body) (bytes_are e.header) (bytes_are e.body))))
-
-made_now : (ledger : List Made) (e : Made) → is_made (ledger ++ e ∷ []) e ≡ true
-made_now [] e = or_left (same_entry e e) false (entry_is e)
-made_now (x ∷ ledger) e = or_right (same_entry e x) (is_made (ledger ++ e ∷ []) e) (made_now ledger e)
-
 abbrev Entered : ℕ → ℕ → List ℕ → List ℕ → Bool → List Made → Type 0
 Entered m boot header body own ledger =
     ((own ≡ true) × (is_made ledger (made_entry (maker.Module m) NO_TARGET boot header body) ≡ true))
@@ -156,11 +134,11 @@ entered m boot header body own ledger (inl a) =
       subst (λ (b : Bool). is_made (cond {A = Observed} b (with_items (ledger ++ made_entry (maker.Module m) NO_TARGET boot header body ∷ []) (item.Vouch m (challenge_in header) ∷ []))
           (cond {A = Observed} (is_event_header header && (length body == 2)) (with_items (ledger ++ made_entry (maker.Module m) NO_TARGET 0 header body ∷ [])
           []) (with_items ledger []))).ledger (made_entry (maker.Module m) NO_TARGET boot header body) ≡ true)
-          (sym both) (made_now ledger (made_entry (maker.Module m) NO_TARGET boot header body)),
+          (sym both) (made_in ledger [] (made_entry (maker.Module m) NO_TARGET boot header body)),
     )
 entered m boot header body own ledger (inr v) =
     let none : (is_ask header && ((length body == 0) && own)) ≡ false = no_ask (is_ask header) (length body == 0) own v.0 in
-    let both : (is_event_header header && (length body == 2)) ≡ true = two_true (is_event_header header) (length body == 2) v.1 (ap (λ (z : ℕ). z == 2) v.2) in
+    let both : (is_event_header header && (length body == 2)) ≡ true = and_from (is_event_header header) (length body == 2) v.1 (ap (λ (z : ℕ). z == 2) v.2) in
     inr (
       v.0,
       subst (λ (b : Bool). is_made (cond {A = Observed} b (with_items (ledger ++ made_entry (maker.Module m) NO_TARGET boot header body ∷ []) (item.Vouch m (challenge_in header) ∷ []))
@@ -168,7 +146,7 @@ entered m boot header body own ledger (inr v) =
           []) (with_items ledger []))).ledger (made_entry (maker.Module m) NO_TARGET 0 header body) ≡ true)
           (sym none) (subst (λ (b : Bool). is_made (cond {A = Observed} b (with_items (ledger ++ made_entry (maker.Module m) NO_TARGET 0 header body ∷ []) [])
           (with_items ledger [])).ledger (made_entry (maker.Module m) NO_TARGET 0 header body) ≡ true)
-          (sym both) (made_now ledger (made_entry (maker.Module m) NO_TARGET 0 header body))),
+          (sym both) (made_in ledger [] (made_entry (maker.Module m) NO_TARGET 0 header body))),
     )
 
 -- A state in which a node stood at a moment until the k-th.

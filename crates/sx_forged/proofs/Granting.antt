@@ -1,7 +1,6 @@
 -- Worlds that differ in the keys of nodes alone, and what the deployer does in them.
-use Rattle.std.proofs.Common.{◌≡◌, ℕ, zero, suc, Bool, true, false, cond, ◌&&◌, bytes_eq, List, [], ◌∷◌, ◌++◌, Option, Some, None, refl, sym, ◌∙◌, ap, ap₂, subst}
+use Rattle.std.proofs.Common.{◌≡◌, ℕ, zero, suc, Bool, true, false, cond, ◌&&◌, bytes_eq, List, [], ◌∷◌, ◌++◌, Option, Some, None, refl, sym, ◌∙◌, ap, subst}
 use Rattle.std.specs.Prelude.{slice_get, slice_set}
-use Rattle.sx_trace.specs.declared.items.Item.{Item}
 use Rattle.sx_trace.specs.declared.items.Item.TheVariants as item
 use Rattle.sx_ledger.specs.declared.entry.Maker.TheVariants as maker
 use Rattle.sx_tag.specs.Mac.{Mac}
@@ -19,6 +18,7 @@ use Rattle.sx_run.specs.Acts.{only, then_, new_packet, with_deployer, key_given,
 use Rattle.sx_forged.specs.Tags.{SameTags, rekeyed, AgreeOnTags}
 use Rattle.sx_forged.proofs.Instructions.{wrapped_same}
 use Rattle.sx_forged.proofs.Steps.{LikeState}
+use Rattle.sx_guard.proofs.Guarding.{append_same}
 
 -- the world with other nodes
 abbrev pub with_nodes : World → List State → World
@@ -60,9 +60,6 @@ module _ (mac nac : Mac) where
 
   pub like_nodes : (w : World) (ns : List State) → LikeNodes w.nodes ns → LikeWorld w (with_nodes w ns)
   like_nodes w ns h = record { rest = refl; nodes = h }
-
-  append_same : (x y x2 y2 : List Item) → x ≡ y → x2 ≡ y2 → (x ++ x2) ≡ (y ++ y2)
-  append_same x y x2 y2 e f = ap₂ (λ (p q : List Item). p ++ q) e f
 
   pub then_like : (x y : Acted) (f g : World → Acted) → LikeActed x y → ((w v : World) → LikeWorld w v → LikeActed (f w) (g v)) → LikeActed (then_ x f) (then_ y g)
   then_like x y f g h k =

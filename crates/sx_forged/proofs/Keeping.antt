@@ -1,7 +1,7 @@
 -- Every act keeps open ends keyed, until a `forged` shows.
 use Rattle.std.proofs.Common.{◌≡◌, ◌≢◌, ℕ, ◌-◌, ◌==◌, ◌⊎◌, inl, inr, Bool, true, if◌then◌else◌, List, ◌++◌, length, replicate, Option, Some, None, refl, sym, ◌∙◌, ap, subst, arith}
 use Rattle.std.specs.Prelude.{slice_get, slice_set}
-use Rattle.std.proofs.lemmas.Bool.{eq-eqb}
+use Rattle.std.proofs.lemmas.Bool.{eq-eqb, cases_eq}
 use Rattle.sx_lang.specs.Sizes.{module_data_size}
 use Rattle.sx_mean.specs.Application.{PartTree}
 use Rattle.sx_mean.specs.Ends.{ends_of}
@@ -22,7 +22,7 @@ use Rattle.sx_machine.specs.Acting.{Act, acted, ActInForm}
 use Rattle.sx_machine.specs.Acting as act
 use Rattle.sx_machine.specs.Guarding.{FromOutside}
 use Rattle.sx_machine.proofs.Apart.{lives_without}
-use Rattle.sx_machine.proofs.Stays.{acted_is_node}
+use Rattle.sx_machine.proofs.Stays.{acted_is_node, busy_idle}
 use Rattle.sx_invoke.specs.Marks.{Mark}
 use Rattle.sx_invoke.specs.ModuleState.{ModuleState, state_of}
 use Rattle.sx_image.specs.Watched.{violation_of, marks_of}
@@ -42,8 +42,8 @@ use Rattle.sx_lists.proofs.Lists.{get_same}
 use Rattle.sx_guard.specs.Happening.{Happening, Step, done}
 use Rattle.sx_forged.specs.Moments.{NoForged}
 use Rattle.sx_forged.proofs.Turns.{InTurn, NodeTurns, AllTurn}
-use Rattle.sx_forged.proofs.Turning.{Running, begins_turn, goes_on_from, stood, is_step, busy_idle, not_busy}
-use Rattle.sx_forged.proofs.Reaching.{InForm, After, after_happening, same_or_not}
+use Rattle.sx_forged.proofs.Turning.{Running, begins_turn, goes_on_from, stood, is_step, not_busy}
+use Rattle.sx_forged.proofs.Reaching.{InForm, After, after_happening}
 use Rattle.sx_forged.proofs.Logging.{AllLogged}
 use Rattle.sx_forged.proofs.Opening.{AllMarks}
 use Rattle.sx_forged.proofs.Fields.{KeyedEnds, KeyMark, first_keyed}
@@ -145,7 +145,7 @@ module _ (set : Setting) (Past : State → Type 0) (w : World) (n : ℕ) (s : St
     ]
 
     quiet_rest : (t.cur ≡ sec.id → ⊥) → KeyedRest set m q sec t
-    quiet_rest ne = elim (same_or_not (own_of s) sec.id) [
+    quiet_rest ne = elim (cases_eq (own_of s) sec.id) [
       | inl own ↦ ended set Past m q site sec t (own_turn own) (λ inside.
           ne ((onward set.mac s quiet).cur ∙ ap (λ (b : Bool). if b then own_of s else 0) (eq-eqb (own_of t) (own_of s) (inside ∙ sym own)) ∙ own))
       | inr other ↦ other_rest other (sections_after set.mac s quiet)
@@ -251,7 +251,7 @@ module _ (set : Setting) (Past : ℕ → State → Type 0) (x : Happening) (w : 
   by_after (inl e) n s g = h n s (subst (λ (z : List State). slice_get z n ≡ Some s) e g)
   by_after (inr a) n s g =
       let g2 : slice_get (slice_set w.nodes a.node (acted set.mac a.act a.state).state) n ≡ Some s = subst (λ (z : List State). slice_get z n ≡ Some s) a.nodes g in
-      elim (same_or_not n a.node) [
+      elim (cases_eq n a.node) [
         | inl e ↦
             let now = get_same w.nodes a.node (acted set.mac a.act a.state).state a.state a.there in
             let same : (acted set.mac a.act a.state).state ≡ s = some_inj _ s (sym now ∙ subst (λ k. slice_get (slice_set w.nodes a.node (acted set.mac a.act a.state).state) k ≡ Some s) e g2) in

@@ -3,7 +3,7 @@ use Rattle.std.proofs.Common.{◌≡◌, ℕ, zero, suc, ◌+◌, ◌*◌, ◌%�
 use Rattle.std.proofs.Common.{slice_index, Option, Some, None, refl, sym, ◌∙◌, ap, subst, arith}
 use Rattle.std.specs.Prelude.{slice_get}
 use Rattle.std.specs.List.{list_any}
-use Rattle.std.proofs.lemmas.Bool.{true≢false, and_parts, eqb-true, or_left, or_right}
+use Rattle.std.proofs.lemmas.Bool.{and_parts, eqb-true, or_left, or_right, and_from}
 use Rattle.sx_trace.specs.declared.items.Item.{Item}
 use Rattle.sx_trace.specs.declared.items.Item.TheVariants as item
 use Rattle.sx_lang.specs.declared.sides.Side.{Side}
@@ -49,13 +49,13 @@ use Rattle.sx_run.proofs.tie.Ends.{same_sides}
 use Rattle.sx_run.proofs.steps.Machine.{public_same}
 use Rattle.sx_run.proofs.steps.Bystanders.{at_site_same, kept_bytes}
 use Rattle.sx_run.proofs.steps.Foreign.{position_some}
+use Rattle.sx_run.proofs.steps.Story.{read_all, Bytes}
 use Rattle.sx_forged.specs.Moments.{IsAmong, NoForged}
 use Rattle.sx_forged.proofs.Turns.{setup_of, turn_of, InTurn, NodeTurns}
 use Rattle.sx_forged.proofs.Logging.{AllLogged}
 use Rattle.sx_forged.proofs.Opening.{Told, KeyedFrom, AllMarks}
 use Rattle.sx_forged.proofs.Fields.{field_key, KeyedEnds, KeyMark, Good, invoke_keyed}
 use Rattle.sx_forged.proofs.Accepting.{runner_at, unwrap_told}
-use Rattle.sx_forged.proofs.Packets.{Bytes, read_all}
 
 -- A key that is taken shows as one.
 
@@ -132,7 +132,7 @@ key_shows s call p header body small k =
 
 -- Where no `forged` shows, the deployer made it.
 
-among_right : (i : Item) (xs ys : List Item) → IsAmong i ys → IsAmong i (xs ++ ys)
+pub among_right : (i : Item) (xs ys : List Item) → IsAmong i ys → IsAmong i (xs ++ ys)
 among_right i [] ys h = h
 among_right i (x ∷ xs) ys h = inr (among_right i xs ys h)
 
@@ -149,11 +149,6 @@ honest set w n m id s clean runs e h = by (is_made w.ledger (made_entry maker.De
     body : List ℕ
     body = body_of (step set.mac s).state.exchange
 
-    both : (a b : Bool) → a ≡ true → b ≡ true → (a && b) ≡ true
-    both true true p q = refl
-    both true false p q = q
-    both false b p q = absurd (true≢false (sym p))
-
     by : (b : Bool) → is_made w.ledger (made_entry maker.Deployer m (step set.mac s).state.boot (header_of (step set.mac s).state.exchange) (body_of (step set.mac s).state.exchange)) ≡ b
         → is_made w.ledger (made_entry maker.Deployer m (step set.mac s).state.boot (header_of (step set.mac s).state.exchange) (body_of (step set.mac s).state.exchange)) ≡ true
     by true q = q
@@ -161,7 +156,7 @@ honest set w n m id s clean runs e h = by (is_made w.ledger (made_entry maker.De
         let x = (step set.mac s).state.exchange in
         let r = step set.mac s in
         let shown : (is_set_key_header (header_of x) && has_end set.app m (link_in (header_of x)) (side_in (header_of x))) ≡ true =
-        both (is_set_key_header (header_of x)) (has_end set.app m (link_in (header_of x)) (side_in (header_of x))) h.0 h.1 in
+        and_from (is_set_key_header (header_of x)) (has_end set.app m (link_in (header_of x)) (side_in (header_of x))) h.0 h.1 in
         let made = is_made w.ledger (made_entry maker.Deployer m r.state.boot (header_of x) (body_of x)) in
         let opens = item.Open m (link_in (header_of x)) (side_in (header_of x)) (epoch_in (header_of x)) in
         let rest = if is_event_header (header_of x) && has_end set.app m (link_in (header_of x)) To then unless_made (Some m)

@@ -1,15 +1,10 @@
 -- What the unwraps of an invocation are of.
-use Rattle.std.proofs.Common.{◌≡◌, ℕ, ◌+◌, ◌*◌, ◌==◌, Bool, true, false, ◌&&◌, ◌||◌, not, if◌then◌else◌, List, [], ◌∷◌, ◌++◌, length, take, drop, Option, Some, None, Result, Ok, Err, refl, sym, subst}
+use Rattle.std.proofs.Common.{◌≡◌, ℕ, ◌==◌, Bool, true, false, ◌||◌, not, if◌then◌else◌, List, [], ◌∷◌, ◌++◌, take, drop, Option, Some, None, Result, Ok, Err, refl, sym, subst}
 use Rattle.std.specs.Prelude.{nat_lt}
-use Rattle.std.proofs.lemmas.Bool.{eqb-true, true≢false}
+use Rattle.std.proofs.lemmas.Bool.{eqb-true, true≢false, or_parts, cond_both}
 use Rattle.sx_lang.specs.declared.sides.Side.TheVariants.{To}
 use Rattle.sx_mean.specs.declared.events.End.{End}
-use Rattle.sx_mean.specs.declared.events.Act.{Act}
-use Rattle.sx_mean.specs.declared.events.Act.TheVariants.{Send, Emit}
-use Rattle.sx_mean.specs.declared.events.SourceEvent.{SourceEvent}
 use Rattle.sx_mean.specs.declared.events.SourceEvent.TheVariants as event
-use Rattle.sx_mean.specs.React.{react}
-use Rattle.sx_mean.specs.Ends.{is_sending}
 use Rattle.sx_rules.specs.declared.access.Violation.{Violation}
 use Rattle.sx_rules.specs.declared.access.Violation.TheVariants as bad
 use Rattle.sx_bus.specs.declared.devices.Window.{Window}
@@ -19,15 +14,16 @@ use Rattle.sx_invoke.specs.Setup.{Setup, Call}
 use Rattle.sx_invoke.specs.Marks as mark
 use Rattle.sx_invoke.specs.Marks.{Mark}
 use Rattle.sx_invoke.specs.ModuleState.{EndState, end_of, epoch_of, link_of}
-use Rattle.sx_invoke.specs.Windows.{two, write_bytes, read_bytes, is_bad_window, in_window_size, out_window_size}
-use Rattle.sx_invoke.specs.Progress.{Progress, Invoked, Returns, Violates, Course, Going, Broken, and_on, finished, marks_in}
-use Rattle.sx_invoke.specs.Acts.{with_piece, copied_to, with_packet, event_packet, event_header, wrap_counted, with_packets, with_act, with_acts, actuated, own_window, handled}
+use Rattle.sx_invoke.specs.Windows.{two, read_bytes, is_bad_window, in_window_size, out_window_size}
+use Rattle.sx_invoke.specs.Progress.{Progress, Invoked, Returns, Violates, Course, Going, Broken, finished, marks_in}
+use Rattle.sx_invoke.specs.Acts.{with_piece, event_header, own_window, handled}
 use Rattle.sx_invoke.specs.Protocol.{set_key_entry, attest_entry, input_entry, set_key_size, set_key_kind, ask_size, ask_kind, event_size, event_kind, no_entry}
 use Rattle.sx_invoke.specs.Protocol.{bad_window, other_kind, no_end, past_number, no_sample, last_number, key_size, value_size, header_size, key_tag_at}
 use Rattle.sx_invoke.specs.Protocol.{value_tag_at}
 use Rattle.sx_invoke.specs.Invocation.{entered, invoke, returns_inside, is_no_entry, has_bad_windows}
 use Rattle.sx_invoke.specs.Entries.{received, with_received, is_kind, set_key, set_key_at, key_opened, is_keyed, attest, input, input_at, event_numbered}
 use Rattle.sx_invoke.specs.Entries.{event_opened, sample, sample_of, sample_read, number_taken, field_in, second_in, header_in, end_on, end_found, side_of}
+use Rattle.sx_invoke.proofs.Courses.{Kept, come_to, handler_keeps, piece_keeps}
 
 -- An event that the invocation takes: the packet that it read, for an end that is open in its epoch, and its tag is that under the end's key.
 pub record TakenFrom (s : Setup) (call : Call) (p : Progress) (header body : List ℕ) : Type 0 where
@@ -70,7 +66,7 @@ abbrev pub AllMarks : (Mark → Type 0) → List Mark → Type 0
 AllMarks P [] = Unit {0}
 AllMarks P (m ∷ ms) = P m × AllMarks P ms
 
-all_more : (P : Mark → Type 0) (ms : List Mark) (m : Mark) → P m → AllMarks P ms → AllMarks P (ms ++ m ∷ [])
+pub all_more : (P : Mark → Type 0) (ms : List Mark) (m : Mark) → P m → AllMarks P ms → AllMarks P (ms ++ m ∷ [])
 all_more P [] m e h = (e, tt)
 all_more P (x ∷ ms) m e h = (h.0, all_more P ms m e h.1)
 
@@ -78,70 +74,23 @@ pub all_of : (P : Mark → Type 0) (before : List Mark) (m : Mark) (rest : List 
 all_of P [] m rest h = h.0
 all_of P (x ∷ before) m rest h = all_of P before m rest h.1
 
-no_left : (a b : Bool) → (a || b) ≡ false → a ≡ false
-no_left true b e = e
-no_left false b e = refl
-
-abbrev marks_on : Course → List Mark
-marks_on (Going p) = p.marks
-marks_on (Broken v p) = p.marks
-
 module _ (s : Setup) (call : Call) (p0 : Progress) where
   abbrev P : Mark → Type 0
   P = Told s call p0
 
-  -- a part of the course keeps it
-  abbrev Keeps : (Progress → Course) → Type 0
-  Keeps f = (p : Progress) → AllMarks P p.marks → AllMarks P (marks_on (f p))
+  abbrev Fine : Progress → Type 0
+  Fine p = AllMarks P p.marks
 
-  keeps_then : (f g : Progress → Course) → Keeps f → Keeps g → Keeps (λ x. and_on (f x) g)
-  keeps_then f g a b p h = go (f p) (a p h)
-    where
-      go : (x : Course) → AllMarks P (marks_on x) → AllMarks P (marks_on (and_on x g))
-      go (Going q) h = b q h
-      go (Broken v q) h = h
+  kept : Kept s Fine
+  kept = record {
+    more_pieces = λ p new h. h;
+    other_memory = λ p new h. h;
+    other_cells = λ p new h. h;
+    wraps = λ p v k e at side o h. all_more P p.marks (mark.Wrapped (event_header (end_of p.state.ends k)) (two v) false) tt h;
+    writes = λ p device v h. all_more P p.marks (mark.Actuated device v) tt h;
+  }
 
-  piece_keeps : (piece : List ℕ) → Keeps (with_piece s call piece)
-  piece_keeps piece p h = go (write_bytes s p.devices p.mem (call.output + event_size * length p.pieces) piece)
-    where
-      go : (r : Result (List ℕ) Violation) → AllMarks P (marks_on (copied_to r (record p { pieces = p.pieces ++ piece ∷ [] })))
-      go (Err v) = h
-      go (Ok mem) = h
-
-  packet_keeps : (v k : ℕ) → Keeps (with_packet s call v k)
-  unfolding with_packet
-  packet_keeps v k p h = go (end_of p.state.ends k) ((end_of p.state.ends k).is_open && nat_lt (end_of p.state.ends k).number last_number)
-    where
-      go : (e : EndState) (b : Bool) → AllMarks P (marks_on (if b then with_piece s call (event_packet s e v) (wrap_counted k e v p) else Going p))
-      go e true = piece_keeps (event_packet s e v) (wrap_counted k e v p) (all_more P p.marks (mark.Wrapped (event_header e) (two v) false) tt h)
-      go e false = h
-
-  packets_keep : (output v k : ℕ) (es : List End) → Keeps (with_packets s call output v k es)
-  packets_keep output v k [] p h = h
-  packets_keep output v k (e ∷ es) p h = go (is_sending output e.side e.port) (packets_keep output v (k + 1) es)
-    where
-      go : (b : Bool) → Keeps (with_packets s call output v (k + 1) es)
-          → AllMarks P (marks_on (if b then and_on (with_packet s call v k p) (with_packets s call output v (k + 1) es) else with_packets s call output v (k + 1) es p))
-      go true rest = keeps_then (with_packet s call v k) (with_packets s call output v (k + 1) es) (packet_keeps v k) rest p h
-      go false rest = rest p h
-
-  act_keeps : (a : Act) → Keeps (with_act s call a)
-  act_keeps (Send output v) p h = packets_keep output v 0 s.ends p h
-  act_keeps (Emit v) p h = go (own_window s p.devices)
-    where
-      go : (o : Option (ℕ × Window)) → AllMarks P (actuated v o p).marks
-      go None = h
-      go (Some d) = all_more P p.marks (mark.Actuated d.0 v) tt h
-
-  acts_keep : (acts : List Act) → Keeps (with_acts s call acts)
-  acts_keep [] p h = h
-  acts_keep (a ∷ acts) p h = keeps_then (with_act s call a) (with_acts s call acts) (act_keeps a) (acts_keep acts) p h
-
-  handler_keeps : (e : SourceEvent) → Keeps (handled s call e)
-  unfolding handled
-  handler_keeps e p h = let done = react s.tree e p.state.cells in acts_keep done.acts (record p { state = record p.state { cells = done.cells } }) h
-
-  finished_keeps : (x : Course) → AllMarks P (marks_on x) → AllMarks P (marks_in (finished x))
+  finished_keeps : (x : Course) → Fine (come_to x) → AllMarks P (marks_in (finished x))
   finished_keeps (Going p) h = h
   finished_keeps (Broken v p) h = h
 
@@ -155,14 +104,10 @@ module _ (s : Setup) (call : Call) (p0 : Progress) where
     one : (m : Mark) → P m → AllMarks P (p0.marks ++ m ∷ [])
     one m h = subst (λ (l : List Mark). AllMarks P (l ++ m ∷ [])) (sym none) (h, tt)
 
-    either : (b : Bool) (x y : Invoked) → (b ≡ true → Good x) → (b ≡ false → Good y) → Good (if b then x else y)
-    either true x y a b = a refl
-    either false x y a b = b refl
-
     by_packet : (size : ℕ) (kind : ℕ) (rest : List ℕ → Invoked) → ((packet : List ℕ) → read_bytes s p0.devices p0.mem call.input size ≡ Ok packet → is_kind kind packet ≡ true → Good (rest packet))
         → (r : Result (List ℕ) Violation) → read_bytes s p0.devices p0.mem call.input size ≡ r → Good (received r kind rest p0)
     by_packet size kind rest f (Err v) e = nothing
-    by_packet size kind rest f (Ok packet) e = either (is_kind kind packet) (rest packet) (Returns other_kind p0) (λ g. f packet e g) (λ g. nothing)
+    by_packet size kind rest f (Ok packet) e = cond_both (is_kind kind packet) (rest packet) (Returns other_kind p0) Good (λ g. f packet e g) (λ g. nothing)
 
     by_key : is_bad_window s call.input in_window_size ≡ false → (packet : List ℕ) → read_bytes s p0.devices p0.mem call.input set_key_size ≡ Ok packet
         → is_kind set_key_kind packet ≡ true → Good (set_key s packet p0)
@@ -178,7 +123,7 @@ module _ (s : Setup) (call : Call) (p0 : Progress) where
         by_end None found = nothing
         by_end (Some e) found =
             let u = unwrapped s.mac s.section.key (header_in packet) (take key_size (drop header_size packet)) (drop key_tag_at packet) in
-            either (is_keyed (end_of p0.state.ends e.0) (field_in packet)) (Returns no_end p0) (key_opened e.0 packet u p0) (λ g. nothing) (λ g. by_tag e found u refl)
+            cond_both (is_keyed (end_of p0.state.ends e.0) (field_in packet)) (Returns no_end p0) (key_opened e.0 packet u p0) Good (λ g. nothing) (λ g. by_tag e found u refl)
 
     by_event : is_bad_window s call.input in_window_size ≡ false → (packet : List ℕ) → read_bytes s p0.devices p0.mem call.input event_size ≡ Ok packet
         → is_kind event_kind packet ≡ true → Good (input s call packet p0)
@@ -194,7 +139,7 @@ module _ (s : Setup) (call : Call) (p0 : Progress) where
         by_tag e found op ep None f = nothing
         by_tag e found op ep (Some body) f =
             let q = number_taken e.0 packet (take value_size body) (end_of p0.state.ends e.0) p0 in
-            finished_keeps (handled s call (event.Input e.1.port (word body 0)) q) (handler_keeps (event.Input e.1.port (word body 0)) q
+            finished_keeps (handled s call (event.Input e.1.port (word body 0)) q) (handler_keeps s call Fine kept (event.Input e.1.port (word body 0)) q
             (one (mark.Unwrapped (header_in packet) (take value_size body) false)
             (record {
               packet = packet;
@@ -218,7 +163,7 @@ module _ (s : Setup) (call : Call) (p0 : Progress) where
         by_number e found op ep =
             let state = end_of p0.state.ends e.0 in
             let u = unwrapped s.mac state.key (header_in packet) (take value_size (drop header_size packet)) (drop value_tag_at packet) in
-            either (nat_lt (second_in packet) state.number || (second_in packet == last_number)) (Returns past_number p0) (event_opened s call e packet u p0)
+            cond_both (nat_lt (second_in packet) state.number || (second_in packet == last_number)) (Returns past_number p0) (event_opened s call e packet u p0) Good
             (λ g. nothing) (λ g. by_tag e found op ep u refl)
 
         open_parts : (a b : Bool) → (not a || not b) ≡ false → (a ≡ true) × (b ≡ true)
@@ -230,7 +175,7 @@ module _ (s : Setup) (call : Call) (p0 : Progress) where
         by_end None found = nothing
         by_end (Some e) found =
             let state = end_of p0.state.ends e.0 in
-            either (not state.is_open || not (epoch_of state.field == epoch_of (field_in packet))) (Returns no_end p0) (event_numbered s call e packet state p0) (λ g. nothing)
+            cond_both (not state.is_open || not (epoch_of state.field == epoch_of (field_in packet))) (Returns no_end p0) (event_numbered s call e packet state p0) Good (λ g. nothing)
             (λ g. let both = open_parts state.is_open (epoch_of state.field == epoch_of (field_in packet)) g in
             by_number e found both.0 (eqb-true (epoch_of state.field) (epoch_of (field_in packet)) both.1))
 
@@ -238,7 +183,7 @@ module _ (s : Setup) (call : Call) (p0 : Progress) where
     by_attest ask =
         let tag = (wrapped s.mac s.section.key ask []).tag in
         let q = record p0 { marks = p0.marks ++ mark.Wrapped ask [] true ∷ [] } in
-        finished_keeps (with_piece s call tag q) (piece_keeps tag q (one (mark.Wrapped ask [] true) tt))
+        finished_keeps (with_piece s call tag q) (piece_keeps s call Fine kept tag q (one (mark.Wrapped ask [] true) tt))
 
     by_sample : Good (sample s call p0)
     by_sample = by_device (own_window s p0.devices)
@@ -247,8 +192,8 @@ module _ (s : Setup) (call : Call) (p0 : Progress) where
         by_device None = nothing
         by_device (Some d) =
             let q = sample_read d p0 in
-            either d.1.fresh (finished (handled s call (event.Sample d.1.value) q)) (Returns no_sample p0)
-            (λ g. finished_keeps (handled s call (event.Sample d.1.value) q) (handler_keeps (event.Sample d.1.value) q (one (mark.Sampled d.0 d.1.value) tt))) (λ g. nothing)
+            cond_both d.1.fresh (finished (handled s call (event.Sample d.1.value) q)) (Returns no_sample p0) Good
+            (λ g. finished_keeps (handled s call (event.Sample d.1.value) q) (handler_keeps s call Fine kept (event.Sample d.1.value) q (one (mark.Sampled d.0 d.1.value) tt))) (λ g. nothing)
 
     by_entries : is_bad_window s call.input in_window_size ≡ false → Good (entered s call p0)
     unfolding entered
@@ -257,11 +202,11 @@ module _ (s : Setup) (call : Call) (p0 : Progress) where
         let x2 = with_received s call event_size event_kind p0 (λ packet. input s call packet p0) in
         let x1 = with_received s call ask_size ask_kind p0 (λ packet. attest s call packet p0) in
         let x0 = with_received s call set_key_size set_key_kind p0 (λ packet. set_key s packet p0) in
-        either (call.entry == set_key_entry) x0 (if call.entry == attest_entry then x1 else if call.entry == input_entry then x2 else x3)
+        cond_both (call.entry == set_key_entry) x0 (if call.entry == attest_entry then x1 else if call.entry == input_entry then x2 else x3) Good
         (λ g. by_packet set_key_size set_key_kind (λ packet. set_key s packet p0) (by_key window) (read_bytes s p0.devices p0.mem call.input set_key_size) refl)
-        (λ g. either (call.entry == attest_entry) x1 (if call.entry == input_entry then x2 else x3)
+        (λ g. cond_both (call.entry == attest_entry) x1 (if call.entry == input_entry then x2 else x3) Good
         (λ g. by_packet ask_size ask_kind (λ packet. attest s call packet p0) (λ packet r k. by_attest packet) (read_bytes s p0.devices p0.mem call.input ask_size) refl)
-        (λ g. either (call.entry == input_entry) x2 x3
+        (λ g. cond_both (call.entry == input_entry) x2 x3 Good
         (λ g. by_packet event_size event_kind (λ packet. input s call packet p0) (by_event window) (read_bytes s p0.devices p0.mem call.input event_size) refl)
         (λ g. by_sample)))
 
@@ -269,8 +214,8 @@ module _ (s : Setup) (call : Call) (p0 : Progress) where
     pub unwraps_told : Good (invoke s call p0)
     unfolding invoke
     unwraps_told =
-        either (returns_inside s call) (Violates bad.Illegal p0) (if is_no_entry s call then Returns no_entry p0 else if has_bad_windows s call then Returns bad_window p0 else entered s call p0)
+        cond_both (returns_inside s call) (Violates bad.Illegal p0) (if is_no_entry s call then Returns no_entry p0 else if has_bad_windows s call then Returns bad_window p0 else entered s call p0) Good
         (λ g. nothing)
-        (λ g. either (is_no_entry s call) (Returns no_entry p0) (if has_bad_windows s call then Returns bad_window p0 else entered s call p0) (λ g. nothing)
-        (λ g. either (has_bad_windows s call) (Returns bad_window p0) (entered s call p0) (λ g. nothing)
-        (λ g. by_entries (no_left (is_bad_window s call.input in_window_size) (is_bad_window s call.output out_window_size) g))))
+        (λ g. cond_both (is_no_entry s call) (Returns no_entry p0) (if has_bad_windows s call then Returns bad_window p0 else entered s call p0) Good (λ g. nothing)
+        (λ g. cond_both (has_bad_windows s call) (Returns bad_window p0) (entered s call p0) Good (λ g. nothing)
+        (λ g. by_entries (or_parts (is_bad_window s call.input in_window_size) (is_bad_window s call.output out_window_size) g).0)))

@@ -1,15 +1,14 @@
 -- The bytes of a packet that is read, and where they stood.
 use Rattle.std.proofs.Common.{◌≡◌, ℕ, zero, suc, ◌+◌, ◌-◌, ◌<◌, ◌≤◌, ◌==◌, ◌⊎◌, inl, inr, Bool, true, false, ◌&&◌, ◌||◌, not, if◌then◌else◌, List, [], ◌∷◌}
-use Rattle.std.proofs.Common.{◌++◌, length, drop, slice_index, Option, Some, None, Result, Ok, Err, refl, sym, ◌∙◌, ap, ap₂, subst, arith}
-use Rattle.std.specs.List.{list_any}
+use Rattle.std.proofs.Common.{length, drop, slice_index, Option, Some, Result, Ok, Err, refl, sym, ◌∙◌, ap, ap₂, subst, arith}
 use Rattle.std.specs.Prelude.{nat_lt}
-use Rattle.std.proofs.lemmas.Bool.{and_parts, eqb-true, true≢false}
+use Rattle.std.proofs.lemmas.Bool.{and_parts, eqb-true, true≢false, or_parts}
 use Rattle.std.proofs.lemmas.Bool.Decides.{nat_tests}
 use Rattle.sx_rules.specs.declared.section.Section.{Section}
 use Rattle.sx_rules.specs.Access.{Sections, Lives, in_private, allows, section_of}
 use Rattle.sx_rules.specs.declared.section.Layout.{Layout}
 use Rattle.sx_rules.specs.Admission.{good_bounds, is_even}
-use Rattle.sx_rules.specs.Placed.{Placed, Sound, AllSound}
+use Rattle.sx_rules.specs.Placed.{Placed}
 use Rattle.sx_rules.proofs.Placing.{placed_found}
 use Rattle.sx_machine.specs.Ranges.{meets, meets_private, passes_end}
 use Rattle.sx_machine.proofs.PlanGuard.{passes}
@@ -20,51 +19,11 @@ use Rattle.sx_rules.specs.Access.{may}
 use Rattle.sx_bus.specs.declared.devices.Window.{Window}
 use Rattle.sx_bus.specs.Devices.{device_at}
 use Rattle.sx_machine.specs.Memory.{bytes_from}
+use Rattle.sx_machine.proofs.Frame.{none_pass, lives_sound}
+use Rattle.sx_machine.proofs.BytesFrom.{bytes_first}
 use Rattle.sx_invoke.specs.Setup.{Setup}
 use Rattle.sx_invoke.specs.Windows.{read_byte, read_bytes, unless_device, then_}
-
-bound_bytes : (k : ℕ) (o : Option ℕ) (x : ℕ) (b : ℕ) → unless_device o x ≡ Ok b → x ≡ b
-bound_bytes k None x b e = cc
-bound_bytes k (Some d) x b e = absurd cc
-
-pub record Bytes (n : ℕ) (bs : List ℕ) : Type 0 where
-  pub long : length bs ≡ n
-  pub small : (i : ℕ) → slice_index bs i < 256
-
-read_one : (s : Setup) (devices : List Window) (mem : List ℕ) (at b : ℕ) → ((k : ℕ) → slice_index mem k < 256) → read_byte s devices mem at ≡ Ok b → b < 256
-unfolding read_byte
-read_one s devices mem at b small e = one_if (may s.live s.section.id Read at) e
-  where
-    one_if : (t : Bool) → (if t then unless_device (device_at devices at) (slice_index mem at) else Err bad.Read) ≡ Ok b → b < 256
-    one_if true e = subst (λ x. x < 256) (bound_bytes at (device_at devices at) (slice_index mem at) b e) (small at)
-    one_if false e = absurd cc
-
-cons_bytes : (n b : ℕ) (bs : List ℕ) → b < 256 → Bytes n bs → Bytes (suc n) (b ∷ bs)
-cons_bytes n b bs lt h = record { long = ap suc h.long; small = small }
-  where
-    small : (i : ℕ) → slice_index (b ∷ bs) i < 256
-    small zero = lt
-    small (suc i) = h.small i
-
-pub read_all : (s : Setup) (devices : List Window) (mem : List ℕ) (small : (k : ℕ) → slice_index mem k < 256) (n at : ℕ) (bs : List ℕ) → read_bytes s devices mem at n ≡ Ok bs → Bytes n bs
-unfolding read_bytes
-read_all s devices mem small zero at bs e = subst (λ z. Bytes 0 z) (ok_inj [] bs e) (record { long = refl; small = λ i. omega arith })
-  where
-    ok_inj : (a b : List ℕ) → ◌≡◌ {A = Result (List ℕ) Violation} (Ok a) (Ok b) → a ≡ b
-    ok_inj a b e = cc
-read_all s devices mem small (suc n) at bs e = first (read_byte s devices mem at) refl (read_bytes s devices mem (at + 1) n) (read_all s devices mem small n (at + 1)) e
-  where
-    last : (b : ℕ) → b < 256 → (r : Result (List ℕ) Violation) → ((xs : List ℕ) → r ≡ Ok xs → Bytes n xs) → then_ r (λ xs. Ok (b ∷ xs)) ≡ Ok bs → Bytes (suc n) bs
-    last b lt (Err v) f e = absurd cc
-    last b lt (Ok xs) f e = subst (λ z. Bytes (suc n) z) (ok_inj (b ∷ xs) bs e) (cons_bytes n b xs lt (f xs refl))
-      where
-        ok_inj : (a b : List ℕ) → ◌≡◌ {A = Result (List ℕ) Violation} (Ok a) (Ok b) → a ≡ b
-        ok_inj a b e = cc
-
-    first : (r : Result ℕ Violation) → read_byte s devices mem at ≡ r → (r2 : Result (List ℕ) Violation) → ((xs : List ℕ) → r2 ≡ Ok xs → Bytes n xs)
-        → then_ r (λ b. then_ r2 (λ xs. Ok (b ∷ xs))) ≡ Ok bs → Bytes (suc n) bs
-    first (Err v) q r2 f e = absurd cc
-    first (Ok b) q r2 f e = last b (read_one s devices mem at b small q) r2 f e
+use Rattle.sx_run.proofs.steps.Story.{bound_bytes}
 
 -- The bytes that were read stood in memory.
 
@@ -99,17 +58,10 @@ read_front s devices mem (suc n) at bs e = first (read_byte s devices mem at) re
     first (Err v) q r2 f e = absurd cc
     first (Ok b) q r2 f e = last b (read_is s devices mem at b q) r2 f e
 
-more_front : (mem : List ℕ) (at n : ℕ) → bytes_from mem at (suc n) ≡ slice_index mem at ∷ bytes_from mem (at + 1) n
-unfolding bytes_from
-more_front mem at zero = ap (λ k. slice_index mem k ∷ []) (omega arith)
-more_front mem at (suc n) =
-    ap (λ (bs : List ℕ). bs ++ slice_index mem (at + suc n) ∷ []) (more_front mem at n)
-    ∙ ap (λ k. slice_index mem at ∷ (bytes_from mem (at + 1) n ++ slice_index mem k ∷ [])) (omega arith)
-
 front_is : (mem : List ℕ) (n at : ℕ) → front mem at n ≡ bytes_from mem at n
 unfolding bytes_from
 front_is mem zero at = refl
-front_is mem (suc n) at = ap (λ (bs : List ℕ). slice_index mem at ∷ bs) (front_is mem n (at + 1)) ∙ sym (more_front mem at n)
+front_is mem (suc n) at = ap (λ (bs : List ℕ). slice_index mem at ∷ bs) (front_is mem n (at + 1)) ∙ bytes_first mem at n
 
 drop_front : (mem : List ℕ) (k n at : ℕ) → drop k (front mem at (k + n)) ≡ front mem (at + k) n
 drop_front mem zero n at =
@@ -190,19 +142,6 @@ meets_none x at n wide apart = by (meets at n x.layout.priv_from x.layout.priv_t
           absurd (grind (arith, nat_tests, e, high, none, wide))
     ]
 
-none_any : (t : Section → Bool) (xs : List Section) → ((x : Section) → Lives xs x → t x ≡ false) → list_any t xs ≡ false
-none_any t [] f = refl
-none_any t (x ∷ xs) f = by (t x) refl (none_any t xs (λ y l. f y (inr l)))
-  where
-    by : (b : Bool) → t x ≡ b → list_any t xs ≡ false → list_any t (x ∷ xs) ≡ false
-    by true e rest = absurd (true≢false (sym e ∙ f x (inl refl)))
-    by false e rest = rw (e, rest) refl
-
-sound_of : (next : ℕ) (xs : List Section) (x : Section) → AllSound next xs → Lives xs x → Sound next x
-sound_of next [] x h l = absurd l
-sound_of next (y ∷ xs) x h (inl e) = subst (Sound next) e h.0
-sound_of next (y ∷ xs) x h (inr l) = sound_of next xs x h.1 l
-
 wide_of : (l : Layout) → good_bounds l ≡ true → l.priv_from < l.priv_to
 wide_of l h =
     let more = (and_parts (nat_lt l.pub_from l.pub_to) (nat_lt l.priv_from l.priv_to && (is_even l.pub_from && (is_even l.pub_to && (is_even l.priv_from && is_even l.priv_to)))) h).1 in
@@ -215,12 +154,8 @@ pub window_outside : (s : Setup) (t : Sections) (devices : List Window) (mem : L
     → read_bytes s devices mem at (k + n) ≡ Ok bs → meets_private t.live (at + k) n ≡ false
 unfolding may
 window_outside s t devices mem k n all at bs placed live own le window read =
-    none_any (λ x. meets (at + k) n x.layout.priv_from x.layout.priv_to) t.live each
+    none_pass (λ x. meets (at + k) n x.layout.priv_from x.layout.priv_to) t.live each
   where
-    not_both : (a b : Bool) → (a || b) ≡ false → b ≡ false
-    not_both true b e = absurd (true≢false e)
-    not_both false b e = e
-
     same : (x : Section) → Lives t.live x → x.id ≡ s.section.id → s.section ≡ x
     same x l e = some_same s.section x (sym (placed_found t s.section placed own) ∙ ap (section_of t.live) (sym e) ∙ placed_found t x placed l)
       where
@@ -242,9 +177,9 @@ window_outside s t devices mem k n all at bs placed live own le window read =
         by true e =
             let is = same x l (sym (eqb-true s.section.id x.id e)) in
             subst (λ (y : Section). meets (at + k) n y.layout.priv_from y.layout.priv_to ≡ false) is
-            (meets_part at k n all s.section.layout.priv_from s.section.layout.priv_to le (not_both (passes_end at all) (meets at all s.section.layout.priv_from s.section.layout.priv_to) window))
+            (meets_part at k n all s.section.layout.priv_from s.section.layout.priv_to le (or_parts (passes_end at all) (meets at all s.section.layout.priv_from s.section.layout.priv_to) window).1)
         by false e =
-            let wide = wide_of x.layout (sound_of t.next t.live x placed.each l).bounds in
+            let wide = wide_of x.layout (lives_sound t.next t.live x placed.each l).bounds in
             meets_none x (at + k) n wide (λ i lt.
             let z : at + (k + i) ≡ at + k + i = omega arith in
             let may_read = subst (λ (a : ℕ). may s.live s.section.id Read a ≡ true) z (read_allowed s devices mem (k + n) at bs read (k + i) (omega (arith, lt))) in

@@ -2,7 +2,7 @@
 use Rattle.std.proofs.Common.{◌≡◌, ℕ, zero, suc, ◌+◌, ◌-◌, ◌/◌, ◌<◌, ◌⊎◌, inl, inr, ◌==◌, Bool, true, false, cond, if◌then◌else◌, List, [], ◌∷◌, length, drop}
 use Rattle.std.proofs.Common.{Option, Some, None, refl, sym, ◌∙◌, ap, subst, arith}
 use Rattle.std.specs.Prelude.{slice_get, slice_set, Result, Ok, Err}
-use Rattle.std.proofs.lemmas.Bool.{eqb-true}
+use Rattle.std.proofs.lemmas.Bool.{eqb-true, cases_eq}
 use Rattle.sx_sched.specs.Lines as line
 use Rattle.sx_sched.specs.Lines.{Line}
 use Rattle.sx_trace.specs.declared.items.Item.TheVariants as item
@@ -125,15 +125,12 @@ module _ (set : Setting) (w : World) where
   after_happening (Answer m boot k) f = inl (answer_keeps set w m boot (slice_get set.sites m) (slice_get w.packets k))
   after_happening (Show i) f = inl refl
 
-pub same_or_not : (a b : ℕ) → (a ≡ b) ⊎ (a ≡ b → ⊥)
-same_or_not a b = grind arith
-
 nodes_turn : (set : Setting) (x : Happening) (ns ms : List State) → IsSoundSetting set → ((n : ℕ) (s : State) → slice_get ns n ≡ Some s → NodeTurns set n s) → After set x ns ms
     → (n : ℕ) (s : State) → slice_get ms n ≡ Some s → NodeTurns set n s
 nodes_turn set x ns ms sound h (inl e) n s g = h n s (subst (λ (z : List State). slice_get z n ≡ Some s) e g)
 nodes_turn set x ns ms sound h (inr a) n s g =
     let g2 : slice_get (slice_set ns a.node (acted set.mac a.act a.state).state) n ≡ Some s = subst (λ (z : List State). slice_get z n ≡ Some s) a.nodes g in
-    elim (same_or_not n a.node) [
+    elim (cases_eq n a.node) [
       | inl e ↦
           let now = get_same ns a.node (acted set.mac a.act a.state).state a.state a.there in
           let same : (acted set.mac a.act a.state).state ≡ s = some_inj _ s (sym now ∙ subst (λ k. slice_get (slice_set ns a.node (acted set.mac a.act a.state).state) k ≡ Some s) e g2) in

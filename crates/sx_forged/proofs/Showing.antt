@@ -2,6 +2,7 @@
 use Rattle.std.proofs.Common.{◌≡◌, ℕ, inl, inr, false, List, [], ◌∷◌, ◌++◌, length, take, Option, Some, None, Result, Ok, Err, refl, sym, ◌∙◌, ap, subst, arith}
 use Rattle.std.specs.Prelude.{slice_get}
 use Rattle.std.proofs.lemmas.Bool.{true≢false}
+use Rattle.std.proofs.lemmas.Option.{none-some}
 use Rattle.sx_trace.specs.declared.items.Item.{Item}
 use Rattle.sx_trace.specs.declared.items.Item.TheVariants as item
 use Rattle.sx_mean.specs.declared.apps.AppDevice.{AppDevice}
@@ -55,11 +56,8 @@ module _ (set : Setting) (w : World) (who : Option ℕ) where
   irq_not n s (Err why) h = elim h [ inl e ↦ refused_not n why e | inr z ↦ z ]
   irq_not n s (Ok seen) h = elim (among_append (item.Forged who) (touch_items set.app n None seen.touch) (event_seen set n None s w.ledger seen.event).items h) [
     | inl t ↦ touches_not who set.app n None seen.touch t
-    | inr t ↦ none_some (event_forged set n None s w.ledger seen.event who t).0 (event_forged set n None s w.ledger seen.event who t).1
+    | inr t ↦ none-some (event_forged set n None s w.ledger seen.event who t).0 (event_forged set n None s w.ledger seen.event who t).1
   ]
-    where
-      none_some : (m : ℕ) → ◌≡◌ {A = Option ℕ} None (Some m) → ⊥
-      none_some m e = cc
 
   sense_item : (d v : ℕ) → IsAmong (item.Forged who) (item.Sense d v ∷ []) → ⊥
   sense_item d v h = elim h [ inl e ↦ cc | inr z ↦ z ]

@@ -1,26 +1,22 @@
 -- One act on a node keeps the turns of deployed modules.
-use Rattle.std.proofs.Common.{◌≡◌, ◌≢◌, ℕ, ◌<◌, ◌⊎◌, inl, inr, ◌==◌, ◌||◌, not, Bool, true, false, cond, if◌then◌else◌, List, [], ◌∷◌, ◌++◌, length, Option}
+use Rattle.std.proofs.Common.{◌≡◌, ◌≢◌, ℕ, ◌⊎◌, inl, inr, ◌==◌, ◌||◌, not, Bool, true, false, cond, if◌then◌else◌, List, [], ◌∷◌, ◌++◌, length, Option}
 use Rattle.std.proofs.Common.{Some, None, refl, sym, ◌∙◌, ap, subst, arith}
 use Rattle.std.specs.Prelude.{slice_get}
 use Rattle.std.proofs.lemmas.Bool.{true≢false, eqb-true, or_cases, not-true}
-use Rattle.sx_lang.specs.declared.tree.DeviceKind.{DeviceKind}
 use Rattle.sx_lang.specs.declared.tree.DeviceKind.TheVariants as declared
 use Rattle.sx_mean.specs.Application.{declared_kind, PartTree}
 use Rattle.sx_rules.specs.declared.access.Violation.{Violation}
 use Rattle.sx_rules.specs.declared.section.Section.{Section}
 use Rattle.sx_rules.specs.declared.section.Layout.{Layout}
 use Rattle.sx_rules.specs.Access.{Sections, Lives, in_public}
-use Rattle.sx_rules.specs.Placed.{AllSound}
-use Rattle.sx_bus.specs.declared.devices.Kind.{Kind}
-use Rattle.sx_bus.specs.declared.devices.Window.{Window}
-use Rattle.sx_bus.specs.Devices.{device_at, with_sample}
+use Rattle.sx_bus.specs.Devices.{with_sample}
 use Rattle.sx_tag.specs.Mac.{Mac}
 use Rattle.sx_machine.specs.declared.kinds.Refused.{Refused}
 use Rattle.sx_machine.specs.declared.kinds.Event.TheVariants as event
 use Rattle.sx_machine.specs.State.{State}
 use Rattle.sx_machine.specs.Memory.{put_bytes}
 use Rattle.sx_machine.specs.Registers.{set_reg}
-use Rattle.sx_machine.specs.Run.{Outcome, Finished, Violated, Module, device_of, exec}
+use Rattle.sx_machine.specs.Run.{Outcome, Finished, Violated, Module, exec}
 use Rattle.sx_machine.specs.Step.{Shown, step, own_of, pc_of, start}
 use Rattle.sx_machine.specs.Acts.{put_refusal, take_refusal, busy, irq_refusal, unless, interrupted, interrupt}
 use Rattle.sx_machine.specs.Acting.{Act, acted, ActInForm, Step, Restart, Put, Set, Take, Sense, Interrupt}
@@ -28,19 +24,17 @@ use Rattle.sx_machine.specs.Node.{IsNode}
 use Rattle.sx_machine.specs.NodeLaws.{shapes}
 use Rattle.sx_machine.proofs.PlanGuard.{passes}
 use Rattle.sx_machine.proofs.Apart.{lives_without}
-use Rattle.sx_machine.proofs.Stays.{acted_is_node, acted_shapes, keeps_key}
+use Rattle.sx_machine.proofs.Stays.{acted_is_node, acted_shapes, keeps_key, lives_below, busy_idle}
 use Rattle.sx_machine.proofs.Keys.{keeps_keys}
-use Rattle.sx_machine.proofs.Devices.{device_at_same, window_same, device_of_parts}
 use Rattle.sx_reach.specs.Reach.{Goes}
 use Rattle.sx_reach.proofs.Reaching.{one_step}
 use Rattle.sx_invoke.specs.Marks.{Mark}
-use Rattle.sx_invoke.specs.Devices.{Drives, HasDevices}
 use Rattle.sx_image.specs.Watched.{Watched, watch, violation_of, marks_of}
 use Rattle.sx_image.specs.Image.{Enters, public_bytes}
 use Rattle.sx_image.specs.Realizes.{Underway, Aborted, Exited}
 use Rattle.sx_run.specs.Setting.{Site, Setting, is_at_site, windows_at}
 use Rattle.sx_run.specs.Law.{image_at, devices_of, IsDeployedModule, IsSoundSetting}
-use Rattle.sx_run.proofs.steps.Entry.{AtSite, at_site, quiet_order, holding, held_by, shapes_on}
+use Rattle.sx_run.proofs.steps.Entry.{AtSite, at_site, quiet_order, holding, held_by, shapes_on, has_devices_same, quiet_left}
 use Rattle.sx_run.proofs.steps.Machine.{machine_laws, violates, onward, Sectioned, Stay, Fewer, More, sections_after}
 use Rattle.sx_run.proofs.steps.Bystanders.{cur_of, at_site_same}
 use Rattle.sx_run.proofs.steps.Foreign.{append_lives}
@@ -49,32 +43,7 @@ use Rattle.sx_forged.proofs.Turns.{setup_of, turn_of, InTurn, NodeTurns}
 
 -- Devices of the same places and kinds.
 
-device_of_from : (a : List Window) (at k : ℕ) (w : Window) → device_at a at ≡ Some k → slice_get a k ≡ Some w → device_of a at ≡ Some (k, w)
-device_of_from a at k w d g = rw (d, g) refl
-
-drives_same : (a b : List Window) (kind : Kind) (l : Layout) → shapes a ≡ shapes b → Drives a kind l → Drives b kind l
-drives_same a b kind l e h =
-    let p = device_of_parts a l.priv_from h.device h.window h.found in
-    let v = window_same a b h.device h.window e p.1 in
-    record {
-      device = h.device;
-      window = v.0;
-      found = device_of_from b l.priv_from h.device v.0 (sym (device_at_same a b l.priv_from e) ∙ p.0) v.1;
-      at_start = v.2 ∙ h.at_start;
-      kind = v.3 ∙ h.kind;
-      alone = λ at lo hi. sym (device_at_same a b at e) ∙ h.alone at lo hi;
-    }
-
-has_devices_same : (a b : List Window) (kind : Option DeviceKind) (l : Layout) → shapes a ≡ shapes b → HasDevices a kind l → HasDevices b kind l
-has_devices_same a b None l e h = λ at lo hi. sym (device_at_same a b at e) ∙ h at lo hi
-has_devices_same a b (Some declared.Sensor) l e h = drives_same a b _ l e h
-has_devices_same a b (Some declared.Actuator) l e h = drives_same a b _ l e h
-
 -- A step.
-
-lives_below : (next : ℕ) (live : List Section) (sec : Section) → AllSound next live → Lives live sec → sec.id < next
-lives_below next [] sec h l = absurd l
-lives_below next (x ∷ live) sec h l = elim l [ inl e ↦ subst (λ (z : Section). z.id < next) e h.0.below | inr r ↦ lives_below next live sec h.1 r ]
 
 -- a section that runs after a quiet step stood before it
 pub stood : (mac : Mac) (s : State) (sec : Section) → IsNode s → violation_of (step mac s).shown.event ≡ None → sec.id ≢ 0 → own_of s ≡ sec.id
@@ -93,9 +62,6 @@ stood mac s sec node quiet nz own lives = by (sections_after mac s quiet)
           let hid = h.id in
           absurd (omega (arith, below, id, own, hid))
     ]
-
-quiet_left : (id : ℕ) → ◌≡◌ {A = Rattle.sx_machine.specs.declared.kinds.Event.Event} event.Quiet (event.Left id) → ⊥
-quiet_left id e = cc
 
 -- it is in a turn, which hasn't ended
 pub record Running (set : Setting) (m : ℕ) (q : PartTree) (site : Site) (sec : Section) (s : State) : Type 0 where
@@ -217,13 +183,6 @@ Idles s t = (t ≡ s) ⊎ (t.cur ≡ 0)
 unless_idles : {T : Type 0} (o : Option Refused) (s : State) (done : Shown T) → (o ≡ None → done.state.cur ≡ 0) → Idles s (unless o s done).state
 unless_idles None s done f = inr (f refl)
 unless_idles (Some r) s done f = inl refl
-
-pub busy_idle : (s : State) → busy s ≡ None → s.cur ≡ 0
-busy_idle s e = by (s.cur == 0) refl e
-  where
-    by : (b : Bool) → (s.cur == 0) ≡ b → cond {A = Option Refused} b None (Some Rattle.sx_machine.specs.declared.kinds.Refused.TheVariants.Busy) ≡ None → s.cur ≡ 0
-    by true f h = eqb-true s.cur 0 f
-    by false f h = absurd cc
 
 pub not_busy : (s : State) (o : Option Refused) → cond {A = Option Refused} (not (s.cur == 0)) (Some Rattle.sx_machine.specs.declared.kinds.Refused.TheVariants.Busy) o ≡ None → s.cur ≡ 0
 not_busy s o e = by (s.cur == 0) refl e

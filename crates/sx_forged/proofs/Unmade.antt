@@ -31,6 +31,7 @@ use Rattle.sx_forged.proofs.Keeping.{AllKeyed, later_all, done_keyed, starts_key
 use Rattle.sx_forged.proofs.Boots.{boots_few}
 use Rattle.sx_forged.proofs.Forgeries.{Stood, step_forges, step_sends, step_enters}
 use Rattle.sx_forged.proofs.Showing.{shows_forgery}
+use Rattle.sx_forged.proofs.Keyed.{among_right}
 
 -- What holds at a moment before which no `forged` was shown.
 pub record Holds (set : Setting) (lines : List Line) (k : ℕ) (now : Moment) : Type 0 where
@@ -100,21 +101,18 @@ record Found (set : Setting) (script : Script) (w : World) (who : Option ℕ) : 
   shown : IsAmong (item.Forged who) (shown_at set now)
   first : (j : ℕ) (past : Moment) → j < k → moment_from set j script w ≡ Some past → NoForged (shown_at set past)
 
+head_same : (a b : Item) (xs ys : List Item) → a ∷ xs ≡ b ∷ ys → a ≡ b
+head_same a b xs ys e = cc
+
 -- where a list with the item is cut in two, the item is in the front part, or the front part has none
 split : (xs ys front rest : List Item) (i : Item) → xs ++ ys ≡ front ++ i ∷ rest → IsAmong i xs ⊎ ((front2 : List Item) × (ys ≡ front2 ++ i ∷ rest) × (front ≡ xs ++ front2))
 split [] ys front rest i e = inr (front, e, refl)
 split (x ∷ xs) ys [] rest i e = inl (inl (head_same x i (xs ++ ys) rest e))
-  where
-    head_same : (a b : Item) (xs ys : List Item) → a ∷ xs ≡ b ∷ ys → a ≡ b
-    head_same a b xs ys e = cc
 split (x ∷ xs) ys (y ∷ front) rest i e = elim (split xs ys front rest i (tail_same x y (xs ++ ys) (front ++ i ∷ rest) e)) [
   | inl a ↦ inl (inr a)
   | inr t ↦ inr (t.0, t.1, both (head_same x y (xs ++ ys) (front ++ i ∷ rest) e) t.2)
 ]
   where
-    head_same : (a b : Item) (xs ys : List Item) → a ∷ xs ≡ b ∷ ys → a ≡ b
-    head_same a b xs ys e = cc
-
     tail_same : (a b : Item) (xs ys : List Item) → a ∷ xs ≡ b ∷ ys → xs ≡ ys
     tail_same a b xs ys e = cc
 
@@ -125,10 +123,6 @@ front_none : (i : Item) (xs ys : List Item) → IsAmong i xs → IsAmong i (xs +
 front_none i [] ys h = absurd h
 front_none i (x ∷ xs) ys (inl e) = inl e
 front_none i (x ∷ xs) ys (inr h) = inr (front_none i xs ys h)
-
-back_none : (i : Item) (xs ys : List Item) → IsAmong i ys → IsAmong i (xs ++ ys)
-back_none i [] ys h = h
-back_none i (x ∷ xs) ys h = inr (back_none i xs ys h)
 
 find : (set : Setting) (script : Script) (w : World) (front rest : List Item) (who : Option ℕ)
     → (performed set script w).items ≡ front ++ item.Forged who ∷ rest → NoForged front → Found set script w who
@@ -145,7 +139,7 @@ find set (Do x next) w front rest who e none =
     elim (split (done set x w).items (performed set (next (looks v)) v).items front rest (item.Forged who) e) [
       | inl a ↦ record { k = 0; now = record { next = x; world = w }; at = refl; shown = a; first = λ j past lt g. absurd (omega (arith, lt)) }
       | inr t ↦
-          let f = find set (next (looks v)) v t.0 rest who t.1 (λ who2 h. none who2 (subst (IsAmong (item.Forged who2)) (sym t.2) (back_none (item.Forged who2) (done set x w).items t.0 h))) in
+          let f = find set (next (looks v)) v t.0 rest who t.1 (λ who2 h. none who2 (subst (IsAmong (item.Forged who2)) (sym t.2) (among_right (item.Forged who2) (done set x w).items t.0 h))) in
           record {
             k = suc f.k;
             now = f.now;

@@ -3,8 +3,8 @@ use Rattle.std.proofs.Common.{◌≡◌, ℕ, zero, suc, ◌+◌, ◌*◌, ◌�
 use Rattle.std.specs.Prelude.{if◌then◌else◌, nat_lt, find, slice_set}
 use Rattle.std.specs.List.{list_any}
 use Rattle.std.proofs.Math.Nat.{suc-mul}
-use Rattle.std.proofs.lemmas.Bool.{ltb-false}
-use Rattle.sx_lists.proofs.Truths.{or_false}
+use Rattle.std.proofs.lemmas.Bool.{ltb-false, or_parts}
+use Rattle.std.proofs.lemmas.Option.{none-some, same_Some}
 use Rattle.sx_lang.specs.declared.tree.Decl.{Decl}
 use Rattle.sx_lang.specs.Tree.{Statement, Defines, Assigns, Stores, Chooses, Repeats, Sends, Emits, Block, Done, Then, HandlerTree, ModuleTree}
 use Rattle.sx_check.specs.Names.{same_input}
@@ -93,30 +93,21 @@ abbrev AllFew : (ℕ → ℕ) → List Decl → List HandlerTree → Type 0
 AllFew f ds hs = list_any (λ (h : HandlerTree). nat_lt 16 (block_packets f ds h.body)) hs ≡ false
 
 find_few : (f : ℕ → ℕ) (ds : List Decl) (test : HandlerTree → Bool) (hs : List HandlerTree) (h : HandlerTree) → AllFew f ds hs → find test hs ≡ Some h → block_packets f ds h.body ≤ 16
-find_few f ds test [] h few e = absurd (none_some e)
-  where
-    none_some : ◌≡◌ {A = Option HandlerTree} None (Some h) → ⊥
-    none_some e = cc
+find_few f ds test [] h few e = absurd (none-some h e)
 find_few f ds test (x ∷ hs) h few e = go (test x) e (λ e. find_few f ds test hs h both.1 e)
   where
-    same : ◌≡◌ {A = Option HandlerTree} (Some x) (Some h) → x ≡ h
-    same e = cc
-
     both : (nat_lt 16 (block_packets f ds x.body) ≡ false) × AllFew f ds hs
-    both = or_false (nat_lt 16 (block_packets f ds x.body)) (list_any (λ (h : HandlerTree). nat_lt 16 (block_packets f ds h.body)) hs) few
+    both = or_parts (nat_lt 16 (block_packets f ds x.body)) (list_any (λ (h : HandlerTree). nat_lt 16 (block_packets f ds h.body)) hs) few
 
     go : (b : Bool) → cond b (Some x) (find test hs) ≡ Some h → (find test hs ≡ Some h → block_packets f ds h.body ≤ 16) → block_packets f ds h.body ≤ 16
-    go true e g = subst (λ (y : HandlerTree). block_packets f ds y.body ≤ 16) (same e) (ltb-false 16 (block_packets f ds x.body) both.0)
+    go true e g = subst (λ (y : HandlerTree). block_packets f ds y.body ≤ 16) (same_Some x h e) (ltb-false 16 (block_packets f ds x.body) both.0)
     go false e g = g e
 
 handler_few : (f : ℕ → ℕ) (m : ModuleTree) (e : SourceEvent) (h : HandlerTree) → AllFew f m.decls m.handlers → handler_at m e ≡ Some h → block_packets f m.decls h.body ≤ 16
 handler_few f m (event.Input j v) h few e = go (nth (input_names m.decls) j) e
   where
     go : (x : Option (List ℕ)) → handler_of_name x m.handlers ≡ Some h → block_packets f m.decls h.body ≤ 16
-    go None e = absurd (none_some e)
-      where
-        none_some : ◌≡◌ {A = Option HandlerTree} None (Some h) → ⊥
-        none_some e = cc
+    go None e = absurd (none-some h e)
     go (Some x) e = find_few f m.decls (λ h. same_input (Some x) h.input) m.handlers h few e
 handler_few f m (event.Sample v) h few e = find_few f m.decls (λ h. same_input None h.input) m.handlers h few e
 

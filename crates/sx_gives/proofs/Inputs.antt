@@ -17,10 +17,7 @@ use Rattle.sx_gives.specs.Laws.{InputReturns}
 use Rattle.sx_gives.proofs.Making.{handler_makes}
 use Rattle.sx_gives.proofs.Entering.{enters, receives}
 use Rattle.sx_gives.proofs.Wraps.{unwraps}
-
--- a word's two bytes are the word
-word_of_two : (v : ℕ) → v % 256 + 256 * (v / 256) ≡ v
-word_of_two v = omega arith
+use Rattle.sx_lists.proofs.Numbers.{two_bytes}
 
 pub input_returns : InputReturns
 unfolding entered
@@ -32,8 +29,8 @@ input_returns su st mem devices k i v e low tag few found opened above below byt
     let header = event_header y in
     let w = wrapped su.mac x.key header (two v) in
     let packet = event_packet su y v in
-    let field = word_of_two x.field in
-    let number = word_of_two i in
+    let field = two_bytes x.field in
+    let number = two_bytes i in
     let f : ℕ = x.field % 256 + 256 * (x.field / 256) in
     let n : ℕ = i % 256 + 256 * (i / 256) in
     let body = padded (two v) in
@@ -59,7 +56,7 @@ input_returns su st mem devices k i v e low tag few found opened above below byt
           ∙ cond-false _ (Returns no_end p) (event_numbered su c (k, e) packet x p) is_fine
           ∙ cond-false _ (Returns past_number p) (event_opened su c (k, e) packet read p) is_next
           ∙ ap (λ o. event_opened su c (k, e) packet o p) (unwraps su.mac x.key header (two v) value_size tag refl (omega arith))
-          ∙ ap (λ u. finished (handled su c (event.Input e.port u) (taken n))) (word_of_two v)
+          ∙ ap (λ u. finished (handled su c (event.Input e.port u) (taken n))) (two_bytes v)
           ∙ ap (λ j. finished (handled su c (event.Input e.port v) (taken j))) number
           ∙ ap finished made.is;
     }

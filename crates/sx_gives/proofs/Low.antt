@@ -1,8 +1,8 @@
 -- Below 0x0200 nothing is refused, where no section and no device begins there.
-use Rattle.std.proofs.Common.{◌≡◌, ℕ, zero, suc, ◌+◌, ◌<◌, ◌≤◌, inl, inr, Bool, true, false, ◌&&◌, ◌||◌, not, ◌==◌, List, [], ◌∷◌, ◌++◌, length, Ok, refl, ap, ◌∙◌, arith}
+use Rattle.std.proofs.Common.{◌≡◌, ℕ, zero, suc, ◌+◌, ◌<◌, ◌≤◌, inl, inr, Bool, true, false, ◌&&◌, ◌||◌, not, ◌==◌, List, [], ◌∷◌, length, Ok, refl, ap, ◌∙◌, arith}
 use Rattle.std.specs.Prelude.{nat_lt, nat_le, slice_index, slice_set}
 use Rattle.std.specs.List.{list_all}
-use Rattle.std.proofs.lemmas.Bool.{and_from, lt-leb, le-ltb, cond-true}
+use Rattle.std.proofs.lemmas.Bool.{and_from, lt-leb, le-ltb, cond-true, and_right}
 use Rattle.sx_rules.specs.declared.access.Access.{Access}
 use Rattle.sx_rules.specs.declared.access.Access.TheVariants.{Read, Write, Run}
 use Rattle.sx_rules.specs.declared.section.Section.{Section}
@@ -10,6 +10,7 @@ use Rattle.sx_rules.specs.Access.{Lives, allows, may, in_private, in_public, at_
 use Rattle.sx_bus.specs.declared.devices.Window.{Window}
 use Rattle.sx_machine.specs.Memory.{bytes_from}
 use Rattle.sx_machine.specs.Ranges.{meets}
+use Rattle.sx_machine.proofs.BytesFrom.{bytes_first}
 use Rattle.sx_invoke.specs.Setup.{Setup}
 use Rattle.sx_invoke.specs.Windows.{unless_device, read_byte, write_byte, then_, read_bytes, write_bytes, is_bad_window}
 use Rattle.sx_gives.specs.Gives.{IsLowFree, low_end}
@@ -17,7 +18,7 @@ use Rattle.sx_gives.specs.Gives.{IsLowFree, low_end}
 abbrev Above : List Section → Type 0
 Above live = (x : Section) → Lives live x → (low_end ≤ x.layout.pub_from) × (low_end ≤ x.layout.priv_from)
 
-below_from : (from at : ℕ) (rest : Bool) → at < from → (nat_le from at && rest) ≡ false
+pub below_from : (from at : ℕ) (rest : Bool) → at < from → (nat_le from at && rest) ≡ false
 below_from from at rest lt = ap (λ b. b && rest) (lt-leb from at lt)
 
 pub not_private : (x : Section) (at : ℕ) → at < x.layout.priv_from → in_private x at ≡ false
@@ -54,13 +55,6 @@ module _ (su : Setup) (devices : List Window) (low : IsLowFree su devices) where
       cond-true _ _ _ (may_low su.live su.section.id Write at lt low.sections)
       ∙ ap (λ o. unless_device o (slice_set mem at b)) (low.free at lt)
 
-  bytes_first : (mem : List ℕ) (at n : ℕ) → slice_index mem at ∷ bytes_from mem (at + 1) n ≡ bytes_from mem at (suc n)
-  unfolding bytes_from
-  bytes_first mem at zero = ap (λ k. slice_index mem k ∷ []) (omega arith)
-  bytes_first mem at (suc n) =
-      ap (λ l. l ++ slice_index mem (at + 1 + n) ∷ []) (bytes_first mem at n)
-      ∙ ap (λ k. bytes_from mem at (suc n) ++ slice_index mem k ∷ []) (omega arith)
-
   pub read_all : (mem : List ℕ) (at n : ℕ) → at + n ≤ low_end → read_bytes su devices mem at n ≡ Ok (bytes_from mem at n)
   unfolding read_bytes bytes_from
   read_all mem at zero le = refl
@@ -89,9 +83,4 @@ module _ (su : Setup) (devices : List Window) (low : IsLowFree su devices) where
       let l = su.section.layout in
       let a = own_above.1 in
       ap (λ b. b || meets at n l.priv_from l.priv_to) (le-ltb 65536 (at + n) (omega (arith, le)))
-      ∙ ap (λ b. nat_lt 0 n && (nat_lt at l.priv_to && b)) (le-ltb l.priv_from (at + n) (omega (arith, le, a))) ∙ false_twice (nat_lt 0 n) (nat_lt at l.priv_to)
-    where
-      false_twice : (a b : Bool) → (a && (b && false)) ≡ false
-      false_twice true true = refl
-      false_twice true false = refl
-      false_twice false b = refl
+      ∙ ap (λ b. nat_lt 0 n && (nat_lt at l.priv_to && b)) (le-ltb l.priv_from (at + n) (omega (arith, le, a))) ∙ and_right (nat_lt 0 n) (nat_lt at l.priv_to && false) (and_right (nat_lt at l.priv_to) false refl)

@@ -1,8 +1,7 @@
 -- A handler that makes few packets makes them: none of its copies is refused.
-use Rattle.std.proofs.Common.{◌≡◌, ℕ, ◌+◌, ◌*◌, ◌<◌, ◌≤◌, Bool, true, false, ◌&&◌, cond, List, [], ◌∷◌, ◌++◌, length, Option, Some, None, refl, sym, ap, ◌∙◌, subst, arith}
+use Rattle.std.proofs.Common.{◌≡◌, ℕ, ◌+◌, ◌*◌, ◌<◌, ◌≤◌, Bool, true, false, ◌&&◌, List, [], ◌∷◌, ◌++◌, length, Option, Some, None, sym, ap, ◌∙◌, subst, arith}
 use Rattle.std.specs.Prelude.{if◌then◌else◌, nat_lt}
 use Rattle.std.proofs.lemmas.List.{append-nil, append_assoc, length-append}
-use Rattle.std.proofs.lemmas.List.Sums.{sum_by-cons}
 use Rattle.sx_mean.specs.declared.events.End.{End}
 use Rattle.sx_mean.specs.declared.events.Act.{Act}
 use Rattle.sx_mean.specs.declared.events.Act.TheVariants.{Send, Emit}
@@ -10,6 +9,7 @@ use Rattle.sx_mean.specs.declared.events.SourceEvent.{SourceEvent}
 use Rattle.sx_mean.specs.Ends.{is_sending}
 use Rattle.sx_mean.specs.EndLaws.{senders}
 use Rattle.sx_mean.specs.React.{react}
+use Rattle.sx_mean.proofs.Ends.{senders-cons}
 use Rattle.sx_bus.specs.declared.devices.Window.{Window}
 use Rattle.sx_tag.specs.Mac.{IsTag}
 use Rattle.sx_invoke.specs.Protocol.{event_size, last_number}
@@ -71,14 +71,6 @@ makes_then : (x : Course) (g : Progress → Course) (p : Progress) (d : Effect) 
 makes_then x g p d rest a f =
     let b = f a.mem in
     record { mem = b.mem; is = ap (λ y. and_on y g) a.is ∙ b.is ∙ ap (λ q. Going q) (onward_on p d (rest d.ends) a.mem b.mem) }
-
--- the sending ends of a list, by its first
-senders-cons : (e : End) (es : List End) (output : ℕ) → senders (e ∷ es) output ≡ (if is_sending output e.side e.port then 1 + senders es output else senders es output)
-senders-cons e es output = go (is_sending output e.side e.port) refl
-  where
-    go : (b : Bool) → is_sending output e.side e.port ≡ b → senders (e ∷ es) output ≡ (if b then 1 + senders es output else senders es output)
-    go true is = let c = ap {B = ℕ} (λ b. cond b 1 0) is in omega (arith, sum_by-cons (λ (e : End). cond (is_sending output e.side e.port) 1 0) e es, c)
-    go false is = let c = ap {B = ℕ} (λ b. cond b 1 0) is in omega (arith, sum_by-cons (λ (e : End). cond (is_sending output e.side e.port) 1 0) e es, c)
 
 -- how many pieces
 module _ (su : Setup) where

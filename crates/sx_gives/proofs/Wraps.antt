@@ -4,8 +4,7 @@ use Rattle.std.proofs.Math.Seq.{take-append_seam, drop-append_seam}
 use Rattle.std.proofs.lemmas.List.{length-take}
 use Rattle.sx_tag.specs.Mac.{Mac, IsTag}
 use Rattle.sx_tag.specs.Wrap.{stream, crypt, wrap_tag, wrapped, unwrapped, padded}
-use Rattle.sx_tag.proofs.UnwrapsWrapped.{unwraps_wrapped}
-use Rattle.sx_invoke.proofs.PiecesMarked.{xor_length}
+use Rattle.sx_tag.proofs.UnwrapsWrapped.{unwraps_wrapped, length-xor_bytes}
 
 pub take_first : (n : ℕ) (xs ys : List ℕ) → length xs ≡ n → take n (xs ++ ys) ≡ xs
 take_first n xs ys e = ap (λ k. take k (xs ++ ys)) (sym e) ∙ take-append_seam xs ys
@@ -15,7 +14,7 @@ drop_first n xs ys e = ap (λ k. drop k (xs ++ ys)) (sym e) ∙ drop-append_seam
 
 crypt_length : (mac : Mac) (key ad body : List ℕ) → IsTag mac → length body ≤ 32 → length (crypt mac key ad body) ≡ length body
 unfolding crypt
-crypt_length mac key ad body t le = xor_length body (stream mac key ad) (let w = t.width key (0x53 ∷ length ad ∷ (ad ++ 0 ∷ [])) in omega (arith, w, le))
+crypt_length mac key ad body t le = length-xor_bytes body (stream mac key ad) (let w = t.width key (0x53 ∷ length ad ∷ (ad ++ 0 ∷ [])) in omega (arith, w, le))
 
 -- a tag has at most 16 bytes, by any tag function
 pub tag_short : (mac : Mac) (key ad cipher : List ℕ) → length (wrap_tag mac key ad cipher) ≤ 16

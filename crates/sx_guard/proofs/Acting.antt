@@ -21,7 +21,7 @@ use Rattle.sx_machine.specs.Acting.{Answered, Took, Interrupted, acted}
 use Rattle.sx_machine.specs.Guard.{Same}
 use Rattle.sx_machine.specs.Guarding.{FromOutside}
 use Rattle.sx_machine.proofs.Sections.{acted_placed}
-use Rattle.sx_machine.proofs.RunGuard.{runs_blind}
+use Rattle.sx_machine.proofs.RunGuard.{act_same}
 use Rattle.sx_run.specs.Setting.{Site, Setting, module_of}
 use Rattle.sx_ledger.specs.declared.entry.Maker.TheVariants as maker
 use Rattle.sx_run.specs.Ledger.{made_entry, is_made}
@@ -34,8 +34,8 @@ use Rattle.sx_run.specs.Acts.{after_take, after_interrupt, with_deployer, key_gi
 use Rattle.sx_run.specs.Acts.{attested, after_denial, after_verdict, after_answer, open_ask}
 use Rattle.sx_run.specs.Acts.{attested_at}
 use Rattle.sx_run.specs.Run.{place_at, sense_at, give, put_on}
+use Rattle.sx_run.proofs.steps.Stretch.{set_same}
 use Rattle.sx_guard.specs.Happening.{Happening, Begin, Step, Put, Set, Take, Give, Forge, Sense, Irq, Reset, Ask, Answer, Show, done}
-use Rattle.sx_guard.proofs.Places.{set_here}
 use Rattle.sx_guard.proofs.Observing.{observed_alike, runner_alike}
 
 -- the world with other nodes
@@ -85,16 +85,6 @@ pub record OnNode (mac : Mac) (x : Happening) (w : World) (doing : List State �
 abbrev pub Kind : Mac → Happening → World → (List State → Acted) → Type 0
 Kind mac x w doing = Still doing ⊎ OnNode mac x w doing
 
--- one act on nodes that differ in private bytes alone
-one_alike : (mac : Mac) (s : Section) (act : Act) (a b : State) → Placed a.sections → (Lives a.sections.live s → FromOutside s act a) → Same s a b
-    → ((acted mac act a).shown ≡ (acted mac act b).shown) × Same s (acted mac act a).state (acted mac act b).state
-one_alike mac s act a b p f h =
-    let r = runs_blind mac s (act ∷ []) a b p (f, tt) h in
-    (heads (acted mac act a).shown (acted mac act b).shown r.0, r.1)
-  where
-    heads : {X : Type 0} → (x y : X) → ◌≡◌ {A = List X} (x ∷ []) (y ∷ []) → x ≡ y
-    heads x y e = cc
-
 answered_inj : (x y : Result (Unit {0}) Refused) → Answered x ≡ Answered y → x ≡ y
 answered_inj x y e = cc
 
@@ -131,7 +121,7 @@ put_kind mac x w n at bytes = inr (record {
   leads = λ s. refl;
   own = λ e. absurd (no_put e);
   alike = λ s a b p f h.
-      let one = one_alike mac s (PutAct at bytes) a b p f h in
+      let one = act_same mac s (PutAct at bytes) a b p f h in
       answer_alike w n [] s (put a at bytes) (put b at bytes) (answered_inj (put a at bytes).shown (put b at bytes).shown one.0) one.1;
 })
   where
@@ -148,7 +138,7 @@ set_kind mac x w n r v = inr (record {
   leads = λ s. refl;
   own = λ e. absurd (no_set e);
   alike = λ s a b p f h.
-      let one = one_alike mac s (SetAct r v) a b p f h in
+      let one = act_same mac s (SetAct r v) a b p f h in
       answer_alike w n [] s (set_register a r v) (set_register b r v) (answered_inj (set_register a r v).shown (set_register b r v).shown one.0) one.1;
 })
   where
@@ -166,7 +156,7 @@ sense_kind set x w d v (Some device) = inr (record {
   leads = λ s. refl;
   own = λ e. absurd (no_sense e);
   alike = λ s a b p f h.
-      let one = one_alike set.mac s (SenseAct (place_at set device.node d) v) a b p f h in
+      let one = act_same set.mac s (SenseAct (place_at set device.node d) v) a b p f h in
       answer_alike w device.node (item.Sense d v ∷ []) s (sense a (place_at set device.node d) v) (sense b (place_at set device.node d) v)
       (answered_inj (sense a (place_at set device.node d) v).shown (sense b (place_at set device.node d) v).shown one.0) one.1;
 })
@@ -206,8 +196,8 @@ take_is w ns n s (Ok bytes) e =
       items = item.Packet
           (length w.packets) (length bytes) ∷ [];
     })
-    (sym (set_here ns n s e))
-take_is w ns n s (Err why) e = ap (λ (z : List State). only (with_nodes w z) (refused_item n why ∷ [])) (sym (set_here ns n s e))
+    (sym (set_same ns n s e))
+take_is w ns n s (Err why) e = ap (λ (z : List State). only (with_nodes w z) (refused_item n why ∷ [])) (sym (set_same ns n s e))
 
 unless_still : {T : Type 0} (o : Option Refused) (s : State) (shown : T) → (unless o s (record { state = s; shown = shown })).state ≡ s
 unless_still None s shown = refl
@@ -226,7 +216,7 @@ take_kind mac x w n at len = inr (record {
   leads = λ s. sym (unless_still (take_refusal s at len) s (bytes_from s.mem at len));
   own = λ e. absurd (no_take e);
   alike = λ s a b p f h.
-      let one = one_alike mac s (TakeAct at len) a b p f h in
+      let one = act_same mac s (TakeAct at len) a b p f h in
       take_alike w n s a b (take_from a at len).shown (take_from b at len).shown (took_inj (take_from a at len).shown (take_from b at len).shown one.0) h;
 })
   where
@@ -257,7 +247,7 @@ step_kind set w n = inr (record {
   leads = λ s. refl;
   own = λ e. refl;
   alike = λ s a b p f h.
-      let one = one_alike set.mac s NodeStep a b p f h in
+      let one = act_same set.mac s NodeStep a b p f h in
       seen_alike set w (w.steps + 1) n s (module_of set.sites n a (own_of a)) (module_of set.sites n b (own_of b))
       (step set.mac a).state (step set.mac b).state (step set.mac a).shown (step set.mac b).shown
       (runner_alike set n s a b p h) (stepped_inj (step set.mac a).shown (step set.mac b).shown one.0) (acted_placed set.mac NodeStep a p) one.1;
@@ -270,7 +260,7 @@ irq_effect set w n s (Err why) = record { state = s; packets = w.packets; ledger
 irq_is : (set : Setting) (w : World) (ns : List State) (n : ℕ) (s : State) (o : Option Refused) (d : Shown Seen) → slice_get ns n ≡ Some s
     → after_interrupt set (with_nodes w ns) n (unless o s d).state (unless o s d).shown ≡ applied (with_nodes w ns) n (irq_effect set w n (unless o s d).state (unless o s d).shown)
 irq_is set w ns n s None d e = refl
-irq_is set w ns n s (Some why) d e = ap (λ (z : List State). only (with_nodes w z) (refused_item n why ∷ [])) (sym (set_here ns n s e))
+irq_is set w ns n s (Some why) d e = ap (λ (z : List State). only (with_nodes w z) (refused_item n why ∷ [])) (sym (set_same ns n s e))
 
 irq_alike : (set : Setting) (w : World) (n : ℕ) (s : Section) (a b : State) (x y : Result Seen Refused)
     → x ≡ y → Placed a.sections → Same s a b → SameEffect s (irq_effect set w n a x) (irq_effect set w n b y)
@@ -293,7 +283,7 @@ irq_kind set x w n k = inr (record {
   leads = λ s. same_state (irq s k).state (irq s k).shown;
   own = λ e. absurd (no_irq e);
   alike = λ s a b p f h.
-      let one = one_alike set.mac s (Interrupt k) a b p f h in
+      let one = act_same set.mac s (Interrupt k) a b p f h in
       irq_alike set w n s (irq a k).state (irq b k).state (irq a k).shown (irq b k).shown (interrupted_inj (irq a k).shown (irq b k).shown one.0) (acted_placed set.mac (Interrupt k) a p) one.1;
 })
   where
@@ -327,7 +317,7 @@ reset_kind mac x w n =
       leads = λ s. refl;
       own = λ e. absurd (no_restart e);
       alike = λ s a b p f h.
-          let one = one_alike mac s Restart a b p f h in
+          let one = act_same mac s Restart a b p f h in
           record { state = one.1; packets = refl; ledger = refl; steps = refl; items = refl };
     })
   where

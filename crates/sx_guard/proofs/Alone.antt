@@ -1,6 +1,8 @@
 -- What happens in a run leaves private sections alone.
 use Rattle.std.proofs.Common.{◌≡◌, ℕ, ◌≤◌, ◌⊎◌, inl, inr, List, [], Option, Some, None, refl, sym, ◌∙◌, ap, subst, arith}
 use Rattle.std.specs.Prelude.{slice_get, slice_set}
+use Rattle.std.proofs.lemmas.Bool.{cases_eq}
+use Rattle.std.proofs.lemmas.List.{set-set}
 use Rattle.sx_rules.specs.declared.section.Section.{Section}
 use Rattle.sx_rules.specs.Access.{Lives}
 use Rattle.sx_rules.specs.Placed.{Placed}
@@ -15,14 +17,12 @@ use Rattle.sx_run.specs.Setting.{Setting}
 use Rattle.sx_run.specs.State.{World, Acted}
 use Rattle.sx_run.specs.Acts.{only}
 use Rattle.sx_run.proofs.tie.Lists.{get_other, some_inj}
+use Rattle.sx_run.proofs.steps.Stretch.{set_same}
 use Rattle.sx_guard.specs.Happening.{Happening, Step, done}
 use Rattle.sx_guard.specs.Guarded.{SameBut, IsForeign, LeavesAlone}
-use Rattle.sx_guard.proofs.Places.{set_set, set_swap, set_here}
+use Rattle.sx_guard.proofs.Places.{set_swap}
 use Rattle.sx_guard.proofs.Acting.{with_nodes, renoded, Effect, applied, SameEffect, Still, OnNode, kind}
 use Rattle.sx_lists.proofs.Lists.{get_same}
-
-is_or_not : (a b : ℕ) → (a ≡ b) ⊎ (a ≡ b → ⊥)
-is_or_not a b = grind arith
 
 pub some_or_none : {X : Type 0} (o : Option X) → ((x : X) × (o ≡ Some x)) ⊎ (o ≡ None)
 some_or_none None = inr refl
@@ -62,7 +62,7 @@ made w ns e = record { nodes = ns; packets = e.packets; deployer = w.deployer; l
 here_blind : (w : World) (n : ℕ) (s : Section) (a twin : State) (e f : Effect) → slice_get w.nodes n ≡ Some a → SameEffect s e f
     → Blind n s (applied w n e) (applied (with_nodes w (slice_set w.nodes n twin)) n f)
 here_blind w n s a twin e f here h =
-    let nodes : slice_set (slice_set w.nodes n twin) n f.state ≡ slice_set (slice_set w.nodes n e.state) n f.state = set_set w.nodes n twin f.state ∙ sym (set_set w.nodes n e.state f.state) in (
+    let nodes : slice_set (slice_set w.nodes n twin) n f.state ≡ slice_set (slice_set w.nodes n e.state) n f.state = set-set w.nodes n twin f.state ∙ sym (set-set w.nodes n e.state f.state) in (
       h.items,
       record {
         node = e.state;
@@ -107,7 +107,7 @@ module _ (set : Setting) (x : Happening) (w : World) (n : ℕ) (s : Section) (a 
 
   left_of : Still Doing ⊎ OnNode set.mac x w Doing → Left (Doing w.nodes)
   left_of (inl k) = left_is (Doing w.nodes) (renoded k.base w.nodes) (k.is w.nodes) (a, here, stays)
-  left_of (inr k) = elim (is_or_not k.node n) [
+  left_of (inr k) = elim (cases_eq k.node n) [
     | inl e ↦
         let there : slice_get w.nodes k.node ≡ Some a = ap (slice_get w.nodes) e ∙ here in
         let guard = acts_guarded set.mac s k.act a (placed n a here) lives (act_foreign k.act s a (λ q. foreign (k.own q ∙ ap Step e))) in
@@ -124,7 +124,7 @@ module _ (set : Setting) (x : Happening) (w : World) (n : ℕ) (s : Section) (a 
 
   blind_of : (twin : State) → Same s a twin → Still Doing ⊎ OnNode set.mac x w Doing → Blind n s (Doing w.nodes) (Doing (slice_set w.nodes n twin))
   blind_of twin h (inl k) = still_blind Doing k w n s a twin here h
-  blind_of twin h (inr k) = elim (is_or_not k.node n) [
+  blind_of twin h (inr k) = elim (cases_eq k.node n) [
     | inl e ↦
         let there : slice_get w.nodes k.node ≡ Some a = ap (slice_get w.nodes) e ∙ here in
         let twin_there : slice_get (slice_set w.nodes n twin) k.node ≡ Some twin = ap (slice_get (slice_set w.nodes n twin)) e ∙ get_same w.nodes n twin a here in
@@ -162,7 +162,7 @@ placed_node set x w (inl k) p = subst (λ (z : Acted). AllPlaced z.world) (sym (
 placed_node set x w (inr k) p = elim (some_or_none (slice_get w.nodes k.node)) [
   | inr e ↦ subst (λ (z : Acted). AllPlaced z.world) (sym (k.none w.nodes e)) p
   | inl c ↦
-      subst (λ (z : Acted). AllPlaced z.world) (sym (k.does w.nodes c.0 c.1)) (λ n b h. elim (is_or_not n k.node) [
+      subst (λ (z : Acted). AllPlaced z.world) (sym (k.does w.nodes c.0 c.1)) (λ n b h. elim (cases_eq n k.node) [
         | inl e ↦
             let now : slice_get (slice_set w.nodes k.node (k.effect c.0).state) n ≡ Some (k.effect c.0).state =
             ap (slice_get (slice_set w.nodes k.node (k.effect c.0).state)) e ∙ get_same w.nodes k.node (k.effect c.0).state c.0 c.1 in
@@ -188,7 +188,7 @@ node_goes : (set : Setting) (x : Happening) (w : World) (n : ℕ) (a : State) �
     → Still (λ ns. done set x (with_nodes w ns)) ⊎ OnNode set.mac x w (λ ns. done set x (with_nodes w ns))
     → Goes n a (done set x w)
 node_goes set x w n a h (inl k) = goes_is n a (done set x w) (renoded k.base w.nodes) (k.is w.nodes) (a, h, not_below a.boot)
-node_goes set x w n a h (inr k) = elim (is_or_not k.node n) [
+node_goes set x w n a h (inr k) = elim (cases_eq k.node n) [
   | inl e ↦
       let there : slice_get w.nodes k.node ≡ Some a = ap (slice_get w.nodes) e ∙ h in
       goes_is n a (done set x w) (applied w k.node (k.effect a)) (k.does w.nodes a there) (
@@ -207,7 +207,7 @@ node_boots set x w n a h = node_goes set x w n a h (kind set x w)
 
 -- a world and itself
 itself : (n : ℕ) (s : Section) (u : World) (c : State) → slice_get u.nodes n ≡ Some c → SameBut n s u u
-itself n s u c h = record { node = c; twin = c; there = h; same = inr refl; rest = ap (λ (z : List State). with_nodes u z) (sym (set_here u.nodes n c h)) }
+itself n s u c h = record { node = c; twin = c; there = h; same = inr refl; rest = ap (λ (z : List State). with_nodes u z) (sym (set_same u.nodes n c h)) }
 
 same_world : (set : Setting) (x : Happening) (w v : World) (n : ℕ) (s : Section) (a : State) → slice_get w.nodes n ≡ Some a → v ≡ w → Blind n s (done set x w) (done set x v)
 same_world set x w v n s a h q =
@@ -223,4 +223,4 @@ blind_any set x w n s p f v b = by b.same
     by (inl h) = (leaves_alone set x w n s b.node b.there p h.0 (f b.node b.there h.0)).blind v b
     by (inr e) =
         same_world set x w v n s b.node b.there
-        (b.rest ∙ ap (λ (z : List State). with_nodes w z) (ap (slice_set w.nodes n) (sym e) ∙ set_here w.nodes n b.node b.there))
+        (b.rest ∙ ap (λ (z : List State). with_nodes w z) (ap (slice_set w.nodes n) (sym e) ∙ set_same w.nodes n b.node b.there))

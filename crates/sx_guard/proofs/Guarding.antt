@@ -54,7 +54,7 @@ map_set (x ∷ ns) (suc n) a b h e = ap (λ (z : List Look). look x ∷ z) (map_
 looks_same : (n : ℕ) (s : Section) (w v : World) → SameBut n s w v → looks v ≡ looks w
 looks_same n s w v b = ap looks b.rest ∙ map_set w.nodes n b.node b.twin b.there (look_same s b.node b.twin b.same)
 
-append_same : (a b c d : List Item) → a ≡ b → c ≡ d → (a ++ c) ≡ (b ++ d)
+pub append_same : (a b c d : List Item) → a ≡ b → c ≡ d → (a ++ c) ≡ (b ++ d)
 append_same a b c d e f = cc
 
 blind_all : (set : Setting) (script : Script) (n : ℕ) (s : Section) (w v : World) → AllPlaced w → AllForeign set n s script w → SameBut n s w v

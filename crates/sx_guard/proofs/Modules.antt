@@ -1,8 +1,8 @@
 -- Which deployed module a section is doesn't depend on private bytes.
-use Rattle.std.proofs.Common.{◌≡◌, ℕ, ◌-◌, ◌==◌, ◌⊎◌, inl, inr, true, List, [], ◌∷◌, Option, Some, None, refl, sym, ◌∙◌, ap, subst, arith}
+use Rattle.std.proofs.Common.{◌≡◌, ℕ, ◌-◌, ◌==◌, inl, inr, true, List, [], ◌∷◌, Option, Some, None, refl, sym, ◌∙◌, ap, subst}
 use Rattle.std.specs.Prelude.{option_and_then, ◌&&◌, bytes_eq}
 use Rattle.std.specs.List.{position_from}
-use Rattle.std.proofs.lemmas.Bool.{and_parts}
+use Rattle.std.proofs.lemmas.Bool.{and_parts, cases_eq}
 use Rattle.sx_rules.specs.declared.section.Section.{Section}
 use Rattle.sx_rules.specs.Access.{Sections, Lives, section_of}
 use Rattle.sx_rules.specs.Admission.{apart, parts_apart}
@@ -17,9 +17,6 @@ use Rattle.sx_machine.proofs.ProtectGuard.{outside}
 use Rattle.sx_run.specs.Setting.{Site, same_layout, deployed, module_of}
 use Rattle.sx_run.proofs.tie.Lists.{some_inj}
 use Rattle.sx_machine.proofs.Stays.{found_lives}
-
-is_or_not : (a b : ℕ) → (a ≡ b) ⊎ (a ≡ b → ⊥)
-is_or_not a b = grind arith
 
 sound_parts : (next : ℕ) (live : List Section) (s : Section) → AllSound next live → Lives live s → parts_apart s.layout ≡ true
 sound_parts next [] s a l = absurd l
@@ -36,7 +33,7 @@ same_section t x s p l k e = some_inj x s (sym (placed_found t x p l) ∙ ap (se
 
 -- no public part of a live section meets the private part of one
 parts : (t : Sections) (x s : Section) → Placed t → Lives t.live x → Lives t.live s → apart x.layout.pub_from x.layout.pub_to s.layout.priv_from s.layout.priv_to ≡ true
-parts t x s p l k = elim (is_or_not x.id s.id) [
+parts t x s p l k = elim (cases_eq x.id s.id) [
   | inl e ↦ subst (λ (u : Section). apart u.layout.pub_from u.layout.pub_to s.layout.priv_from s.layout.priv_to ≡ true) (sym (same_section t x s p l k e)) (sound_parts t.next t.live s p.each k)
   | inr n ↦ beside_parts x s (placed_beside t x s p l k n)
 ]

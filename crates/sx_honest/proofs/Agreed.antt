@@ -1,11 +1,11 @@
 -- Each reading and each delivery leads the source model to where the course says.
-use Rattle.std.proofs.Common.{◌≡◌, ℕ, zero, suc, ◌+◌, ◌<◌, ◌≤◌, inl, inr, ◌==◌, true, false, if◌then◌else◌, List, [], ◌∷◌, ◌++◌, length, map, Option, Some}
+use Rattle.std.proofs.Common.{◌≡◌, ℕ, ◌+◌, ◌<◌, ◌≤◌, inl, inr, ◌==◌, true, false, if◌then◌else◌, List, [], ◌∷◌, ◌++◌, length, map, Option, Some}
 use Rattle.std.proofs.Common.{None, slice_get, append_assoc, refl, sym, ap, ◌∙◌, subst, arith}
 use Rattle.std.specs.Prelude.{slice_set, slice_index_or}
 use Rattle.std.specs.List.{All}
 use Rattle.std.proofs.lemmas.Bool.{cases_eq, eq-eqb}
 use Rattle.std.proofs.lemmas.List.Elements.{All-head}
-use Rattle.std.proofs.lemmas.List.{get_or-set_other, get_or-set_same, length-append, length-set}
+use Rattle.std.proofs.lemmas.List.{get_or-set_other, get_or-set_same, length-append, length-set, set-set}
 use Rattle.std.proofs.lemmas.Option.{slice_get_within}
 use Rattle.sx_mean.specs.declared.apps.AppDevice.{AppDevice}
 use Rattle.sx_mean.specs.declared.events.SourceEvent.{SourceEvent}
@@ -30,7 +30,7 @@ use Rattle.sx_honest.proofs.Sending.{Comes, SentAs, comes}
 use Rattle.sx_honest.proofs.Events.{event_done, event_ran, idle_as, ran_first, ran_on, read_step, small, take_step}
 use Rattle.sx_honest.proofs.Views.{other_views, taken_views}
 use Rattle.sx_model.proofs.Written.{at_set, get_other}
-use Rattle.sx_lists.proofs.Lists.{get_same}
+use Rattle.sx_lists.proofs.Lists.{get_same, get_some, get_mid}
 
 -- there are fields for each connection
 pub fields_enough : (n : ℕ) → n ≤ 64 → n ≤ FIELDS
@@ -108,16 +108,6 @@ sensor_at app d h = go (slice_get app.devices d) refl h
 sense_step : (app : AppTree) (s : Model) (d v : ℕ) → IsSensor app d → step app s (item.Sense d v) ≡ Some (with_device s d (record { value = v; fresh = true }))
 sense_step app s d v h = rw (h.there, h.kind) refl
 
-set_twice : {X : Type 0} → (xs : List X) (i : ℕ) (a b : X) → slice_set (slice_set xs i a) i b ≡ slice_set xs i b
-set_twice [] i a b = refl
-set_twice (x ∷ xs) zero a b = refl
-set_twice (x ∷ xs) (suc i) a b = ap (λ ys. x ∷ ys) (set_twice xs i a b)
-
-get_within : {X : Type 0} → (xs : List X) (i : ℕ) → i < length xs → (x : X) × (slice_get xs i ≡ Some x)
-get_within [] i h = absurd (omega (arith, h))
-get_within (x ∷ xs) zero h = (x, refl)
-get_within (x ∷ xs) (suc i) h = get_within xs i (omega (arith, h))
-
 -- the reading is sensed and read
 sampled_steps : (app : AppTree) (s : Model) (d v p : ℕ) (q : PartTree) (x : Standing) (r : Present) → IsSensor app d → length s.devices ≡ length app.devices → slice_get app.parts p ≡ Some q
     → slice_get s.modules p ≡ Some x → x.present ≡ Some r → r.pending ≡ None → q.device ≡ Some d
@@ -129,12 +119,12 @@ sampled_steps app s d v p q x r sensor long part there is none device =
     let h : Reading = record { value = v; fresh = false } in
     let t = with_device s d g in
     let within : d < length s.devices = (let w = slice_get_within app.devices d sensor.device sensor.there in omega (arith, w, long)) in
-    let old = get_within s.devices d within in
+    let old = get_some s.devices d within in
     let read : slice_get t.devices d ≡ Some g = get_same s.devices d g old.0 old.1 in
     let kind : kind_is is_sensor (slice_get app.devices d) ≡ true = (ap (λ o. kind_is is_sensor o) sensor.there ∙ sensor.kind) in
     let fresh : is_fresh_with v g ≡ true = eq-eqb v v refl in
     read_step app t p v d q x r g part there (idle_as x r is none) device read kind fresh
-    ∙ ap (λ ds. Some (reacts app (record s { devices = ds }) p q x r (event.Sample v))) (set_twice s.devices d g h)
+    ∙ ap (λ ds. Some (reacts app (record s { devices = ds }) p q x r (event.Sample v))) (set-set s.devices d g h)
 
 stale_after : (rs : List Reading) (d v : ℕ) → ((k : ℕ) (r : Reading) → slice_get rs k ≡ Some r → r.fresh ≡ false)
     → (k : ℕ) (r : Reading) → slice_get (slice_set rs d (record { value = v; fresh = false })) k ≡ Some r → r.fresh ≡ false
@@ -188,16 +178,12 @@ sensed_agrees app r c valid is few told h =
 
 -- A delivery.
 
-get_after : {X : Type 0} → (xs ys : List X) (y : X) → slice_get (xs ++ y ∷ ys) (length xs) ≡ Some y
-get_after [] ys y = refl
-get_after (x ∷ xs) ys y = get_after xs ys y
-
 next_word : (past ws : List Waiting) (w : Waiting) → slice_get (words_over w.link (past ++ w ∷ ws)) (count_over w.link past) ≡ Some w.value
 next_word past ws w =
     let same : (w.link == w.link) ≡ true = eq-eqb w.link w.link refl in
     let parts : words_over w.link (past ++ w ∷ ws) ≡ words_over w.link past ++ w.value ∷ words_over w.link ws =
     words-append w.link past (w ∷ ws) ∙ ap (λ b. words_over w.link past ++ (if b then w.value ∷ words_over w.link ws else words_over w.link ws)) same in
-    ap (λ zs. slice_get zs (count_over w.link past)) parts ∙ get_after (words_over w.link past) (words_over w.link ws) w.value
+    ap (λ zs. slice_get zs (count_over w.link past)) parts ∙ get_mid (words_over w.link past) (words_over w.link ws) w.value
 
 pub delivered_agrees : (app : AppTree) (w : Waiting) (ws : List Waiting) (c : Course) → is_valid app ≡ true → c.plain.waiting ≡ w ∷ ws
     → total (delivered app w ws c) ≤ 65535 → IsTold app (delivered app w ws c)

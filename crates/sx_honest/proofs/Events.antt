@@ -1,7 +1,7 @@
 -- What an event's items make of the source model.
 use Rattle.std.proofs.Common.{◌≡◌, ℕ, zero, suc, ◌+◌, ◌*◌, ◌/◌, ◌%◌, ◌<◌, ◌==◌, true, false, List, [], ◌∷◌, ◌++◌, map, Option, Some, None, slice_get, refl, sym, ap, ◌∙◌, subst, arith}
-use Rattle.std.specs.Prelude.{slice_set}
 use Rattle.std.proofs.lemmas.Bool.{eq-eqb}
+use Rattle.std.proofs.lemmas.List.{set-set}
 use Rattle.sx_mean.specs.declared.events.SourceEvent.{SourceEvent}
 use Rattle.sx_mean.specs.declared.events.SourceEvent.TheVariants as event
 use Rattle.sx_mean.specs.declared.apps.Link.{Link}
@@ -39,17 +39,8 @@ ran_packets app s n len (suc k) = ran_packets app s (n + 1) len k
 
 -- Within an event.
 
-set_again : {X : Type 0} → (xs : List X) (i : ℕ) (a b : X) → slice_set (slice_set xs i a) i b ≡ slice_set xs i b
-set_again [] i a b = refl
-set_again (x ∷ xs) zero a b = refl
-set_again (x ∷ xs) (suc i) a b = ap (λ ys. x ∷ ys) (set_again xs i a b)
-
--- the p-th module, which was there as x, is present so
-abbrev pub put_in : Model → ℕ → Standing → Present → Model
-put_in s p x r = with_present s p x r
-
 pub put_again : (s : Model) (p : ℕ) (x : Standing) (r u : Present) → with_present (with_present s p x r) p (record x { present = Some r }) u ≡ with_present s p x u
-put_again s p x r u = ap (λ xs. record s { modules = xs }) (set_again s.modules p (record x { present = Some r }) (record x { present = Some u }))
+put_again s p x r u = ap (λ xs. record s { modules = xs }) (set-set s.modules p (record x { present = Some r }) (record x { present = Some u }))
 
 -- with these emits and pieces owed
 abbrev pub owing : Present → List ℕ → ℕ → Present

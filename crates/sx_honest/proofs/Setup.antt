@@ -5,7 +5,7 @@ use Rattle.std.specs.Prelude.{slice_set, slice_index, slice_index_or}
 use Rattle.std.specs.List.{AllPairs}
 use Rattle.std.proofs.lemmas.Bool.{cases_eq, eq-eqb}
 use Rattle.std.proofs.lemmas.Bool.Decides.{nat_tests}
-use Rattle.std.proofs.lemmas.List.{length-append}
+use Rattle.std.proofs.lemmas.List.{length-append, set-set}
 use Rattle.std.proofs.lemmas.Option.{get_or_from_slice_get, same_Some, slice_get_within}
 use Rattle.sx_lang.specs.declared.sides.Side.{Side}
 use Rattle.sx_lang.specs.declared.sides.Side.TheVariants.{From, To}
@@ -17,7 +17,7 @@ use Rattle.sx_mean.specs.Validity.{is_valid}
 use Rattle.sx_mean.specs.Ends.{ends_of, same_side}
 use Rattle.sx_mean.specs.EndLaws.{IsBefore}
 use Rattle.sx_mean.specs.Places.{initial_cells}
-use Rattle.sx_mean.proofs.Ends.{ends_hold}
+use Rattle.sx_mean.proofs.Ends.{ends_hold, same_side-refl}
 use Rattle.sx_mean.proofs.ValidApplications.{valid_applications}
 use Rattle.sx_trace.specs.declared.items.Item.{Item}
 use Rattle.sx_trace.specs.declared.items.Item.TheVariants as item
@@ -84,11 +84,7 @@ apart a e (inl lt) = let n : (a.link == e.link) ≡ false = (grind (arith, nat_t
 apart a e (inr h) = let same : (a.link == e.link) ≡ true = eq-eqb a.link e.link h.0 in rw (same, h.1, h.2) refl
 
 is_itself : (e : End) → ((e.link == e.link) && same_side e.side e.side) ≡ true
-is_itself e = let same : (e.link == e.link) ≡ true = eq-eqb e.link e.link refl in rw same (own e.side)
-  where
-    own : (side : Side) → same_side side side ≡ true
-    own From = refl
-    own To = refl
+is_itself e = let same : (e.link == e.link) ≡ true = eq-eqb e.link e.link refl in rw same (same_side-refl e.side)
 
 opened_next : (es : List End) (j : ℕ) (e : End) → AllPairs IsBefore es → slice_get es j ≡ Some e → changed_views (opens 0) e.link e.side es (opened j es) ≡ Some (opened (suc j) es)
 opened_next es j e ordered h =
@@ -101,13 +97,8 @@ opened_next es j e ordered h =
 
 -- Steps of one part, whose standing alone changes.
 
-again : {X : Type 0} → (xs : List X) (i : ℕ) (a b : X) → slice_set (slice_set xs i a) i b ≡ slice_set xs i b
-again [] i a b = refl
-again (x ∷ xs) zero a b = refl
-again (x ∷ xs) (suc i) a b = ap (λ ys. x ∷ ys) (again xs i a b)
-
 standing_again : (s : Model) (p : ℕ) (a b : Standing) → with_standing (with_standing s p a) p b ≡ with_standing s p b
-standing_again s p a b = ap (λ xs. record s { modules = xs }) (again s.modules p a b)
+standing_again s p a b = ap (λ xs. record s { modules = xs }) (set-set s.modules p a b)
 
 module _ (app : AppTree) (s : Model) (p : ℕ) (q : PartTree) (z : Standing) (part : slice_get app.parts p ≡ Some q) (there : slice_get s.modules p ≡ Some z) where
   stands_at : (y : Standing) → slice_get (with_standing s p y).modules p ≡ Some y
@@ -122,7 +113,7 @@ module _ (app : AppTree) (s : Model) (p : ℕ) (q : PartTree) (z : Standing) (pa
       → step app (with_standing s p y) (item.Ask p a) ≡ Some (with_standing (record s { asks = s.asks + 1 }) p (record y { asked = Some a }))
   ask_step y a e =
       let same : (a == s.asks) ≡ true = eq-eqb a s.asks e in
-      rw (stands_at y, same) (ap (λ xs. Some (record s { asks = s.asks + 1; modules = xs })) (again s.modules p y (record y { asked = Some a })))
+      rw (stands_at y, same) (ap (λ xs. Some (record s { asks = s.asks + 1; modules = xs })) (set-set s.modules p y (record y { asked = Some a })))
 
   vouch_step : (y : Standing) (r : Present) (a boot : ℕ) → y.present ≡ Some r → r.pending ≡ None → slice_get s.boots q.node ≡ Some boot
       → step app (with_standing s p y) (item.Vouch p a) ≡ Some (with_standing s p (record y {
@@ -186,9 +177,6 @@ module _ (app : AppTree) (s : Model) (p : ℕ) (q : PartTree) (z : Standing) (pa
 
 -- Where the set-up stands before the p-th part.
 
-abbrev fresh_standing : Standing
-fresh_standing = record { present = None; asked = None; vouched = []; attested = None }
-
 record Ready (app : AppTree) (p : ℕ) (s : Model) : Type 0 where
   boots : s.boots ≡ replicate app.nodes 0
   asks : s.asks ≡ p
@@ -209,7 +197,7 @@ zeros_index [] c = refl
 zeros_index (l ∷ ls) zero = refl
 zeros_index (l ∷ ls) (suc c) = zeros_index ls c
 
-first_cells_at : (qs : List PartTree) (p : ℕ) (q : PartTree) → slice_get qs p ≡ Some q → slice_index_or (map (λ (q : PartTree). initial_cells q.tree.decls) qs) p [] ≡ initial_cells q.tree.decls
+pub first_cells_at : (qs : List PartTree) (p : ℕ) (q : PartTree) → slice_get qs p ≡ Some q → slice_index_or (map (λ (q : PartTree). initial_cells q.tree.decls) qs) p [] ≡ initial_cells q.tree.decls
 first_cells_at [] p q e = absurd cc
 first_cells_at (x ∷ qs) zero q e = ap (λ (q : PartTree). initial_cells q.tree.decls) (same_Some x q e)
 first_cells_at (x ∷ qs) (suc p) q e = first_cells_at qs p q e

@@ -1,5 +1,5 @@
 -- The pieces of an invocation have the bytes that its marks make.
-use Rattle.std.proofs.Common.{◌≡◌, ℕ, ◌+◌, ◌*◌, ◌≤◌, Bool, true, false, ◌&&◌, List, [], ◌∷◌, ◌++◌, length, take, Option, Some, None, Result, Ok, Err, refl, sym, ap, ◌∙◌, arith}
+use Rattle.std.proofs.Common.{◌≡◌, ℕ, ◌+◌, ◌*◌, Bool, true, false, ◌&&◌, List, [], ◌∷◌, ◌++◌, length, take, Option, Some, None, Result, Ok, Err, refl, sym, ap, ◌∙◌, arith}
 use Rattle.std.specs.Prelude.{if◌then◌else◌, nat_lt}
 use Rattle.std.proofs.lemmas.List.{length-append, length-take}
 use Rattle.sx_mean.specs.declared.events.End.{End}
@@ -10,10 +10,11 @@ use Rattle.sx_mean.specs.declared.events.SourceEvent.TheVariants as event
 use Rattle.sx_mean.specs.React.{react}
 use Rattle.sx_rules.specs.declared.access.Violation.{Violation}
 use Rattle.sx_bus.specs.declared.devices.Window.{Window}
-use Rattle.sx_tag.specs.Wrap.{wrapped, crypt, wrap_tag, stream, xor_bytes}
+use Rattle.sx_tag.specs.Wrap.{wrapped, crypt, wrap_tag, stream}
 use Rattle.sx_machine.specs.Memory.{word}
 use Rattle.sx_invoke.specs.Setup.{Setup, Call}
 use Rattle.sx_tag.specs.Mac.{Mac, IsTag}
+use Rattle.sx_tag.proofs.UnwrapsWrapped.{length-xor_bytes}
 use Rattle.sx_invoke.specs.Marks as mark
 use Rattle.sx_invoke.specs.Marks.{Mark}
 use Rattle.sx_invoke.specs.Pieces.{piece_size, made_bytes, tag_size}
@@ -33,11 +34,6 @@ pub tag_length : (mac : Mac) (key ad cipher : List ℕ) → IsTag mac → length
 unfolding wrap_tag
 tag_length mac key ad cipher t = let w = t.width key (0x54 ∷ length ad ∷ (ad ++ cipher)) in length-take 16 (mac key (0x54 ∷ length ad ∷ (ad ++ cipher))) ∙ omega (arith, w)
 
-pub xor_length : (xs ys : List ℕ) → length xs ≤ length ys → length (xor_bytes xs ys) ≡ length xs
-xor_length [] ys le = refl
-xor_length (x ∷ xs) [] le = absurd (omega (arith, le))
-xor_length (x ∷ xs) (y ∷ ys) le = let e = xor_length xs ys (omega (arith, le)) in omega (arith, e)
-
 -- an event packet has 24 bytes
 pub packet_length : (s : Setup) (e : EndState) (v : ℕ) → IsTag s.mac → length (event_packet s e v) ≡ event_size
 unfolding crypt
@@ -45,7 +41,7 @@ packet_length s e v t =
     let ad = event_header e in
     let cipher = crypt s.mac e.key ad (two v) in
     let w = t.width e.key (0x53 ∷ length ad ∷ (ad ++ 0 ∷ [])) in
-    let x = xor_length (two v) (stream s.mac e.key ad) (omega (arith, w)) in
+    let x = length-xor_bytes (two v) (stream s.mac e.key ad) (omega (arith, w)) in
     let y = tag_length s.mac e.key ad cipher t in
     let z = length-append cipher (wrap_tag s.mac e.key ad cipher) in
     omega (arith, x, y, z)

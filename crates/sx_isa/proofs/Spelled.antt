@@ -193,7 +193,7 @@ pub spelled_reads : (i : Instr) → IsInstruction i → (x : List ℕ) →
 spelled_reads i h x =
     reads _ _ _ i (length (spelling i)) (h, refl, fronts (spelling i) x (spelling_short i))
 
-one_found : (i j : Instr) (m n : ℕ) (r : Option (Instr × ℕ)) → r ≡ Some (i, m) → r ≡ Some (j, n) → i ≡ j
+pub one_found : (i j : Instr) (m n : ℕ) (r : Option (Instr × ℕ)) → r ≡ Some (i, m) → r ≡ Some (j, n) → i ≡ j
 one_found i j m n r e f =
     let a : Instr × ℕ = (i, m) in let b : Instr × ℕ = (j, n) in
     let same : a ≡ b = cc in

@@ -3,45 +3,24 @@ use Rattle.std.proofs.Common.{◌≡◌, ℕ, suc, ◌-◌, ◌<◌, Bool, true,
 use Rattle.std.specs.Cmp.Lexicographic.{pointwise}
 use Rattle.std.specs.List.{list_all}
 use Rattle.std.proofs.lemmas.Bool.Decides.{nat_tests}
+use Rattle.std.proofs.lemmas.Bool.{and_parts, eqb-true}
 use Rattle.sx_lex.specs.declared.tokens.Kind.{Kind}
 use Rattle.sx_lex.specs.Words.{found_in, signs, is_lower, is_digit, is_decimal_digit, is_hexadecimal}
 use Rattle.sx_lex.specs.Progress.{first_is}
-
-pub and_left : (x y : Bool) → (x && y) ≡ true → x ≡ true
-and_left true y e = refl
-and_left false y e = absurd (cc)
-
-pub and_right : (x y : Bool) → (x && y) ≡ true → y ≡ true
-and_right true y e = e
-and_right false y e = absurd (cc)
-
-pub false_and : (b : Bool) → (b && false) ≡ false
-false_and true = refl
-false_and false = refl
-
-pub not_byte : (b n : ℕ) → (b ≡ n → ⊥) → (b == n) ≡ false
-not_byte b n h = go (b == n) refl
-  where
-    go : (t : Bool) → (b == n) ≡ t → t ≡ false
-    go false e = refl
-    go true e = absurd (let s : b ≡ n = grind (arith, nat_tests, e) in h s)
-
-same_byte : (x y : ℕ) → nat_eq x y ≡ true → x ≡ y
-same_byte x y e = grind (arith, nat_tests)
 
 same_word : (w q : List ℕ) → pointwise nat_eq w q ≡ true → w ≡ q
 same_word [] [] e = refl
 same_word [] (y ∷ q) e = absurd (cc)
 same_word (x ∷ w) [] e = absurd (cc)
-same_word (x ∷ w) (y ∷ q) e = let a = same_byte x y (and_left _ _ e) in let b = same_word w q (and_right _ _ e) in rw (a, b) refl
+same_word (x ∷ w) (y ∷ q) e = let a = eqb-true x y (and_parts _ _ e).0 in let b = same_word w q (and_parts _ _ e).1 in rw (a, b) refl
 
 pub not_found : (p : List ℕ → Bool) (table : List (List ℕ × Kind)) (w : List ℕ) → list_all (λ q. p q.0) table ≡ true → p w ≡ false → found_in table w ≡ None
 not_found p [] w a e = refl
-not_found p (q ∷ table) w a e = go (pointwise nat_eq w q.0) refl (not_found p table w (and_right _ _ a) e)
+not_found p (q ∷ table) w a e = go (pointwise nat_eq w q.0) refl (not_found p table w (and_parts _ _ a).1 e)
   where
     go : (t : Bool) → pointwise nat_eq w q.0 ≡ t → found_in table w ≡ None → (if t then Some q.1 else found_in table w) ≡ None
     go false f again = again
-    go true f again = absurd (let s : w ≡ q.0 = same_word w q.0 f in let x : p q.0 ≡ true = and_left _ _ a in let y : false ≡ true = sym e ∙ ap p s ∙ x in cc)
+    go true f again = absurd (let s : w ≡ q.0 = same_word w q.0 f in let x : p q.0 ≡ true = (and_parts _ _ a).0 in let y : false ≡ true = sym e ∙ ap p s ∙ x in cc)
 
 pub lower_no_sign : (b : ℕ) (l : List ℕ) → is_lower b ≡ true → found_in signs (b ∷ l) ≡ None
 lower_no_sign b l h = not_found (λ w. not (first_is is_lower w)) signs (b ∷ l) refl (rw h refl)

@@ -3,15 +3,16 @@ use Rattle.std.proofs.Common.{◌≡◌, ℕ, zero, suc, ◌+◌, ◌<◌, ◌�
 use Rattle.std.specs.List.{list_all}
 use Rattle.std.proofs.lemmas.List.{length-take-le}
 use Rattle.std.proofs.lemmas.Bool.Decides.{nat_tests}
+use Rattle.std.proofs.lemmas.Bool.{and_right}
 use Rattle.sx_lex.specs.declared.tokens.Kind.{Kind}
 use Rattle.sx_lex.specs.declared.tokens.Kind.TheVariants.{Name}
 use Rattle.sx_lex.specs.Words.{is_name_byte, is_lower, kind_of, or_else, found_in, keywords, IsLongest}
 use Rattle.sx_lex.specs.Progress.{name_front}
-use Rattle.sx_lex.proofs.Found.{false_and, lower_no_sign, lower_no_digit, no_prefix}
+use Rattle.sx_lex.proofs.Found.{lower_no_sign, lower_no_digit, no_prefix}
 
 no_longer_name : (k : ℕ) (bs : List ℕ) (m : ℕ) → name_front k bs < m → m ≤ length bs → (list_all is_name_byte (take m bs) && nat_le m k) ≡ false
 no_longer_name k bs zero h l = absurd (omega (arith, h))
-no_longer_name zero bs (suc m) h l = let e : nat_le (suc m) 0 ≡ false = grind arith in rw e (false_and _)
+no_longer_name zero bs (suc m) h l = let e : nat_le (suc m) 0 ≡ false = grind arith in rw e (and_right _ false refl)
 no_longer_name (suc k) [] (suc m) h l = absurd (omega (arith, l))
 no_longer_name (suc k) (b ∷ bs) (suc m) h l = go (is_name_byte b) refl h (λ h. no_longer_name k bs m h (omega (arith, l)))
   where

@@ -4,10 +4,12 @@ use Rattle.std.specs.List.{list_all}
 use Rattle.std.proofs.Math.Nat.{le-mul_of_pos_right}
 use Rattle.std.proofs.lemmas.Nat.{mul-le}
 use Rattle.std.proofs.lemmas.Bool.Decides.{nat_tests}
+use Rattle.std.proofs.lemmas.Bool.{and_right}
+use Rattle.std.proofs.lemmas.List.{nil_from_length}
 use Rattle.sx_lex.specs.declared.tokens.Kind.TheVariants.{Number}
 use Rattle.sx_lex.specs.Words.{is_digit, digit_value, value, is_number, is_hexadecimal, kind_of, IsLongest}
 use Rattle.sx_lex.specs.Progress.{number_front, first_is, Counted, NoHexadecimal}
-use Rattle.sx_lex.proofs.Found.{false_and, digit_no_sign, digit_no_lower, no_prefix}
+use Rattle.sx_lex.proofs.Found.{digit_no_sign, digit_no_lower, no_prefix}
 
 pub product_fits : (v r : ℕ) → v ≤ 65535 → r ≤ 16 → v * r ≤ 1048560
 product_fits v r h l = mul-le v r 65535 16 h l
@@ -19,7 +21,7 @@ pub not_first : (d : Bool) (n : ℕ) → d ≡ false → (d && nat_le n 65535) �
 not_first d n h = rw h refl
 
 pub not_second : (d : Bool) (n m : ℕ) → n ≡ m → 65535 < n → (d && nat_le m 65535) ≡ false
-not_second d n m e l = let f : nat_le m 65535 ≡ false = grind (arith, nat_tests) in rw f (false_and d)
+not_second d n m e l = let f : nat_le m 65535 ≡ false = grind (arith, nat_tests) in rw f (and_right d false refl)
 
 pub begins : (text rest : List ℕ) (base : ℕ) → rest ≡ text → Counted text base 0 0 rest
 begins text rest base e = rw e (record { fronts = omega arith; values = refl; inside = omega arith })
@@ -38,12 +40,8 @@ counts text rest a base c v b c2 v2 h e t q r =
 stopped : (rest a : List ℕ) (base v b : ℕ) → rest ≡ b ∷ a → (is_digit base b && nat_le (v * base + digit_value b) 65535) ≡ false → number_front base v rest ≡ 0
 stopped rest a base v b e t = rw (e, t) refl
 
-none_left : (r : List ℕ) → length r ≡ 0 → r ≡ []
-none_left [] h = refl
-none_left (x ∷ r) h = absurd (omega (arith, h))
-
 ended : (rest : List ℕ) (base v : ℕ) → length rest ≡ 0 → number_front base v rest ≡ 0
-ended rest base v e = rw (none_left rest e) refl
+ended rest base v e = rw (nil_from_length rest e) refl
 
 pub stops_count : (text rest a : List ℕ) (base c v b : ℕ) → Counted text base c v rest → rest ≡ b ∷ a
     → (is_digit base b && nat_le (v * base + digit_value b) 65535) ≡ false → c ≡ number_front base 0 text
@@ -79,7 +77,7 @@ no_longer_number base v (b ∷ bs) (suc m) p h l = go (is_digit base b) (nat_le 
     go true false e f h again =
         let g : v * base + digit_value b ≤ value base (v * base + digit_value b) (take m bs) = value_grows base (v * base + digit_value b) (take m bs) p in
         let big : nat_le (value base (v * base + digit_value b) (take m bs)) 65535 ≡ false = grind (arith, nat_tests, g, f) in
-        rw (e, big) (false_and _)
+        rw (e, big) (and_right _ false refl)
 
 number_front_fits : (base v : ℕ) (bs : List ℕ)
     → v ≤ 65535 → ((list_all (is_digit base) (take (number_front base v bs) bs) && nat_le (value base v (take (number_front base v bs) bs)) 65535) ≡ true)
@@ -112,14 +110,14 @@ no_number_beyond base [] (suc m) p h l = absurd (omega (arith, l))
 no_number_beyond base (b ∷ bs) (suc m) p h l = no_longer_number base 0 (b ∷ bs) (suc m) p h l
 
 pub no_hexadecimal : (text : List ℕ) → length text ≡ 0 → NoHexadecimal text
-no_hexadecimal text h = rw (none_left text h) (record { none = λ m l. go m })
+no_hexadecimal text h = rw (nil_from_length text h) (record { none = λ m l. go m })
   where
     go : (m : ℕ) → is_hexadecimal (take m []) ≡ false
     go zero = refl
     go (suc m) = refl
 
 pub no_second : (text behind : List ℕ) (a : ℕ) → text ≡ a ∷ behind → length behind ≡ 0 → NoHexadecimal text
-no_second text behind a t h = rw (t, none_left behind h) (record { none = λ m l. go m })
+no_second text behind a t h = rw (t, nil_from_length behind h) (record { none = λ m l. go m })
   where
     go : (m : ℕ) → is_hexadecimal (take m (a ∷ [])) ≡ false
     go zero = refl
@@ -139,7 +137,7 @@ other_second text behind rest a b t s h = rw (t, s) (record { none = λ m l. go 
     go : (m : ℕ) → is_hexadecimal (take m (a ∷ b ∷ rest)) ≡ false
     go zero = refl
     go (suc zero) = refl
-    go (suc (suc m)) = rw (h, false_and (a == 48)) refl
+    go (suc (suc m)) = rw (h, and_right (a == 48) false refl) refl
 
 pub no_digits : (text behind rest : List ℕ) (a b c : ℕ) → text ≡ a ∷ behind → behind ≡ b ∷ rest → c ≡ number_front 16 0 rest → c ≡ 0 → NoHexadecimal text
 no_digits text behind rest a b c t s h z = rw (t, s) (record { none = λ m l. go m l })
@@ -147,8 +145,8 @@ no_digits text behind rest a b c t s h z = rw (t, s) (record { none = λ m l. go
     go : (m : ℕ) → m ≤ length (a ∷ b ∷ rest) → is_hexadecimal (take m (a ∷ b ∷ rest)) ≡ false
     go zero l = refl
     go (suc zero) l = refl
-    go (suc (suc zero)) l = false_and _
-    go (suc (suc (suc m))) l = let e : is_number 16 (take (suc m) rest) ≡ false = no_number_beyond 16 rest (suc m) (omega arith) (omega (arith, h, z)) (omega (arith, l)) in rw e (false_and _)
+    go (suc (suc zero)) l = and_right _ false refl
+    go (suc (suc (suc m))) l = let e : is_number 16 (take (suc m) rest) ≡ false = no_number_beyond 16 rest (suc m) (omega arith) (omega (arith, h, z)) (omega (arith, l)) in rw e (and_right _ false refl)
 
 hexadecimal_longest : (rest : List ℕ) → 0 < number_front 16 0 rest → IsLongest (48 ∷ 120 ∷ rest) (suc (suc (number_front 16 0 rest))) (Number (value 16 0 (take (number_front 16 0 rest) rest)))
 hexadecimal_longest rest p = record {

@@ -1,13 +1,13 @@
 -- A text has one reading.
 use Rattle.std.proofs.Common.{◌≡◌, ℕ, zero, suc, ◌<◌, Bool, true, false, ◌==◌, List, [], ◌∷◌, take, drop, nat_lt, Some, None, refl, sym, ap, ◌∙◌, subst, arith}
 use Rattle.std.proofs.lemmas.Bool.Decides.{nat_tests}
+use Rattle.std.proofs.lemmas.Bool.{and_parts, eqb-true}
 use Rattle.sx_lex.specs.declared.tokens.Kind.{Kind}
 use Rattle.sx_lex.specs.declared.tokens.Place.{Place}
 use Rattle.sx_lex.specs.declared.tokens.Placed.{Placed}
 use Rattle.sx_lex.specs.Words.{IsLongest, kind_of}
 use Rattle.sx_lex.specs.Lexed.{along, is_space, begins_comment, Lexed, at_end, space, newline, comment, token, bad}
 use Rattle.sx_lex.specs.Laws.{OneReading}
-use Rattle.sx_lex.proofs.Found.{and_left}
 
 line_word : (m : ℕ) (bs : List ℕ) → kind_of (take m (10 ∷ bs)) ≡ None
 line_word zero bs = refl
@@ -41,29 +41,26 @@ tab_word (suc m) bs = go (take m bs)
     go [] = refl
     go (x ∷ l) = refl
 
-is_byte : (a b : ℕ) → (a == b) ≡ true → a ≡ b
-is_byte a b e = grind (arith, nat_tests)
-
 space_word : (b m : ℕ) (bs : List ℕ) → is_space b ≡ true → kind_of (take m (b ∷ bs)) ≡ None
 space_word b m bs h = go (b == 32) (b == 9) refl refl h
   where
     go : (s t : Bool) → (b == 32) ≡ s → (b == 9) ≡ t → is_space b ≡ true → kind_of (take m (b ∷ bs)) ≡ None
-    go true t e f h = rw (is_byte b 32 e) (blank_word m bs)
-    go false true e f h = rw (is_byte b 9 f) (tab_word m bs)
+    go true t e f h = rw (eqb-true b 32 e) (blank_word m bs)
+    go false true e f h = rw (eqb-true b 9 f) (tab_word m bs)
     go false false e f h = absurd (let x : false ≡ true = rw (e, f) at h in cc)
 
-nil_word : (n : ℕ) → kind_of (take n []) ≡ None
+pub nil_word : (n : ℕ) → kind_of (take n []) ≡ None
 nil_word zero = refl
 nil_word (suc n) = refl
 
 comment_word : (n : ℕ) (bs : List ℕ) → begins_comment bs ≡ true → kind_of (take n bs) ≡ None
 comment_word n [] h = absurd (cc)
 comment_word n (a ∷ []) h = absurd (cc)
-comment_word n (a ∷ b ∷ bs) h = rw (is_byte a 47 (and_left _ _ h)) (slash_word n (b ∷ bs))
+comment_word n (a ∷ b ∷ bs) h = rw (eqb-true a 47 (and_parts _ _ h).0) (slash_word n (b ∷ bs))
 
 space_no_comment : (b : ℕ) (bs : List ℕ) → is_space b ≡ true → begins_comment (b ∷ bs) ≡ true → ⊥
 space_no_comment b [] s h = absurd (cc)
-space_no_comment b (c ∷ bs) s h = let e : b ≡ 47 = is_byte b 47 (and_left _ _ h) in let x : is_space 47 ≡ true = ap is_space (sym e) ∙ s in cc
+space_no_comment b (c ∷ bs) s h = let e : b ≡ 47 = eqb-true b 47 (and_parts _ _ h).0 in let x : is_space 47 ≡ true = ap is_space (sym e) ∙ s in cc
 
 line_no_comment : (bs : List ℕ) → begins_comment (10 ∷ bs) ≡ true → ⊥
 line_no_comment [] h = absurd (cc)

@@ -1,11 +1,12 @@
 -- Where neither a name nor a number begins, a token is a sign.
 use Rattle.std.proofs.Common.{◌≡◌, ℕ, zero, suc, ◌<◌, ◌≤◌, Bool, true, false, List, [], ◌∷◌, length, take, Some, None, refl, sym, ap, subst, ◌∙◌, arith, ◌==◌}
-use Rattle.std.proofs.lemmas.List.{length-take-le}
+use Rattle.std.proofs.lemmas.List.{length-take-le, nil_from_length}
 use Rattle.std.proofs.lemmas.Bool.Decides.{nat_tests}
 use Rattle.sx_lex.specs.declared.tokens.Kind.{Kind}
 use Rattle.sx_lex.specs.Words.{is_lower, is_digit, kind_of, found_in, signs, IsLongest, NoToken}
 use Rattle.sx_lex.specs.Progress.{first_is, NoPair}
 use Rattle.sx_lex.proofs.Found.{not_found, long_no_sign, no_prefix}
+use Rattle.sx_lex.proofs.Same.{nil_word}
 
 abbrev ends_in_equals : List ℕ → Bool
 ends_in_equals (a ∷ b ∷ []) = b == 61
@@ -48,16 +49,8 @@ longest_pair text behind rest a b k t s h d e =
       longest = λ m l i. far a m (b ∷ rest) h2 d2 l i;
     })
 
-none_left : (r : List ℕ) → length r ≡ 0 → r ≡ []
-none_left [] h = refl
-none_left (x ∷ r) h = absurd (omega (arith, h))
-
 pub none_of_none : (text : List ℕ) → length text ≡ 0 → NoToken text
-none_of_none text h = rw (none_left text h) (record { none = λ m l. go m })
-  where
-    go : (m : ℕ) → kind_of (take m []) ≡ None
-    go zero = refl
-    go (suc m) = refl
+none_of_none text h = rw (nil_from_length text h) (record { none = λ m l. nil_word m })
 
 two : (b : ℕ) (rest : List ℕ) → is_lower b ≡ false → is_digit 10 b ≡ false → NoPair (b ∷ rest) → (m : ℕ) → 1 < m → m ≤ length (b ∷ rest) → kind_of (take m (b ∷ rest)) ≡ None
 two b rest h d p zero l i = absurd (omega (arith, l))

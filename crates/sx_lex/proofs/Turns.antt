@@ -1,5 +1,6 @@
 -- One turn of the reading.
 use Rattle.std.proofs.Common.{◌≡◌, ℕ, suc, ◌+◌, true, false, List, [], ◌∷◌, ◌++◌, length, drop, refl, sym, ap, subst, ◌∙◌, arith, append_assoc, append-nil, ◌==◌}
+use Rattle.std.proofs.lemmas.List.{nil_from_length}
 use Rattle.sx_lex.specs.declared.tokens.Kind.{Kind}
 use Rattle.sx_lex.specs.declared.tokens.Kind.TheVariants.{Bad}
 use Rattle.sx_lex.specs.declared.tokens.Place.{Place}
@@ -7,10 +8,6 @@ use Rattle.sx_lex.specs.declared.tokens.Placed.{Placed}
 use Rattle.sx_lex.specs.Words.{IsLongest, NoToken, line_length}
 use Rattle.sx_lex.specs.Progress.{Passed, LexedSoFar}
 use Rattle.sx_lex.specs.Lexed.{along, below, start, is_space, begins_comment, Lexed, at_end, space, newline, comment, token, bad}
-
-none_left : (r : List ℕ) → length r ≡ 0 → r ≡ []
-none_left [] h = refl
-none_left (x ∷ r) h = absurd (omega (arith, h))
 
 pub line_begins : (text rest : List ℕ) → rest ≡ text → Passed text 0 rest
 line_begins text rest e = rw e (record { passed = omega arith; inside = omega arith })
@@ -25,7 +22,7 @@ pub line_stops : (text rest a : List ℕ) (n b : ℕ) → Passed text n rest →
 line_stops text rest a n b h e t = let f : line_length rest ≡ 0 = rw (e, t) refl in omega (arith, h.passed, f)
 
 pub line_ends : (text rest : List ℕ) (n : ℕ) → Passed text n rest → length rest ≡ 0 → n ≡ line_length text
-line_ends text rest n h e = let f : line_length rest ≡ 0 = rw (none_left rest e) refl in omega (arith, h.passed, f)
+line_ends text rest n h e = let f : line_length rest ≡ 0 = rw (nil_from_length rest e) refl in omega (arith, h.passed, f)
 
 pub begins : (text rest : List ℕ) (out : List Placed) (at : Place) → out ≡ [] → rest ≡ text → at ≡ start → LexedSoFar text out at rest
 begins text rest out at e f g = rw (e, f, g) (record { begun = λ ts end h. h })
@@ -63,4 +60,4 @@ adds_bad text rest a out out2 at b h e l s c n o =
     subst (λ x. Lexed start text x at) (sym o) (h.begun _ at r)
 
 pub ends_here : (text rest : List ℕ) (out : List Placed) (at : Place) → LexedSoFar text out at rest → length rest ≡ 0 → Lexed start text out at
-ends_here text rest out at h e = subst (λ x. Lexed start text x at) (append-nil out) (h.begun [] at (subst (λ r. Lexed at r [] at) (sym (none_left rest e)) (at_end {at = at})))
+ends_here text rest out at h e = subst (λ x. Lexed start text x at) (append-nil out) (h.begun [] at (subst (λ r. Lexed at r [] at) (sym (nil_from_length rest e)) (at_end {at = at})))

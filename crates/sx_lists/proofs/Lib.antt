@@ -2,3 +2,4 @@ pub mod Truths
 pub mod Numbers
 pub mod Lists
 pub mod Texts
+pub mod Results

@@ -1,7 +1,18 @@
 -- Lists: what stands at a place of a list, and what follows it.
-use Rattle.std.proofs.Common.{◌≡◌, ℕ, zero, suc, ◌+◌, ◌<◌, List, [], ◌∷◌, length, get_or, drop, replicate, Some, refl, sym, ap, ◌∙◌, add-one}
+use Rattle.std.proofs.Common.{◌≡◌, ℕ, zero, suc, ◌+◌, ◌<◌, List, [], ◌∷◌, ◌++◌, length, get_or, drop, replicate, Some, refl, sym, ap, ◌∙◌, add-one, arith}
 use Rattle.std.specs.Prelude.{slice_get, slice_set, slice_index}
 use Rattle.std.proofs.Math.Seq.{drop-cons}
+
+-- an element stands within a list
+pub get_some : {A : Type 0} → (xs : List A) (i : ℕ) → i < length xs → (x : A) × (slice_get xs i ≡ Some x)
+get_some [] i h = absurd (omega (arith, h))
+get_some (x ∷ xs) zero h = (x, refl)
+get_some (x ∷ xs) (suc i) h = get_some xs i (omega (arith, h))
+
+-- the element behind a list
+pub get_mid : {A : Type 0} → (xs ys : List A) (x : A) → slice_get (xs ++ x ∷ ys) (length xs) ≡ Some x
+get_mid [] ys x = refl
+get_mid (z ∷ xs) ys x = get_mid xs ys x
 
 -- what is left from a place on begins with the element there
 pub rest_is : {A : Type 0} (items : List A) (i : ℕ) (x : A) → i < length items → x ≡ get_or items i x

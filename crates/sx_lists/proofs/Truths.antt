@@ -1,18 +1,13 @@
--- Truth values: what a test of several says of each.
-use Rattle.std.proofs.Common.{◌≡◌, Bool, true, false, ◌&&◌, ◌||◌, not, refl}
+-- Truth values: as numbers, and where one follows from another.
+use Rattle.std.proofs.Common.{◌≡◌, ◌≤◌, Bool, true, false, ◌&&◌, not, refl, arith}
+use Rattle.sx_lists.specs.Truth.{truth}
 
-pub and_true : (a b : Bool) → (a && b) ≡ true → (a ≡ true) × (b ≡ true)
-and_true true b h = (refl, h)
-and_true false b h = absurd (cc)
+pub truth_small : (b : Bool) → truth b ≤ 1
+truth_small true = omega arith
+truth_small false = omega arith
 
-pub or_false : (a b : Bool) → (a || b) ≡ false → (a ≡ false) × (b ≡ false)
-or_false true b h = absurd (cc)
-or_false false b h = (refl, h)
-
-pub not_true : (a : Bool) → not a ≡ true → a ≡ false
-not_true true h = absurd (cc)
-not_true false h = refl
-
-pub not_false : (a : Bool) → not a ≡ false → a ≡ true
-not_false true h = refl
-not_false false h = absurd (cc)
+-- what never holds without another
+pub and_not : (a b : Bool) → (a && not b) ≡ false → a ≡ true → b ≡ true
+and_not a true n e = refl
+and_not true false n e = absurd (cc)
+and_not false false n e = absurd (cc)

@@ -1,9 +1,8 @@
 -- Packets of a send: stack code and invocation, side by side.
-use Rattle.std.proofs.Common.{◌≡◌, ◌≢◌, ℕ, ◌+◌, ◌*◌, ◌<◌, ◌≤◌, Bool, true, false, ◌&&◌, not, if◌then◌else◌, cond, List, [], ◌∷◌, ◌++◌, length, Some, nat_lt}
+use Rattle.std.proofs.Common.{◌≡◌, ◌≢◌, ℕ, ◌+◌, ◌*◌, ◌<◌, ◌≤◌, Bool, true, false, ◌&&◌, not, if◌then◌else◌, List, [], ◌∷◌, ◌++◌, length, Some, nat_lt}
 use Rattle.std.proofs.Common.{nat_le, refl, sym, ap, ◌∙◌, subst, arith, length-append}
 use Rattle.std.specs.Prelude.{slice_get, Result, Ok, Err}
-use Rattle.std.proofs.lemmas.Bool.{le-leb, ltb-true}
-use Rattle.std.proofs.lemmas.List.Sums.{sum_by-cons}
+use Rattle.std.proofs.lemmas.Bool.{le-leb, ltb-true, and_parts}
 use Rattle.std.proofs.lemmas.Bool.Decides.{nat_tests}
 use Rattle.sx_lang.specs.declared.tree.Decl.{Decl}
 use Rattle.sx_lang.specs.Sizes.{module_data_size}
@@ -25,6 +24,7 @@ use Rattle.sx_invoke.specs.Acts.{copied_to, with_piece, event_header, event_pack
 use Rattle.sx_invoke.proofs.PiecesMarked.{made_more}
 use Rattle.sx_mean.specs.Ends.{is_sending}
 use Rattle.sx_mean.specs.EndLaws.{senders}
+use Rattle.sx_mean.proofs.Ends.{senders-cons}
 use Rattle.sx_ir.specs.Conf.{Conf}
 use Rattle.sx_ir.specs.Meaning.{OperationResult, do_op, send_open, copied_out, packed, sealed_event, has_out_window, pieces, saved, when}
 use Rattle.sx_ir.specs.declared.ir.Ir.{Ir}
@@ -35,14 +35,6 @@ use Rattle.sx_lower.proofs.Slots.{end_among, ends_number, ends_other}
 use Rattle.sx_lower.proofs.Holds.{Holds, holds_other}
 use Rattle.sx_lower.proofs.Run.{HasAt, at, do_one, do_last, weaker, Comes_to}
 use Rattle.sx_machine.proofs.Lengths.{length-put_word}
-
--- the sending ends of a list, by its first
-pub senders-cons : (e : End) (es : List End) (output : ℕ) → senders (e ∷ es) output ≡ (if is_sending output e.side e.port then 1 + senders es output else senders es output)
-senders-cons e es output = go (is_sending output e.side e.port) refl
-  where
-    go : (b : Bool) → is_sending output e.side e.port ≡ b → senders (e ∷ es) output ≡ (if b then 1 + senders es output else senders es output)
-    go true is = let c = ap {B = ℕ} (λ b. cond b 1 0) is in omega (arith, sum_by-cons (λ (e : End). cond (is_sending output e.side e.port) 1 0) e es, c)
-    go false is = let c = ap {B = ℕ} (λ b. cond b 1 0) is in omega (arith, sum_by-cons (λ (e : End). cond (is_sending output e.side e.port) 1 0) e es, c)
 
 -- The private section, the memory outside, the devices and the marks show an invocation's progress, but for the cells.
 pub record Shows (s : Setup) (call : Call) (p : Progress) (priv mem : List ℕ) (devices : List Window) (marks : List Mark) : Type 0 where
@@ -155,10 +147,6 @@ module _ (s : Setup) (handle : ℕ → Conf → OperationResult) (given : ℕ �
   room : (n m : ℕ) → n < 16 → 24 * n ≤ m → (nat_le (24 * n + 24) 384 && nat_le (24 * n) m) ≡ true
   room n m l told = ap (λ b. b && nat_le (24 * n) m) (fits n l) ∙ le-leb (24 * n) m told
 
-  both_true : (a b : Bool) → (a && b) ≡ true → b ≡ true
-  both_true true b h = h
-  both_true false b h = absurd (cc)
-
   packet_reach : (Q : Conf → Type 0) (v k p m n : ℕ) (stack : List ℕ) (c : Conf) (progress : Progress) → slice_get code p ≡ Some (ir.Packet k) → k < length s.ends → 200 + m ≤ n
       → length progress.pieces < 16
       → Holds ds (length s.ends) names st c.priv → Shows s call progress c.priv c.mem c.devices c.marks
@@ -184,7 +172,7 @@ module _ (s : Setup) (handle : ℕ → Conf → OperationResult) (given : ℕ �
           let e = end_state c.priv k in
           let to : call.output + 24 * length progress.pieces ≡ saved c 14 + 24 * pieces c = omega (arith, shown.output, shown.count) in
           let course = packet_open s call v k progress e (saved c 14 + 24 * pieces c) c.devices c.mem is open_ to (sym shown.windows) (sym shown.outside) in
-          let small = ltb-true e.number 65535 (both_true e.is_open (nat_lt e.number 65535) open_) in
+          let small = ltb-true e.number 65535 (and_parts e.is_open (nat_lt e.number 65535) open_).1 in
           let does : do_op s handle (ir.Packet k) (at p (v ∷ stack) c) ≡ copied_out (write_bytes s c.devices c.mem (saved c 14 + 24 * pieces c) (event_packet s e v))
           (sealed_event (at p (v ∷ stack) c) e v) (packed (sealed_event (at p (v ∷ stack) c) e v) k e) =
           ap (λ b. when b (if e.is_open && nat_lt e.number 65535 then send_open s (at p (v ∷ stack) c) k v e else Goes (at (p + 1) (v ∷ stack) c))) (has_window c progress shown)

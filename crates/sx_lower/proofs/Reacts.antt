@@ -11,6 +11,7 @@ use Rattle.sx_lang.specs.Tree.{HandlerTree, ModuleTree}
 use Rattle.sx_lang.specs.Sizes.{declared_cells, module_data_size, block_cost, handler_cost}
 use Rattle.sx_check.specs.Names.{is_actuator}
 use Rattle.std.specs.List.{list_all, list_any}
+use Rattle.std.proofs.lemmas.Option.{none-some}
 use Rattle.sx_mean.specs.declared.events.Act.{Act}
 use Rattle.sx_mean.specs.declared.events.Act.TheVariants.{Send, Emit}
 use Rattle.sx_mean.specs.declared.events.End.{End}
@@ -253,10 +254,7 @@ module _ (s : Setup) (handle : ℕ → Conf → OperationResult) (given : ℕ �
 -- a handler's part stands where its number among the parts says
 part_stands : (ds : List Decl) (ends : List End) (hs : List HandlerTree) (code : List Ir) (p k from to : ℕ) (h : HandlerTree) → HasAt code p (handlers_code ds ends p hs) → slice_get hs k ≡ Some h
     → slice_get (handlers_parts ds ends p hs) k ≡ Some (from, to) → HasAt code from (handler_code ds ends from h)
-part_stands ds ends [] code p k from to h has is part = absurd (differ is)
-  where
-    differ : ◌≡◌ {A = Option HandlerTree} None (Some h) → ⊥
-    differ e = cc
+part_stands ds ends [] code p k from to h has is part = absurd (none-some h is)
 part_stands ds ends (x ∷ hs) code p zero from to h has is part =
     let same : x ≡ h = cc in
     let place : p ≡ from = first_is (p + length (handler_code ds ends p x)) part in
@@ -274,10 +272,7 @@ part_stands ds ends (x ∷ hs) code p (suc k) from to h has is part =
 -- it ends after its last operation
 part_behind : (ds : List Decl) (ends : List End) (hs : List HandlerTree) (p k from to : ℕ) (h : HandlerTree) → slice_get hs k ≡ Some h → slice_get (handlers_parts ds ends p hs) k ≡ Some (from, to)
     → from + length (handler_code ds ends from h) ≡ to
-part_behind ds ends [] p k from to h is part = absurd (differ is)
-  where
-    differ : ◌≡◌ {A = Option HandlerTree} None (Some h) → ⊥
-    differ e = cc
+part_behind ds ends [] p k from to h is part = absurd (none-some h is)
 part_behind ds ends (x ∷ hs) p zero from to h is part =
     let same : x ≡ h = cc in
     let both = pair_is (p + length (handler_code ds ends p x)) part in

@@ -1,5 +1,5 @@
 -- A module's code keeps within its weight.
-use Rattle.std.proofs.Common.{◌≡◌, ℕ, ◌+◌, ◌*◌, ◌≤◌, Bool, true, false, if◌then◌else◌, List, [], ◌∷◌, ◌++◌, length, nat_lt, arith, length-append}
+use Rattle.std.proofs.Common.{ℕ, ◌+◌, ◌*◌, ◌≤◌, Bool, true, false, if◌then◌else◌, List, [], ◌∷◌, ◌++◌, length, nat_lt, arith, length-append}
 use Rattle.sx_lang.specs.declared.tree.Decl.{Decl}
 use Rattle.sx_lang.specs.declared.tree.UnOp.{UnOp}
 use Rattle.sx_lang.specs.declared.tree.UnOp.TheVariants.{Neg, Inv, Not}
@@ -13,15 +13,12 @@ use Rattle.sx_mean.specs.declared.events.End.{End}
 use Rattle.sx_ir.specs.declared.ir.Ir.{Ir}
 use Rattle.sx_ir.specs.declared.ir.Ir.TheVariants as ir
 use Rattle.sx_ir.specs.Sizes.{ops_bytes}
+use Rattle.sx_ir.proofs.Appended.{ops_bytes-append}
 use Rattle.sx_mean.specs.Working.{event_at, local_at}
 use Rattle.sx_mean.specs.Ends.{is_sending}
 use Rattle.sx_mean.specs.Scope.{index_of}
 use Rattle.sx_lower.specs.Lowered.{variable_code, assign_code, unary_op, is_turned, operator_code, combined_code, expression_code, turns_at, packets_code}
 use Rattle.sx_lower.specs.Lowered.{statement_code, block_code, handler_code, handlers_code}
-
-pub ops_bytes-append : (a b : List Ir) → ops_bytes (a ++ b) ≡ ops_bytes a + ops_bytes b
-ops_bytes-append [] b = omega arith
-ops_bytes-append (i ∷ a) b = omega (arith, ops_bytes-append a b)
 
 -- this many bytes and operations at most
 pub record Within (code : List Ir) (most count : ℕ) : Type 0 where

@@ -17,10 +17,6 @@ cells_other (f ∷ fs) priv at o v h =
     let more = cells_other fs priv (at + 2) o v (λ j l. subst (λ n. even n ≢ even o) (omega arith) (h (suc j) (omega arith))) in
     rw (here, more) refl
 
-pub length-cells_from : (fs : List ℕ) (priv : List ℕ) (at : ℕ) → length (cells_from priv at fs) ≡ length fs
-length-cells_from [] priv at = refl
-length-cells_from (f ∷ fs) priv at = ap suc (length-cells_from fs priv (at + 2))
-
 pub cell_read : (fs : List ℕ) (priv : List ℕ) (at i : ℕ) → i < length fs → get_or (cells_from priv at fs) i 0 ≡ (word priv (at + 2 * i) + get_or fs i 0) % 65536
 cell_read [] priv at i h = absurd (omega (arith, h))
 cell_read (f ∷ fs) priv at zero h = let e : at ≡ at + 2 * 0 = omega arith in ap (λ n. (word priv n + f) % 65536) e

@@ -18,7 +18,7 @@ use Rattle.sx_mean.specs.declared.events.Act.TheVariants.{Send, Emit}
 use Rattle.sx_mean.specs.Application.{block_packets}
 use Rattle.sx_mean.specs.Packets.{statement_packets}
 use Rattle.sx_mean.specs.Places.{place, array_length, output_number}
-use Rattle.sx_mean.specs.Meaning.{HandlerState, value, define, assign, assign_element, act, forget, times, after_statement, after_block, in_block}
+use Rattle.sx_mean.specs.Meaning.{HandlerState, value, define, assign, assign_element, act, times, after_statement, after_block, in_block}
 use Rattle.sx_rules.specs.declared.access.Violation.{Violation}
 use Rattle.sx_bus.specs.declared.devices.Kind.TheVariants as kind
 use Rattle.sx_bus.specs.declared.devices.Window.{Window}
@@ -93,17 +93,6 @@ module _ (s : Setup) (call : Call) (p0 : Progress) (devs : List Window) where
     pub returns : t.back ≡ back
     pub tied : Tied names st t.priv t.mem t.devices t.marks
     pub few : length tied.progress.pieces ≤ most
-
-  -- the same with fewer locals
-  tied_forget : (names all : List (List ℕ)) (st : HandlerState) (k : ℕ) (priv mem : List ℕ) (devices : List Window) (marks : List Mark) → Tied all st priv mem devices marks → take k all ≡ names
-      → length names ≤ 16 → Tied names (forget k st) priv mem devices marks
-  tied_forget names all st k priv mem devices marks t e few = record {
-    holds = holds_forget s.tree.decls (length s.ends) names all st priv k t.holds e few;
-    progress = t.progress;
-    did = t.did;
-    shown = t.shown;
-    same = t.same;
-  }
 
 module _ (s : Setup) (handle : ℕ → Conf → OperationResult) (given : ℕ
     → ℕ) (code : List Ir) (call : Call) (p0 : Progress) (devs : List Window) (fin : HandlerState) (window : is_bad_window s call.output out_window_size ≡ false) (few_ends : length s.ends ≤ 16)

@@ -37,36 +37,18 @@ changed_shapes f h [] k = refl
 changed_shapes f h (w ∷ ws) zero = let a = (h w).0 in let b = (h w).1 in rw (a, b) refl
 changed_shapes f h (w ∷ ws) (suc k) = ap (λ r. (w.at, w.kind) ∷ r) (changed_shapes f h ws k)
 
-pub changed_samples : (f : Window → Window) → ((w : Window) → w.value < 32768 → (f w).value < 32768) → (ws : List Window) (k : ℕ) → HaveSamples ws → HaveSamples (with_changed f ws k)
-changed_samples f h [] k s j d lt = absurd (omega (arith, lt))
-changed_samples f h (w ∷ ws) zero s zero d lt = h w (s 0 d (omega arith))
-changed_samples f h (w ∷ ws) zero s (suc j) d lt = s (suc j) d (omega (arith, lt))
-changed_samples f h (w ∷ ws) (suc k) s zero d lt = s 0 d (omega arith)
-changed_samples f h (w ∷ ws) (suc k) s (suc j) d lt = changed_samples f h ws k (λ i e l. s (suc i) e (omega (arith, l))) j d (omega (arith, lt))
-
 pub cleared_shapes : (ws : List Window) (k : ℕ) → shapes (cleared ws k) ≡ shapes ws
 cleared_shapes ws k = changed_shapes stale (λ w. (refl, refl)) ws k
 
-pub cleared_samples : (ws : List Window) (k : ℕ) → HaveSamples ws → HaveSamples (cleared ws k)
-cleared_samples ws k h = changed_samples stale (λ w lt. lt) ws k h
-
 pub sensed_shapes : (ws : List Window) (k v : ℕ) → shapes (with_sample ws k v) ≡ shapes ws
 sensed_shapes ws k v = changed_shapes (λ w. record w { value = v; fresh = true }) (λ w. (refl, refl)) ws k
-
-pub sensed_samples : (ws : List Window) (k v : ℕ) → v < 32768 → HaveSamples ws → HaveSamples (with_sample ws k v)
-sensed_samples ws k v lt h = changed_samples (λ w. record w { value = v; fresh = true }) (λ w old. lt) ws k h
 
 pub stale_shapes : (ws : List Window) → shapes (all_stale ws) ≡ shapes ws
 stale_shapes [] = refl
 stale_shapes (w ∷ ws) = ap (λ r. (w.at, w.kind) ∷ r) (stale_shapes ws)
 
-pub stale_samples : (ws : List Window) → HaveSamples ws → HaveSamples (all_stale ws)
-stale_samples [] h k d lt = absurd (omega (arith, lt))
-stale_samples (w ∷ ws) h zero d lt = h 0 d (omega arith)
-stale_samples (w ∷ ws) h (suc k) d lt = stale_samples ws (λ j e l. h (suc j) e (omega (arith, l))) k d (omega (arith, lt))
-
 -- places are part of the shapes
-places_in : (ws : List Window) → places_of ws ≡ map (λ (p : ℕ × Kind). p.0) (shapes ws)
+pub places_in : (ws : List Window) → places_of ws ≡ map (λ (p : ℕ × Kind). p.0) (shapes ws)
 places_in [] = refl
 places_in (w ∷ ws) = ap (λ r. w.at ∷ r) (places_in ws)
 

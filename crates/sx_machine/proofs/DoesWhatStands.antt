@@ -9,7 +9,7 @@ use Rattle.sx_isa.specs.Instructions.{IsInstruction, head_or_zero}
 use Rattle.sx_isa.specs.Spelling.{spelling}
 use Rattle.sx_isa.specs.Standing.{word_at, WordsStand, InstructionStands}
 use Rattle.sx_isa.specs.Reading.{length_of, instruction_at}
-use Rattle.sx_isa.proofs.Spelled.{reads, spelling_short}
+use Rattle.sx_isa.proofs.Spelled.{reads, spelling_short, one_found}
 use Rattle.sx_isa.proofs.Lengths.{length_of_spelling}
 use Rattle.sx_isa.proofs.StandingLemmas.{stands_reads}
 use Rattle.sx_rules.specs.declared.access.Violation.{Violation}
@@ -118,18 +118,11 @@ module_word w e =
     let above = leb-true 0x1380 w p.0 in
     (omega (arith, above), (ltb-true (w - 0x1380) 8 q.0, λ three. true≢false (sym (eq-eqb (w - 0x1380) 3 three) ∙ not-true ((w - 0x1380) == 3) q.1)))
 
-one_read : (i j : Instr) (m n : ℕ) (r : Option (Instr × ℕ)) → r ≡ Some (i, m) → r ≡ Some (j, n) → i ≡ j
-one_read i j m n r e f =
-    let a : Instr × ℕ = (i, m) in
-    let b : Instr × ℕ = (j, n) in
-    let same : a ≡ b = cc in
-    ap (λ (p : Instr × ℕ). p.0) same
-
 only_module : (mem : List ℕ) (pc : ℕ) (i : Instr) → InstructionStands mem pc i → is_module_word (word_at mem pc) ≡ true → i ≡ Sancus (word_at mem pc - 0x1380)
 only_module mem pc i s e =
     let w = word_at mem pc in
     let m = module_word w e in
-    one_read i (Sancus (w - 0x1380)) (length (spelling i)) 1 (instruction_at w (word_at mem (pc + 2)) (word_at mem (pc + 4))) (stands_reads mem pc i s)
+    one_found i (Sancus (w - 0x1380)) (length (spelling i)) 1 (instruction_at w (word_at mem (pc + 2)) (word_at mem (pc + 4))) (stands_reads mem pc i s)
     (reads w (word_at mem (pc + 2)) (word_at mem (pc + 4)) (Sancus (w - 0x1380)) 1 (m.1, refl, ap (λ (z : ℕ). z ∷ []) (sym m.0)))
 
 is_module : (code : ℕ) → IsInstruction (Sancus code) → is_module_word (0x1380 + code) ≡ true

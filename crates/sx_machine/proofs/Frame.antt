@@ -2,8 +2,8 @@
 use Rattle.std.proofs.Common.{◌≡◌, ℕ, zero, suc, ◌+◌, ◌-◌, ◌/◌, ◌%◌, ◌<◌, ◌≤◌, ◌⊎◌, inl, inr, ◌==◌, ◌&&◌, not, Bool, true, false, cond, if◌then◌else◌, List, []}
 use Rattle.std.proofs.Common.{◌∷◌, Option, Some, None, Result, Ok, Err, refl, sym, ◌∙◌, ap, subst, arith}
 use Rattle.std.specs.Prelude.{slice_set, slice_index, nat_le, nat_lt}
-use Rattle.std.specs.List.{list_all}
-use Rattle.std.proofs.lemmas.Bool.{true≢false, and_parts, and_from, or_cases, or_left, or_right, cases_eq, cases_lt, leb-true, ltb-true, eq-eqb, false_from_ne_true}
+use Rattle.std.specs.List.{list_all, list_any}
+use Rattle.std.proofs.lemmas.Bool.{true≢false, and_parts, and_from, or_cases, or_from, or_right, cases_eq, cases_lt, leb-true, ltb-true, eq-eqb, false_from_ne_true}
 use Rattle.std.proofs.lemmas.List.{get_or-set_other}
 use Rattle.sx_rules.specs.declared.access.Access.TheVariants.{Read, Write}
 use Rattle.sx_rules.specs.declared.access.Violation.{Violation}
@@ -14,7 +14,7 @@ use Rattle.sx_rules.specs.declared.admission.Refusal.{Refusal}
 use Rattle.sx_rules.specs.Access.{Sections, may, allows, in_public, in_private, Lives, section_of, in_order}
 use Rattle.sx_rules.specs.Admission.{refusal, apart, clear_of, parts_apart}
 use Rattle.sx_rules.specs.Placed.{Placed, Sound, AllSound}
-use Rattle.sx_rules.proofs.Placing.{placed_beside, placed_found}
+use Rattle.sx_rules.proofs.Placing.{placed_beside, placed_found, apart-swap}
 use Rattle.sx_rules.proofs.Admits.{admits}
 use Rattle.sx_bus.specs.declared.devices.Kind.{Kind}
 use Rattle.sx_bus.specs.declared.devices.Kind.TheVariants.{Sensor, Actuator}
@@ -180,6 +180,11 @@ pub all_pass : (test : Section → Bool) (live : List Section) → ((s : Section
 all_pass test [] f = refl
 all_pass test (x ∷ live) f = and_from (test x) (list_all test live) (f x (inl refl)) (all_pass test live (λ s l. f s (inr l)))
 
+-- and none passes what each fails
+pub none_pass : (test : Section → Bool) (live : List Section) → ((s : Section) → Lives live s → test s ≡ false) → list_any test live ≡ false
+none_pass test [] f = refl
+none_pass test (x ∷ live) f = or_from (test x) (list_any test live) (f x (inl refl)) (none_pass test live (λ s l. f s (inr l)))
+
 -- a byte of one range is none of a range that doesn't meet it
 pub out_of : (a b c d k : ℕ) → apart a b c d ≡ true → a ≤ k → k < b → (nat_le c k && nat_lt k d) ≡ false
 out_of a b c d k h lo hi = false_from_ne_true (nat_le c k && nat_lt k d) (λ e.
@@ -219,19 +224,13 @@ pub lives_sound : (next : ℕ) (live : List Section) (s : Section) → AllSound 
 lives_sound next [] s h l = absurd l
 lives_sound next (x ∷ live) s h l = elim l [ inl e ↦ subst (λ z. Sound next z) e h.0 | inr r ↦ lives_sound next live s h.1 r ]
 
-pub apart_swap : (a b c d : ℕ) → apart a b c d ≡ true → apart c d a b ≡ true
-apart_swap a b c d h = elim (or_cases (nat_le b c) (nat_le d a) h) [
-  | inl e ↦ or_right (nat_le d a) (nat_le b c) e
-  | inr e ↦ or_left (nat_le d a) (nat_le b c) e
-]
-
 -- a live section lets code of another live one write that one's private part, and its own code its own
 own_wipe : (t : Sections) (own : Section) (s : Section) (k : ℕ) → Placed t → Lives t.live own → Lives t.live s → own.layout.priv_from ≤ k → k < own.layout.priv_to
     → allows own.id Write k s ≡ true
 own_wipe t own s k p lo ls from to = elim (cases_eq own.id s.id) [
   | inl same ↦
       let one : own ≡ s = some_inj own s (sym (placed_found t own p lo) ∙ ap (λ i. section_of t.live i) same ∙ placed_found t s p ls) in
-      let parts = apart_swap own.layout.pub_from own.layout.pub_to own.layout.priv_from own.layout.priv_to (lives_sound t.next t.live own p.each lo).parts in
+      let parts = apart-swap own.layout.pub_from own.layout.pub_to own.layout.priv_from own.layout.priv_to (lives_sound t.next t.live own p.each lo).parts in
       subst (λ (z : Section). allows own.id Write k z ≡ true) one
       (allowed_own own own.id k (out_of own.layout.priv_from own.layout.priv_to own.layout.pub_from own.layout.pub_to k parts from to) refl)
   | inr ne ↦ beside_wipe own.layout s own.id k (placed_beside t own s p lo ls ne).parts from to

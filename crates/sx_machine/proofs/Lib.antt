@@ -23,3 +23,4 @@ pub mod Keys
 pub mod RunsByTable
 pub mod DoesWhatStands
 pub mod Lengths
+pub mod BytesFrom

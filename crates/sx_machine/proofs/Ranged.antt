@@ -36,12 +36,13 @@ use Rattle.sx_machine.specs.Rows.{from_source, reads, writes, into_register, int
 use Rattle.sx_machine.specs.Rows.{jump_taken, distance, jump, row, row_of, with_words, program, computed}
 use Rattle.sx_machine.specs.Acts.{interrupt}
 use Rattle.sx_bus.specs.Memory.{AreMemoryBytes}
+use Rattle.sx_bus.proofs.Changed.{HaveSamples-cleared}
 use Rattle.sx_machine.specs.Node.{AreRegisters}
 use Rattle.sx_machine.specs.NodeLaws.{shapes}
 use Rattle.sx_machine.proofs.Registers.{Holds, holds_pc, holds_sp, holds_zero, pc_even, sp_even, set_registers, set_reg_registers, at_pc_registers}
 use Rattle.sx_machine.proofs.Registers.{flags_registers, lowered_registers, incremented_registers, distance_even, word_small, read_small, write_bytes}
 use Rattle.sx_machine.proofs.Registers.{put_small}
-use Rattle.sx_machine.proofs.Devices.{device_there, sample_small, cleared_shapes, cleared_samples}
+use Rattle.sx_machine.proofs.Devices.{device_there, sample_small, cleared_shapes}
 use Rattle.sx_lists.specs.Truth.{truth}
 
 -- every way that a plan goes on, when it reads words, stores words and ends in registers in range
@@ -86,7 +87,7 @@ sampled_ranged ds k w x lt h = by w.fresh
       record { mem = x.mem; devices = cleared x.devices k; touches = with_touch x.touches (DeviceRead k w.value) },
     ) else
         (0, x) in (p.0 < 65536) × Steady ds p.1)
-    by true = (omega (arith, lt), record { memory = h.memory; shapes = cleared_shapes x.devices k ∙ h.shapes; samples = cleared_samples x.devices k h.samples })
+    by true = (omega (arith, lt), record { memory = h.memory; shapes = cleared_shapes x.devices k ∙ h.shapes; samples = HaveSamples-cleared x.devices k h.samples })
     by false = (omega arith, h)
 
 device_ranged : (ds : List Window) (wide : Bool) (k : ℕ) (w : Window) (kind : Kind) (x : Moment) → w.value < 32768 → Steady ds x → ReadRanged ds (read_device wide k w kind x)
@@ -177,10 +178,6 @@ exec_ranged t own ds (Put at bs k) x r h =
 cut_small : (wide : Bool) (v : ℕ) → cut_value wide v < 65536
 cut_small true v = omega arith
 cut_small false v = omega arith
-
-inverse_small : (wide : Bool) (s : ℕ) → inverse wide s < 65536
-inverse_small true s = omega arith
-inverse_small false s = omega arith
 
 sum_small : (wide : Bool) (n : ℕ) → n % limit wide < 65536
 sum_small true n = omega arith

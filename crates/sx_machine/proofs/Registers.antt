@@ -15,7 +15,7 @@ use Rattle.sx_bus.specs.Memory.{AreMemoryBytes}
 use Rattle.sx_bus.proofs.Bytes.{AreMemoryBytes-set}
 use Rattle.sx_machine.specs.Node.{AreRegisters}
 use Rattle.sx_lists.proofs.Lists.{zero_at}
-use Rattle.sx_lists.specs.Truth.{truth}
+use Rattle.sx_lists.proofs.Truths.{truth_small}
 
 -- a word that a register keeps
 abbrev pub Holds : ℕ → ℕ → Type 0
@@ -79,15 +79,11 @@ set_reg_registers regs r v h lt = set_registers regs (r % 16) (kept_in (r % 16) 
 pub at_pc_registers : (regs : List ℕ) (v : ℕ) → AreRegisters regs → Holds 0 v → AreRegisters (at_pc regs v)
 at_pc_registers regs v h p = set_registers regs 0 v h p
 
-pub bit_small : (b : Bool) → truth b ≤ 1
-bit_small true = omega arith
-bit_small false = omega arith
-
 pub flags_registers : (regs : List ℕ) (f : Flags) → AreRegisters regs → AreRegisters (set_flags regs f)
 flags_registers regs f h =
     let sr = slice_index regs 2 in
     let low = sr_low regs h in
-    set_registers regs 2 (with_flags_in sr f) h (holds_sr (with_flags_in sr f) (omega (arith, low, bit_small f.v, bit_small f.n, bit_small f.z, bit_small f.c)))
+    set_registers regs 2 (with_flags_in sr f) h (holds_sr (with_flags_in sr f) (omega (arith, low, truth_small f.v, truth_small f.n, truth_small f.z, truth_small f.c)))
 
 pub concluded_registers : (regs : List ℕ) (v : ℕ) → AreRegisters regs → v < 65536 → AreRegisters (concluded regs v)
 concluded_registers regs v h lt =

@@ -15,12 +15,12 @@ use Rattle.sx_machine.proofs.ActGuard.{put_guarded, take_guarded, set_guarded, s
 use Rattle.sx_machine.proofs.Sections.{acted_placed}
 
 -- ids begin at 1
-given : (next : ℕ) (live : List Section) (s : Section) → AllSound next live → Lives live s → 0 < s.id
-given next [] s a l = absurd l
-given next (x ∷ xs) s a l = elim l [ inl e ↦ subst (λ (u : Section). 0 < u.id) e a.0.given | inr r ↦ given next xs s a.1 r ]
+pub lives_given : (next : ℕ) (live : List Section) (s : Section) → AllSound next live → Lives live s → 0 < s.id
+lives_given next [] s a l = absurd l
+lives_given next (x ∷ xs) s a l = elim l [ inl e ↦ subst (λ (u : Section). 0 < u.id) e a.0.given | inr r ↦ lives_given next xs s a.1 r ]
 
 pub not_zero : (t : Sections) (s : Section) → Placed t → Lives t.live s → 0 ≢ s.id
-not_zero t s p l = λ e. let h = given t.next t.live s p.each l in omega (arith, e, h)
+not_zero t s p l = λ e. let h = lives_given t.next t.live s p.each l in omega (arith, e, h)
 
 -- the same under a view of what is shown
 viewed : {T : Type 0} (view : T → Sight) (f : State → Shown T) (s : Section) (a : State) → Guarded T f s a → Guarded Sight (λ x. shown_as view (f x)) s a
@@ -58,7 +58,7 @@ after_act s a n x y e (inl k) u t = inl (k.1, t)
 after_act s a n x y e (inr r) (inl k) t = absurd (subst (λ (z : State). Lives z.sections.live s) r (twin_lives s x y t k.1))
 after_act s a n x y e (inr r) (inr q) t = inr (r ∙ sym (q ∙ ap reset e))
 
-act_same : (mac : Mac) (s : Section) (act : Act) (a b : State) → Placed a.sections → (Lives a.sections.live s → FromOutside s act a) → Same s a b
+pub act_same : (mac : Mac) (s : Section) (act : Act) (a b : State) → Placed a.sections → (Lives a.sections.live s → FromOutside s act a) → Same s a b
     → ((acted mac act a).shown ≡ (acted mac act b).shown) × Same s (acted mac act a).state (acted mac act b).state
 act_same mac s act a b p f (inr e) = (ap (λ x. (acted mac act x).shown) e, inr (ap (λ x. (acted mac act x).state) e))
 act_same mac s act a b p f (inl h) =

@@ -9,6 +9,7 @@ use Rattle.sx_rules.specs.declared.section.Section.{Section}
 use Rattle.sx_rules.specs.declared.section.Layout.{Layout}
 use Rattle.sx_rules.specs.Access.{may, allows, in_public, in_private, at_entry, outside_private, in_order, Lives}
 use Rattle.sx_rules.specs.Admission.{apart, good_bounds, is_even}
+use Rattle.sx_rules.proofs.Placing.{apart-swap}
 use Rattle.sx_machine.specs.Memory.{even}
 use Rattle.sx_bus.specs.declared.devices.Window.{Window}
 use Rattle.sx_bus.specs.Devices.{places_of, on_word, device_at}
@@ -23,13 +24,13 @@ use Rattle.sx_machine.specs.Frame.{RunsByTable}
 use Rattle.sx_machine.proofs.PlanGuard.{passes}
 use Rattle.sx_machine.proofs.Devices.{some_inj, position_is}
 use Rattle.sx_machine.proofs.Registers.{pc_even}
-use Rattle.sx_machine.proofs.Frame.{all_pass, out_of, apart_swap, lives_sound}
+use Rattle.sx_machine.proofs.Frame.{all_pass, out_of, lives_sound}
 
 -- where PC may stand by one section: outside its public part, in that of the module that runs, or at the entry
 abbrev InOrder : ℕ → ℕ → Section → Type 0
 InOrder cur pc s = (not (in_public s pc) || (cur == s.id || pc == s.layout.pub_from)) ≡ true
 
-start_even : (l : Layout) → good_bounds l ≡ true → l.pub_from % 2 ≡ 0
+pub start_even : (l : Layout) → good_bounds l ≡ true → l.pub_from % 2 ≡ 0
 start_even l h =
     let one = and_parts (nat_lt l.pub_from l.pub_to) _ h in
     let two = and_parts (nat_lt l.priv_from l.priv_to) _ one.1 in
@@ -104,7 +105,7 @@ on_device a k s h e l =
     let w = found.1 in
     let on = and_parts (nat_le w.at pc) (nat_lt pc (w.at + 2)) found.4 in
     let clear = place_passes (λ place. apart s.layout.pub_from s.layout.pub_to place (place + 2)) a.devices found.0 w (h.apart s l) found.3 in
-    out_of w.at (w.at + 2) s.layout.pub_from s.layout.pub_to pc (apart_swap s.layout.pub_from s.layout.pub_to w.at (w.at + 2) clear) (leb-true w.at pc on.0) (ltb-true pc (w.at + 2) on.1)
+    out_of w.at (w.at + 2) s.layout.pub_from s.layout.pub_to pc (apart-swap s.layout.pub_from s.layout.pub_to w.at (w.at + 2) clear) (leb-true w.at pc on.0) (ltb-true pc (w.at + 2) on.1)
 
 -- an outcome that the law speaks of
 abbrev Goes : State → Outcome → Type 0

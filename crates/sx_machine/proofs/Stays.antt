@@ -35,10 +35,11 @@ use Rattle.sx_machine.specs.Acts.{unless, put_refusal, take_refusal, busy, irq_r
 use Rattle.sx_machine.specs.Acting.{Act, Step, Restart, Put as PutAct, Set, Take, Sense, Interrupt, acted, ActInForm}
 use Rattle.sx_machine.proofs.Sections.{acted_placed}
 use Rattle.sx_bus.specs.Memory.{AreMemoryBytes}
+use Rattle.sx_bus.proofs.Changed.{HaveSamples-with_sample, HaveSamples-all_stale}
 use Rattle.sx_machine.specs.Node.{AreRegisters, AreApartDevices, IsNode}
 use Rattle.sx_machine.specs.NodeLaws.{shapes, PowerOnIsNode, StaysNode, KeepsDevices, KeepsKey}
 use Rattle.sx_machine.proofs.Registers.{set_registers, set_reg_registers, concluded_registers, word_small, put_small, zeroed_small, zero_registers}
-use Rattle.sx_machine.proofs.Devices.{some_inj, sensed_shapes, sensed_samples, stale_shapes, stale_samples, same_places}
+use Rattle.sx_machine.proofs.Devices.{some_inj, sensed_shapes, stale_shapes, same_places}
 use Rattle.sx_machine.proofs.Events.{ToldBy, attempt_told}
 use Rattle.sx_machine.proofs.Apart.{apart_told}
 use Rattle.sx_machine.proofs.Ranged.{Ranged, Steady, RangedBy, ranged_outcome, exec_ranged, ranged_if, ranged_program, ranged_interrupt}
@@ -54,7 +55,7 @@ found_lives (x ∷ live) id sec e = elim (cases_Bool (x.id == id)) [
   | inr h ↦ let p = found_lives live id sec (sym (ap (λ b. cond b (Some x) (section_of live id)) h) ∙ e) in (inr p.0, p.1)
 ]
 
-lives_below : (next : ℕ) (live : List Section) (s : Section) → AllSound next live → Lives live s → s.id < next
+pub lives_below : (next : ℕ) (live : List Section) (s : Section) → AllSound next live → Lives live s → s.id < next
 lives_below next [] s h l = absurd l
 lives_below next (x ∷ live) s h l = elim l [ inl e ↦ subst (λ (z : Section). z.id < next) e h.0.below | inr r ↦ lives_below next live s h.1 r ]
 
@@ -200,7 +201,7 @@ reset_is_node s h = record {
   registers = zero_registers 16 refl;
   memory = AreMemoryBytes-blank 65536 refl;
   places = subst (λ z. ArePlaces z) (sym (same_places (all_stale s.devices) s.devices (stale_shapes s.devices))) h.places;
-  samples = stale_samples s.devices h.samples;
+  samples = HaveSamples-all_stale s.devices h.samples;
   placed = starts_placed;
   apart = λ u l. absurd l;
   last = omega arith;
@@ -313,7 +314,7 @@ sense_is_node s device v lt h = record {
   registers = h.registers;
   memory = h.memory;
   places = subst (λ z. ArePlaces z) (sym (same_places (with_sample s.devices device v) s.devices (sensed_shapes s.devices device v))) h.places;
-  samples = sensed_samples s.devices device v lt h.samples;
+  samples = HaveSamples-with_sample s.devices device v lt h.samples;
   placed = h.placed;
   apart = apart_same (places_of (with_sample s.devices device v)) (places_of s.devices) s.sections.live
       (same_places (with_sample s.devices device v) s.devices (sensed_shapes s.devices device v)) h.apart;

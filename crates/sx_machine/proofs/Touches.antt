@@ -3,6 +3,7 @@ use Rattle.std.proofs.Common.{◌≡◌, ℕ, zero, suc, ◌+◌, ◌%◌, ◌<�
 use Rattle.std.proofs.Common.{None, Result, Ok, Err, refl, sym, ◌∙◌, ap, subst, arith}
 use Rattle.std.specs.Prelude.{slice_get, nat_le, nat_lt}
 use Rattle.std.proofs.lemmas.Bool.{and_parts, leb-true, ltb-true}
+use Rattle.std.proofs.lemmas.Option.{none-some}
 use Rattle.sx_rules.specs.declared.access.Access.{Access}
 use Rattle.sx_rules.specs.declared.access.Access.TheVariants.{Read, Write}
 use Rattle.sx_rules.specs.declared.access.Violation.{Violation}
@@ -173,9 +174,6 @@ module _ (t : Sections) (own : ℕ) (a : List Window) where
   with_mem : (n : ℕ) (last next : Option (Bool × ℕ)) (x : Moment) (mem : List ℕ) → LastOk next x.devices → Is n last x → Is n next (record x { mem = mem })
   with_mem n last next x mem ok h = record { replays = h.replays; room = h.room; last_ok = ok; evens = h.evens }
 
-  none_some : (d : ℕ × Window) → ◌≡◌ {A = Option (ℕ × Window)} None (Some d) → ⊥
-  none_some d e = cc
-
   after_sample : (n : ℕ) (last : Option (Bool × ℕ)) (at k : ℕ) (w : Window) (x : Moment) → Is (suc n) last x
       → device_of x.devices at ≡ Some (k, w) → w.kind ≡ Sensor → w.fresh ≡ true → may_at true t.live own Read at ≡ true
       → Is n (Some (true, at)) (record { mem = x.mem; devices = cleared x.devices k; touches = with_touch x.touches (DeviceRead k w.value) })
@@ -221,7 +219,7 @@ module _ (t : Sections) (own : ℕ) (a : List Window) where
   place_by : (n : ℕ) (last : Option (Bool × ℕ)) (wide : Bool) (at : ℕ) (o : Option (ℕ × Window)) (x : Moment) (f : ℕ → Moment → Outcome)
       → Is (suc n) last x → device_of x.devices at ≡ o → may_at wide t.live own Read at ≡ true
       → ((v : ℕ) (y : Moment) → Is n (Some (wide, at)) y → By (f v y)) → By (after_read (read_place wide at o x) f)
-  place_by n last wide at None x f h d m g = g (read_at wide x.mem at) x (less n last (Some (wide, at)) x (λ k w e. absurd (none_some (k, w) (sym d ∙ e))) h)
+  place_by n last wide at None x f h d m g = g (read_at wide x.mem at) x (less n last (Some (wide, at)) x (λ k w e. absurd (none-some (k, w) (sym d ∙ e))) h)
   place_by n last wide at (Some dv) x f h d m g = device_by n last wide at dv.0 dv.1 dv.1.kind x f h d refl m g
 
   load_by : (n : ℕ) (last : Option (Bool × ℕ)) (wide : Bool) (at : ℕ) (x : Moment) (f : ℕ → Moment → Outcome) (b : Bool) → may_at wide t.live own Read at ≡ b → Is (suc n) last x
@@ -237,7 +235,7 @@ module _ (t : Sections) (own : ℕ) (a : List Window) where
   load_all n last wide at k x f true m h (inl s) g =
       let none = none_above x.devices at h.evens s.0 in
       subst (λ o. By (after_read (read_place wide at o x) f)) (sym none)
-      (g n (read_at wide x.mem at) x (s.1 (read_at wide x.mem at)) (record { replays = h.replays; room = h.room; last_ok = λ j w e. absurd (none_some (j, w) (sym none ∙ e)); evens = h.evens }))
+      (g n (read_at wide x.mem at) x (s.1 (read_at wide x.mem at)) (record { replays = h.replays; room = h.room; last_ok = λ j w e. absurd (none-some (j, w) (sym none ∙ e)); evens = h.evens }))
   load_all zero last wide at k x f true m h (inr s) g = absurd s
   load_all (suc n) last wide at k x f true m h (inr s) g = load_by n last wide at x f true m h (λ v y i. g n v y (s v) i)
 

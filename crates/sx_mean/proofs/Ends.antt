@@ -8,12 +8,13 @@ use Rattle.std.proofs.lemmas.List.Kept.{AllPairs-cons}
 use Rattle.std.proofs.lemmas.List.Sums.{sum_by-cons}
 use Rattle.sx_lang.specs.declared.sides.Side.TheVariants.{From, To}
 use Rattle.sx_lang.specs.Tree.{ModuleTree}
+use Rattle.sx_lang.specs.declared.sides.Side.{Side}
 use Rattle.sx_mean.specs.declared.apps.Link.{Link}
 use Rattle.sx_mean.specs.declared.events.End.{End}
 use Rattle.sx_mean.specs.Application.{AppTree, PartTree, ends_from, ends_to, leaves, links_from}
 use Rattle.sx_mean.specs.Validity.{has_port, is_port, is_valid}
 use Rattle.sx_mean.specs.Valid.{IsTied}
-use Rattle.sx_mean.specs.Ends.{ends_after, ends_of, is_sending}
+use Rattle.sx_mean.specs.Ends.{ends_after, ends_of, is_sending, same_side}
 use Rattle.sx_mean.specs.EndLaws.{AreCountedEnds, AreEnds, IsBefore, ports_of, senders}
 use Rattle.sx_mean.proofs.ValidApplications.{port_of_part, valid_applications}
 
@@ -131,3 +132,15 @@ ends_hold app p q v e =
       links = All-weaker (IsIn 0 64) (λ e. e.link < 64) (λ e i. i.1) (ends_of app p) (ends_in app.links 0 64 p (omega (arith, a.few_links)));
       ports = ends_at_ports app p q e app.links 0 a.links;
     }
+
+-- the sending ends of a list, by its first
+pub senders-cons : (e : End) (es : List End) (output : ℕ) → senders (e ∷ es) output ≡ (if is_sending output e.side e.port then 1 + senders es output else senders es output)
+senders-cons e es output = go (is_sending output e.side e.port) refl
+  where
+    go : (b : Bool) → is_sending output e.side e.port ≡ b → senders (e ∷ es) output ≡ (if b then 1 + senders es output else senders es output)
+    go true is = let c = ap {B = ℕ} (λ b. cond b 1 0) is in omega (arith, sum_by-cons (λ (e : End). cond (is_sending output e.side e.port) 1 0) e es, c)
+    go false is = let c = ap {B = ℕ} (λ b. cond b 1 0) is in omega (arith, sum_by-cons (λ (e : End). cond (is_sending output e.side e.port) 1 0) e es, c)
+
+pub same_side-refl : (s : Side) → same_side s s ≡ true
+same_side-refl From = refl
+same_side-refl To = refl

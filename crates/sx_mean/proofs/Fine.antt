@@ -6,7 +6,6 @@ use Rattle.sx_lang.specs.declared.tree.Decl.{Decl}
 use Rattle.sx_lang.specs.declared.tree.Decl.TheVariants.{Device, Input, Output, Var, Array}
 use Rattle.sx_lang.specs.declared.tree.DeviceKind.TheVariants.{Sensor, Actuator}
 use Rattle.sx_lang.specs.Tree.{HandlerTree, ModuleTree}
-use Rattle.sx_lang.specs.Sizes.{handler_cost, handlers_cost}
 use Rattle.sx_lang.specs.Words.{BlockHasWords, HandlersHaveWords}
 use Rattle.sx_check.specs.Names.{is_actuator, is_device, is_sensor}
 use Rattle.sx_check.specs.Rules.{first_broken}
@@ -43,11 +42,6 @@ pub words_in : (h : HandlerTree) (hs : List HandlerTree) → In h hs → Handler
 words_in h [] i w = absurd i
 words_in h (x ∷ hs) (inl e) w = subst (λ (h : HandlerTree). BlockHasWords h.body) e w.0
 words_in h (x ∷ hs) (inr i) w = words_in h hs i w.1
-
-pub costs_in : (h : HandlerTree) (hs : List HandlerTree) → In h hs → handler_cost h ≤ handlers_cost hs
-costs_in h [] i = absurd i
-costs_in h (x ∷ hs) (inl e) = let c = ap handler_cost e in omega (arith, c)
-costs_in h (x ∷ hs) (inr i) = let r = costs_in h hs i in omega (arith, r)
 
 -- its names are known and its numbers are words, where E is what an actuator that is declared gives
 pub fine_handler : (m : ModuleTree) → first_broken m ≡ None → (E : Type 0) (h : HandlerTree) → In h m.handlers → HandlersHaveWords m.handlers

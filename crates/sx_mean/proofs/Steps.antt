@@ -8,10 +8,8 @@ use Rattle.sx_lang.specs.declared.tree.Stmt.TheViews.{If, Repeat}
 use Rattle.sx_lang.specs.View.{statement_of, block_of, expression_of}
 use Rattle.sx_lang.proofs.Rows.{if_is, repeat_is}
 use Rattle.std.proofs.Common.{List, Result, Ok, Err, OnOk}
+use Rattle.std.proofs.lemmas.Bool.{ne_eqb}
 use Rattle.sx_mean.specs.Meaning.{HandlerState, after_statement, in_block, times, value}
-
-not_zero : (n : ℕ) → (n ≡ 0 → ⊥) → (n == 0) ≡ false
-not_zero n h = grind (arith, nat_tests)
 
 is_zero : (n : ℕ) → n ≡ 0 → (n == 0) ≡ true
 is_zero n h = grind (arith, nat_tests)
@@ -19,7 +17,7 @@ is_zero n h = grind (arith, nat_tests)
 pub takes_then : (ds : List Decl) (s : Stmt) (e : Expr) (v w : Vec Stmt Global) (st r : HandlerState) (t : ℕ) → s ≡ If e v w → t ≡ value ds st (expression_of e)
     → (t ≡ 0 → ⊥) → r ≡ in_block ds (block_of v.items) st → r ≡ after_statement ds (statement_of s) st
 takes_then ds s e v w st r t i a n h =
-    let z : (value ds st (expression_of e) == 0) ≡ false = not_zero (value ds st (expression_of e)) (λ q. n (a ∙ q)) in
+    let z : (value ds st (expression_of e) == 0) ≡ false = ne_eqb (value ds st (expression_of e)) 0 (λ q. n (a ∙ q)) in
     h ∙ sym (ap (λ s. after_statement ds s st) (ap statement_of i ∙ if_is e v w) ∙ rw z refl)
 
 pub takes_else : (ds : List Decl) (s : Stmt) (e : Expr) (v w : Vec Stmt Global) (st r : HandlerState) (t : ℕ) → s ≡ If e v w → t ≡ value ds st (expression_of e)

@@ -1,8 +1,7 @@
 -- Going through the devices and the parts of an application.
-use Rattle.std.proofs.Common.{◌≡◌, ℕ, zero, suc, ◌+◌, ◌-◌, ◌*◌, ◌==◌, Bool, true, false, nat_le, nat_lt, count_by, List, ◌∷◌, map, ◌<◌, length, get_or, drop, min, ap, add-one, sym, refl, ◌∙◌, arith}
+use Rattle.std.proofs.Common.{◌≡◌, ℕ, suc, ◌+◌, ◌-◌, Bool, nat_lt, count_by, List, ◌∷◌, map, ◌<◌, length, get_or, drop, ap, add-one, sym, refl, ◌∙◌}
 use Rattle.std.proofs.Math.Seq.{drop-cons}
-use Rattle.std.proofs.Math.Nat.{suc-mul}
-use Rattle.std.proofs.lemmas.Bool.Decides.{nat_tests}
+use Rattle.std.proofs.lemmas.Bool.{ne_eqb}
 use Rattle.sx_lang.specs.declared.tree.DeviceKind.{DeviceKind}
 use Rattle.sx_lang.specs.declared.tree.Decl.{Decl}
 use Rattle.sx_mean.specs.declared.apps.AppDevice.{AppDevice}
@@ -11,13 +10,9 @@ use Rattle.sx_check.specs.Source.{source_tree}
 use Rattle.sx_mean.specs.Application.{PartTree, is_at}
 use Rattle.sx_mean.specs.Validity.{has_port}
 use Rattle.sx_mean.specs.View.{part_as}
-use Rattle.sx_check.proofs.Turns.{above, within}
-
-not_zero : (n : ℕ) → (n ≡ 0 → ⊥) → (n == 0) ≡ false
-not_zero n h = grind (arith, nat_tests)
 
 pub at_next : (e : AppDevice) (es : List AppDevice) (d node : ℕ) (kind : DeviceKind) → (d ≡ 0 → ⊥) → is_at (e ∷ es) d node kind ≡ is_at es (d - 1) node kind
-at_next e es d node kind h = rw (not_zero d h) refl
+at_next e es d node kind h = rw (ne_eqb d 0 h) refl
 
 pub at_further : (es : List AppDevice) (i d node : ℕ) (kind : DeviceKind) (x : Bool) → i < length es → (d ≡ 0 → ⊥) → is_at (drop i es) d node kind ≡ x → is_at (drop (i + 1) es) (d - 1) node kind ≡ x
 at_further es i d node kind x h n all =
@@ -28,16 +23,7 @@ at_further es i d node kind x h n all =
     ∙ all
 
 pub port_next : (is_port : Decl → Bool) (part : PartTree) (parts : List PartTree) (p port : ℕ) → (p ≡ 0 → ⊥) → has_port is_port (part ∷ parts) p port ≡ has_port is_port parts (p - 1) port
-port_next is_port part parts p port h = rw (not_zero p h) refl
-
--- what a block sends may be cut before its turns are counted
-pub turns_cut : (n b : ℕ) → min (n * min b 65536) 65536 ≡ min (n * b) 65536
-turns_cut zero b = omega arith
-turns_cut (suc n) b = go (nat_le b 65536) refl
-  where
-    go : (t : Bool) → nat_le b 65536 ≡ t → min (suc n * min b 65536) 65536 ≡ min (suc n * b) 65536
-    go true h = rw (within b h) refl
-    go false h = omega (arith, suc-mul n (min b 65536), suc-mul n b, above b h)
+port_next is_port part parts p port h = rw (ne_eqb p 0 h) refl
 
 pub port_here : (is_port : Decl → Bool) (parts : List Part) (i p port : ℕ) (q : Part) (r x : Bool) → i < length parts → q ≡ get_or parts i q → p ≡ 0
     → r ≡ nat_lt port (count_by is_port (source_tree q.code).decls) → has_port is_port (map part_as (drop i parts)) p port ≡ x → r ≡ x

@@ -1,9 +1,9 @@
 -- The cells of variables and elements, and the names and numbers of a handler.
-use Rattle.std.proofs.Common.{◌≡◌, ℕ, zero, suc, ◌+◌, ◌<◌, ◌≤◌, inl, inr, Bool, true, false, ◌||◌, cond, if◌then◌else◌, List, [], ◌∷◌, ◌++◌, length, get_or}
+use Rattle.std.proofs.Common.{◌≡◌, ℕ, ◌+◌, ◌<◌, ◌≤◌, inl, inr, Bool, true, false, ◌||◌, cond, if◌then◌else◌, List, [], ◌∷◌, ◌++◌, length, get_or}
 use Rattle.std.proofs.Common.{nat_lt, count_by, replicate, refl, sym, ap, ◌∙◌, arith}
 use Rattle.std.specs.List.{list_any, All}
 use Rattle.std.proofs.Math.ListN.{get_or-append}
-use Rattle.std.proofs.lemmas.Bool.{ltb-true}
+use Rattle.std.proofs.lemmas.Bool.{ltb-true, both_ways, or_right, or_left}
 use Rattle.std.proofs.lemmas.List.{get_or-append-add, length-replicate}
 use Rattle.std.proofs.lemmas.List.Elements.{All-nil, All-cons, All-head, All-tail}
 use Rattle.std.proofs.lemmas.List.Sums.{sum_by-cons}
@@ -20,6 +20,7 @@ use Rattle.sx_check.specs.Accepted.{IsProper}
 use Rattle.sx_mean.specs.Places.{place, initial_cells, first_cells, array_length, own_length}
 use Rattle.sx_mean.specs.Variables.{FineBlock, FineExpression, FineStatement, IsElement, IsKnown, IsVariable, first_value, own_value}
 use Rattle.sx_mean.proofs.Scope.{seen_index}
+use Rattle.sx_lists.proofs.Lists.{zero_at}
 
 -- Variables
 
@@ -114,11 +115,6 @@ element_on : (d : Decl) (ds : List Decl) (x : List ℕ) (i : ℕ) (t : Bool) →
 element_on d ds x i true e long own h more = let l = ltb-true i (own_length x d) h in absurd (omega (arith, own, l))
 element_on d ds x i false e long own h more = element_further d ds x i e long (more h)
 
-replicate_zero : (n i : ℕ) → ◌≡◌ {A = ℕ} (get_or (replicate n 0) i 0) 0
-replicate_zero zero i = refl
-replicate_zero (suc n) zero = refl
-replicate_zero (suc n) (suc i) = replicate_zero n i
-
 pub is_element : (ds : List Decl) (x : List ℕ) (i : ℕ) → nat_lt i (array_length ds x) ≡ true → IsElement ds x i
 is_element [] x i h = let l = ltb-true i 0 h in absurd (omega (arith, l))
 is_element (Device k ∷ ds) x i h = element_on (Device k) ds x i false refl refl refl h (is_element ds x i)
@@ -135,19 +131,11 @@ is_element (Array y n ∷ ds) x i h = go (same x y) refl h (is_element ds x i)
         let inside : i < length (replicate n 0) = omega (arith, l, length-replicate {A = ℕ} n 0) in
         record {
           there = omega (arith, p, l);
-          zero = ap (λ k. get_or (initial_cells (Array y n ∷ ds)) k 0) q ∙ get_or-append (replicate n 0) (initial_cells ds) 0 i inside ∙ replicate_zero n i;
+          zero = ap (λ k. get_or (initial_cells (Array y n ∷ ds)) k 0) q ∙ get_or-append (replicate n 0) (initial_cells ds) 0 i inside ∙ zero_at n i;
         }
     go false e h more = element_further (Array y n) ds x i e (length-replicate {A = ℕ} n 0) (more h)
 
 -- Handlers
-
-pub left_true : (a b : Bool) → a ≡ true → (a || b) ≡ true
-left_true true b h = refl
-left_true false b h = absurd (cc)
-
-pub right_true : (a b : Bool) → b ≡ true → (a || b) ≡ true
-right_true true b h = refl
-right_true false b h = h
 
 module _ (ds : List Decl) (alone : (x : List ℕ) → count_by (declares x) ds ≤ 1) where
   -- each use is of a local in sight, or as what it is declared
@@ -169,12 +157,8 @@ module _ (ds : List Decl) (alone : (x : List ℕ) → count_by (declares x) ds �
   pub known_word : (names : List (List ℕ)) (x : List ℕ) (us : List Use) → Proper (used Word x names ∷ us) → IsKnown ds names x
   known_word names x us p unseen = go (All-head (IsProper ds) (used Word x names) us p)
     where
-      clash : (b : Bool) → b ≡ true → b ≡ false → ⊥
-      clash true p q = cc
-      clash false p q = cc
-
       go : IsProper ds (used Word x names) → IsVariable ds x
-      go (inl seen) = absurd (clash _ seen (seen_index names x ∙ unseen))
+      go (inl seen) = absurd (both_ways _ (seen_index names x ∙ unseen) seen)
       go (inr declared) = is_variable ds x (alone x) declared
 
   pub fine_expression : (e : Expression) (names : List (List ℕ)) → AreWords e → Proper (expression_uses names e) → FineExpression ds names e
@@ -196,8 +180,8 @@ module _ (ds : List Decl) (alone : (x : List ℕ) → count_by (declares x) ds �
       fine_statement (Chooses e a b) names w p em =
           let q = back (expression_uses names e) _ p in (
             fine_expression e names w.0 (front _ (block_uses names a ++ block_uses names b) p),
-            fine_block a names w.1 (front _ (block_uses names b) q) (λ h. em (left_true (block_emits a) (block_emits b) h)),
-            fine_block b names w.2 (back (block_uses names a) _ q) (λ h. em (right_true (block_emits a) (block_emits b) h)),
+            fine_block a names w.1 (front _ (block_uses names b) q) (λ h. em (or_left (block_emits a) (block_emits b) h)),
+            fine_block b names w.2 (back (block_uses names a) _ q) (λ h. em (or_right (block_emits a) (block_emits b) h)),
           )
       fine_statement (Repeats n a) names w p em = (w.0, fine_block a names w.1 p em)
       fine_statement (Sends x e) names w p em = fine_expression e names w (rest _ _ p)
@@ -206,6 +190,6 @@ module _ (ds : List Decl) (alone : (x : List ℕ) → count_by (declares x) ds �
       pub fine_block : (b : Block) (names : List (List ℕ)) → BlockHasWords b → Proper (block_uses names b) → (block_emits b ≡ true → E) → FineBlock ds E names b
       fine_block Done names w p em = tt
       fine_block (Then s b) names w p em = (
-        fine_statement s names w.0 (front _ (block_uses (names ++ defined s) b) p) (λ h. em (left_true (statement_emits s) (block_emits b) h)),
-        fine_block b (names ++ defined s) w.1 (back (statement_uses names s) _ p) (λ h. em (right_true (statement_emits s) (block_emits b) h)),
+        fine_statement s names w.0 (front _ (block_uses (names ++ defined s) b) p) (λ h. em (or_left (statement_emits s) (block_emits b) h)),
+        fine_block b (names ++ defined s) w.1 (back (statement_uses names s) _ p) (λ h. em (or_right (statement_emits s) (block_emits b) h)),
       )

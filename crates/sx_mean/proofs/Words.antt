@@ -1,6 +1,6 @@
 -- Values, cells and acts are words.
 use Rattle.std.specs.Prelude.{unwrap_or}
-use Rattle.std.proofs.Common.{◌≡◌, ℕ, zero, suc, ◌+◌, ◌<◌, ◌≤◌, ◌==◌, Bool, true, false, if◌then◌else◌, List, [], ◌∷◌, length, get_or, nat_lt, nat_le}
+use Rattle.std.proofs.Common.{◌≡◌, ℕ, zero, suc, ◌+◌, ◌<◌, ◌==◌, Bool, true, false, if◌then◌else◌, List, [], ◌∷◌, length, get_or, nat_lt, nat_le}
 use Rattle.std.proofs.Common.{replicate, Option, Some, None, refl, ap, ◌∙◌, subst, arith, length-append}
 use Rattle.std.specs.Prelude.{All, slice_set}
 use Rattle.std.specs.List.{find}
@@ -28,12 +28,9 @@ use Rattle.sx_mean.specs.Meaning.{HandlerState, apply, combine, look_up, value, 
 use Rattle.sx_mean.specs.React.{handler_at, handler_of_name, input_names, nth, run, start, value_of}
 use Rattle.sx_mean.specs.Words.{ActsOnWord, AreCells, IsLocalWord, ReactsInWords, StateHasWords}
 use Rattle.sx_lists.specs.Truth.{truth}
+use Rattle.sx_lists.proofs.Truths.{truth_small}
 
 -- Operators
-
-truth_small : (b : Bool) → truth b ≤ 1
-truth_small true = omega arith
-truth_small false = omega arith
 
 pub apply_word : (o : UnOp) (a : ℕ) → apply o a < 65536
 apply_word Neg a = omega arith

@@ -1,16 +1,13 @@
 -- Bytes that stand in a memory from an address on, page by page.
 use Rattle.std.proofs.Common.{◌≡◌, ℕ, zero, suc, ◌+◌, ◌*◌, ◌/◌, ◌%◌, ◌<◌, ◌≤◌, Bool, true, false, ◌&&◌, List, [], ◌∷◌, ◌++◌, length, get_or, take, drop, refl, sym, ◌∙◌, ap, arith, Option, None}
 use Rattle.std.proofs.lemmas.List.{length-append, length-drop, length-take-le, take-append-drop, take-append-le, take-take, drop-drop, drop_at, drop-append-le, drop-take}
-use Rattle.std.proofs.lemmas.List.Elements.{All-head, All-tail, All-get_or}
+use Rattle.std.proofs.lemmas.List.Elements.{All-head, All-tail}
 use Rattle.std.specs.Prelude.{All, bytes_eq, nat_eq}
 use Rattle.sx_pages.specs.Pages.{Pages}
 use Rattle.sx_paged.specs.Memory.{page_bytes, joined, IsMemory}
 
 abbrev Even : Option (List ℕ) → Type 0
 Even page = length (page_bytes page) ≡ 256
-
-pub length-page_bytes : (pages : Pages) (at : ℕ) → IsMemory pages → at < 65536 → length (page_bytes (get_or pages (at / 256) None)) ≡ 256
-length-page_bytes pages at is h = All-get_or Even pages (at / 256) None (omega (arith, is.count, h)) is.even
 
 length-pages : (pages : Pages) → All Even pages → length (joined pages) ≡ length pages * 256
 length-pages [] all = refl

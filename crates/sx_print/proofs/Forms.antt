@@ -38,10 +38,6 @@ pub combined_written : {E : Type 0} {before a b c d : List ℕ} {op : BinOp} {l 
     → OnOk r (Wrote before (expression_pieces g whole) after)
 combined_written {b = b} {c = c} g r after i j p q s t u = rw i (ends r (one Close g) after (p ⟫ q ⟫ subst (λ (k : Kind). Wrote b (one k Space) c) j s ⟫ t) u)
 
-pub value_written : {E : Type 0} {before a b : List ℕ} (e : Expression) (r : Result (Unit {0}) E) (after : List ℕ)
-    → Wrote before (one Equals Space) a → Wrote a (expression_pieces Nothing e) b → OnOk r (Wrote b (one Semicolon Line) after) → OnOk r (Wrote before (value_pieces e) after)
-value_written e r after p q s = ends r (one Semicolon Line) after (p ⟫ q) s
-
 pub defined_written : {E : Type 0} {before a b x : List ℕ} {whole : Statement} (e : Expression) (depth : ℕ) (r : Result (Unit {0}) E) (after : List ℕ) → whole ≡ Defines x e
     → Wrote before (one Let Space) a → Wrote a (λ rest. name x Space ∷ rest) b → OnOk r (Wrote b (value_pieces e) after) → OnOk r (Wrote before (statement_pieces depth whole) after)
 defined_written e depth r after i p q s = rw i (ends r (value_pieces e) after (p ⟫ q) s)

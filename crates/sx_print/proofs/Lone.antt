@@ -6,11 +6,12 @@ use Rattle.std.proofs.Math.Seq.{take-append_seam, take-append-add}
 use Rattle.std.proofs.lemmas.List.{length-take-le}
 use Rattle.std.proofs.lemmas.List.Folds.{list_any-append}
 use Rattle.std.proofs.lemmas.Bool.Decides.{nat_tests}
+use Rattle.std.proofs.lemmas.Bool.{and_right, eqb-true}
 use Rattle.sx_lex.specs.declared.tokens.Kind.{Kind}
 use Rattle.sx_lex.specs.declared.tokens.Kind.TheVariants.{Bang}
 use Rattle.sx_lex.specs.Words.{is_name_byte, is_lower, is_digit, is_number, is_name, is_hexadecimal, found_in, signs, kind_of, IsLongest}
 use Rattle.sx_lex.specs.Progress.{first_is}
-use Rattle.sx_lex.proofs.Found.{not_found, false_and, long_no_sign}
+use Rattle.sx_lex.proofs.Found.{not_found, long_no_sign}
 use Rattle.sx_lex.proofs.Signs.{only_sign, other_second}
 
 -- a line's end, a space, and the signs that are no part of another word
@@ -20,9 +21,6 @@ lones = 10 ∷ 32 ∷ 38 ∷ 40 ∷ 41 ∷ 42 ∷ 43 ∷ 45 ∷ 59 ∷ 91 ∷ 93
 abbrev pub is_lone : ℕ → Bool
 is_lone c = list_any (λ d. c == d) lones
 
-same_byte : (c d : ℕ) → (c == d) ≡ true → c ≡ d
-same_byte c d e = grind (arith, nat_tests)
-
 among : (f : ℕ → Bool) (c : ℕ) (ds : List ℕ) → list_any (λ d. c == d) ds ≡ true → list_all (λ d. not (f d)) ds ≡ true → f c ≡ false
 among f c [] h a = absurd (cc)
 among f c (d ∷ ds) h a = go (c == d) (f d) refl refl h a (λ h a. among f c ds h a)
@@ -30,7 +28,7 @@ among f c (d ∷ ds) h a = go (c == d) (f d) refl refl h a (λ h a. among f c ds
     go : (t u : Bool) → (c == d) ≡ t → f d ≡ u → (t || list_any (λ d. c == d) ds) ≡ true → (not u && list_all (λ d. not (f d)) ds) ≡ true
         → (list_any (λ d. c == d) ds ≡ true → list_all (λ d. not (f d)) ds ≡ true → f c ≡ false) → f c ≡ false
     go t true e g h a again = absurd (cc)
-    go true false e g h a again = ap f (same_byte c d e) ∙ g
+    go true false e g h a again = ap f (eqb-true c d e) ∙ g
     go false false e g h a again = again h a
 
 pub lone_is_not : (f : ℕ → Bool) (c : ℕ) → list_all (λ d. not (f d)) lones ≡ true → is_lone c ≡ true → f c ≡ false
@@ -42,14 +40,14 @@ not_all f (x ∷ u) a h = go (is_lone x) refl h (λ h. not_all f u a h)
   where
     go : (t : Bool) → is_lone x ≡ t → (t || list_any is_lone u) ≡ true → (list_any is_lone u ≡ true → list_all f u ≡ false) → (f x && list_all f u) ≡ false
     go true e h again = let g : f x ≡ false = lone_is_not f x a e in rw g refl
-    go false e h again = let g : list_all f u ≡ false = again h in rw g (false_and (f x))
+    go false e h again = let g : list_all f u ≡ false = again h in rw g (and_right (f x) false refl)
 
 no_name : (a : ℕ) (bs : List ℕ) → list_any is_lone (a ∷ bs) ≡ true → is_name (a ∷ bs) ≡ false
 no_name a bs h = go (is_lower a) refl (not_all is_name_byte (a ∷ bs) refl h)
   where
     go : (t : Bool) → is_lower a ≡ t → (is_name_byte a && list_all is_name_byte bs) ≡ false → (is_lower a && (list_all is_name_byte bs && nat_le (length bs) 15)) ≡ false
     go false e g = rw e refl
-    go true e g = let g2 : list_all is_name_byte bs ≡ false = rw e at g in rw (g2, false_and (is_lower a)) refl
+    go true e g = let g2 : list_all is_name_byte bs ≡ false = rw e at g in rw (g2, and_right (is_lower a) false refl) refl
 
 no_number : (base : ℕ) (u : List ℕ) → list_all (λ d. not (is_digit base d)) lones ≡ true → list_any is_lone u ≡ true → is_number base u ≡ false
 no_number base [] a h = refl
@@ -60,8 +58,8 @@ no_hexadecimal a b l h = go (is_lone a) (is_lone b) refl refl h
   where
     go : (t u : Bool) → is_lone a ≡ t → is_lone b ≡ u → (t || (u || list_any is_lone l)) ≡ true → ((a == 48 && b == 120) && is_number 16 l) ≡ false
     go true u e f h = rw (lone_is_not (λ d. d == 48) a refl e) refl
-    go false true e f h = rw (lone_is_not (λ d. d == 120) b refl f, false_and (a == 48)) refl
-    go false false e f h = rw (no_number 16 l refl h) (false_and (a == 48 && b == 120))
+    go false true e f h = rw (lone_is_not (λ d. d == 120) b refl f, and_right (a == 48) false refl) refl
+    go false false e f h = rw (no_number 16 l refl h) (and_right (a == 48 && b == 120) false refl)
 
 no_sign : (u : List ℕ) → 2 ≤ length u → list_any is_lone u ≡ true → found_in signs u ≡ None
 no_sign u l h = let m : nat_le 2 (length u) ≡ true = grind (arith, nat_tests, l) in not_found (λ w. not (nat_le 2 (length w) && list_any is_lone w)) signs u refl (rw (m, h) refl)

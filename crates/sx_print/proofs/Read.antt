@@ -6,6 +6,7 @@ use Rattle.std.specs.Str.{IsUtf8}
 use Rattle.std.proofs.lemmas.Str.{IsUtf8-from_ascii}
 use Rattle.std.proofs.lemmas.Bool.Decides.{nat_tests}
 use Rattle.std.proofs.Math.Seq.{drop-append_seam}
+use Rattle.std.proofs.lemmas.Bool.{and_parts, not-true, or_right}
 use Rattle.sx_lex.specs.declared.tokens.Kind.{Kind}
 use Rattle.sx_lex.specs.declared.tokens.Kind.TheVariants.{Number, Name, Bang}
 use Rattle.sx_lex.specs.declared.tokens.Place.{Place}
@@ -13,7 +14,7 @@ use Rattle.sx_lex.specs.declared.tokens.Placed.{Placed}
 use Rattle.sx_lex.specs.Words.{kind_of, is_name, is_lower, is_digit, is_decimal_digit, IsLongest}
 use Rattle.sx_lex.specs.Progress.{first_is}
 use Rattle.sx_lex.specs.Lexed.{along, below, Lexed, at_end, space, newline, token}
-use Rattle.sx_lex.proofs.Found.{and_left, and_right, digit_is_decimal}
+use Rattle.sx_lex.proofs.Found.{digit_is_decimal}
 use Rattle.sx_grammar.specs.Tokens as grammar
 use Rattle.sx_grammar.specs.Tokens.{Token, given_tokens}
 use Rattle.sx_print.specs.declared.words.Gap.{Gap}
@@ -112,10 +113,6 @@ word_read w k g text ks at l rest =
 longest_word : (w : List ℕ) (k : Kind) (g : Gap) (ps : List Piece) → kind_of w ≡ Some k → (list_any is_lone w || ends_word g ps) ≡ true → IsLongest (w ++ (gap_bytes g ++ text_of ps)) (length w) k
 longest_word w k g ps e h = longest w (gap_bytes g ++ text_of ps) k e (or_ends (list_any is_lone w) g ps h)
 
-or_right : (t u : Bool) → u ≡ true → (t || u) ≡ true
-or_right true u h = refl
-or_right false u h = h
-
 indent_read : (text : List ℕ) (ks : List Token) (at : Place) → ((at : Place) → Reads at text ks) → Reads at (piece_bytes indent ++ text) ks
 indent_read text ks at h = gap_read Space (32 ∷ 32 ∷ 32 ∷ text) ks at (λ at. gap_read Space (32 ∷ 32 ∷ text) ks at (λ at. gap_read Space (32 ∷ text) ks at (λ at. gap_read Space text ks at h)))
 
@@ -127,15 +124,11 @@ first_byte sort (b ∷ w) rest l h = h
 
 plain_start : (x : List ℕ) → is_name x ≡ true → first_is (λ b. b == 61) x ≡ false
 plain_start [] h = refl
-plain_start (b ∷ x) h = let l : is_lower b ≡ true = and_left _ _ h in grind (arith, nat_tests, l)
+plain_start (b ∷ x) h = let l : is_lower b ≡ true = (and_parts _ _ h).0 in grind (arith, nat_tests, l)
 
 number_start : (ds : List ℕ) → list_all (is_digit 10) ds ≡ true → first_is (λ b. b == 61) ds ≡ false
 number_start [] h = refl
-number_start (b ∷ ds) h = let l : is_decimal_digit b ≡ true = digit_is_decimal b (and_left _ _ h) in grind (arith, nat_tests, l)
-
-is_false : (t : Bool) → not t ≡ true → t ≡ false
-is_false true h = absurd (cc)
-is_false false h = refl
+number_start (b ∷ ds) h = let l : is_decimal_digit b ≡ true = digit_is_decimal b (and_parts _ _ h).0 in grind (arith, nat_tests, l)
 
 -- also with its gap and the rest after it
 start_read : (w : List ℕ) (k : Kind) (g : Gap) (rest : List ℕ) → kind_of w ≡ Some k → first_is (λ b. b == 61) w ≡ false → first_is (λ b. b == 61) ((w ++ gap_bytes g) ++ rest) ≡ false
@@ -145,12 +138,12 @@ start_read w k g rest e h =
 
 operand_start : {ps : List Piece} → Good ps → are_short ps ≡ true → is_operand ps ≡ true → first_is (λ b. b == 61) (text_of ps) ≡ false
 operand_start nothing s o = absurd (cc)
-operand_start (good_name {x = x} {g = g} {ps = ps} p e h) s o = start_read x (Name x) g (text_of ps) (name_kind x p) (plain_start x (and_left _ _ p))
+operand_start (good_name {x = x} {g = g} {ps = ps} p e h) s o = start_read x (Name x) g (text_of ps) (name_kind x p) (plain_start x (and_parts _ _ p).0)
 operand_start (good_number {n = n} {g = g} {ps = ps} e h) s o =
-    let l : nat_le n 65535 ≡ true = and_left _ _ s in
+    let l : nat_le n 65535 ≡ true = (and_parts _ _ s).0 in
     start_read (decimal n) (Number n) g (text_of ps) (number_kind n l) (number_start (decimal n) (number_digits n l).all)
 operand_start (good_word {k = k} {g = g} {ps = ps} q e h) s o =
-    start_read (spelling k) k g (text_of ps) (quoted_kind k q) (is_false (first_is (λ b. b == 61) (spelling k)) (and_right (is_quoted k) _ o))
+    start_read (spelling k) k g (text_of ps) (quoted_kind k q) (not-true (first_is (λ b. b == 61) (spelling k)) (and_parts (is_quoted k) _ o).1)
 operand_start (good_not o h) s p = refl
 operand_start (good_indent h) s o = absurd (cc)
 
@@ -159,8 +152,8 @@ pieces_read at nothing s = record { tokens = []; end = at; lexed = at_end {at = 
 pieces_read at (good_name {x = x} {g = g} {ps = ps} p e h) s =
     word_read x (Name x) g (text_of ps) (tokens_of ps) at (longest_word x (Name x) g ps (name_kind x p) (or_right (list_any is_lone x) (ends_word g ps) e)) (λ at. pieces_read at h s)
 pieces_read at (good_number {n = n} {g = g} {ps = ps} e h) s =
-    let l : nat_le n 65535 ≡ true = and_left _ _ s in
-    let t : are_short ps ≡ true = and_right (nat_le n 65535) _ s in
+    let l : nat_le n 65535 ≡ true = (and_parts _ _ s).0 in
+    let t : are_short ps ≡ true = (and_parts (nat_le n 65535) _ s).1 in
     word_read (decimal n) (Number n) g (text_of ps) (tokens_of ps) at
     (longest_word (decimal n) (Number n) g ps (number_kind n l) (or_right (list_any is_lone (decimal n)) (ends_word g ps) e)) (λ at. pieces_read at h t)
 pieces_read at (good_word {k = k} {g = g} {ps = ps} q e h) s =
@@ -173,8 +166,8 @@ pieces_read at (good_indent {ps = ps} h) s = indent_read (text_of ps) (tokens_of
 all-append : (f : ℕ → Bool) (xs ys : List ℕ) → list_all f xs ≡ true → list_all f ys ≡ true → list_all f (xs ++ ys) ≡ true
 all-append f [] ys h e = e
 all-append f (x ∷ xs) ys h e =
-    let l : f x ≡ true = and_left _ _ h in
-    let r : list_all f (xs ++ ys) ≡ true = all-append f xs ys (and_right (f x) _ h) e in
+    let l : f x ≡ true = (and_parts _ _ h).0 in
+    let r : list_all f (xs ++ ys) ≡ true = all-append f xs ys (and_parts (f x) _ h).1 e in
     rw (l, r) refl
 
 gap_ascii : (g : Gap) → is_ascii (gap_bytes g) ≡ true
@@ -188,7 +181,7 @@ word_ascii w g rest h e = all-append (λ b. nat_lt b 128) (w ++ gap_bytes g) res
 pieces_ascii : {ps : List Piece} → Good ps → are_short ps ≡ true → is_ascii (text_of ps) ≡ true
 pieces_ascii nothing s = refl
 pieces_ascii (good_name {x = x} {g = g} {ps = ps} p e h) s = word_ascii x g (text_of ps) (name_ascii x p) (pieces_ascii h s)
-pieces_ascii (good_number {n = n} {g = g} {ps = ps} e h) s = word_ascii (decimal n) g (text_of ps) (number_ascii n (and_left _ _ s)) (pieces_ascii h (and_right (nat_le n 65535) _ s))
+pieces_ascii (good_number {n = n} {g = g} {ps = ps} e h) s = word_ascii (decimal n) g (text_of ps) (number_ascii n (and_parts _ _ s).0) (pieces_ascii h (and_parts (nat_le n 65535) _ s).1)
 pieces_ascii (good_word {k = k} {g = g} {ps = ps} q e h) s = word_ascii (spelling k) g (text_of ps) (quoted_ascii k) (pieces_ascii h s)
 pieces_ascii (good_not {ps = ps} o h) s = word_ascii (spelling Bang) Nothing (text_of ps) refl (pieces_ascii h s)
 pieces_ascii (good_indent {ps = ps} h) s = let r : is_ascii (text_of ps) ≡ true = pieces_ascii h s in r

@@ -6,13 +6,14 @@ use Rattle.std.specs.Str.{IsAscii}
 use Rattle.std.proofs.lemmas.Str.Ascii.{IsAscii-nil, IsAscii-cons}
 use Rattle.std.proofs.lemmas.Fmt.{decimal_by_steps}
 use Rattle.std.proofs.lemmas.Bool.Decides.{nat_tests}
+use Rattle.std.proofs.lemmas.Bool.{and_parts}
 use Rattle.sx_lex.specs.declared.tokens.Kind.{Kind}
 use Rattle.sx_lex.specs.declared.tokens.Kind.TheVariants.{Number, Name, Sensor, Actuator, Input, Output, Var, Array, On, Sample, Let, If, Else, Repeat, Send}
 use Rattle.sx_lex.specs.declared.tokens.Kind.TheVariants.{Emit, Semicolon, Equals, Open, Close, OpenSquare, CloseSquare, OpenBrace, CloseBrace, EqualsEquals}
 use Rattle.sx_lex.specs.declared.tokens.Kind.TheVariants.{NotEquals, Less, LessEquals, Greater, GreaterEquals, Plus, Minus, Bar, Caret, Star, Ampersand, Tilde}
 use Rattle.sx_lex.specs.declared.tokens.Kind.TheVariants.{Bang, Bad}
 use Rattle.sx_lex.specs.Words.{is_name, is_name_byte, is_lower, is_decimal_digit, is_digit, digit_value, value, found_in, keywords, kind_of}
-use Rattle.sx_lex.proofs.Found.{and_left, and_right, digit_no_lower}
+use Rattle.sx_lex.proofs.Found.{digit_no_lower}
 use Rattle.sx_print.specs.Printable.{is_plain, is_absent}
 use Rattle.sx_print.specs.Pieces.{spelling}
 
@@ -27,7 +28,7 @@ is_ascii w = list_all (λ b. nat_lt b 128) w
 
 pub ascii : (w : List ℕ) → is_ascii w ≡ true → IsAscii w
 ascii [] h = IsAscii-nil
-ascii (b ∷ w) h = let l : nat_lt b 128 ≡ true = and_left _ _ h in IsAscii-cons b w (grind (arith, nat_tests, l)) (ascii w (and_right _ _ h))
+ascii (b ∷ w) h = let l : nat_lt b 128 ≡ true = (and_parts _ _ h).0 in IsAscii-cons b w (grind (arith, nat_tests, l)) (ascii w (and_parts _ _ h).1)
 
 pub quoted_kind : (k : Kind) → is_quoted k ≡ true → kind_of (spelling k) ≡ Some k
 quoted_kind (Number n) h = absurd (cc)
@@ -117,8 +118,8 @@ absent (Some k) h = absurd (cc)
 
 pub name_kind : (x : List ℕ) → is_plain x ≡ true → kind_of x ≡ Some (Name x)
 name_kind x h =
-    let n : is_name x ≡ true = and_left _ _ h in
-    let f : found_in keywords x ≡ None = absent (found_in keywords x) (and_right _ _ h) in
+    let n : is_name x ≡ true = (and_parts _ _ h).0 in
+    let f : found_in keywords x ≡ None = absent (found_in keywords x) (and_parts _ _ h).1 in
     rw (n, f) refl
 
 name_byte_ascii : (b : ℕ) → is_name_byte b ≡ true → nat_lt b 128 ≡ true
@@ -127,18 +128,18 @@ name_byte_ascii b h = grind (arith, nat_tests, h)
 name_bytes_ascii : (w : List ℕ) → list_all is_name_byte w ≡ true → is_ascii w ≡ true
 name_bytes_ascii [] h = refl
 name_bytes_ascii (b ∷ w) h =
-    let f : nat_lt b 128 ≡ true = name_byte_ascii b (and_left _ _ h) in
-    let r : is_ascii w ≡ true = name_bytes_ascii w (and_right _ _ h) in
+    let f : nat_lt b 128 ≡ true = name_byte_ascii b (and_parts _ _ h).0 in
+    let r : is_ascii w ≡ true = name_bytes_ascii w (and_parts _ _ h).1 in
     rw (f, r) refl
 
 pub name_ascii : (x : List ℕ) → is_plain x ≡ true → is_ascii x ≡ true
-name_ascii x h = go x (and_left _ _ h)
+name_ascii x h = go x (and_parts _ _ h).0
   where
     go : (x : List ℕ) → is_name x ≡ true → is_ascii x ≡ true
     go [] h = absurd (cc)
     go (b ∷ w) h =
-        let l : is_lower b ≡ true = and_left _ _ h in
-        let r : list_all is_name_byte w ≡ true = and_left _ _ (and_right (is_lower b) _ h) in
+        let l : is_lower b ≡ true = (and_parts _ _ h).0 in
+        let r : list_all is_name_byte w ≡ true = (and_parts _ _ (and_parts (is_lower b) _ h).1).0 in
         let s : nat_lt b 128 ≡ true = grind (arith, nat_tests, l) in
         let t : is_ascii w ≡ true = name_bytes_ascii w r in
         rw (s, t) refl
@@ -161,8 +162,8 @@ value-push v (d ∷ ds) c = value-push (v * 10 + digit_value d) ds c
 all-push : (f : ℕ → Bool) (ds : List ℕ) (c : ℕ) → list_all f ds ≡ true → f c ≡ true → list_all f (ds ++ c ∷ []) ≡ true
 all-push f [] c h e = rw e refl
 all-push f (d ∷ ds) c h e =
-    let l : f d ≡ true = and_left _ _ h in
-    let r : list_all f (ds ++ c ∷ []) ≡ true = all-push f ds c (and_right _ _ h) e in
+    let l : f d ≡ true = (and_parts _ _ h).0 in
+    let r : list_all f (ds ++ c ∷ []) ≡ true = all-push f ds c (and_parts _ _ h).1 e in
     rw (l, r) refl
 
 length-push : (ds : List ℕ) (c : ℕ) → 0 < length (ds ++ c ∷ [])
@@ -208,7 +209,7 @@ number_kind n h = go (decimal n) (number_digits n h)
         let a : list_all (is_digit 10) (b ∷ ds) ≡ true = d.all in
         let v : value 10 0 (b ∷ ds) ≡ n = d.worth in
         let s : nat_le (value 10 0 (b ∷ ds)) 65535 ≡ true = rw v h in
-        rw (digit_no_lower b (and_left _ _ a), a, s, v) refl
+        rw (digit_no_lower b (and_parts _ _ a).0, a, s, v) refl
 
 pub number_ascii : (n : ℕ) → nat_le n 65535 ≡ true → is_ascii (decimal n) ≡ true
 number_ascii n h = (number_digits n h).bytes

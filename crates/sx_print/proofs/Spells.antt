@@ -2,9 +2,9 @@
 use Rattle.std.proofs.Common.{◌≡◌, ℕ, true, List, [], ◌++◌, nat_le, refl, sym, ap, ◌∙◌, subst, append-nil, arith}
 use Rattle.std.specs.Str.{IsUtf8}
 use Rattle.std.proofs.lemmas.Bool.Decides.{nat_tests}
+use Rattle.std.proofs.lemmas.Bool.{and_parts}
 use Rattle.sx_lang.specs.Tree.{ModuleTree}
 use Rattle.sx_lex.specs.Lexed.{start}
-use Rattle.sx_lex.proofs.Found.{and_left, and_right}
 use Rattle.sx_grammar.specs.Grammar.{IsModule}
 use Rattle.sx_grammar.specs.Text.{Spells}
 use Rattle.sx_print.specs.Printable.{module_open, is_printable}
@@ -25,13 +25,13 @@ module_short before middle after m a b = a.short (handlers_pieces m.handlers [])
 pub module_utf8 : (before middle after : List ℕ) (m : ModuleTree) → is_printable m ≡ true → before ≡ [] → Wrote before (declarations_pieces m.decls) middle
     → Wrote middle (handlers_pieces m.handlers) after → IsUtf8 after
 module_utf8 before middle after m p e a b =
-    subst IsUtf8 (sym (module_text before middle after m e a b)) (pieces_utf8 (module_good m (and_right (nat_le (module_open m) 48) _ p)) (module_short before middle after m a b))
+    subst IsUtf8 (sym (module_text before middle after m e a b)) (pieces_utf8 (module_good m (and_parts (nat_le (module_open m) 48) _ p).1) (module_short before middle after m a b))
 
 pub module_spelled : (before middle after : List ℕ) (m : ModuleTree) → is_printable m ≡ true → before ≡ [] → Wrote before (declarations_pieces m.decls) middle
     → Wrote middle (handlers_pieces m.handlers) after → Spells after m
 module_spelled before middle after m p e a b =
-    let l : nat_le (module_open m) 48 ≡ true = and_left _ _ p in
-    let r = pieces_read start (module_good m (and_right (nat_le (module_open m) 48) _ p)) (module_short before middle after m a b) in
+    let l : nat_le (module_open m) 48 ≡ true = (and_parts _ _ p).0 in
+    let r = pieces_read start (module_good m (and_parts (nat_le (module_open m) 48) _ p).1) (module_short before middle after m a b) in
     let s : Spells (text_of (module_pieces m)) m = record {
       tokens = r.tokens;
       end = r.end;

@@ -1,6 +1,6 @@
 -- What holds where no rule refuses a section.
 use Rattle.std.proofs.Common.{◌≡◌, ℕ, ◌<◌, ◌≤◌, Bool, true, false, not, cond, List, length, Option, Some, None, refl}
-use Rattle.std.proofs.lemmas.Bool.{ltb-false, leb-false}
+use Rattle.std.proofs.lemmas.Bool.{ltb-false, leb-false, not-false}
 use Rattle.sx_rules.specs.declared.section.Layout.{Layout}
 use Rattle.sx_rules.specs.declared.admission.Refusal.{Refusal}
 use Rattle.sx_rules.specs.declared.admission.Refusal.TheVariants.{Bounds, Overlap, Device, Full, Ids}
@@ -18,10 +18,6 @@ passed : (b : Bool) (r : Refusal) (rest : Option Refusal) → cond b (Some r) re
 passed true r rest h = cc
 passed false r rest h = (refl, h)
 
-met : (b : Bool) → not b ≡ false → b ≡ true
-met true h = refl
-met false h = cc
-
 pub admits : (t : Sections) (l : Layout) (places : List ℕ) → refusal t l places ≡ None → Admits t l places
 unfolding refusal
 admits t l places h =
@@ -31,9 +27,9 @@ admits t l places h =
     let room = passed (is_full t) Full _ device.1 in
     let ids = passed (ids_used t) Ids _ room.1 in
     record {
-      bounds = met _ bounds.0;
-      overlap = met _ overlap.0;
-      device = met _ device.0;
+      bounds = not-false _ bounds.0;
+      overlap = not-false _ overlap.0;
+      device = not-false _ device.0;
       room = leb-false 8 (length t.live) room.0;
       ids = ltb-false 65535 t.next ids.0;
     }

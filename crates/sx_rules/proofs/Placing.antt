@@ -11,7 +11,7 @@ use Rattle.sx_rules.proofs.Admits.{admits}
 
 -- Meeting is symmetric.
 
-apart-swap : (a b c d : ℕ) → apart a b c d ≡ true → apart c d a b ≡ true
+pub apart-swap : (a b c d : ℕ) → apart a b c d ≡ true → apart c d a b ≡ true
 apart-swap a b c d h = elim (or_cases (nat_le b c) (nat_le d a) h) [
   | inl e ↦ or_right (nat_le d a) (nat_le b c) e
   | inr e ↦ or_left (nat_le d a) (nat_le b c) e

@@ -5,6 +5,7 @@ use Rattle.std.specs.List.{list_all}
 use Rattle.std.specs.Str.{bytes_eq, is_utf8}
 use Rattle.std.proofs.lemmas.Bool.Decides.{nat_tests}
 use Rattle.std.proofs.lemmas.List.Quantifiers.{position-Some}
+use Rattle.std.proofs.lemmas.Bool.{and_parts}
 use Rattle.hex.specs.Hex.{decode_of}
 use Rattle.hex.specs.declared.error.FromHexError.{FromHexError}
 use Rattle.hex.proofs.HexLemmas.{decode_of-ok}
@@ -25,7 +26,6 @@ use Rattle.sx_sched.specs.Reading.{at_least, number_in, number16, number32, deco
 use Rattle.sx_sched.specs.Reading.{kinds, said_by, is_comment, said_in, said_line, ◌>>=◌}
 use Rattle.sx_sched.specs.Answers.{MayWant, TakesMemory, Answers}
 use Rattle.sx_sched.specs.Words.{words_of, text_behind, one_word, two_words, three_words, four_words, two_before}
-use Rattle.sx_lists.proofs.Truths.{and_true}
 
 bind_ok : {A B : Type 0} (r : Result A LineError) (g : A → Result B LineError) (y : B) → (r >>= g) ≡ Ok y → (x : A) × (r ≡ Ok x) × (g x ≡ Ok y)
 bind_ok (Ok x) g y h = (x, refl, h)
@@ -81,10 +81,10 @@ settable [] w r h e = absurd (cc)
 settable (entry ∷ more) w r h e = by_test (bytes_eq w entry.0) (settable more w r all.1) e
   where
     all : (has_settable entry ≡ true) × (list_all has_settable more ≡ true)
-    all = and_true (has_settable entry) (list_all has_settable more) h
+    all = and_parts (has_settable entry) (list_all has_settable more) h
 
     here : IsSettable entry.1
-    here = let both = and_true (nat_lt entry.1 16) (not (entry.1 == 3)) all.0 in (let low = both.0 in grind (arith, nat_tests, low), not_three entry.1 both.1)
+    here = let both = and_parts (nat_lt entry.1 16) (not (entry.1 == 3)) all.0 in (let low = both.0 in grind (arith, nat_tests, low), not_three entry.1 both.1)
 
     by_test : (t : Bool) → (register_in more w ≡ Some r → IsSettable r) → (if t then Some entry.1 else register_in more w) ≡ Some r → IsSettable r
     by_test true later f = let same : entry.1 ≡ r = cc in subst IsSettable same here
@@ -128,7 +128,7 @@ bytes_fit most w b h = by_result (decode_of w) refl h
     by_test : (b' : List ℕ) (t : Bool) → decode_of w ≡ Ok b' → (nat_le 1 (length b') && nat_le (length b') most) ≡ t
         → ◌≡◌ {A = Result (List ℕ) LineError} (if t then Ok b' else Err no_bytes) (Ok b) → AreFewBytes most b
     by_test b' true e t f =
-        let both = and_true (nat_le 1 (length b')) (nat_le (length b') most) t in
+        let both = and_parts (nat_le 1 (length b')) (nat_le (length b') most) t in
         let one_or_more : 1 ≤ length b' = let x = both.0 in grind (arith, nat_tests, x) in
         let few : length b' ≤ most = let x = both.1 in grind (arith, nat_tests, x) in
         let same : b' ≡ b = cc in
@@ -147,7 +147,7 @@ assembled_fit at text b h = by_result (assembled at text) refl h
     by_test : (b' : List ℕ) (t : Bool) → assembled at text ≡ Ok b' → (nat_le 1 (length b') && nat_le (length b') 1024) ≡ t
         → ◌≡◌ {A = Result (List ℕ) LineError} (if t then Ok b' else Err no_code) (Ok b) → AreFewBytes 1024 b
     by_test b' true e t f =
-        let both = and_true (nat_le 1 (length b')) (nat_le (length b') 1024) t in
+        let both = and_parts (nat_le 1 (length b')) (nat_le (length b') 1024) t in
         let one_or_more : 1 ≤ length b' = let x = both.0 in grind (arith, nat_tests, x) in
         let few : length b' ≤ 1024 = let x = both.1 in grind (arith, nat_tests, x) in
         let same : b' ≡ b = cc in

@@ -3,7 +3,7 @@ use Rattle.std.proofs.Common.{◌≡◌, ℕ, ◌^◌, ◌<◌, Bool, true, fals
 use Rattle.std.specs.Prelude.{option_and_then, slice_get, ok_or}
 use Rattle.std.specs.List.{list_all}
 use Rattle.std.proofs.lemmas.List.{append-nil}
-use Rattle.std.proofs.lemmas.Bool.Decides.{nat_tests}
+use Rattle.std.proofs.lemmas.Bool.{eqb-true, and_parts}
 use Rattle.sx_asm.specs.Assembled.{assembled}
 use Rattle.sx_asm.specs.Shown.{hex}
 use Rattle.sx_lang.specs.Form.{is_lower, is_name, is_name_byte}
@@ -20,11 +20,6 @@ use Rattle.sx_sched.specs.Laws.{TextIsSaid}
 use Rattle.sx_sched.proofs.Decimals.{decimal_word, number_between, number_said}
 use Rattle.sx_sched.proofs.Hexadecimals.{hex_said, hex_word}
 use Rattle.sx_sched.proofs.Spaced.{is_plain, is_word, spaced, words_read}
-use Rattle.sx_lists.proofs.Truths.{and_true}
-
--- (alone, so that no test of the byte stands among what is searched)
-number_is : (a k : ℕ) → (a == k) ≡ true → a ≡ k
-number_is a k e = grind (arith, nat_tests, e)
 
 -- Names have no blank.
 
@@ -34,23 +29,23 @@ plain b h = by_test (b == 32) (b == 9) refl refl
     by_test : (s t : Bool) → (b == 32) ≡ s → (b == 9) ≡ t → is_plain b ≡ true
     by_test false false e f = rw (e, f) refl
     by_test true t e f =
-        let no : is_name_byte 32 ≡ true = subst (λ c. is_name_byte c ≡ true) (number_is b 32 e) h in
+        let no : is_name_byte 32 ≡ true = subst (λ c. is_name_byte c ≡ true) (eqb-true b 32 e) h in
         absurd (cc no)
     by_test false true e f =
-        let no : is_name_byte 9 ≡ true = subst (λ c. is_name_byte c ≡ true) (number_is b 9 f) h in
+        let no : is_name_byte 9 ≡ true = subst (λ c. is_name_byte c ≡ true) (eqb-true b 9 f) h in
         absurd (cc no)
 
 all_plain : (w : List ℕ) → list_all is_name_byte w ≡ true → list_all is_plain w ≡ true
 all_plain [] h = refl
 all_plain (b ∷ bs) h =
-    let both = and_true (is_name_byte b) (list_all is_name_byte bs) h in
+    let both = and_parts (is_name_byte b) (list_all is_name_byte bs) h in
     rw (plain b both.0) (all_plain bs both.1)
 
 name_word : (w : List ℕ) → is_name w ≡ true → is_word w ≡ true
 name_word [] h = absurd (cc)
 name_word (b ∷ bs) h =
-    let first = and_true (is_lower b) (list_all is_name_byte bs && nat_le (length bs) 15) h in
-    let rest = and_true (list_all is_name_byte bs) (nat_le (length bs) 15) first.1 in
+    let first = and_parts (is_lower b) (list_all is_name_byte bs && nat_le (length bs) 15) h in
+    let rest = and_parts (list_all is_name_byte bs) (nat_le (length bs) 15) first.1 in
     rw (plain b (lower_byte b first.0)) (all_plain bs rest.0)
 
 -- What a name says.

@@ -7,10 +7,11 @@ use Rattle.sx_machine.specs.Memory.{bytes_from}
 use Rattle.sx_machine.specs.Ranges.{meets, meets_device, meets_private, passes_end}
 use Rattle.sx_machine.specs.State.{State}
 use Rattle.sx_machine.specs.Acts.{take as take_from, take_refusal, unless}
+use Rattle.sx_machine.proofs.Frame.{none_pass}
 use Rattle.sx_run.specs.Acts.{after_take, at_node}
 use Rattle.sx_run.specs.Run.{give}
 use Rattle.sx_setup.proofs.forms.Acting.{PacketGiven, PieceTaken}
-use Rattle.sx_setup.proofs.Free.{IsOpen, any_none, apart_meets, low_open, no_place, one_put, open_free}
+use Rattle.sx_setup.proofs.Free.{IsOpen, apart_meets, low_open, no_place, one_put, open_free}
 
 pub packet_given : PacketGiven
 packet_given set w k n at bytes s got there idle low le =
@@ -21,7 +22,7 @@ open_taken s lo hi a n o la ha =
     let inside = o.within in
     let p : passes_end a n ≡ Rattle.std.proofs.Common.false = le-ltb 65536 (a + n) (omega (arith, ha, inside)) in
     let r : meets_private s.sections.live a n ≡ Rattle.std.proofs.Common.false =
-    any_none (λ x. meets a n x.layout.priv_from x.layout.priv_to) s.sections.live (λ x l. apart_meets lo hi x.layout.priv_from x.layout.priv_to a n (o.private x l) la ha) in
+    none_pass (λ x. meets a n x.layout.priv_from x.layout.priv_to) s.sections.live (λ x l. apart_meets lo hi x.layout.priv_from x.layout.priv_to a n (o.private x l) la ha) in
     let d = no_place (places_of s.devices) lo hi a n o.devices la ha in
     let all : (passes_end a n || (meets_private s.sections.live a n || meets_device (places_of s.devices) a n)) ≡ Rattle.std.proofs.Common.false =
     or_from (passes_end a n) _ p (or_from (meets_private s.sections.live a n) (meets_device (places_of s.devices) a n) r d) in

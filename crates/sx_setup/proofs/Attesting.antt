@@ -1,6 +1,7 @@
 -- A module that was loaded is asked and answers.
 use Rattle.std.proofs.Common.{◌≡◌, ℕ, ◌+◌, ◌<◌, ◌≤◌, true, List, [], ◌∷◌, ◌++◌, length, length-append, map, Option, Some, None, refl, sym, ◌∙◌, ap, subst, arith}
 use Rattle.std.specs.Prelude.{slice_get}
+use Rattle.std.proofs.lemmas.List.{set-set}
 use Rattle.sx_rules.specs.declared.section.Section.{Section}
 use Rattle.sx_mean.specs.Application.{PartTree}
 use Rattle.sx_mean.specs.Ends.{ends_of}
@@ -23,7 +24,7 @@ use Rattle.sx_run.specs.Law.{IsSoundSetting}
 use Rattle.sx_run.proofs.tie.Lists.{get_end}
 use Rattle.sx_lists.proofs.Lists.{get_same}
 use Rattle.sx_run.proofs.acts.Asking.{low_number}
-use Rattle.sx_run.proofs.steps.Stretch.{set_set}
+use Rattle.sx_run.proofs.tie.Entries.{made_in}
 use Rattle.sx_honest.specs.Course.{packet_items}
 use Rattle.sx_calls.specs.FourCalls.{CallDoes}
 use Rattle.sx_calls.proofs.Four.{attest_called}
@@ -33,7 +34,7 @@ use Rattle.sx_setup.proofs.forms.Acting.{with_keys}
 use Rattle.sx_setup.proofs.forms.Attesting.{DoesFor, ModuleAttested, asking_items, asking_lines, grants_at, vouched_entry}
 use Rattle.sx_setup.proofs.Bytes.{bytes_put}
 use Rattle.sx_setup.proofs.Free.{with_mem}
-use Rattle.sx_setup.proofs.Packets.{all_bytes, ask_bytes, made_in, tag_length}
+use Rattle.sx_setup.proofs.Packets.{all_bytes, ask_bytes, tag_length}
 use Rattle.sx_setup.proofs.Acting.{packet_given, piece_taken}
 use Rattle.sx_setup.proofs.Answering.{answer_accepted, append_more}
 use Rattle.sx_setup.proofs.KeyTaking.{call_serves, put_serves, served_after, served_callable, served_low, served_put, serves_then}
@@ -234,7 +235,7 @@ module _ (set : Setting) (w : World) (m : ℕ) (q : PartTree) (site : Site) (sec
           ∙ ap (λ is. record { world = v5; items = item.Ask m a ∷ item.Packet p 18 ∷ item.Vouch m a ∷ item.Done m 1 1 ∷ item.Packet (p + 1) 16 ∷ is })
           (Rattle.std.proofs.lemmas.List.append-nil (item.Attested m 0 ∷ packet_items (p + 2) 38 (length (ends_of set.app m))));
       each = asking_each;
-      nodes = set_set w.nodes n s1 u;
+      nodes = set-set w.nodes n s1 u;
       packets = append_more (w.packets ++ ask ∷ []) tag (map (set_key set site) gs) ∙ append_more w.packets ask (tag ∷ map (set_key set site) gs);
       deployer = refl;
       ledger = append_more w.ledger (vouched_entry m a) (map (set_key_entry set) gs);

@@ -1,9 +1,9 @@
 -- Where bytes may be put, and what is put there.
-use Rattle.std.proofs.Common.{◌≡◌, ℕ, zero, suc, ◌+◌, ◌*◌, ◌<◌, ◌≤◌, inl, inr, ◌&&◌, ◌||◌, not, Bool, true, false, if◌then◌else◌, List, [], ◌∷◌, length}
+use Rattle.std.proofs.Common.{◌≡◌, ℕ, zero, suc, ◌+◌, ◌*◌, ◌<◌, ◌≤◌, inl, inr, ◌&&◌, ◌||◌, not, true, false, if◌then◌else◌, List, [], ◌∷◌, length}
 use Rattle.std.proofs.Common.{length-drop, take, drop, Some, None, refl, sym, ◌∙◌, ap, arith}
 use Rattle.std.specs.Prelude.{All, nat_le, nat_lt, slice_get}
-use Rattle.std.specs.List.{list_all, list_any, position_from}
-use Rattle.std.proofs.lemmas.Bool.{and_from, and_parts, cases_Bool, eq-eqb, le-leb, le-ltb, leb-true, lt-leb, or_from, or_left}
+use Rattle.std.specs.List.{list_all, position_from}
+use Rattle.std.proofs.lemmas.Bool.{and_from, and_parts, cases_Bool, eq-eqb, le-leb, le-ltb, leb-true, lt-leb, or_from, or_left, and_right}
 use Rattle.sx_rules.specs.declared.section.Section.{Section}
 use Rattle.sx_rules.specs.Access.{Lives}
 use Rattle.sx_rules.specs.Admission.{apart}
@@ -14,18 +14,14 @@ use Rattle.sx_machine.specs.Memory.{put_bytes}
 use Rattle.sx_machine.specs.Ranges.{meets, meets_device, meets_private, meets_public, passes_end}
 use Rattle.sx_machine.specs.State.{State}
 use Rattle.sx_machine.specs.Acts.{put, put_refusal, unless}
+use Rattle.sx_machine.proofs.Frame.{none_pass}
 use Rattle.sx_run.specs.State.{World, Acted}
 use Rattle.sx_run.specs.Acts.{at_node, done_on, only, then_, with_node}
 use Rattle.sx_run.specs.Run.{put_on, put_pieces}
 use Rattle.sx_lists.proofs.Lists.{get_same}
-use Rattle.sx_run.proofs.steps.Stretch.{set_same}
-use Rattle.sx_calls.proofs.Registering.{node_twice}
+use Rattle.sx_calls.proofs.Registering.{node_twice, same_node}
 use Rattle.sx_setup.proofs.forms.Loaded.{StandsHigh}
 use Rattle.sx_setup.proofs.Bytes.{put_split}
-
-and_false : (a b : Bool) → b ≡ false → (a && b) ≡ false
-and_false true b h = h
-and_false false b h = refl
 
 -- a range within one that is apart from another doesn't meet it
 pub apart_meets : (lo hi from to a n : ℕ) → apart lo hi from to ≡ true → lo ≤ a → a + n ≤ hi → meets a n from to ≡ false
@@ -33,17 +29,13 @@ apart_meets lo hi from to a n h la ha = elim (cases_Bool (nat_le hi from)) [
   | inl e ↦
       let le = leb-true hi from e in
       let far : nat_lt from (a + n) ≡ false = le-ltb from (a + n) (omega (arith, le, ha)) in
-      and_false (nat_lt 0 n) (nat_lt a to && nat_lt from (a + n)) (and_false (nat_lt a to) (nat_lt from (a + n)) far)
+      and_right (nat_lt 0 n) (nat_lt a to && nat_lt from (a + n)) (and_right (nat_lt a to) (nat_lt from (a + n)) far)
   | inr e ↦
       let other : nat_le to lo ≡ true = sym (ap (λ b. b || nat_le to lo) e) ∙ h in
       let le = leb-true to lo other in
       let far : nat_lt a to ≡ false = le-ltb a to (omega (arith, le, la)) in
-      and_false (nat_lt 0 n) (nat_lt a to && nat_lt from (a + n)) (ap (λ b. b && nat_lt from (a + n)) far)
+      and_right (nat_lt 0 n) (nat_lt a to && nat_lt from (a + n)) (ap (λ b. b && nat_lt from (a + n)) far)
 ]
-
-pub any_none : (test : Section → Bool) (live : List Section) → ((x : Section) → Lives live x → test x ≡ false) → list_any test live ≡ false
-any_none test [] h = refl
-any_none test (x ∷ live) h = or_from (test x) (list_any test live) (h x (inl refl)) (any_none test live (λ y l. h y (inr l)))
 
 -- bytes from lo up to but not hi are of no section and of no device
 pub record IsOpen (s : State) (lo hi : ℕ) : Type 0 where
@@ -64,9 +56,9 @@ open_free s lo hi a n o la ha =
     let inside = o.within in
     let p : passes_end a n ≡ false = le-ltb 65536 (a + n) (omega (arith, ha, inside)) in
     let q : meets_public s.sections.live a n ≡ false =
-    any_none (λ x. meets a n x.layout.pub_from x.layout.pub_to) s.sections.live (λ x l. apart_meets lo hi x.layout.pub_from x.layout.pub_to a n (o.public x l) la ha) in
+    none_pass (λ x. meets a n x.layout.pub_from x.layout.pub_to) s.sections.live (λ x l. apart_meets lo hi x.layout.pub_from x.layout.pub_to a n (o.public x l) la ha) in
     let r : meets_private s.sections.live a n ≡ false =
-    any_none (λ x. meets a n x.layout.priv_from x.layout.priv_to) s.sections.live (λ x l. apart_meets lo hi x.layout.priv_from x.layout.priv_to a n (o.private x l) la ha) in
+    none_pass (λ x. meets a n x.layout.priv_from x.layout.priv_to) s.sections.live (λ x l. apart_meets lo hi x.layout.priv_from x.layout.priv_to a n (o.private x l) la ha) in
     let d = no_place (places_of s.devices) lo hi a n o.devices la ha in
     let all : (passes_end a n || (meets_public s.sections.live a n || (meets_private s.sections.live a n || meets_device (places_of s.devices) a n))) ≡ false =
     or_from (passes_end a n) _ p (or_from (meets_public s.sections.live a n) _ q (or_from (meets_private s.sections.live a n) (meets_device (places_of s.devices) a n) r d)) in
@@ -101,10 +93,6 @@ no_device_low (x ∷ ws) i at h lt =
 -- a node with another memory
 abbrev pub with_mem : State → List ℕ → State
 with_mem s mem = record s { mem = mem }
-
-pub same_node : (w : World) (n : ℕ) (s : State) → slice_get w.nodes n ≡ Some s → w ≡ with_node w n s w.ledger w.steps
-same_node w n s there =
-    ap (λ ns. record { nodes = ns; packets = w.packets; deployer = w.deployer; ledger = w.ledger; lines = w.lines; steps = w.steps }) (sym (set_same w.nodes n s there))
 
 -- bytes are put
 pub one_put : (n at : ℕ) (bs : List ℕ) (w : World) (s : State) → slice_get w.nodes n ≡ Some s → put_refusal s at (length bs) ≡ None

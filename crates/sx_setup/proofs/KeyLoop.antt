@@ -2,8 +2,6 @@
 use Rattle.std.proofs.Common.{◌≡◌, ℕ, suc, ◌+◌, ◌<◌, inl, inr, ◌==◌, Bool, true, false, if◌then◌else◌, List, [], ◌∷◌, ◌++◌, length, map, Option, Some, refl, sym, ◌∙◌, ap, subst, arith}
 use Rattle.std.specs.Prelude.{slice_get}
 use Rattle.std.proofs.lemmas.Bool.{and_from, and_parts, eq-eqb, eqb-true, false_from_ne_true}
-use Rattle.sx_lang.specs.declared.sides.Side.{Side}
-use Rattle.sx_lang.specs.declared.sides.Side.TheVariants.{From, To}
 use Rattle.sx_rules.specs.declared.section.Section.{Section}
 use Rattle.sx_mean.specs.declared.events.End.{End}
 use Rattle.sx_mean.specs.Application.{PartTree}
@@ -11,6 +9,7 @@ use Rattle.sx_mean.specs.Ends.{ends_of}
 use Rattle.sx_machine.specs.State.{State}
 use Rattle.sx_invoke.specs.Entries.{end_found, end_is}
 use Rattle.sx_mean.specs.Ends.{same_side}
+use Rattle.sx_mean.proofs.Ends.{same_side-refl}
 use Rattle.sx_invoke.specs.ModuleState.{EndState, ModuleState, closed_end, end_of, initial_ends, with_end}
 use Rattle.sx_run.specs.Setting.{Site, Setting}
 use Rattle.sx_run.specs.Deployer.{set_key_entry}
@@ -47,18 +46,14 @@ map_more : (f : End → EndState) (xs ys : List End) → map f (xs ++ ys) ≡ ma
 map_more f [] ys = refl
 map_more f (x ∷ xs) ys = ap (λ r. f x ∷ r) (map_more f xs ys)
 
-side_self : (side : Side) → same_side side side ≡ true
-side_self From = refl
-side_self To = refl
-
 end_self : (e : End) → end_is e.link e.side e ≡ true
-end_self e = and_from (e.link == e.link) (same_side e.side e.side) (eq-eqb e.link e.link refl) (side_self e.side)
+end_self e = and_from (e.link == e.link) (same_side e.side e.side) (eq-eqb e.link e.link refl) (same_side-refl e.side)
 
 has_mid : (before es : List End) (e : End) → HasEnd (before ++ e ∷ es) e
 has_mid [] es e = inl refl
 has_mid (x ∷ before) es e = inr (has_mid before es e)
 
-abbrev placed : ℕ → End → Option (ℕ × End)
+abbrev pub placed : ℕ → End → Option (ℕ × End)
 placed k e = Some (k, e)
 
 found_from : (before es : List End) (e : End) (k : ℕ) → Distinct (before ++ e ∷ es) → end_found e.link e.side k (before ++ e ∷ es) ≡ placed (k + length before) e
@@ -102,7 +97,7 @@ served_as set m q site sec s st new e h = record {
   state = h.state ∙ e;
 }
 
-abbrev state_with : List ℕ → List EndState → ModuleState
+abbrev pub state_with : List ℕ → List EndState → ModuleState
 state_with cells ends = record { cells = cells; ends = ends }
 
 pub keys_taken : KeysTaken

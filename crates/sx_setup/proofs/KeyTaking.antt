@@ -1,7 +1,7 @@
 -- A set-key packet is given and taken.
 use Rattle.std.proofs.Common.{◌≡◌, ℕ, ◌+◌, ◌*◌, ◌-◌, ◌<◌, ◌≤◌, inr, true, false, List, [], ◌∷◌, ◌++◌, length, Some, refl, sym, ◌∙◌, ap, subst, arith}
 use Rattle.std.specs.Prelude.{slice_get}
-use Rattle.std.proofs.lemmas.List.{append-nil}
+use Rattle.std.proofs.lemmas.List.{append-nil, set-set}
 use Rattle.sx_mean.specs.declared.events.End.{End}
 use Rattle.sx_mean.specs.Application.{PartTree}
 use Rattle.sx_mean.specs.Ends.{ends_of}
@@ -19,6 +19,7 @@ use Rattle.sx_machine.specs.NodeLaws.{shapes}
 use Rattle.sx_machine.specs.State.{State}
 use Rattle.sx_machine.proofs.Meanings.{same_bytes}
 use Rattle.sx_machine.proofs.Stays.{put_is_node}
+use Rattle.sx_machine.proofs.PublicKept.{put_other}
 use Rattle.sx_image.specs.Image.{StandsProtected, private_bytes, public_bytes}
 use Rattle.sx_invoke.specs.ModuleState.{ModuleState, end_of, state_of, with_end}
 use Rattle.sx_invoke.specs.Progress.{Progress}
@@ -34,7 +35,6 @@ use Rattle.sx_run.specs.Acts.{only, then_, with_node}
 use Rattle.sx_run.specs.Run.{after_line, call, line_counted, run}
 use Rattle.sx_run.specs.Law.{IsSoundSetting, image_at}
 use Rattle.sx_lists.proofs.Lists.{get_same}
-use Rattle.sx_run.proofs.steps.Stretch.{set_set}
 use Rattle.sx_gives.specs.Gives.{IsLowFree}
 use Rattle.sx_calls.specs.Calls.{IsCallable, IsReturned, setup_of}
 use Rattle.sx_calls.specs.Shown.{devices_after}
@@ -44,7 +44,7 @@ use Rattle.sx_setup.proofs.forms.ByLine.{keys_shown, shown_by}
 use Rattle.sx_setup.proofs.forms.Loaded.{StandsHigh}
 use Rattle.sx_setup.proofs.forms.Served.{IsServed, Serves, callee, state_on}
 use Rattle.sx_setup.proofs.forms.Acting.{KeyTaken, TakesKey, first_end, first_grant}
-use Rattle.sx_setup.proofs.Bytes.{bytes_put, put_other}
+use Rattle.sx_setup.proofs.Bytes.{bytes_put}
 use Rattle.sx_setup.proofs.Free.{no_device_low, with_mem}
 use Rattle.sx_setup.proofs.Packets.{all_bytes, kdf_length, set_key_bytes, set_key_length}
 use Rattle.sx_setup.proofs.Acting.{packet_given}
@@ -261,7 +261,7 @@ module _ (set : Setting) (w : World) (m : ℕ) (q : PartTree) (site : Site) (sec
       each =
           ap (λ (a : Acted). a.items ∷ shown_by set a.world (Call m 0 0x40 0x80 ∷ [])) gave
           ∙ ap (λ (a : Acted). [] ∷ a.items ∷ []) called_there;
-      nodes = set_set w.nodes n s1 u;
+      nodes = set-set w.nodes n s1 u;
       packets = refl;
       deployer = refl;
       ledger = append-nil w.ledger;

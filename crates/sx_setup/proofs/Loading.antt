@@ -1,9 +1,8 @@
 -- A deployed module is loaded.
-use Rattle.std.proofs.Common.{◌≡◌, ◌≢◌, ℕ, ◌+◌, ◌-◌, ◌*◌, ◌/◌, ◌<◌, ◌≤◌, ◌⊎◌, inl, inr, ◌==◌, ◌&&◌, ◌||◌, not, Bool, true, false, if◌then◌else◌, List, [], ◌∷◌}
-use Rattle.std.proofs.Common.{◌++◌, length, replicate, Option, Some, None, refl, sym, ◌∙◌, ap, subst, arith}
+use Rattle.std.proofs.Common.{◌≡◌, ℕ, ◌+◌, ◌-◌, ◌*◌, ◌/◌, ◌<◌, ◌≤◌, ◌⊎◌, inl, inr, ◌==◌, ◌&&◌, ◌||◌, not, Bool, true, false, if◌then◌else◌, List, [], ◌∷◌}
+use Rattle.std.proofs.Common.{length, replicate, Option, Some, None, refl, sym, ◌∙◌, ap, subst, arith}
 use Rattle.std.specs.Prelude.{All, nat_le, nat_lt, option_and_then, slice_get, slice_index, slice_set}
-use Rattle.std.specs.List.{list_all, position_from}
-use Rattle.std.proofs.lemmas.Bool.{and_from, and_parts, cases_Bool, eq-eqb, leb-true, ltb-true, lt-leb}
+use Rattle.std.proofs.lemmas.Bool.{and_from, and_parts, cases_Bool, eq-eqb, leb-true, ltb-true}
 use Rattle.std.proofs.lemmas.List.{get_or-set_same, get_or-set_other, length-set}
 use Rattle.sx_rules.specs.declared.section.Section.{Section}
 use Rattle.sx_rules.specs.declared.section.Layout.{Layout}
@@ -25,9 +24,9 @@ use Rattle.sx_machine.specs.Run.{Outcome}
 use Rattle.sx_machine.specs.Given.{Given}
 use Rattle.sx_machine.specs.Protect.{layout_in, protect, protected_if, provider_in}
 use Rattle.sx_machine.specs.Step.{Shown, attempt, given_at_pc, instruction, own_of, pc_of, settled_step, step, word_outside}
-use Rattle.sx_machine.proofs.Frame.{zeroed_other}
+use Rattle.sx_machine.proofs.Frame.{zeroed_other, all_pass}
 use Rattle.sx_machine.proofs.PlanGuard.{passes}
-use Rattle.sx_machine.proofs.Meanings.{same_bytes}
+use Rattle.sx_machine.proofs.Meanings.{same_bytes, end_lives}
 use Rattle.sx_machine.proofs.Stays.{put_is_node, set_is_node, step_is_node}
 use Rattle.sx_image.specs.Image.{private_bytes, public_bytes}
 use Rattle.sx_invoke.specs.ModuleState.{state_of}
@@ -46,13 +45,13 @@ use Rattle.sx_run.proofs.steps.Machine.{fresh_sections}
 use Rattle.sx_run.proofs.steps.Entry.{at_site}
 use Rattle.sx_run.proofs.steps.Bystanders.{apart_self}
 use Rattle.sx_calls.proofs.Registering.{all_set, node_twice, with_register, with_registers}
-use Rattle.sx_calls.proofs.Runner.{own_site}
-use Rattle.sx_machine.proofs.Devices.{position_is}
+use Rattle.sx_calls.proofs.Runner.{own_site, first_is}
+use Rattle.sx_machine.proofs.PublicKept.{put_other}
 use Rattle.sx_run.proofs.steps.Steps.{bounds_of}
-use Rattle.sx_run.proofs.steps.Foreign.{position_some}
 use Rattle.sx_setup.proofs.forms.Loaded.{IsLoadable, IsLoaded, LoadDoes, ModuleLoaded}
-use Rattle.sx_setup.proofs.Bytes.{bytes_put, put_long, put_other}
+use Rattle.sx_setup.proofs.Bytes.{bytes_put, put_long}
 use Rattle.sx_setup.proofs.Free.{IsOpen, low_open, no_device_low, one_put, open_free, pieces_put, with_mem}
+use Rattle.sx_gives.proofs.Low.{below_from}
 
 -- the image is put, and protected
 abbrev after_loading : Setting → Site → World → Acted
@@ -60,25 +59,7 @@ after_loading set site w =
     then_ (put_pieces site.node ((length site.text + 1023) / 1024) site.layout.pub_from site.text w)
     (λ w1. then_ (put_on site.node 0 (0x81 ∷ 0x13 ∷ []) w1) (λ w2. then_ (set_all site.node (protect_registers site) w2) (steps_of set (λ s. false) [] site.node 1)))
 
--- the first that passes a test is the only one
-first_is : {X : Type 0} → (test : X → Bool) (xs : List X) (m : ℕ) (x : X) → slice_get xs m ≡ Some x → test x ≡ true → ((k : ℕ) (y : X) → slice_get xs k ≡ Some y → test y ≡ true → k ≡ m)
-    → position_from test 0 xs ≡ Some m
-first_is test xs m x here is one = by_place (position_from test 0 xs) refl
-  where
-    by_place : (o : Option ℕ) → position_from test 0 xs ≡ o → position_from test 0 xs ≡ Some m
-    by_place None e = absurd (position_some test 0 xs m x here is e)
-    by_place (Some j) e =
-        let p = position_is test 0 xs j e in
-        let k : p.0 ≡ m = one p.0 p.1 p.3 p.4 in
-        e ∙ ap (λ i. Some i) (let a = p.2 in omega (arith, a, k))
-
 -- Registers of the instruction.
-
-there : (regs : List ℕ) (r v : ℕ) → r < length regs → slice_index (slice_set regs r v) r ≡ v
-there regs r v lt = get_or-set_same regs r v 0 lt
-
-else_ : (regs : List ℕ) (r k v : ℕ) → k ≢ r → slice_index (slice_set regs r v) k ≡ slice_index regs k
-else_ regs r k v ne = get_or-set_other regs r k v 0 ne
 
 abbrev given_regs : Site → List ℕ → List ℕ
 given_regs site regs =
@@ -116,28 +97,28 @@ module _ (site : Site) (regs : List ℕ) (size : length regs ≡ 16) where
   l5 = length-set r4 13 site.layout.priv_to ∙ l4
 
   pub given_pc : slice_index (given_regs site regs) 0 ≡ 0
-  given_pc = there r5 0 0 (omega (arith, l5))
+  given_pc = get_or-set_same r5 0 0 0 (omega (arith, l5))
 
   pub given_provider : slice_index (given_regs site regs) 9 ≡ site.provider
   given_provider =
-      else_ r5 0 9 0 (λ h. omega (arith, h)) ∙ else_ r4 13 9 site.layout.priv_to (λ h. omega (arith, h)) ∙ else_ r3 12 9 site.layout.priv_from (λ h. omega (arith, h))
-      ∙ else_ r2 11 9 site.layout.pub_to (λ h. omega (arith, h)) ∙ else_ r1 10 9 site.layout.pub_from (λ h. omega (arith, h)) ∙ there regs 9 site.provider (omega (arith, size))
+      get_or-set_other r5 0 9 0 0 (λ h. omega (arith, h)) ∙ get_or-set_other r4 13 9 site.layout.priv_to 0 (λ h. omega (arith, h)) ∙ get_or-set_other r3 12 9 site.layout.priv_from 0 (λ h. omega (arith, h))
+      ∙ get_or-set_other r2 11 9 site.layout.pub_to 0 (λ h. omega (arith, h)) ∙ get_or-set_other r1 10 9 site.layout.pub_from 0 (λ h. omega (arith, h)) ∙ get_or-set_same regs 9 site.provider 0 (omega (arith, size))
 
   g10 : slice_index (given_regs site regs) 10 ≡ site.layout.pub_from
   g10 =
-      else_ r5 0 10 0 (λ h. omega (arith, h)) ∙ else_ r4 13 10 site.layout.priv_to (λ h. omega (arith, h)) ∙ else_ r3 12 10 site.layout.priv_from (λ h. omega (arith, h))
-      ∙ else_ r2 11 10 site.layout.pub_to (λ h. omega (arith, h)) ∙ there r1 10 site.layout.pub_from (omega (arith, l1))
+      get_or-set_other r5 0 10 0 0 (λ h. omega (arith, h)) ∙ get_or-set_other r4 13 10 site.layout.priv_to 0 (λ h. omega (arith, h)) ∙ get_or-set_other r3 12 10 site.layout.priv_from 0 (λ h. omega (arith, h))
+      ∙ get_or-set_other r2 11 10 site.layout.pub_to 0 (λ h. omega (arith, h)) ∙ get_or-set_same r1 10 site.layout.pub_from 0 (omega (arith, l1))
 
   g11 : slice_index (given_regs site regs) 11 ≡ site.layout.pub_to
   g11 =
-      else_ r5 0 11 0 (λ h. omega (arith, h)) ∙ else_ r4 13 11 site.layout.priv_to (λ h. omega (arith, h)) ∙ else_ r3 12 11 site.layout.priv_from (λ h. omega (arith, h))
-      ∙ there r2 11 site.layout.pub_to (omega (arith, l2))
+      get_or-set_other r5 0 11 0 0 (λ h. omega (arith, h)) ∙ get_or-set_other r4 13 11 site.layout.priv_to 0 (λ h. omega (arith, h)) ∙ get_or-set_other r3 12 11 site.layout.priv_from 0 (λ h. omega (arith, h))
+      ∙ get_or-set_same r2 11 site.layout.pub_to 0 (omega (arith, l2))
 
   g12 : slice_index (given_regs site regs) 12 ≡ site.layout.priv_from
-  g12 = else_ r5 0 12 0 (λ h. omega (arith, h)) ∙ else_ r4 13 12 site.layout.priv_to (λ h. omega (arith, h)) ∙ there r3 12 site.layout.priv_from (omega (arith, l3))
+  g12 = get_or-set_other r5 0 12 0 0 (λ h. omega (arith, h)) ∙ get_or-set_other r4 13 12 site.layout.priv_to 0 (λ h. omega (arith, h)) ∙ get_or-set_same r3 12 site.layout.priv_from 0 (omega (arith, l3))
 
   g13 : slice_index (given_regs site regs) 13 ≡ site.layout.priv_to
-  g13 = else_ r5 0 13 0 (λ h. omega (arith, h)) ∙ there r4 13 site.layout.priv_to (omega (arith, l4))
+  g13 = get_or-set_other r5 0 13 0 0 (λ h. omega (arith, h)) ∙ get_or-set_same r4 13 site.layout.priv_to 0 (omega (arith, l4))
 
   pub given_layout : layout_in (given_regs site regs) ≡ site.layout
   given_layout =
@@ -147,19 +128,12 @@ module _ (site : Site) (regs : List ℕ) (size : length regs ≡ 16) where
       ∙ ap (λ x. record { pub_from = site.layout.pub_from; pub_to = site.layout.pub_to; priv_from = x; priv_to = slice_index g 13 }) g12
       ∙ ap (λ x. record { pub_from = site.layout.pub_from; pub_to = site.layout.pub_to; priv_from = site.layout.priv_from; priv_to = x }) g13
 
--- What stands below 0x0200.
-
-all_true : (test : Section → Bool) (live : List Section) → ((x : Section) → Lives live x → test x ≡ true) → list_all test live ≡ true
-all_true test [] h = refl
-all_true test (x ∷ live) h = and_from (test x) (list_all test live) (h x (inl refl)) (all_true test live (λ y l. h y (inr l)))
-
-below : (from at : ℕ) (rest : Bool) → at < from → (nat_le from at && rest) ≡ false
-below from at rest lt = ap (λ b. b && rest) (lt-leb from at lt)
+-- What stands below_from 0x0200.
 
 no_holder : (live : List Section) (at : ℕ) → ((x : Section) → Lives live x → at < x.layout.pub_from) → holder live at ≡ 0
 no_holder [] at h = refl
 no_holder (x ∷ live) at h =
-    ap (λ b. if b then x.id else holder live at) (below x.layout.pub_from at (nat_lt at x.layout.pub_to) (h x (inl refl)))
+    ap (λ b. if b then x.id else holder live at) (below_from x.layout.pub_from at (nat_lt at x.layout.pub_to) (h x (inl refl)))
     ∙ no_holder live at (λ y l. h y (inr l))
 
 -- either way it is no module
@@ -195,8 +169,8 @@ module _ (set : Setting) (m : ℕ) (q : PartTree) (site : Site) (s : State) (sou
 
   outside : (at : ℕ) → at < 512 → outside_private s.sections.live at ≡ true
   outside at lt =
-      all_true (λ x. not (in_private x at)) s.sections.live
-      (λ x l. ap not (below x.layout.priv_from at (nat_lt at x.layout.priv_to) (let a = (h.sections x l).1 in omega (arith, lt, a))))
+      all_pass (λ x. not (in_private x at)) s.sections.live
+      (λ x l. ap not (below_from x.layout.priv_from at (nat_lt at x.layout.priv_to) (let a = (h.sections x l).1 in omega (arith, lt, a))))
 
   lets_word : word_outside s.sections.live (pc_of s) ≡ true
   lets_word =
@@ -208,8 +182,8 @@ module _ (set : Setting) (m : ℕ) (q : PartTree) (site : Site) (s : State) (sou
   ordered_there : in_order s.sections.live s.cur (pc_of s) ≡ true
   ordered_there =
       ap (in_order s.sections.live s.cur) pc
-      ∙ all_true (λ x. not (in_public x 0) || ((s.cur == x.id) || (0 == x.layout.pub_from))) s.sections.live
-      (λ x l. ap (λ b. not b || ((s.cur == x.id) || (0 == x.layout.pub_from))) (below x.layout.pub_from 0 (nat_lt 0 x.layout.pub_to) (let a = (h.sections x l).0 in omega (arith, a))))
+      ∙ all_pass (λ x. not (in_public x 0) || ((s.cur == x.id) || (0 == x.layout.pub_from))) s.sections.live
+      (λ x l. ap (λ b. not b || ((s.cur == x.id) || (0 == x.layout.pub_from))) (below_from x.layout.pub_from 0 (nat_lt 0 x.layout.pub_to) (let a = (h.sections x l).0 in omega (arith, a))))
 
   own : own_of s ≡ 0
   own = ap (holder s.sections.live) pc ∙ no_holder s.sections.live 0 (λ x l. let a = (h.sections x l).0 in omega (arith, a))
@@ -279,12 +253,8 @@ module _ (set : Setting) (m : ℕ) (q : PartTree) (site : Site) (s : State) (sou
   abbrev new : Section
   new = record { layout = site.layout; provider = site.provider; id = s.sections.next; key = key_of set site 0 }
 
-  last_lives : (xs : List Section) (x : Section) → Lives (xs ++ x ∷ []) x
-  last_lives [] x = inl refl
-  last_lives (y ∷ xs) x = inr (last_lives xs x)
-
   pub new_lives : Lives t.sections.live new
-  new_lives = subst (λ (z : Sections). Lives z.live new) (sym sections_after) (last_lives s.sections.live new)
+  new_lives = subst (λ (z : Sections). Lives z.live new) (sym sections_after) (end_lives s.sections.live new)
 
   found : section_of t.sections.live s.sections.next ≡ Some new
   found = placed_found t.sections new is_node_after.placed new_lives

@@ -1,21 +1,17 @@
 -- The lengths and bytes of packets.
-use Rattle.std.proofs.Common.{◌≡◌, ℕ, zero, suc, ◌+◌, ◌*◌, ◌/◌, ◌<◌, ◌≤◌, ◌==◌, true, List, [], ◌∷◌, ◌++◌, length, length-append, take, min, refl, ◌∙◌, ap, arith}
-use Rattle.std.specs.Prelude.{All, bytes_eq}
-use Rattle.std.proofs.lemmas.Bool.{and_from, eq-eqb, or_left, or_right}
+use Rattle.std.proofs.Common.{◌≡◌, ℕ, zero, suc, ◌+◌, ◌*◌, ◌/◌, ◌<◌, ◌≤◌, List, [], ◌∷◌, ◌++◌, length, length-append, take, min, ◌∙◌, ap, arith}
+use Rattle.std.specs.Prelude.{All}
 use Rattle.std.proofs.lemmas.List.{length-take}
 use Rattle.std.proofs.lemmas.Nat.{xor_of_8}
-use Rattle.std.proofs.lemmas.Slice.Eq.{bytes_eq-Decides}
 use Rattle.sx_lang.specs.declared.sides.Side.{Side}
 use Rattle.sx_lang.specs.declared.sides.Side.TheVariants.{From, To}
-use Rattle.sx_ledger.specs.declared.entry.Maker.{Maker}
-use Rattle.sx_ledger.specs.declared.entry.Maker.TheVariants.{Deployer, Module}
 use Rattle.sx_tag.specs.Mac.{Mac, IsTag}
 use Rattle.sx_tag.specs.Keys.{kdf}
 use Rattle.sx_tag.specs.Wrap.{crypt, stream, wrap_tag, wrapped, xor_bytes}
+use Rattle.sx_tag.proofs.UnwrapsWrapped.{length-xor_bytes}
 use Rattle.sx_run.specs.Setting.{Site, Setting}
 use Rattle.sx_run.specs.Wire.{ask_packet, low_first}
 use Rattle.sx_run.specs.Deployer.{Grant, connection_key, grant_header, set_key, side_number}
-use Rattle.sx_run.specs.Ledger.{Made, is_made, same_entry, same_maker}
 
 abbrev pub AreBytes : List ℕ → Type 0
 AreBytes [] = Unit {0}
@@ -30,7 +26,7 @@ all_bytes [] h k d lt = absurd (omega (arith, lt))
 all_bytes (x ∷ xs) h zero d lt = h.0
 all_bytes (x ∷ xs) h (suc k) d lt = all_bytes xs h.1 k d (omega (arith, lt))
 
-both_bytes : (xs ys : List ℕ) → AreBytes xs → AreBytes ys → AreBytes (xs ++ ys)
+pub both_bytes : (xs ys : List ℕ) → AreBytes xs → AreBytes ys → AreBytes (xs ++ ys)
 both_bytes [] ys h g = g
 both_bytes (x ∷ xs) ys h g = (h.0, both_bytes xs ys h.1 g)
 
@@ -44,11 +40,6 @@ xor_are_bytes [] ks h g = tt
 xor_are_bytes (b ∷ bs) [] h g = tt
 xor_are_bytes (b ∷ bs) (k ∷ ks) h g = (xor_of_8 b k h.0 g.0, xor_are_bytes bs ks h.1 g.1)
 
-xor_length : (xs ys : List ℕ) → length xs ≤ length ys → length (xor_bytes xs ys) ≡ length xs
-xor_length [] ys le = refl
-xor_length (x ∷ xs) [] le = absurd (omega (arith, le))
-xor_length (x ∷ xs) (y ∷ ys) le = let e = xor_length xs ys (omega (arith, le)) in omega (arith, e)
-
 module _ (mac : Mac) (tag : IsTag mac) where
   pub cipher_bytes : (key ad body : List ℕ) → AreBytes body → AreBytes (wrapped mac key ad body).cipher
   unfolding crypt
@@ -56,7 +47,7 @@ module _ (mac : Mac) (tag : IsTag mac) where
 
   pub cipher_length : (key ad body : List ℕ) → length body ≤ 32 → length (wrapped mac key ad body).cipher ≡ length body
   unfolding crypt
-  cipher_length key ad body h = xor_length body (stream mac key ad) (let w : length (stream mac key ad) ≡ 32 = tag.width key _ in omega (arith, w, h))
+  cipher_length key ad body h = length-xor_bytes body (stream mac key ad) (let w : length (stream mac key ad) ≡ 32 = tag.width key _ in omega (arith, w, h))
 
   pub tag_bytes : (key ad body : List ℕ) → AreBytes (wrapped mac key ad body).tag
   unfolding wrap_tag
@@ -118,24 +109,3 @@ low_bytes (suc n) v = (omega arith, low_bytes n (v / 256))
 
 pub ask_bytes : (a : ℕ) → AreBytes (ask_packet a)
 ask_bytes a = (omega arith, (omega arith, low_bytes 16 a))
-
--- Entries that were made.
-
-bytes_self : (a : List ℕ) → bytes_eq a a ≡ true
-bytes_self a = (bytes_eq-Decides a a).1 refl
-
-maker_self : (a : Maker) → same_maker a a ≡ true
-maker_self Deployer = refl
-maker_self (Module m) = eq-eqb m m refl
-
-entry_self : (e : Made) → same_entry e e ≡ true
-entry_self e =
-    and_from (same_maker e.maker e.maker) _ (maker_self e.maker)
-    (and_from (e.target == e.target) _ (eq-eqb e.target e.target refl)
-    (and_from (e.boot == e.boot) _ (eq-eqb e.boot e.boot refl)
-    (and_from (bytes_eq e.header e.header) (bytes_eq e.body e.body) (bytes_self e.header) (bytes_self e.body))))
-
--- what stands in the ledger was made
-pub made_in : (before after : List Made) (e : Made) → is_made (before ++ e ∷ after) e ≡ true
-made_in [] after e = or_left (same_entry e e) (is_made after e) (entry_self e)
-made_in (x ∷ before) after e = or_right (same_entry e x) (is_made (before ++ e ∷ after) e) (made_in before after e)

@@ -1,9 +1,8 @@
 -- One module is set up.
-use Rattle.std.proofs.Common.{◌≡◌, ◌≢◌, ℕ, ◌+◌, ◌<◌, ◌≤◌, ◌⊎◌, inl, inr, List, [], ◌∷◌, ◌++◌, length, length-append, map, Option, Some, None, refl, sym, ◌∙◌, ap, subst, arith}
+use Rattle.std.proofs.Common.{◌≡◌, ◌≢◌, ℕ, ◌+◌, ◌<◌, ◌≤◌, inl, inr, List, [], ◌∷◌, ◌++◌, length, length-append, map, Option, Some, None, refl, sym, ◌∙◌, ap, subst, arith}
 use Rattle.std.specs.Prelude.{All, slice_get, slice_index}
 use Rattle.sx_rules.specs.declared.section.Section.{Section}
 use Rattle.sx_rules.specs.Access.{Lives, Sections}
-use Rattle.sx_rules.specs.Placed.{AllSound}
 use Rattle.sx_bus.specs.declared.devices.Window.{Window}
 use Rattle.sx_bus.specs.Devices.{places_of}
 use Rattle.sx_mean.specs.declared.events.End.{End}
@@ -14,6 +13,9 @@ use Rattle.sx_trace.specs.declared.items.Item.{Item}
 use Rattle.sx_trace.specs.declared.items.Item.TheVariants as item
 use Rattle.sx_machine.specs.NodeLaws.{shapes}
 use Rattle.sx_machine.specs.State.{State}
+use Rattle.sx_machine.proofs.Stays.{lives_below}
+use Rattle.sx_machine.proofs.Meanings.{end_lives}
+use Rattle.sx_machine.proofs.Apart.{lives_push}
 use Rattle.sx_invoke.specs.ModuleState.{initial_state}
 use Rattle.sx_sched.specs.Lines.{Line, Load}
 use Rattle.sx_run.specs.Setting.{Site, Setting, windows_at}
@@ -24,7 +26,8 @@ use Rattle.sx_run.specs.State.{World, Acted}
 use Rattle.sx_run.specs.Acts.{only, then_, with_node}
 use Rattle.sx_run.specs.Run.{line_counted, load, run}
 use Rattle.sx_run.specs.Law.{IsSoundSetting}
-use Rattle.sx_lists.proofs.Lists.{get_same}
+use Rattle.sx_run.proofs.tie.Entries.{made_in}
+use Rattle.sx_lists.proofs.Lists.{get_same, get_mid}
 use Rattle.sx_honest.specs.Course.{open_items, part_items}
 use Rattle.sx_setup.specs.Schedule.{key_lines, part_lines}
 use Rattle.sx_setup.proofs.forms.ByLine.{asking_shown, keys_shown, part_shown, shown_by}
@@ -33,17 +36,12 @@ use Rattle.sx_setup.proofs.forms.Served.{IsServed, Moves, Serves}
 use Rattle.sx_setup.proofs.forms.Acting.{first_grant}
 use Rattle.sx_setup.proofs.forms.Attesting.{DoesFor, HaveKeys, asking_items, asking_lines, grants_at, vouched_entry}
 use Rattle.sx_setup.proofs.forms.PartDone.{ModuleSetUp, SetsUp, first_state}
-use Rattle.sx_setup.proofs.Packets.{made_in}
 use Rattle.sx_setup.proofs.Loading.{module_loaded}
 use Rattle.sx_setup.proofs.Answering.{append_more}
 use Rattle.sx_setup.proofs.KeyTaking.{serves_then}
 use Rattle.sx_setup.proofs.Attesting.{module_attested}
 use Rattle.sx_setup.proofs.KeyLoop.{keys_taken}
 use Rattle.sx_setup.proofs.Runs.{moves_then}
-
-pub get_mid : {X : Type 0} → (xs ys : List X) (x : X) → slice_get (xs ++ x ∷ ys) (length xs) ≡ Some x
-get_mid [] ys x = refl
-get_mid (z ∷ xs) ys x = get_mid xs ys x
 
 abbrev firsts : ℕ → List End → List Grant
 firsts m es = map (first_grant m) es
@@ -69,21 +67,9 @@ have_keys set m site (e ∷ es) v number before made ps len ls =
       have_keys set m site es v (number + 1) (before ++ x ∷ []) (made ++ y ∷ []) (ps ∙ sym (append_more before x rest)) (omega (arith, longer, len)) (ls ∙ sym (append_more made y others)),
     )
 
-last_lives : (xs : List Section) (x : Section) → Lives (xs ++ x ∷ []) x
-last_lives [] x = inl refl
-last_lives (y ∷ xs) x = inr (last_lives xs x)
-
 pub first_lives : (xs ys : List Section) (x : Section) → Lives xs x → Lives (xs ++ ys) x
 first_lives [] ys x l = absurd l
 first_lives (y ∷ xs) ys x l = elim l [ inl e ↦ inl e | inr r ↦ inr (first_lives xs ys x r) ]
-
-split_lives : (xs : List Section) (y x : Section) → Lives (xs ++ y ∷ []) x → Lives xs x ⊎ (y ≡ x)
-split_lives [] y x l = elim l [ inl e ↦ inr e | inr r ↦ absurd r ]
-split_lives (z ∷ xs) y x l = elim l [ inl e ↦ inl (inl e) | inr r ↦ elim (split_lives xs y x r) [ inl a ↦ inl (inr a) | inr b ↦ inr b ] ]
-
-lives_below : (next : ℕ) (live : List Section) (x : Section) → AllSound next live → Lives live x → x.id < next
-lives_below next [] x h l = absurd l
-lives_below next (y ∷ live) x h l = elim l [ inl e ↦ subst (λ (z : Section). z.id < next) e h.0.below | inr r ↦ lives_below next live x h.1 r ]
 
 module _ (set : Setting) (w : World) (m : ℕ) (q : PartTree) (site : Site) (s : State) (old : Option (List ℕ))
     (sound : IsSoundSetting set) (h : IsLoadable set w m q site s) (windows : shapes s.devices ≡ windows_at site.node set.app.devices set.places)
@@ -134,7 +120,7 @@ module _ (set : Setting) (w : World) (m : ℕ) (q : PartTree) (site : Site) (s :
 
   low_there : StandsHigh t
   low_there = record {
-    sections = λ x l. elim (split_lives s.sections.live sec x (subst (λ z. Lives z x) grown l)) [
+    sections = λ x l. elim (lives_push s.sections.live sec x (subst (λ z. Lives z x) grown l)) [
       | inl a ↦ h.low.sections x a
       | inr b ↦ subst (λ (z : Section). (512 ≤ z.layout.pub_from) × (512 ≤ z.layout.priv_from)) b h.high
     ];
@@ -148,7 +134,7 @@ module _ (set : Setting) (w : World) (m : ℕ) (q : PartTree) (site : Site) (s :
     node = load_it.loaded.node;
     idle = load_it.loaded.idle;
     boot = load_it.loaded.boot;
-    stands = record { lives = subst (λ z. Lives z sec) (sym grown) (last_lives s.sections.live sec); layout = refl; provider = refl; text = load_it.loaded.stands.text };
+    stands = record { lives = subst (λ z. Lives z sec) (sym grown) (end_lives s.sections.live sec); layout = refl; provider = refl; text = load_it.loaded.stands.text };
     key = refl;
     windows = ap shapes load_it.loaded.devices ∙ windows;
     low = low_there;

@@ -1,6 +1,7 @@
 -- Runs of lines, one after the other.
 use Rattle.std.proofs.Common.{◌≡◌, ℕ, List, [], ◌∷◌, ◌++◌, refl, sym, ◌∙◌, ap}
 use Rattle.std.specs.Prelude.{slice_set}
+use Rattle.std.proofs.lemmas.List.{set-set}
 use Rattle.sx_trace.specs.declared.items.Item.{Item}
 use Rattle.sx_machine.specs.State.{State}
 use Rattle.sx_sched.specs.Lines.{Line}
@@ -10,7 +11,6 @@ use Rattle.sx_run.specs.Ledger.{Made}
 use Rattle.sx_run.specs.State.{World, Acted}
 use Rattle.sx_run.specs.Acts.{then_}
 use Rattle.sx_run.specs.Run.{after_line, line_counted, run}
-use Rattle.sx_run.proofs.steps.Stretch.{set_set}
 use Rattle.sx_setup.proofs.forms.ByLine.{shown_by}
 use Rattle.sx_setup.proofs.forms.Served.{Moves}
 
@@ -41,7 +41,7 @@ moves_then set w xs ys is js ss ts n t u ps qs d e a b first second = record {
   each =
       shown_append set xs ys w ∙ ap (λ (zs : List (List Item)). zs ++ shown_by set (run set w xs).world ys) first.each
       ∙ ap (λ (r : Acted). ss ++ shown_by set r.world ys) first.is ∙ ap (λ (zs : List (List Item)). ss ++ zs) second.each;
-  nodes = second.nodes ∙ ap (λ (ns : List State). slice_set ns n u) first.nodes ∙ set_set w.nodes n t u;
+  nodes = second.nodes ∙ ap (λ (ns : List State). slice_set ns n u) first.nodes ∙ set-set w.nodes n t u;
   packets = second.packets;
   deployer = second.deployer;
   ledger = second.ledger;

@@ -6,6 +6,7 @@ use Rattle.std.specs.List.{list_all, position_from}
 use Rattle.std.proofs.lemmas.Bool.{and_from, cases_Bool, eq-eqb, eqb-true, le-leb, leb-false, lt-ltb, or_left, or_right, true_from_ne_false}
 use Rattle.std.proofs.lemmas.List.Elements.{All-cons, All-nil}
 use Rattle.std.proofs.lemmas.List.Sums.{sum_by-cons}
+use Rattle.std.proofs.lemmas.Option.{none-some}
 use Rattle.sx_rules.specs.declared.section.Section.{Section}
 use Rattle.sx_rules.specs.declared.section.Layout.{Layout}
 use Rattle.sx_rules.specs.declared.admission.Refusal.{Refusal}
@@ -153,9 +154,6 @@ pub stale_windows : (xs : List (ℕ × Kind)) → All (λ (d : Window). d.fresh 
 stale_windows [] = All-nil (λ (d : Window). d.fresh ≡ false)
 stale_windows (x ∷ xs) = All-cons (λ (d : Window). d.fresh ≡ false) _ (powered_on xs) refl (stale_windows xs)
 
-none_some : {X : Type 0} → (x : X) → ◌≡◌ {A = Option X} (Some x) None → ⊥
-none_some x e = cc
-
 -- no device's word meets a public section in which no device stands
 pub no_word : (from to : ℕ) (ws : List Window) (i : ℕ) → from % 2 ≡ 0 → All (λ p. p % 2 ≡ 0) (places_of ws) → ((at : ℕ) → from ≤ at → at < to → position_from (on_word at) i ws ≡ None)
     → list_all (λ place. apart from to place (place + 2)) (places_of ws) ≡ true
@@ -165,7 +163,7 @@ no_word from to (w ∷ ws) i even evens h =
     (no_word from to ws (i + 1) even (λ k d lt. evens (suc k) d (omega (arith, lt))) (λ at lo hi. past (on_word at w) at (h at lo hi)))
   where
     past : (b : Bool) (at : ℕ) → (if b then Some i else position_from (on_word at) (i + 1) ws) ≡ None → position_from (on_word at) (i + 1) ws ≡ None
-    past true at e = absurd (none_some i e)
+    past true at e = absurd (none-some i (sym e))
     past false at e = e
 
     own : on_word w.at w ≡ true
@@ -181,7 +179,7 @@ no_word from to (w ∷ ws) i even evens h =
         let e = even in
         let g = even_at in
         let low : from ≤ w.at = omega (arith, r, e, g) in
-        none_some i (sym (ap (λ (b : Bool). if b then Some i else position_from (on_word w.at) (i + 1) ws) own) ∙ h w.at low p)
+        none-some i (sym (sym (ap (λ (b : Bool). if b then Some i else position_from (on_word w.at) (i + 1) ws) own) ∙ h w.at low p))
 
     first : apart from to w.at (w.at + 2) ≡ true
     first = elim (cases_Bool (nat_le to w.at)) [

@@ -1,17 +1,16 @@
 -- The set-up, module by module: where a world stands after some of them, and that the next one is set up.
-use Rattle.std.proofs.Common.{◌≡◌, ◌≢◌, ℕ, zero, suc, ◌+◌, ◌%◌, ◌<◌, ◌≤◌, inl, inr, ◌==◌, ◌&&◌, Bool, true, false, List, [], ◌∷◌, ◌++◌, length, length-append}
+use Rattle.std.proofs.Common.{◌≡◌, ◌≢◌, ℕ, zero, suc, ◌+◌, ◌%◌, ◌<◌, ◌≤◌, inl, inr, ◌==◌, ◌&&◌, true, false, List, [], ◌∷◌, ◌++◌, length, length-append}
 use Rattle.std.proofs.Common.{map, Option, Some, None, refl, sym, ◌∙◌, ap, subst, arith}
 use Rattle.std.specs.Prelude.{All, count_by, nat_lt, slice_get, slice_index, slice_set}
 use Rattle.std.specs.List.{list_all}
 use Rattle.std.proofs.lemmas.Bool.{and_from, and_parts, cases_eq, eqb-true, false_from_ne_true}
+use Rattle.std.proofs.lemmas.List.{set-set, length-map}
 use Rattle.sx_rules.specs.declared.section.Section.{Section}
 use Rattle.sx_rules.specs.declared.section.Layout.{Layout}
 use Rattle.sx_rules.specs.Access.{Lives, Sections}
 use Rattle.sx_rules.specs.Admission.{admitted, apart, clear_of, no_device, no_overlap, parts_apart}
 use Rattle.sx_bus.specs.declared.devices.Window.{Window}
 use Rattle.sx_bus.specs.Devices.{places_of}
-use Rattle.sx_mean.specs.declared.apps.Link.{Link}
-use Rattle.sx_mean.specs.declared.events.End.{End}
 use Rattle.sx_mean.specs.Application.{PartTree}
 use Rattle.sx_mean.specs.Ends.{ends_of}
 use Rattle.sx_mean.specs.Valid.{IsApplication, IsPlaced}
@@ -19,6 +18,7 @@ use Rattle.sx_mean.proofs.ValidApplications.{valid_applications}
 use Rattle.sx_machine.specs.State.{State}
 use Rattle.sx_machine.specs.Node.{IsNode}
 use Rattle.sx_machine.specs.NodeLaws.{shapes}
+use Rattle.sx_machine.proofs.Frame.{all_pass}
 use Rattle.sx_image.specs.Image.{private_bytes, public_bytes}
 use Rattle.sx_invoke.specs.ModuleState.{state_of}
 use Rattle.sx_run.specs.Setting.{Site, Setting, windows_at}
@@ -27,13 +27,15 @@ use Rattle.sx_run.specs.State.{World}
 use Rattle.sx_run.specs.Law.{AreApartLayouts, IsSoundSetting, IsDeployedModule, devices_of}
 use Rattle.sx_run.proofs.steps.Entry.{shapes_on}
 use Rattle.sx_run.proofs.tie.Lists.{get_before, get_other, get_some, get_within, length_set, some_inj}
-use Rattle.sx_lists.proofs.Lists.{get_same}
-use Rattle.sx_run.proofs.steps.Stretch.{set_same, set_set}
+use Rattle.sx_lists.proofs.Lists.{get_same, get_mid}
+use Rattle.sx_run.proofs.steps.Stretch.{set_same}
+use Rattle.sx_run.proofs.tie.Start.{zero_epochs}
+use Rattle.sx_run.proofs.acts.Bounds.{own_few}
 use Rattle.sx_setup.specs.Laws.{HasRoom}
 use Rattle.sx_setup.proofs.forms.Settled.{ModuleStands, sections_of, table_of}
 use Rattle.sx_setup.proofs.forms.Loaded.{IsLoadable, StandsHigh}
 use Rattle.sx_setup.proofs.forms.PartDone.{SetsUp, first_state}
-use Rattle.sx_setup.proofs.PartDone.{get_mid, module_set_up}
+use Rattle.sx_setup.proofs.PartDone.{module_set_up}
 use Rattle.sx_setup.proofs.Sites.{FromSite, admitted_next, fewer_sections, in_sections, low_windows, no_word, not_more, one_more, section_at, section_there}
 
 -- which modules were attested: the first so many
@@ -66,27 +68,10 @@ get_blank v [] k q e = absurd cc
 get_blank v (x ∷ qs) zero q e = refl
 get_blank v (x ∷ qs) (suc k) q e = get_blank v qs k q e
 
-zero_epochs : (ls : List Link) (c : ℕ) → slice_index (map (λ l. 0) ls) c ≡ 0
-zero_epochs [] c = refl
-zero_epochs (l ∷ ls) zero = refl
-zero_epochs (l ∷ ls) (suc c) = zero_epochs ls c
-
 get_front : {X : Type 0} → (xs ys : List X) (i : ℕ) (v : X) → slice_get (xs ++ ys) i ≡ Some v → i < length xs → slice_get xs i ≡ Some v
 get_front xs ys i v e lt =
     let g = get_some xs i lt in
     g.1 ∙ ap (λ x. Some x) (some_inj g.0 v (sym (get_before xs ys i g.0 g.1) ∙ e))
-
-all_true : (test : Section → Bool) (live : List Section) → ((x : Section) → Lives live x → test x ≡ true) → list_all test live ≡ true
-all_true test [] h = refl
-all_true test (x ∷ live) h = and_from (test x) (list_all test live) (h x (inl refl)) (all_true test live (λ y l. h y (inr l)))
-
-map_size : {X Y : Type 0} → (f : X → Y) (xs : List X) → length (map f xs) ≡ length xs
-map_size f [] = refl
-map_size f (x ∷ xs) = ap suc (map_size f xs)
-
-grants_size : (epochs : List ℕ) (m boot : ℕ) (es : List End) → length (grants_of epochs m boot es) ≡ length es
-grants_size epochs m boot [] = refl
-grants_size epochs m boot (e ∷ es) = ap suc (grants_size epochs m boot es)
 
 -- a node where the modules of these sites were set up
 pub record NodeSoFar (set : Setting) (n : ℕ) (sb : List Site) (s : State) : Type 0 where
@@ -180,7 +165,7 @@ module _ (set : Setting) (sound : IsSoundSetting set) (room : HasRoom set) (befo
         ]
 
     overlap : no_overlap s.sections.live l ≡ true
-    overlap = and_from (parts_apart l) (list_all (clear_of l) s.sections.live) dep.parts (all_true (clear_of l) s.sections.live clear)
+    overlap = and_from (parts_apart l) (list_all (clear_of l) s.sections.live) dep.parts (all_pass (clear_of l) s.sections.live clear)
 
     even_start : l.pub_from % 2 ≡ 0
     even_start =
@@ -329,7 +314,7 @@ module _ (set : Setting) (sound : IsSoundSetting set) (room : HasRoom set) (befo
         asks = ap (λ (d : DeployerState). d.asks) z.moves.deployer ∙ ap (λ (i : ℕ). i + 1) far.asks ∙ one_on k;
         open_asks =
             ap (λ (d : DeployerState). d.open_asks) z.moves.deployer
-            ∙ set_set w.deployer.open_asks k (Some (Rattle.sx_run.specs.Wire.ask_packet w.deployer.asks)) None
+            ∙ set-set w.deployer.open_asks k (Some (Rattle.sx_run.specs.Wire.ask_packet w.deployer.asks)) None
             ∙ set_same w.deployer.open_asks k None asked ∙ far.open_asks;
         attested =
             ap (λ (d : DeployerState). d.attested) z.moves.deployer ∙ ap (λ (x : List (Option ℕ)). slice_set x k (Some 0)) far.attested
@@ -347,6 +332,6 @@ module _ (set : Setting) (sound : IsSoundSetting set) (room : HasRoom set) (befo
           let a = ap (λ (x : List (List ℕ)). length x) z.moves.packets in
           let b = length-append w.packets (Rattle.sx_run.specs.Wire.ask_packet w.deployer.asks ∷ Rattle.sx_run.specs.Deployer.expected set site 0
           (Rattle.sx_run.specs.Wire.ask_packet w.deployer.asks) ∷ map f gs) in
-          let c = map_size f gs in
-          let d = grants_size w.deployer.epochs k 0 (ends_of set.app k) in
+          let c = length-map gs f in
+          let d = own_few w.deployer.epochs k 0 (ends_of set.app k) in
           omega (arith, a, b, c, d)

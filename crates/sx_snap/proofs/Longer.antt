@@ -38,10 +38,6 @@ pub on_ok : {T E : Type 0} (r : Result T E) (X : Type 0) → X → OnOk r X
 on_ok (Ok v) X x = x
 on_ok (Err e) X x = tt
 
-pub on_err : {T E : Type 0} (r : Result T E) (X : Type 0) → X → OnErr r X
-on_err (Ok v) X x = tt
-on_err (Err e) X x = x
-
 -- the only element
 only : (x h : Held) (i : ℕ) → slice_get (x ∷ []) i ≡ Some h → x ≡ h
 only x h zero e = cc

@@ -1,12 +1,13 @@
 -- Entry 1: the answer to an ask.
 use Rattle.std.proofs.Common.{◌≡◌, ℕ, ◌+◌, ◌*◌, ◌<◌, ◌≤◌, ◌⊎◌, inl, inr, Bool, true, false, ◌&&◌, not, List, [], ◌∷◌, ◌++◌, length, Result, Ok, Err, refl, sym, ap, ◌∙◌, arith}
-use Rattle.std.proofs.lemmas.Bool.{le-leb}
+use Rattle.std.proofs.lemmas.Bool.{le-leb, not_from_false}
 use Rattle.std.proofs.lemmas.List.Elements.{All-take}
 use Rattle.sx_rules.specs.declared.access.Violation.{Violation}
 use Rattle.sx_bus.specs.declared.devices.Window.{Window}
 use Rattle.sx_tag.specs.Mac.{Mac, IsTag}
 use Rattle.sx_tag.specs.Wrap.{wrapped, crypt, wrap_tag}
 use Rattle.sx_machine.specs.Memory.{put_bytes, bytes_from}
+use Rattle.sx_machine.proofs.BytesFrom.{bytes_none}
 use Rattle.sx_reach.specs.Reach.{Goes}
 use Rattle.sx_invoke.specs.Protocol.{output_register, all_done, ask_kind, ask_size, event_size}
 use Rattle.sx_invoke.specs.Windows.{in_window_size, out_window_size}
@@ -29,7 +30,7 @@ use Rattle.sx_stub.proofs.Mem.{AllBytes, bytes_from_put, get-put_bytes_other, le
 use Rattle.sx_stub.proofs.Straight.{At, at, at_front, at_back}
 use Rattle.sx_stub.proofs.Slots.{IsKept, with_priv, shows_priv, shows_at}
 use Rattle.sx_stub.proofs.Refuse.{returned, goes_on, breaks, runs_on}
-use Rattle.sx_stub.proofs.Receive.{receive_does, copied_shows, good_window}
+use Rattle.sx_stub.proofs.Receive.{receive_does, copied_shows}
 
 pub tag_bytes : (mac : Mac) (key ad cipher : List ℕ) → IsTag mac → AllBytes (wrap_tag mac key ad cipher)
 unfolding wrap_tag
@@ -38,10 +39,6 @@ tag_bytes mac key ad cipher t = All-take (λ (b : ℕ). b < 256) 16 (mac key (0x
 pub crypt_none : (mac : Mac) (key ad : List ℕ) → crypt mac key ad [] ≡ []
 unfolding crypt
 crypt_none mac key ad = refl
-
-pub bytes_from_none : (m : List ℕ) (a : ℕ) → bytes_from m a 0 ≡ []
-unfolding bytes_from
-bytes_from_none m a = refl
 
 abbrev pub with_mark : Conf → Mark → Conf
 with_mark c m = record c { marks = c.marks ++ m ∷ [] }
@@ -71,7 +68,7 @@ pub copy_out_does : (s : Setup) (call : Call) (handle : ℕ → Conf → Operati
     → bytes_from c.priv o n ≡ piece → c.stack ≡ off ∷ rest
     → do_op s handle (ir.CopyOut n o) c ≡ copied_out (write_bytes s p.devices p.mem (call.output + off) piece) c (λ mem. record (next c rest) { mem = mem })
 copy_out_does s call handle p c n o off rest piece h window room e stack =
-    let ok : not (is_bad_window s (saved c output_register) 384) ≡ true = ap (λ (x : ℕ). not (is_bad_window s x 384)) h.output ∙ good_window (is_bad_window s call.output out_window_size) window in
+    let ok : not (is_bad_window s (saved c output_register) 384) ≡ true = ap (λ (x : ℕ). not (is_bad_window s x 384)) h.output ∙ not_from_false (is_bad_window s call.output out_window_size) window in
     ap (λ (st : List ℕ). on_top st (copy_out s c n o)) stack
     ∙ ap (λ (b : Bool). when (b && has_copy_room c off n) (copied_out (write_bytes s c.devices c.mem (saved c output_register + off) (bytes_from c.priv o n)) c
     (λ mem. record (next c rest) { mem = mem }))) ok
@@ -102,7 +99,7 @@ module _ (s : Setup) (call : Call) (handle : ℕ → Conf → OperationResult) (
       let priv = put_bytes c.priv 16 ask in
       let ad : bytes_from priv 16 18 ≡ ask = ap (bytes_from priv 16) (sym e) ∙ bytes_from_put c.priv 16 ask h (omega (arith, e, room)) in
       ap (λ (x : List ℕ). Goes (after_seal priv (q + 1) x (bytes_from priv 56 0) (crypt s.mac s.section.key x (bytes_from priv 56 0)))) ad
-      ∙ ap (λ (x : List ℕ). Goes (after_seal priv (q + 1) ask x (crypt s.mac s.section.key ask x))) (bytes_from_none priv 56)
+      ∙ ap (λ (x : List ℕ). Goes (after_seal priv (q + 1) ask x (crypt s.mac s.section.key ask x))) (bytes_none priv 56)
       ∙ ap (λ (x : List ℕ). Goes (after_seal priv (q + 1) ask [] x)) (crypt_none s.mac s.section.key ask)
 
   -- what is left of the answer when the ask was copied

@@ -1,7 +1,7 @@
 -- Which end a packet is for, as the cases find it.
 use Rattle.std.proofs.Common.{◌≡◌, ◌≢◌, ℕ, suc, ◌+◌, ◌*◌, ◌%◌, ◌<◌, ◌≤◌, ◌⊎◌, inl, inr, Bool, true, false, ◌&&◌, ◌==◌, List, [], ◌∷◌, length, Option, Some, None, refl, ap, ◌∙◌, subst, arith}
 use Rattle.std.specs.Prelude.{if◌then◌else◌, bit_and, All}
-use Rattle.std.proofs.lemmas.Bool.{lt-ltb, eq-eqb, ne_eqb}
+use Rattle.std.proofs.lemmas.Bool.{lt-ltb, eq-eqb, ne_eqb, and_right}
 use Rattle.std.proofs.lemmas.Bool.Decides.{eqb_tells}
 use Rattle.sx_lang.specs.declared.sides.Side.{Side}
 use Rattle.sx_lang.specs.declared.sides.Side.TheVariants.{From, To}
@@ -14,6 +14,7 @@ use Rattle.sx_ir.specs.Meaning.{element}
 use Rattle.sx_stub.specs.Stub.{Cases, find_any, is_to}
 use Rattle.sx_stub.proofs.Chain.{found_by, case_test, AreWords}
 use Rattle.sx_lists.specs.Truth.{truth}
+use Rattle.sx_lists.proofs.Truths.{truth_small}
 
 abbrev pub FewLinks : List End → Type 0
 FewLinks es = All (λ e. e.link < 256) es
@@ -90,10 +91,6 @@ index_found t cs (d ∷ es) k j e few number has h = go (t k d) refl h (λ h. in
     other : (i : ℕ) → k + 1 ≤ i → (12 * i == 12 * k) ≡ false
     other i le = ne_eqb (12 * i) (12 * k) (omega (arith, le))
 
-    and_false : (b : Bool) → (b && false) ≡ false
-    and_false true = refl
-    and_false false = refl
-
     go : (b : Bool) → t k d ≡ b → (if b then Some (k, d) else found_by t (k + 1) es) ≡ Some (j, e)
         → (found_by t (k + 1) es ≡ Some (j, e) → found_by (case_test cs (12 * j)) (k + 1) es ≡ Some (j, e))
         → (found_by t (k + 1) es ≡ Some (j, e) → k + 1 ≤ j) → found_by (case_test cs (12 * j)) k (d ∷ es) ≡ Some (j, e)
@@ -103,7 +100,7 @@ index_found t cs (d ∷ es) k j e few number has h = go (t k d) refl h (λ h. in
         ∙ eq-eqb (12 * j) (12 * k) (omega (arith, same)) in
         rw pass h
     go false x h again le =
-        let miss : case_test cs (12 * j) k d ≡ false = ap (λ (v : ℕ). cs.has d && (12 * j == v)) (number k d) ∙ ap (λ (b : Bool). cs.has d && b) (other j (le h)) ∙ and_false (cs.has d) in
+        let miss : case_test cs (12 * j) k d ≡ false = ap (λ (v : ℕ). cs.has d && (12 * j == v)) (number k d) ∙ ap (λ (b : Bool). cs.has d && b) (other j (le h)) ∙ and_right (cs.has d) false refl in
         rw miss (again h)
 
 -- a word of a slot, by the end's place
@@ -134,7 +131,3 @@ named_words found (e ∷ es) k few = (
       omega (arith, n, t),
   named_words found es (k + 1) (λ i d p. few (suc i) d (omega (arith, p))),
 )
-  where
-    truth_small : (b : Bool) → truth b ≤ 1
-    truth_small true = omega arith
-    truth_small false = omega arith

@@ -19,18 +19,14 @@ use Rattle.sx_check.specs.Names.{same, same_input}
 use Rattle.sx_check.specs.Rules.{first_broken}
 use Rattle.sx_check.specs.Uses.{Use, block_uses, declares_as, input_uses}
 use Rattle.sx_check.proofs.Accepted.{accepted, fine}
-use Rattle.sx_check.proofs.Distinct.{count_by-cons, same-true}
+use Rattle.sx_check.proofs.Distinct.{count_by-cons, same-true, same_input-refl}
 use Rattle.sx_check.proofs.Keeps.{In}
 use Rattle.sx_mean.specs.React.{input_names}
 
 -- being of the same input is an equivalence
 inputs_equiv : IsEquivalence same_input
-inputs_equiv = record { refl = own; symm = turned; congr = alike }
+inputs_equiv = record { refl = same_input-refl; symm = turned; congr = alike }
   where
-    own : (x : Option (List ℕ)) → same_input x x ≡ true
-    own None = refl
-    own (Some x) = nat_list_eq_equiv.refl x
-
     turned : (x y : Option (List ℕ)) → same_input x y ≡ same_input y x
     turned None None = refl
     turned None (Some y) = refl

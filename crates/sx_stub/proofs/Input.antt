@@ -38,7 +38,7 @@ use Rattle.sx_stub.specs.Invokes.{ShowsCall, Ready, Invokes, HandlersDo}
 use Rattle.sx_stub.proofs.Mem.{AllBytes, word_lt, word_same, word-put_same, word-put_other, get-put_other, length-put_bytes, AllBytes-put_word}
 use Rattle.sx_stub.proofs.Mem.{AllBytes-put_bytes, get-put_bytes_other, get-put_bytes_in, bytes_from_same, AllBytes-bytes_from}
 use Rattle.sx_stub.proofs.Straight.{At, at, at_front, at_back, pure}
-use Rattle.sx_stub.proofs.Slots.{Same, IsKept, with_priv, shows_priv, end_with, end_state_is, end_in_slot, end_state_same}
+use Rattle.sx_stub.proofs.Slots.{Same, IsKept, with_priv, shows_priv, end_with, end_state_is, end_in_slot, end_state_same, kept_high}
 use Rattle.sx_stub.proofs.Refuse.{refuse_does, refuse_zero, or_if, sub_zero, not_twice, goes_on, runs_on, within}
 use Rattle.sx_stub.proofs.Chain.{found_by, case_test, chain_does}
 use Rattle.sx_stub.proofs.Receive.{receive_does, copied_shows}
@@ -156,7 +156,7 @@ module _ (s : Setup) (call : Call) (handle : ℕ → Conf → OperationResult) (
       let c6 = with_priv c priv6 (place + 6) [] in
       let size5 = shows5.size in
       let shows6 : ShowsCall s call p2 c6 = shows_priv s call p2 c5 priv6 (place + 6) [] shows5 (length-put_word priv5 2 w) (AllBytes-put_word priv5 2 w smallw shows5.bytes)
-      (λ i kept. get-put_other priv5 2 w i refl (low i kept 2 (omega arith)) (low i kept 3 (omega arith))) in
+      (λ i kept. get-put_other priv5 2 w i refl (kept_high i kept 2 (omega arith)) (kept_high i kept 3 (omega arith))) in
       let ready : Ready s call ev p2 c6 = record {
         shows = shows6;
         value = word-put_same priv5 2 w refl (omega (arith, size5));
@@ -185,10 +185,6 @@ module _ (s : Setup) (call : Call) (handle : ℕ → Conf → OperationResult) (
       apart : (i : ℕ) → (i < end_at j) ⊎ (end_at j + 24 ≤ i) → (d b : ℕ) → b ≡ end_at j + 2 + d → d < 2 → i ≢ b
       apart i (inl x) d b e lt = omega (arith, x, e, lt)
       apart i (inr x) d b e lt = omega (arith, x, e, lt)
-
-      low : (i : ℕ) → IsKept i → (b : ℕ) → b < 4 → i ≢ b
-      low i (inl k) b lt = omega (arith, k.0, lt)
-      low i (inr k) b lt = omega (arith, k, lt)
 
   -- the packet is opened
   opens : (packet : List ℕ) (j : ℕ) (e : End) (place : ℕ) (c : Conf) → length packet ≡ 24 → AllBytes packet

@@ -64,7 +64,7 @@ stub_short tree ends few =
     omega (arith, few, h, a0, a1, a2, b1, b2, b3, z)
 
 -- the first operations of code
-first_of : (xs ys : List Ir) (i : ℕ) → i < length xs → slice_get (xs ++ ys) i ≡ slice_get xs i
+pub first_of : (xs ys : List Ir) (i : ℕ) → i < length xs → slice_get (xs ++ ys) i ≡ slice_get xs i
 first_of xs ys i l =
     let d = get_or xs i (ir.Push 0) in
     slice_get-get_or (xs ++ ys) i d (omega (arith, l, length-append xs ys)) ∙ ap Some (get_or_append_left xs ys d i l) ∙ sym (slice_get-get_or xs i d l)

@@ -11,9 +11,9 @@ use Rattle.std.proofs.lemmas.Nat.Bits.{and_high_mask}
 use Rattle.std.proofs.lemmas.Nat.{and_mask, xor_of_8}
 use Rattle.sx_tag.specs.Mac.{Mac, IsTag}
 use Rattle.sx_tag.specs.Wrap.{crypt, wrap_tag, unwrapped, padded, stream, xor_bytes}
+use Rattle.sx_tag.proofs.UnwrapsWrapped.{length-xor_bytes}
 use Rattle.sx_machine.specs.Memory.{word, put_word, bytes_from, put_bytes}
-use Rattle.sx_invoke.proofs.PiecesMarked.{xor_length}
-use Rattle.sx_stub.proofs.Mem.{AllBytes, word_even, get-put_other, get-put_bytes_other, get-put_bytes_in}
+use Rattle.sx_stub.proofs.Mem.{AllBytes, word_even, get-put_other, get-put_bytes_in}
 use Rattle.sx_machine.proofs.Lengths.{length-bytes_from}
 
 -- the packet stands at offset 16
@@ -27,10 +27,6 @@ holds_copied priv packet h le i lt = get-put_bytes_in priv 16 packet i h lt le
 pub holds_put : (priv packet : List ℕ) (a v : ℕ) → a % 2 ≡ 0 → 16 + length packet ≤ a → Holds priv packet
     → Holds (put_word priv a v) packet
 holds_put priv packet a v e le h i lt = get-put_other priv a v (16 + i) e (omega (arith, le, lt)) (omega (arith, le, lt)) ∙ h i lt
-
-pub holds_put_bytes : (priv packet : List ℕ) (a : ℕ) (bs : List ℕ) → 16 + length packet ≤ a → Holds priv packet
-    → Holds (put_bytes priv a bs) packet
-holds_put_bytes priv packet a bs le h i lt = get-put_bytes_other priv a bs (16 + i) (inl (omega (arith, le, lt))) ∙ h i lt
 
 pub holds_word : (priv packet : List ℕ) (o : ℕ) → o % 2 ≡ 0 → o + 1 < length packet → Holds priv packet
     → word priv (16 + o) ≡ word packet o
@@ -112,7 +108,7 @@ opened_body mac key ad cipher tag t le h = go (bytes_eq tag (wrap_tag mac key ad
     go false = tt
     go true =
         let w = t.width key (0x53 ∷ length ad ∷ (ad ++ 0 ∷ [])) in
-        let e = xor_length cipher (stream mac key ad) (omega (arith, w, le)) in
+        let e = length-xor_bytes cipher (stream mac key ad) (omega (arith, w, le)) in
         let l = length-append (xor_bytes cipher (stream mac key ad)) (replicate (32 - length (xor_bytes cipher (stream mac key ad))) 0) in
         let r = length-replicate {A = ℕ} (32 - length (xor_bytes cipher (stream mac key ad))) 0 in (
           omega (arith, e, l, r, le),

@@ -2,7 +2,7 @@
 use Rattle.std.proofs.Common.{◌≡◌, ◌≢◌, ℕ, zero, suc, ◌+◌, ◌-◌, ◌*◌, ◌%◌, ◌<◌, ◌≤◌, ◌⊎◌, inl, inr, Bool, true, false, ◌&&◌, not, ◌==◌, List, [], ◌∷◌, length}
 use Rattle.std.proofs.Common.{get_or, Option, Some, None, Result, Ok, Err, refl, sym, ap, ◌∙◌, subst, arith}
 use Rattle.std.specs.Prelude.{slice_get, slice_index, if◌then◌else◌, nat_le}
-use Rattle.std.proofs.lemmas.Bool.{true≢false}
+use Rattle.std.proofs.lemmas.Bool.{not_from_false}
 use Rattle.std.proofs.lemmas.Bool.Decides.{eqb_tells}
 use Rattle.sx_rules.specs.declared.access.Violation.{Violation}
 use Rattle.sx_rules.specs.declared.access.Access.TheVariants.{Read}
@@ -87,14 +87,6 @@ pub if_not : (b : Bool) (x y : Invoked) → (if b then x else y) ≡ (if not b t
 if_not true x y = refl
 if_not false x y = refl
 
-pub not_true : (b : Bool) → not b ≡ false → b ≡ true
-not_true true e = refl
-not_true false e = absurd (true≢false e)
-
-pub good_window : (b : Bool) → b ≡ false → not b ≡ true
-good_window true e = absurd (true≢false e)
-good_window false e = refl
-
 module _ (s : Setup) (call : Call) (handle : ℕ → Conf → OperationResult) (given : ℕ
     → ℕ) (code : List Ir) (p : Progress) (c : Conf) (shows : ShowsCall s call p c) (none : p.pieces ≡ []) (bytes : AllBytes p.mem) (room : 512 ≤ length c.priv)
     (window : is_bad_window s call.input in_window_size ≡ false) where
@@ -103,7 +95,7 @@ module _ (s : Setup) (call : Call) (handle : ℕ → Conf → OperationResult) (
       → do_op s handle (ir.CopyIn n 16) (at c place []) ≡ copied_in (at c place []) 16 (read_bytes s p.devices p.mem call.input n)
   copies place n le =
       let ok : not (is_bad_window s (saved c input_register) 40) ≡ true = ap (λ (x : ℕ). not (is_bad_window s x in_window_size)) shows.input
-      ∙ good_window (is_bad_window s call.input in_window_size) window in
+      ∙ not_from_false (is_bad_window s call.input in_window_size) window in
       ap (λ (b : Bool). when (b && nat_le n 40) (copied_in (at c place []) 16 (read_bytes s c.devices c.mem (saved c input_register) n))) ok
       ∙ ap (λ (b : Bool). when b (copied_in (at c place []) 16 (read_bytes s c.devices c.mem (saved c input_register) n))) le
       ∙ ap (λ (x : ℕ). copied_in (at c place []) 16 (read_bytes s c.devices c.mem x n)) shows.input

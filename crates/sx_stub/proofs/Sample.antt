@@ -1,5 +1,5 @@
 -- Entry 3: a reading of the module's sensor.
-use Rattle.std.proofs.Common.{◌≡◌, ◌≢◌, ℕ, zero, suc, ◌+◌, ◌-◌, ◌%◌, ◌<◌, ◌≤◌, inl, inr, Bool, true, false, ◌==◌, List, [], ◌∷◌, ◌++◌, Option, Some, None, refl, sym, ap, ◌∙◌, subst, arith, cond}
+use Rattle.std.proofs.Common.{◌≡◌, ℕ, zero, suc, ◌+◌, ◌-◌, ◌%◌, ◌<◌, ◌≤◌, Bool, true, false, ◌==◌, List, [], ◌∷◌, ◌++◌, Option, Some, None, refl, sym, ap, ◌∙◌, subst, arith, cond}
 use Rattle.std.specs.Prelude.{slice_get, if◌then◌else◌, All}
 use Rattle.std.specs.List.{position_from}
 use Rattle.std.proofs.lemmas.Bool.{true≢false, ne_eqb}
@@ -10,7 +10,7 @@ use Rattle.sx_mean.specs.Application.{declared_kind}
 use Rattle.sx_mean.specs.Handlers.{number_of}
 use Rattle.sx_bus.specs.declared.devices.Kind.TheVariants as kind
 use Rattle.sx_bus.specs.declared.devices.Window.{Window}
-use Rattle.sx_bus.specs.Devices.{device_at, cleared, with_changed, stale, on_word, HaveSamples}
+use Rattle.sx_bus.specs.Devices.{cleared, with_changed, stale, on_word, HaveSamples}
 use Rattle.sx_machine.specs.Memory.{word, put_word}
 use Rattle.sx_machine.specs.Run.{device_of, found, with_window}
 use Rattle.sx_invoke.specs.Protocol.{no_sample}
@@ -32,33 +32,14 @@ use Rattle.sx_stub.specs.Stub.{sample_code, sampled_code, refuse_if, is_stale_co
 use Rattle.sx_stub.specs.Invokes.{ShowsCall, Ready, Invokes, HandlersDo}
 use Rattle.sx_stub.proofs.Mem.{word-put_same, get-put_other, AllBytes-put_word}
 use Rattle.sx_stub.proofs.Straight.{At, at, at_front, at_back}
-use Rattle.sx_stub.proofs.Slots.{IsKept, with_priv, shows_priv}
+use Rattle.sx_stub.proofs.Slots.{with_priv, shows_priv, kept_high}
 use Rattle.sx_stub.proofs.Refuse.{refuse_does, goes_on, runs_on, within}
 use Rattle.sx_stub.proofs.Handling.{handles}
 use Rattle.sx_machine.proofs.Lengths.{length-put_word}
+use Rattle.sx_machine.proofs.Devices.{device_of_parts}
 use Rattle.sx_lists.specs.Truth.{truth}
 
 -- The module's device, before and after its sample was read.
-
-none_pair : (x : ℕ × Window) → ◌≡◌ {A = Option (ℕ × Window)} None (Some x) → ⊥
-none_pair x h = cc
-
-same_pair : (x y : ℕ × Window) → ◌≡◌ {A = Option (ℕ × Window)} (Some x) (Some y) → x ≡ y
-same_pair x y h = cc
-
-device_parts : (ws : List Window) (a d : ℕ) (w : Window) → device_of ws a ≡ Some (d, w)
-    → (device_at ws a ≡ Some d) × (slice_get ws d ≡ Some w)
-device_parts ws a d w h = go (device_at ws a) refl h
-  where
-    inner : (i : ℕ) (x : Option Window) → slice_get ws i ≡ x → with_window i x ≡ Some (d, w)
-        → (i ≡ d) × (slice_get ws i ≡ Some w)
-    inner i None e h = absurd (none_pair (d, w) h)
-    inner i (Some v) e h = let q = same_pair (i, v) (d, w) h in (ap (λ (x : ℕ × Window). x.0) q, e ∙ ap (λ (x : ℕ × Window). Some x.1) q)
-
-    go : (o : Option ℕ) → device_at ws a ≡ o → found ws o ≡ Some (d, w)
-        → (device_at ws a ≡ Some d) × (slice_get ws d ≡ Some w)
-    go None e h = absurd (none_pair (d, w) h)
-    go (Some i) e h = let q = inner i (slice_get ws i) refl h in (e ∙ ap (λ (x : ℕ). Some x) q.0, subst (λ (x : ℕ). slice_get ws x ≡ Some w) q.0 q.1)
 
 slice_all : (P : Window → Type 0) (ws : List Window) (i : ℕ) (w : Window) → All P ws → slice_get ws i ≡ Some w → P w
 slice_all P [] i w h e = absurd (none_some w e)
@@ -92,7 +73,7 @@ slice_cleared (x ∷ ws) (suc d) w e = slice_cleared ws d w e
 device_cleared : (ws : List Window) (a d : ℕ) (w : Window) → device_of ws a ≡ Some (d, w)
     → device_of (cleared ws d) a ≡ Some (d, stale w)
 device_cleared ws a d w h =
-    let q = device_parts ws a d w h in
+    let q = device_of_parts ws a d w h in
     ap (found (cleared ws d)) (position_cleared a ws 0 d ∙ q.0) ∙ ap (with_window d) (slice_cleared ws d w q.1)
 
 module _ (s : Setup) (call : Call) (handle : ℕ → Conf → OperationResult) (given : ℕ
@@ -106,16 +87,12 @@ module _ (s : Setup) (call : Call) (handle : ℕ → Conf → OperationResult) (
   win = drives.window
 
   small : win.value < 32768
-  small = slice_all (λ (w : Window). w.value < 32768) p.devices dev win samples (device_parts p.devices s.section.layout.priv_from dev win drives.found).1
-
-  low : (i : ℕ) → IsKept i → (b : ℕ) → b < 4 → i ≢ b
-  low i (inl k) b lt = omega (arith, k.0, lt)
-  low i (inr k) b lt = omega (arith, k, lt)
+  small = slice_all (λ (w : Window). w.value < 32768) p.devices dev win samples (device_of_parts p.devices s.section.layout.priv_from dev win drives.found).1
 
   event_word : (p : Progress) (c : Conf) (v q : ℕ) → ShowsCall s call p c → v < 65536
       → ShowsCall s call p (with_priv c (put_word c.priv 2 v) q [])
   event_word p c v q h lt = shows_priv s call p c (put_word c.priv 2 v) q [] h (length-put_word c.priv 2 v) (AllBytes-put_word c.priv 2 v lt h.bytes)
-      (λ i kept. get-put_other c.priv 2 v i refl (low i kept 2 (omega arith)) (low i kept 3 (omega arith)))
+      (λ i kept. get-put_other c.priv 2 v i refl (kept_high i kept 2 (omega arith)) (kept_high i kept 3 (omega arith)))
 
   senses : (place : ℕ) → do_op s handle ir.Sense (at c place []) ≡ sensor_read (at c place []) dev win kind.Sensor
   senses place =

@@ -42,6 +42,7 @@ use Rattle.sx_stub.proofs.Ends.{FewLinks, any_same, found_in, index_found, index
 use Rattle.sx_stub.proofs.Search.{shows_kept_word, some_place, some_none, search_does, found_at, key_at}
 use Rattle.sx_machine.proofs.Lengths.{length-put_word}
 use Rattle.sx_lists.specs.Truth.{truth}
+use Rattle.sx_lists.proofs.Truths.{truth_small}
 
 -- the test of the end that was found, on words
 pub keyed_word : (priv : List ℕ) (ends j : ℕ) (field : ℕ) → AllBytes priv → ends ≤ 16 → j < ends → word priv 74 ≡ 12 * j
@@ -355,10 +356,6 @@ module _ (s : Setup) (call : Call) (handle : ℕ → Conf → OperationResult) (
           (found_does s call handle given code p none tag few links packet j e (case_test (find_any found) v) c3 key len h shows3 (held packet (omega (arith, len)) holds2) index3 hit
           (key_at s.tree s.ends code search at_search)))))
           (λ miss. ap (λ (o : Option (ℕ × End)). set_key_at s packet o p) (sym same ∙ miss)))))
-        where
-          truth_small : (b : Bool) → truth b ≤ 1
-          truth_small true = omega arith
-          truth_small false = omega arith
 
   pub set_key_does : (place k : ℕ) → At code place (set_key_code search place) → 2800 ≤ k
       → Invokes s call handle given code (with_received s call set_key_size set_key_kind p (λ packet. set_key s packet p)) k (at c place [])

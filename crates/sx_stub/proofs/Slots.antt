@@ -1,5 +1,5 @@
 -- What changes of the private section's bytes do to the state that they represent.
-use Rattle.std.proofs.Common.{◌≡◌, ℕ, zero, suc, ◌+◌, ◌%◌, ◌<◌, ◌≤◌, ◌⊎◌, inl, inr, not, ◌==◌, List, [], ◌∷◌, length, get_or, refl, sym, ap, ◌∙◌, arith}
+use Rattle.std.proofs.Common.{◌≡◌, ◌≢◌, ℕ, zero, suc, ◌+◌, ◌%◌, ◌<◌, ◌≤◌, ◌⊎◌, inl, inr, not, ◌==◌, List, [], ◌∷◌, length, get_or, refl, sym, ap, ◌∙◌, arith}
 use Rattle.sx_lang.specs.Tree.{ModuleTree}
 use Rattle.sx_mean.specs.declared.events.End.{End}
 use Rattle.sx_mean.specs.Places.{initial_cells}
@@ -142,6 +142,11 @@ with_priv c priv q stack = record c { place = q; stack = stack; priv = priv }
 -- the bytes that aren't to change: the caller's registers, and the slots and cells
 abbrev pub IsKept : ℕ → Type 0
 IsKept i = ((6 ≤ i) × (i < 14)) ⊎ (512 ≤ i)
+
+-- it is none of the first four bytes
+pub kept_high : (i : ℕ) → IsKept i → (b : ℕ) → b < 4 → i ≢ b
+kept_high i (inl k) b lt = omega (arith, k.0, lt)
+kept_high i (inr k) b lt = omega (arith, k, lt)
 
 pub shows_priv : (s : Setup) (call : Call) (p : Progress) (c : Conf) (priv : List ℕ) (q : ℕ) (stack : List ℕ)
     → ShowsCall s call p c → length priv ≡ length c.priv → AllBytes priv → ((i : ℕ) → IsKept i → Same c.priv priv i)

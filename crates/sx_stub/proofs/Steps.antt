@@ -1,5 +1,5 @@
 -- Code that is appended piece by piece.
-use Rattle.std.proofs.Common.{◌≡◌, ℕ, ◌+◌, ◌*◌, ◌<◌, Bool, true, false, List, [], ◌∷◌, ◌++◌, length, drop, get_or, Result, OnOk, refl, sym, ap, ◌∙◌, arith, add-one, append_assoc, length-append}
+use Rattle.std.proofs.Common.{◌≡◌, ℕ, ◌+◌, ◌*◌, ◌<◌, true, List, [], ◌∷◌, ◌++◌, length, drop, get_or, Result, OnOk, refl, sym, ap, ◌∙◌, add-one, append_assoc, length-append}
 use Rattle.std.specs.Prelude.{if◌then◌else◌}
 use Rattle.std.proofs.Math.Seq.{drop-cons}
 use Rattle.std.proofs.lemmas.Result.{on_ok_weaker}
@@ -9,7 +9,6 @@ use Rattle.sx_ir.specs.declared.ir.Ir.{Ir}
 use Rattle.sx_ir.specs.declared.ir.Ir.TheVariants as ir
 use Rattle.sx_ir.specs.declared.ir.IrOp.TheVariants as op
 use Rattle.sx_stub.specs.Stub.{Cases, case_of, cases, is_receiving, take_event, take_receiving}
-use Rattle.sx_lists.proofs.Lists.{rest_is}
 
 pub grown : (x y a : List Ir) → y ≡ x ++ a → length y ≡ length x + length a
 grown x y a e = ap length e ∙ length-append x a
@@ -33,16 +32,6 @@ cases_turn cs ends i k d x y whole l put inv =
     ∙ sym (ap (λ es. x ++ cases cs (length x) k es) is) ∙ inv
 
 module _ (tree : ModuleTree) where
-  -- the opening of a packet has one length at all places
-  length-case : (p k : ℕ) (e : End) → length (case_of (take_receiving tree) p k e) ≡ length (case_of (take_receiving tree) 0 0 e)
-  length-case p k e = go (is_receiving e)
-    where
-      go : (b : Bool)
-          → length (if b then ir.Load 74 ∷ ir.Push (12 * k) ∷ ir.Op op.Sub ∷ ir.JumpZero (p + 5) ∷ ir.Jump (p + 5 + length (take_event tree (p + 5) k e)) ∷ take_event tree (p + 5) k e else [])
-          ≡ length (if b then ir.Load 74 ∷ ir.Push (12 * 0) ∷ ir.Op op.Sub ∷ ir.JumpZero (0 + 5) ∷ ir.Jump (0 + 5 + length (take_event tree (0 + 5) 0 e)) ∷ take_event tree (0 + 5) 0 e else [])
-      go true = refl
-      go false = refl
-
   -- the choice of an end and what is done then are its case
   pub taken : {E : Type 0} (r : Result (Unit {0}) E) (x y z : List Ir) (k next : ℕ) (e : End) → is_receiving e ≡ true → next ≡ length x + 5 + length (take_event tree 0 0 e)
       → y ≡ x ++ ir.Load 74 ∷ ir.Push (12 * k) ∷ ir.Op op.Sub ∷ ir.JumpZero (length x + 5) ∷ ir.Jump next ∷ [] → OnOk r (z ≡ y ++ take_event tree (length y) k e)
@@ -52,15 +41,3 @@ module _ (tree : ModuleTree) where
       let put2 : y ≡ x ++ chosen = put ∙ ap (λ n. x ++ ir.Load 74 ∷ ir.Push (12 * k) ∷ ir.Op op.Sub ∷ ir.JumpZero (length x + 5) ∷ ir.Jump n ∷ []) to in
       on_ok_weaker r (λ h. h ∙ ap (λ b. x ++ (if b then chosen ++ take_event tree (length x + 5) k e else [])) (sym has))
       (behind r x y z chosen (λ p. take_event tree p k e) (length x + 5) put2 refl h)
-
-  -- the place after one case, and then those after the others
-  pub places_turn : (ends : List End) (i at n total : ℕ) (e : End) → i < length ends → e ≡ get_or ends i e → n ≡ length (case_of (take_receiving tree) 0 0 e)
-      → at + length (cases (take_receiving tree) at i (drop i ends)) ≡ total → (at + n) + length (cases (take_receiving tree) (at + n) (i + 1) (drop (i + 1) ends)) ≡ total
-  places_turn ends i at n total e l h long inv =
-      let cs = take_receiving tree in
-      let here = case_of cs at i e in
-      let size : n ≡ length here = long ∙ sym (length-case at i e) in
-      let rest = cases cs (at + n) (i + 1) (drop (i + 1) ends) in
-      let whole : cases cs at i (drop i ends) ≡ here ++ rest = ap (cases cs at i) (rest_is ends i e l h) ∙ ap (λ n. here ++ cases cs (at + n) (i + 1) (drop (i + 1) ends)) (sym size) in
-      let sum = ap length whole in
-      omega (arith, inv, sum, size, length-append here rest)

@@ -1,6 +1,7 @@
 -- Code that stands at a place, and runs of operations that work on the stack alone.
 use Rattle.std.proofs.Common.{◌≡◌, ℕ, ◌+◌, ◌≤◌, Bool, true, false, List, [], ◌∷◌, ◌++◌, length, Option, Some, None, refl, sym, ap, subst, arith}
 use Rattle.std.specs.Prelude.{nat_lt, slice_get, if◌then◌else◌}
+use Rattle.std.proofs.lemmas.Option.{none-some, same_Some}
 use Rattle.sx_lang.specs.declared.tree.UnOp.TheVariants as unary
 use Rattle.sx_lang.specs.declared.tree.BinOp.TheVariants as binary
 use Rattle.sx_mean.specs.Meaning.{apply, combine}
@@ -103,12 +104,6 @@ abbrev pub counts : List Ir → ℕ
 counts [] = 0
 counts (i ∷ ops) = count_of i + counts ops
 
-some_same : (x y : List ℕ) → ◌≡◌ {A = Option (List ℕ)} (Some x) (Some y) → x ≡ y
-some_same x y h = cc
-
-none_some : (x : List ℕ) → ◌≡◌ {A = Option (List ℕ)} None (Some x) → ⊥
-none_some x h = cc
-
 module _ (s : Setup) (handle : ℕ → Conf → OperationResult) where
   -- the operation does that
 
@@ -117,19 +112,19 @@ module _ (s : Setup) (handle : ℕ → Conf → OperationResult) where
     where
       go : (b : Bool) → (if b then Some (v ∷ c.stack) else None) ≡ Some st
           → when b (Goes (next c (v ∷ c.stack))) ≡ Goes (next c st)
-      go true h = ap (λ (st : List ℕ). Goes (next c st)) (some_same (v ∷ c.stack) st h)
-      go false h = absurd (none_some st h)
+      go true h = ap (λ (st : List ℕ). Goes (next c st)) (same_Some (v ∷ c.stack) st h)
+      go false h = absurd (none-some st h)
 
   two_does : (f : ℕ → ℕ → ℕ) (c : Conf) (stack st : List ℕ) → two_words f stack ≡ Some st
       → on_top stack (λ y below. on_top below (λ x rest. Goes (next c (f x y ∷ rest)))) ≡ Goes (next c st)
-  two_does f c [] st h = absurd (none_some st h)
-  two_does f c (y ∷ []) st h = absurd (none_some st h)
-  two_does f c (y ∷ x ∷ rest) st h = ap (λ (st : List ℕ). Goes (next c st)) (some_same (f x y ∷ rest) st h)
+  two_does f c [] st h = absurd (none-some st h)
+  two_does f c (y ∷ []) st h = absurd (none-some st h)
+  two_does f c (y ∷ x ∷ rest) st h = ap (λ (st : List ℕ). Goes (next c st)) (same_Some (f x y ∷ rest) st h)
 
   one_does : (f : ℕ → ℕ) (c : Conf) (stack st : List ℕ) → one_word f stack ≡ Some st
       → on_top stack (λ x rest. Goes (next c (f x ∷ rest))) ≡ Goes (next c st)
-  one_does f c [] st h = absurd (none_some st h)
-  one_does f c (x ∷ rest) st h = ap (λ (st : List ℕ). Goes (next c st)) (some_same (f x ∷ rest) st h)
+  one_does f c [] st h = absurd (none-some st h)
+  one_does f c (x ∷ rest) st h = ap (λ (st : List ℕ). Goes (next c st)) (same_Some (f x ∷ rest) st h)
 
   operator_does : (f : IrOp) (c : Conf) (st : List ℕ) → operator f c.stack ≡ Some st → operated f c ≡ Goes (next c st)
   operator_does op.Add c st h = two_does (combine binary.Add) c c.stack st h
@@ -147,37 +142,37 @@ module _ (s : Setup) (handle : ℕ → Conf → OperationResult) where
   saved_does : (b : Bool) (c : Conf) (v : ℕ) (st : List ℕ) → (if b then with_room v c.stack else None) ≡ Some st
       → when b (pushed c v) ≡ Goes (next c st)
   saved_does true c v st h = room_does c v st h
-  saved_does false c v st h = absurd (none_some st h)
+  saved_does false c v st h = absurd (none-some st h)
 
   pub pure_does : (i : Ir) (c : Conf) (st : List ℕ) → pure_op s c.priv i c.stack ≡ Some st
       → do_op s handle i c ≡ Goes (next c st)
   pure_does (ir.Push n) c st h = room_does c n st h
   pure_does (ir.Load o) c st h = room_does c (word c.priv o) st h
-  pure_does (ir.Store o) c st h = absurd (none_some st h)
+  pure_does (ir.Store o) c st h = absurd (none-some st h)
   pure_does (ir.LoadAt o n) c st h = one_does (element c.priv o n) c c.stack st h
-  pure_does (ir.StoreAt o n) c st h = absurd (none_some st h)
+  pure_does (ir.StoreAt o n) c st h = absurd (none-some st h)
   pure_does (ir.Op f) c st h = operator_does f c st h
-  pure_does (ir.Jump p) c st h = absurd (none_some st h)
-  pure_does (ir.JumpZero p) c st h = absurd (none_some st h)
-  pure_does (ir.Packet k) c st h = absurd (none_some st h)
-  pure_does ir.Drop c st h = absurd (none_some st h)
-  pure_does ir.Emit c st h = absurd (none_some st h)
-  pure_does ir.Stop c st h = absurd (none_some st h)
+  pure_does (ir.Jump p) c st h = absurd (none-some st h)
+  pure_does (ir.JumpZero p) c st h = absurd (none-some st h)
+  pure_does (ir.Packet k) c st h = absurd (none-some st h)
+  pure_does ir.Drop c st h = absurd (none-some st h)
+  pure_does ir.Emit c st h = absurd (none-some st h)
+  pure_does ir.Stop c st h = absurd (none-some st h)
   pure_does (ir.Saved r) c st h = saved_does (is_saved r) c (saved c r) st h
-  pure_does ir.Inside c st h = absurd (none_some st h)
+  pure_does ir.Inside c st h = absurd (none-some st h)
   pure_does (ir.Meets r n) c st h = saved_does (is_saved r) c (truth (is_bad_window s (saved c r) n)) st h
-  pure_does (ir.CopyIn n o) c st h = absurd (none_some st h)
-  pure_does (ir.CopyOut n o) c st h = absurd (none_some st h)
-  pure_does (ir.Seal k x hn b bn) c st h = absurd (none_some st h)
-  pure_does (ir.Open k x hn b bn) c st h = absurd (none_some st h)
-  pure_does (ir.SetEnd k) c st h = absurd (none_some st h)
-  pure_does ir.Sense c st h = absurd (none_some st h)
-  pure_does (ir.Handler x) c st h = absurd (none_some st h)
-  pure_does ir.Leave c st h = absurd (none_some st h)
+  pure_does (ir.CopyIn n o) c st h = absurd (none-some st h)
+  pure_does (ir.CopyOut n o) c st h = absurd (none-some st h)
+  pure_does (ir.Seal k x hn b bn) c st h = absurd (none-some st h)
+  pure_does (ir.Open k x hn b bn) c st h = absurd (none-some st h)
+  pure_does (ir.SetEnd k) c st h = absurd (none-some st h)
+  pure_does ir.Sense c st h = absurd (none-some st h)
+  pure_does (ir.Handler x) c st h = absurd (none-some st h)
+  pure_does ir.Leave c st h = absurd (none-some st h)
 
   pub pure_count : (given : ℕ → ℕ) (i : Ir) (priv stack st : List ℕ) → pure_op s priv i stack ≡ Some st
       → handler_count given i ≡ 0
-  pure_count given (ir.Handler x) priv stack st h = absurd (none_some st h)
+  pure_count given (ir.Handler x) priv stack st h = absurd (none-some st h)
   pure_count given i priv stack st h = refl
 
 module _ (s : Setup) (handle : ℕ → Conf → OperationResult) (given : ℕ → ℕ) (code : List Ir) (B : Violation → List Mark → Type 0) (Q : Conf → Type 0) where
@@ -214,7 +209,7 @@ module _ (s : Setup) (handle : ℕ → Conf → OperationResult) (given : ℕ �
       → Runs n (at c p stack)
   runs [] c p q stack st n m a e f le r =
       let g : p ≡ q = omega (arith, f) in
-      let h = some_same stack st e in
+      let h = same_Some stack st e in
       wider n m (at c p stack) (omega (arith, le)) (subst (λ (p : ℕ). Runs m (at c p stack)) (sym g) (subst (λ (st : List ℕ). Runs m (at c q st)) (sym h) r))
   runs (i ∷ ops) c p q stack st n m a e f le r =
       first (pure_op s c.priv i stack) refl e (λ st1 x. runs ops c (p + 1) q st1 st (counts ops + m) m a.1 x (omega (arith, f)) (omega arith) r)
@@ -222,6 +217,6 @@ module _ (s : Setup) (handle : ℕ → Conf → OperationResult) (given : ℕ �
       first : (o : Option (List ℕ)) → pure_op s c.priv i stack ≡ o → after_pure o (pure s c.priv ops) ≡ Some st
           → ((st1 : List ℕ) → pure s c.priv ops st1 ≡ Some st → Runs (counts ops + m) (at c (p + 1) st1))
           → Runs n (at c p stack)
-      first None h x f = absurd (none_some st x)
+      first None h x f = absurd (none-some st x)
       first (Some st1) h x f =
           goes i (at c p stack) (at c (p + 1) st1) n (counts ops + m) a.0 (pure_does s handle i (at c p stack) st1 h) (pure_count s handle given i c.priv stack st1 h) (omega (arith, le)) (f st1 x)

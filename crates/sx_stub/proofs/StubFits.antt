@@ -1,10 +1,9 @@
 -- The stub's bytes.
-use Rattle.std.proofs.Common.{◌≡◌, ℕ, ◌+◌, ◌*◌, ◌≤◌, Bool, true, false, List, [], ◌∷◌, ◌++◌, length, Option, Some, None, arith}
+use Rattle.std.proofs.Common.{ℕ, ◌+◌, ◌*◌, ◌≤◌, Bool, true, false, List, [], ◌∷◌, ◌++◌, length, Option, Some, None, arith}
 use Rattle.std.specs.Prelude.{if◌then◌else◌}
 use Rattle.sx_lang.specs.Tree.{ModuleTree}
 use Rattle.sx_mean.specs.declared.events.End.{End}
 use Rattle.sx_mean.specs.declared.events.SourceEvent.TheVariants as event
-use Rattle.sx_ir.specs.declared.ir.Ir.{Ir}
 use Rattle.sx_ir.specs.declared.ir.Ir.TheVariants as ir
 use Rattle.sx_ir.specs.declared.ir.IrOp.TheVariants as op
 use Rattle.sx_mean.specs.Handlers.{number_of}
@@ -12,10 +11,7 @@ use Rattle.sx_stub.specs.Stub.{Cases, case_of, cases, find_any, open_any, take_r
 use Rattle.sx_stub.specs.Stub.{key_place, found_code, search_code, attest_code, input_code, input_found, sample_code, stub_code, returns}
 use Rattle.sx_stub.specs.Weight.{routine_bytes, StubFits}
 use Rattle.sx_ir.specs.Sizes.{ops_bytes}
-
-ops_append : (xs ys : List Ir) → ops_bytes (xs ++ ys) ≡ ops_bytes xs + ops_bytes ys
-ops_append [] ys = omega arith
-ops_append (x ∷ xs) ys = let e = ops_append xs ys in omega (arith, e)
+use Rattle.sx_ir.proofs.Appended.{ops_bytes-append}
 
 -- this many for each end that has a case
 abbrev all_ends : (End → Bool) → ℕ → List End → ℕ
@@ -26,7 +22,7 @@ cases_bytes : (cs : Cases) (n : ℕ) → ((place k : ℕ) (e : End) → ops_byte
 cases_bytes cs n f place k [] = omega arith
 cases_bytes cs n f place k (e ∷ es) =
     let first = case_of cs place k e in
-    let a = ops_append first (cases cs (place + length first) (k + 1) es) in
+    let a = ops_bytes-append first (cases cs (place + length first) (k + 1) es) in
     let b = one (cs.has e) in
     let c = cases_bytes cs n f (place + length first) (k + 1) es in
     omega (arith, a, b, c)
@@ -71,12 +67,12 @@ stub_fits tree ends few =
     let l6 = attest_code q_attest ++ l7 in
     let l5 = set_key_code q_search q_key ++ l6 in
     let h = handled_bytes (number_of tree (event.Sample 0)) in
-    let a0 = ops_append (sample_code tree 39) l5 in
-    let a1 = ops_append c1 r1 in
-    let a2 = ops_append (input_found tree ends (found + 3)) (key_found ends key) in
+    let a0 = ops_bytes-append (sample_code tree 39) l5 in
+    let a1 = ops_bytes-append c1 r1 in
+    let a2 = ops_bytes-append (input_found tree ends (found + 3)) (key_found ends key) in
     let b1 = cases_bytes (find_any found) 8 (λ p k e. omega arith) q_search 0 ends in
     let b2 = cases_bytes (take_receiving tree) 120 (take_bytes tree) (found + 3 + 41) 0 ends in
     let b3 = cases_bytes open_any 20 (λ p k e. omega arith) (key + 29) 0 ends in
     let t = sum_ends ends in
-    let z = ops_append (stub_code tree ends) (returns 5) in
+    let z = ops_bytes-append (stub_code tree ends) (returns 5) in
     omega (arith, few, h, a0, a1, a2, b1, b2, b3, t, z)

@@ -2,7 +2,7 @@
 use Rattle.std.proofs.Common.{◌≡◌, ℕ, zero, suc, ◌+◌, ◌-◌, ◌%◌, ◌<◌, ◌≤◌, Bool, true, false, ◌&&◌, ◌||◌, not, ◌==◌, List, [], ◌∷◌, ◌++◌, length, Option, Some}
 use Rattle.std.proofs.Common.{None, refl, sym, ap, ◌∙◌, subst, arith, ⊎_elim}
 use Rattle.std.specs.Prelude.{slice_get, if◌then◌else◌, nat_lt, bit_and}
-use Rattle.std.proofs.lemmas.Bool.{false≢true, true≢false, eqb-false, eqb-true, eq-eqb, lt-ltb, cases_lt}
+use Rattle.std.proofs.lemmas.Bool.{false≢true, true≢false, eqb-false, eqb-true, eq-eqb, lt-ltb, cases_lt, or_parts}
 use Rattle.sx_lang.specs.declared.tree.DeviceKind.{DeviceKind}
 use Rattle.sx_lang.specs.declared.tree.DeviceKind.TheVariants.{Sensor, Actuator}
 use Rattle.sx_mean.specs.Application.{declared_kind}
@@ -36,6 +36,7 @@ use Rattle.sx_stub.proofs.SetKey.{set_key_does}
 use Rattle.sx_stub.proofs.Input.{input_does}
 use Rattle.sx_stub.proofs.Sample.{sample_does}
 use Rattle.sx_lists.specs.Truth.{truth}
+use Rattle.sx_lists.proofs.Truths.{and_not}
 
 -- the first operations of a code stand in it
 pub stands_at : (code ops : List Ir) (k : ℕ) → ((i : ℕ) → i < length ops → slice_get code (k + i) ≡ slice_get ops i)
@@ -48,11 +49,6 @@ sensor_kind : (o : Option DeviceKind) → is_sensor_driver o ≡ true → o ≡ 
 sensor_kind None h = absurd (false≢true h)
 sensor_kind (Some Sensor) h = refl
 sensor_kind (Some Actuator) h = absurd (false≢true h)
-
-and_not : (a b : Bool) → (a && not b) ≡ false → a ≡ true → b ≡ true
-and_not true true h e = refl
-and_not true false h e = absurd (true≢false h)
-and_not false b h e = absurd (false≢true e)
 
 below_four : (n : ℕ) → nat_lt 3 n ≡ false → n ≤ 3
 below_four n h = ⊎_elim (λ (p : 3 < n). absurd (true≢false (sym (lt-ltb 3 n p) ∙ h))) (λ (p : n ≤ 3). p) (cases_lt 3 n)
@@ -131,10 +127,6 @@ module _ (s : Setup) (call : Call) (p : Progress) (handle : ℕ → Conf → Ope
       let drives : Drives p.devices kind.Sensor s.section.layout = subst (λ (x : Option DeviceKind). HasDevices p.devices x s.section.layout) sensor b.devices in
       sample_does s call handle given code p c b.shows b.pieces b.back outside sensor drives b.samples cost does 39 (cost + 2780) (at_front code 39 (sample_code s.tree 39) l5 a4) (omega arith))))
     where
-      or_parts : (x y : Bool) → (x || y) ≡ false → (x ≡ false) × (y ≡ false)
-      or_parts true y h = absurd (true≢false h)
-      or_parts false y h = (refl, h)
-
       three_left : (n : ℕ) → n ≤ 3 → (n ≡ 0 → ⊥) → (n ≡ 1 → ⊥) → (n ≡ 2 → ⊥) → n ≡ 3
       three_left n le a b c = omega (arith, le, a, b, c)
 

@@ -18,12 +18,12 @@ xor_bytes_twice (b ∷ bytes) (s ∷ stream) h =
     ap (λ (n : ℕ). n ∷ xor_bytes (xor_bytes bytes stream) stream) (xor_twice b s)
     ∙ ap (λ (rest : List ℕ). b ∷ rest) (xor_bytes_twice bytes stream (omega arith))
 
-length-xor_bytes : (bytes stream : List ℕ) → length bytes ≤ length stream → length (xor_bytes bytes stream) ≡ length bytes
+pub length-xor_bytes : (bytes stream : List ℕ) → length bytes ≤ length stream → length (xor_bytes bytes stream) ≡ length bytes
 length-xor_bytes [] stream h = refl
 length-xor_bytes (b ∷ bytes) [] h = absurd (omega arith)
 length-xor_bytes (b ∷ bytes) (s ∷ stream) h = ap (λ (n : ℕ). suc n) (length-xor_bytes bytes stream (omega arith))
 
-length-crypt : (mac : Mac) (key ad bytes : List ℕ) → GivesTags mac → length bytes ≤ 32 → length (crypt mac key ad bytes) ≡ length bytes
+pub length-crypt : (mac : Mac) (key ad bytes : List ℕ) → GivesTags mac → length bytes ≤ 32 → length (crypt mac key ad bytes) ≡ length bytes
 unfolding crypt
 length-crypt mac key ad bytes gives h =
     length-xor_bytes bytes (stream mac key ad) (omega (arith, gives key (0x53 ∷ length ad ∷ (ad ++ 0 ∷ []))))
@@ -35,7 +35,7 @@ padded-crypt mac key ad bytes gives h =
     ap (λ (rest : List ℕ). crypt mac key ad bytes ++ rest)
     (drop-replicate (length bytes) 32 0 ∙ ap (λ (n : ℕ). replicate (32 - n) 0) (sym (length-crypt mac key ad bytes gives h)))
 
-crypt-crypt : (mac : Mac) (key ad body : List ℕ) → GivesTags mac → length body ≤ 32 → crypt mac key ad (crypt mac key ad body) ≡ body
+pub crypt-crypt : (mac : Mac) (key ad body : List ℕ) → GivesTags mac → length body ≤ 32 → crypt mac key ad (crypt mac key ad body) ≡ body
 unfolding crypt
 crypt-crypt mac key ad body gives h =
     xor_bytes_twice body (stream mac key ad) (omega (arith, gives key (0x53 ∷ length ad ∷ (ad ++ 0 ∷ []))))

@@ -7,8 +7,8 @@ use Rattle.std.proofs.lemmas.Bool.Decides.{nat_tests}
 use Rattle.std.proofs.lemmas.List.{append-nil, take_at, drop_at, drop-drop}
 use Rattle.std.proofs.lemmas.List.Folds.{list_all-append}
 use Rattle.std.proofs.lemmas.Fmt.{decimal_by_steps_wide}
+use Rattle.std.proofs.lemmas.Bool.{and_parts}
 use Rattle.sx_trace.specs.Finding.{is_space, cut_at, cut, with_digit, with_digits, number_of, up_to, ◌>>=◌}
-use Rattle.sx_lists.proofs.Truths.{and_true}
 
 abbrev pub is_plain : ℕ → Bool
 is_plain b = not (is_space b)
@@ -20,14 +20,14 @@ is_word w = list_all is_plain w
 before_space : (w rest : List ℕ) → is_word w ≡ true → position_or_len is_space (w ++ 32 ∷ rest) ≡ length w
 before_space [] rest h = refl
 before_space (b ∷ bs) rest h =
-    let both = and_true (is_plain b) (is_word bs) h in
+    let both = and_parts (is_plain b) (is_word bs) h in
     let more : 1 + position_or_len is_space (bs ++ 32 ∷ rest) ≡ suc (length bs) = let e = before_space bs rest both.1 in omega (arith, e) in
     rw both.0 more
 
 no_space : (w : List ℕ) → is_word w ≡ true → position_or_len is_space w ≡ length w
 no_space [] h = refl
 no_space (b ∷ bs) h =
-    let both = and_true (is_plain b) (is_word bs) h in
+    let both = and_parts (is_plain b) (is_word bs) h in
     let more : 1 + position_or_len is_space bs ≡ suc (length bs) = let e = no_space bs both.1 in omega (arith, e) in
     rw both.0 more
 

@@ -4,35 +4,35 @@ use Rattle.std.specs.List.{list_all, position_or_len}
 use Rattle.std.specs.Str.{bytes_eq}
 use Rattle.std.proofs.lemmas.Bool.Decides.{nat_tests}
 use Rattle.std.proofs.lemmas.Slice.Eq.{bytes_eq-Decides}
+use Rattle.std.proofs.lemmas.Bool.{and_parts, or_parts, not-true}
 use Rattle.sx_trace.specs.Names.{NameLists, deployer, place_of}
 use Rattle.sx_trace.specs.ValidNames.{are_valid, are_names, has_name, no_repeat}
 use Rattle.sx_lang.specs.Form.{is_lower, is_name, is_name_byte}
 use Rattle.sx_trace.specs.Items.{name_at}
 use Rattle.sx_trace.proofs.Cut.{is_plain, is_word}
-use Rattle.sx_lists.proofs.Truths.{and_true, or_false, not_true}
 use Rattle.sx_lists.proofs.Texts.{bytes_eq-same, bytes_eq-sym}
 
 -- a name in a list that has another name nowhere is another one
 pub others : (names : List (List ℕ)) (name : List ℕ) (i : ℕ) → has_name names name ≡ false → i < length names → bytes_eq (name_at names i) name ≡ false
 others [] name i h lt = absurd (omega arith)
-others (x ∷ xs) name zero h lt = (or_false (bytes_eq x name) (has_name xs name) h).0
-others (x ∷ xs) name (suc i) h lt = others xs name i (or_false (bytes_eq x name) (has_name xs name) h).1 (omega arith)
+others (x ∷ xs) name zero h lt = (or_parts (bytes_eq x name) (has_name xs name) h).0
+others (x ∷ xs) name (suc i) h lt = others xs name i (or_parts (bytes_eq x name) (has_name xs name) h).1 (omega arith)
 
 place : (names : List (List ℕ)) (i : ℕ) → no_repeat names ≡ true → i < length names → position_or_len (λ x. bytes_eq x (name_at names i)) names ≡ i
 place [] i h lt = absurd (omega arith)
 place (x ∷ xs) zero h lt = rw (bytes_eq-same x) refl
 place (x ∷ xs) (suc i) h lt =
-    let both = and_true (not (has_name xs x)) (no_repeat xs) h in
+    let both = and_parts (not (has_name xs x)) (no_repeat xs) h in
     let differs : bytes_eq x (name_at xs i) ≡ false =
-    bytes_eq-sym x (name_at xs i) ∙ others xs x i (not_true (has_name xs x) both.0) (omega arith) in
+    bytes_eq-sym x (name_at xs i) ∙ others xs x i (not-true (has_name xs x) both.0) (omega arith) in
     let later = place xs i both.1 (omega arith) in
     let more : 1 + position_or_len (λ x. bytes_eq x (name_at xs i)) xs ≡ suc i = omega (arith, later) in
     rw differs more
 
 form : (names : List (List ℕ)) (i : ℕ) → list_all is_name names ≡ true → i < length names → is_name (name_at names i) ≡ true
 form [] i h lt = absurd (omega arith)
-form (x ∷ xs) zero h lt = (and_true (is_name x) (list_all is_name xs) h).0
-form (x ∷ xs) (suc i) h lt = form xs i (and_true (is_name x) (list_all is_name xs) h).1 (omega arith)
+form (x ∷ xs) zero h lt = (and_parts (is_name x) (list_all is_name xs) h).0
+form (x ∷ xs) (suc i) h lt = form xs i (and_parts (is_name x) (list_all is_name xs) h).1 (omega arith)
 
 plain : (b : ℕ) → is_name_byte b ≡ true → is_plain b ≡ true
 plain b h = by_test (b == 32) refl
@@ -47,7 +47,7 @@ plain b h = by_test (b == 32) refl
 all_plain : (w : List ℕ) → list_all is_name_byte w ≡ true → is_word w ≡ true
 all_plain [] h = refl
 all_plain (b ∷ bs) h =
-    let both = and_true (is_name_byte b) (list_all is_name_byte bs) h in
+    let both = and_parts (is_name_byte b) (list_all is_name_byte bs) h in
     rw (plain b both.0) (all_plain bs both.1)
 
 pub lower_byte : (b : ℕ) → is_lower b ≡ true → is_name_byte b ≡ true
@@ -57,8 +57,8 @@ lower_byte b h = rw h refl
 form_word : (w : List ℕ) → is_name w ≡ true → is_word w ≡ true
 form_word [] h = absurd (cc)
 form_word (b ∷ bs) h =
-    let first = and_true (is_lower b) (list_all is_name_byte bs && nat_le (length bs) 15) h in
-    let rest = and_true (list_all is_name_byte bs) (nat_le (length bs) 15) first.1 in
+    let first = and_parts (is_lower b) (list_all is_name_byte bs && nat_le (length bs) 15) h in
+    let rest = and_parts (list_all is_name_byte bs) (nat_le (length bs) 15) first.1 in
     rw (plain b (lower_byte b first.0)) (all_plain bs rest.0)
 
 -- the name at an index stands there first, has a name's form, is a word, and isn't `-`
@@ -80,8 +80,8 @@ dash w h = by_test (bytes_eq w (codes "-")) refl
 
 known : (most : ℕ) (names : List (List ℕ)) (i : ℕ) → are_names most names ≡ true → i < length names → Known names i
 known most names i h lt =
-    let all = and_true (nat_le (length names) most) _ h in
-    let rest = and_true (list_all is_name names) (no_repeat names) all.1 in
+    let all = and_parts (nat_le (length names) most) _ h in
+    let rest = and_parts (list_all is_name names) (no_repeat names) all.1 in
     let at = place names i rest.1 lt in
     let within : nat_lt i (length names) ≡ true = grind (arith, nat_tests) in
     let formed = form names i rest.0 lt in
@@ -89,24 +89,24 @@ known most names i h lt =
 
 pub known_node : (n : NameLists) (i : ℕ) → IsTrue (are_valid n) → i < length n.nodes → Known n.nodes i
 unfolding are_valid
-known_node n i h lt = known 16 n.nodes i (and_true _ _ (and_true (are_names 16 n.nodes && are_names 32 n.devices) _ h).0).0 lt
+known_node n i h lt = known 16 n.nodes i (and_parts _ _ (and_parts (are_names 16 n.nodes && are_names 32 n.devices) _ h).0).0 lt
 
 pub known_device : (n : NameLists) (i : ℕ) → IsTrue (are_valid n) → i < length n.devices → Known n.devices i
 unfolding are_valid
-known_device n i h lt = known 32 n.devices i (and_true (are_names 16 n.nodes) _ (and_true (are_names 16 n.nodes && are_names 32 n.devices) _ h).0).1 lt
+known_device n i h lt = known 32 n.devices i (and_parts (are_names 16 n.nodes) _ (and_parts (are_names 16 n.nodes && are_names 32 n.devices) _ h).0).1 lt
 
 behind : (n : NameLists) → IsTrue (are_valid n) → ((are_names 32 n.modules && are_names 64 n.links) ≡ true) × (not (has_name n.modules deployer) ≡ true)
 unfolding are_valid
 behind n h =
-    let rest = and_true (are_names 32 n.modules && are_names 64 n.links) _ (and_true (are_names 16 n.nodes && are_names 32 n.devices) _ h).1 in
-    (rest.0, (and_true (not (has_name n.modules deployer)) _ rest.1).0)
+    let rest = and_parts (are_names 32 n.modules && are_names 64 n.links) _ (and_parts (are_names 16 n.nodes && are_names 32 n.devices) _ h).1 in
+    (rest.0, (and_parts (not (has_name n.modules deployer)) _ rest.1).0)
 
 pub known_module : (n : NameLists) (i : ℕ) → IsTrue (are_valid n) → i < length n.modules → Known n.modules i
-known_module n i h lt = known 32 n.modules i (and_true (are_names 32 n.modules) _ (behind n h).0).0 lt
+known_module n i h lt = known 32 n.modules i (and_parts (are_names 32 n.modules) _ (behind n h).0).0 lt
 
 pub known_link : (n : NameLists) (i : ℕ) → IsTrue (are_valid n) → i < length n.links → Known n.links i
-known_link n i h lt = known 64 n.links i (and_true (are_names 32 n.modules) _ (behind n h).0).1 lt
+known_link n i h lt = known 64 n.links i (and_parts (are_names 32 n.modules) _ (behind n h).0).1 lt
 
 -- no module is the deployer
 pub no_deployer : (n : NameLists) (i : ℕ) → IsTrue (are_valid n) → i < length n.modules → bytes_eq (name_at n.modules i) deployer ≡ false
-no_deployer n i h lt = others n.modules deployer i (not_true _ (behind n h).1) lt
+no_deployer n i h lt = others n.modules deployer i (not-true _ (behind n h).1) lt

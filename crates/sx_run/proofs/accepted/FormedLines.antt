@@ -17,7 +17,7 @@ use Rattle.sx_run.specs.Setting.{Site}
 use Rattle.sx_run.specs.Accepted.{setting}
 use Rattle.sx_run.specs.AcceptedLaw.{AreLines}
 
-sensor_at : (ds : List AppDevice) (d : ℕ) → slice_get (map (λ (x : AppDevice). is_sensor x.kind) ds) d ≡ Some true → kind_is is_sensor (slice_get ds d) ≡ true
+pub sensor_at : (ds : List AppDevice) (d : ℕ) → slice_get (map (λ (x : AppDevice). is_sensor x.kind) ds) d ≡ Some true → kind_is is_sensor (slice_get ds d) ≡ true
 sensor_at [] d e = absurd cc
 sensor_at (x ∷ ds) zero e = by_kind x.kind (some_inj _ true e)
   where

@@ -1,10 +1,10 @@
 -- An accepted deployment, with images that realize its modules, is sound as the setting of a run.
-use Rattle.std.proofs.Common.{◌≡◌, ℕ, zero, suc, ◌+◌, ◌-◌, ◌%◌, ◌<◌, ◌≤◌, ◌==◌, ◌&&◌, ◌||◌, ◌⊎◌}
-use Rattle.std.proofs.Common.{inl, inr, nat_le, Bool, true, false, if◌then◌else◌, List, [], ◌∷◌}
+use Rattle.std.proofs.Common.{◌≡◌, ℕ, zero, suc, ◌+◌, ◌-◌, ◌%◌, ◌<◌, ◌≤◌, ◌==◌, ◌&&◌, ◌⊎◌}
+use Rattle.std.proofs.Common.{inl, inr, nat_le, true, false, if◌then◌else◌, List, [], ◌∷◌}
 use Rattle.std.proofs.Common.{length, Option, Some, None, IfSome, IsSome, refl, sym, ◌∙◌, ap, subst}
 use Rattle.std.proofs.Common.{arith}
 use Rattle.std.specs.Prelude.{slice_get}
-use Rattle.std.proofs.lemmas.Bool.{and_parts, eqb-true, eq-eqb, lt-ltb, le-leb, cases_lt}
+use Rattle.std.proofs.lemmas.Bool.{and_parts, eqb-true, eq-eqb, lt-ltb, le-leb, cases_lt, or_right}
 use Rattle.std.proofs.lemmas.Bool.Decides.{nat_tests}
 use Rattle.sx_lang.specs.declared.tree.DeviceKind.{DeviceKind}
 use Rattle.sx_lang.specs.declared.tree.DeviceKind.TheVariants.{Sensor, Actuator}
@@ -43,11 +43,7 @@ Off a b c e = (b ≤ c) ⊎ (e ≤ a)
 
 apart_true : (a b c e : ℕ) → Off a b c e → apart a b c e ≡ true
 apart_true a b c e (inl h) = rw (le-leb b c h) refl
-apart_true a b c e (inr h) = right (nat_le b c) (le-leb e a h)
-  where
-    right : (x : Bool) {y : Bool} → y ≡ true → (x || y) ≡ true
-    right true h = refl
-    right false h = h
+apart_true a b c e (inr h) = or_right (nat_le b c) _ (le-leb e a h)
 
 turned : (a b c e : ℕ) → Off a b c e → Off c e a b
 turned a b c e (inl h) = inr h

@@ -1,20 +1,19 @@
 -- A node's windows: each device of the node is one, and is found at its place.
-use Rattle.std.proofs.Common.{◌≡◌, ℕ, zero, suc, ◌+◌, ◌%◌, ◌<◌, ◌≤◌, ◌==◌, ◌&&◌, inl, inr, nat_lt}
-use Rattle.std.proofs.Common.{nat_le, Bool, true, false, if◌then◌else◌, List, [], ◌∷◌, length, map}
+use Rattle.std.proofs.Common.{◌≡◌, ℕ, zero, suc, ◌+◌, ◌%◌, ◌<◌, ◌≤◌, ◌==◌, ◌&&◌, nat_lt}
+use Rattle.std.proofs.Common.{nat_le, Bool, true, false, if◌then◌else◌, List, [], ◌∷◌}
 use Rattle.std.proofs.Common.{get_or, Option, Some, None, refl, sym, ◌∙◌, ap, subst, arith}
 use Rattle.std.specs.Prelude.{slice_get}
-use Rattle.std.proofs.lemmas.Bool.{and_parts, eq-eqb, cases_lt}
+use Rattle.std.proofs.lemmas.Bool.{and_parts, eq-eqb}
 use Rattle.std.proofs.lemmas.Bool.Decides.{nat_tests}
-use Rattle.std.proofs.lemmas.List.{length-map}
 use Rattle.std.proofs.lemmas.Option.{get_or_from_slice_get, slice_get-map}
 use Rattle.sx_mean.specs.declared.apps.AppDevice.{AppDevice}
 use Rattle.sx_bus.specs.declared.devices.Kind.{Kind}
 use Rattle.sx_bus.specs.declared.devices.Window.{Window}
-use Rattle.sx_bus.specs.Devices.{ArePlaces, places_of, on_word, device_at}
+use Rattle.sx_bus.specs.Devices.{places_of, on_word, device_at}
 use Rattle.sx_machine.specs.Run.{device_of, found}
 use Rattle.sx_machine.proofs.Devices.{position_is}
 use Rattle.sx_run.specs.Setting.{devices_at, windows_at, kind_of}
-use Rattle.sx_run.proofs.tie.Lists.{some_inj, get_within}
+use Rattle.sx_run.proofs.tie.Lists.{some_inj}
 use Rattle.sx_run.proofs.tie.Tied.{shapes}
 use Rattle.sx_run.proofs.steps.Foreign.{position_some}
 
@@ -25,21 +24,6 @@ pub record AreSpaced (ws : List Window) : Type 0 where
 
 place_at : (ws : List Window) (k : ℕ) (w : Window) → slice_get ws k ≡ Some w → get_or (places_of ws) k 0 ≡ w.at
 place_at ws k w e = get_or_from_slice_get (places_of ws) k w.at 0 (slice_get-map (λ (w : Window). w.at) ws k ∙ ap (λ o. Rattle.std.specs.Prelude.option_map (λ (w : Window). w.at) o) e)
-
-pub are_spaced : (ws : List Window) → ArePlaces (places_of ws) → AreSpaced ws
-are_spaced ws h = record {
-  even = λ k w e. subst (λ p. p % 2 ≡ 0) (place_at ws k w e) (h.even k 0 (within k w e));
-  apart = λ j k v w ej ek same. elim (cases_lt j k) [
-    | inl lt ↦ absurd (h.distinct j k 0 lt (within k w ek) (place_at ws j v ej ∙ same ∙ sym (place_at ws k w ek)))
-    | inr ge ↦ elim (cases_lt k j) [
-      | inl lt ↦ absurd (h.distinct k j 0 lt (within j v ej) (place_at ws k w ek ∙ sym same ∙ sym (place_at ws j v ej)))
-      | inr ge2 ↦ omega (arith, ge, ge2)
-    ]
-  ];
-}
-  where
-    within : (k : ℕ) (w : Window) → slice_get ws k ≡ Some w → k < length (places_of ws)
-    within k w e = omega (arith, get_within ws k w e, length-map ws (λ (w : Window). w.at))
 
 on_own : (at : ℕ) (w : Window) → w.at ≡ at → on_word at w ≡ true
 on_own at w e = subst (λ p. (nat_le w.at p && nat_lt p (w.at + 2)) ≡ true) e (self w.at)
@@ -95,7 +79,3 @@ pub shape_window : (ws : List Window) (k : ℕ) (p : ℕ × Kind) → slice_get 
 shape_window [] k p e = absurd cc
 shape_window (w ∷ ws) zero p e = (w, refl, ap (λ (p : ℕ × Kind). p.0) (some_inj (w.at, w.kind) p e), ap (λ (p : ℕ × Kind). p.1) (some_inj (w.at, w.kind) p e))
 shape_window (w ∷ ws) (suc k) p e = shape_window ws k p e
-
-pub places_shapes : (ws : List Window) → places_of ws ≡ map (λ (p : ℕ × Kind). p.0) (shapes ws)
-places_shapes [] = refl
-places_shapes (w ∷ ws) = ap (λ r. w.at ∷ r) (places_shapes ws)

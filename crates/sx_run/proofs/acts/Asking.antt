@@ -3,7 +3,8 @@ use Rattle.std.proofs.Common.{◌≡◌, ◌≢◌, ℕ, zero, suc, ◌+◌, ◌
 use Rattle.std.proofs.Common.{inr, ◌==◌, Bool, true, false, if◌then◌else◌, List, [], ◌∷◌, ◌++◌}
 use Rattle.std.proofs.Common.{length, Option, Some, None, refl, sym, ◌∙◌, ap, subst, arith}
 use Rattle.std.specs.Prelude.{slice_get, slice_set, slice_index, is_some}
-use Rattle.std.proofs.lemmas.Bool.{and_parts, cases_eq}
+use Rattle.std.proofs.lemmas.Bool.{and_parts, cases_eq, eq-eqb}
+use Rattle.std.proofs.lemmas.Option.{none-some}
 use Rattle.sx_lang.specs.declared.sides.Side.TheVariants.{From, To}
 use Rattle.sx_mean.specs.declared.events.End.{End}
 use Rattle.sx_trace.specs.declared.items.Item.{Item}
@@ -28,7 +29,6 @@ use Rattle.sx_run.specs.Acts.{then_, new_packet, with_deployer, ask, key_given, 
 use Rattle.sx_run.specs.Run.{line_counted}
 use Rattle.sx_run.proofs.tie.Lists.{get_other, get_some, get_within, length_set, some_inj}
 use Rattle.sx_run.proofs.tie.Entries.{made_behind}
-use Rattle.sx_run.proofs.tie.Unique.{eq_refl}
 use Rattle.sx_run.proofs.acts.Renewal.{renewed_grows, renewed_long, renewed_small, later_boot, higher_epoch, from_end, to_end}
 use Rattle.sx_run.proofs.tie.Verdicts.{Going, judge, Fares, fares_then}
 use Rattle.sx_run.proofs.tie.Tied.{KnownKey, Known, HasEnd, asked_as, DeployerTied, IsTimely, HasSent, IsSane, ModuleTied, Absent, Rests, Runs, Tied}
@@ -297,7 +297,7 @@ module _ (set : Setting) (w : World) (mo : Model) (m : ℕ) (x : Standing) (t : 
 
   -- an ask
   pub asked_step : (a : ℕ) → a ≡ mo.asks → asked_of mo m a ≡ Some (model_with (with_asked a) mo.epochs (mo.asks + 1))
-  asked_step a e = rw (there, e, eq_refl mo.asks) refl
+  asked_step a e = rw (there, e, eq-eqb mo.asks mo.asks refl) refl
 
   asked_fares : (lines : w.lines < 65536) → Fares (judge set.app mo (ask (line_counted w) m).items) (Tied set (ask (line_counted w) m).world)
   asked_fares lines =
@@ -486,9 +486,6 @@ module _ (set : Setting) (w : World) (mo : Model) (m : ℕ) (site : Site) (boot 
       → Fares (judge set.app mo1 rest) good → Fares (judge set.app mo (item.Attested m2 b ∷ rest)) good
   head_fares m2 b mo1 rest good e f = rw e f
 
-  none_some : (b : ℕ) → ◌≡◌ {A = Option ℕ} None (Some b) → ⊥
-  none_some b e = cc
-
   accepted_fares : (ask : List ℕ) (x : Standing) (a : ℕ) (last : Option ℕ) → slice_get mo.modules m ≡ Some x
       → last ≡ boot_of x.attested → may_attest m set.app.links w.deployer.epochs last boot ≡ true → x.asked ≡ Some a → ask ≡ ask_packet a
       → Fares (judge set.app mo (attested set w m boot ask last).items) (Tied set (attested set w m boot ask last).world)
@@ -534,7 +531,7 @@ module _ (set : Setting) (w : World) (mo : Model) (m : ℕ) (site : Site) (boot 
       (length_set w.deployer.open_asks m None ∙ t.size.asks) (length_set w.deployer.attested m (Some boot) ∙ t.size.attested)
       (renewed_long m set.app.links last w.deployer.epochs ∙ ap length t.epochs ∙ t.size.epochs)
       t.few t.short (omega (arith, t.asks))
-      (λ b e. absurd (none_some b e))
+      (λ b e. absurd (none-some b e))
       (λ o at ok tk. record {
         when_attested = some_inj at (Some boot) (sym tk ∙ get_same w.deployer.attested m (Some boot) room.0 room.1);
         open_ask = some_inj o None (sym ok ∙ get_same w.deployer.open_asks m None room2.0 room2.1);

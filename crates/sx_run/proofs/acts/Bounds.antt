@@ -74,7 +74,7 @@ ends_few (l ∷ ls) n p = two (l.from == p) (l.to == p) (ends_after (n + 1) p ls
     two false true es h = omega (arith, h)
     two false false es h = omega (arith, h)
 
-own_few : (epochs : List ℕ) (m boot : ℕ) (es : List End) → length (grants_of epochs m boot es) ≡ length es
+pub own_few : (epochs : List ℕ) (m boot : ℕ) (es : List End) → length (grants_of epochs m boot es) ≡ length es
 own_few epochs m boot [] = refl
 own_few epochs m boot (e ∷ es) = ap suc (own_few epochs m boot es)
 

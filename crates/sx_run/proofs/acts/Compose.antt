@@ -6,8 +6,6 @@ use Rattle.sx_trace.specs.declared.items.Item.TheVariants as item
 use Rattle.sx_trace.specs.declared.items.Cause.TheVariants.{Asked}
 use Rattle.sx_sched.specs.Lines.{Line, Blank, Run, Finish, Put, Set, Take, Give, Forge, Sense, Irq, Reset, Ask, Answer, Load, Call}
 use Rattle.sx_mean.specs.declared.apps.AppDevice.{AppDevice}
-use Rattle.sx_machine.specs.declared.kinds.Refused.{Refused}
-use Rattle.sx_machine.specs.declared.kinds.Refused.TheVariants.{Busy, Guarded, Masked}
 use Rattle.sx_machine.specs.State.{State, reset as restarted}
 use Rattle.sx_mean.specs.Application.{is_sensor}
 use Rattle.sx_model.specs.State.{power_on, Model}
@@ -17,7 +15,7 @@ use Rattle.sx_model.specs.Step.{kind_is}
 use Rattle.sx_model.specs.Legal.{Legal, before}
 use Rattle.sx_run.specs.Setting.{Site, Setting}
 use Rattle.sx_run.specs.State.{World, Acted, switched_on}
-use Rattle.sx_run.specs.Acts.{only, then_, with_node, at_node, after_step, refused_item, done_on, new_packet, after_take, after_interrupt, ask as asks, after_answer}
+use Rattle.sx_run.specs.Acts.{only, then_, with_node, at_node, after_step, done_on, new_packet, after_take, after_interrupt, ask as asks, after_answer}
 use Rattle.sx_run.specs.Run.{is_reset, steps_of, FINISH_STEPS, finish, put_on, set_on, give}
 use Rattle.sx_run.specs.Run.{place_at, sense_at, put_pieces, Register, set_all, register}
 use Rattle.sx_run.specs.Run.{unless_busy, load, call, after_line, line_counted, run}
@@ -47,11 +45,6 @@ pub record ActsKeep (set : Setting) : Type 0 where
 module _ (set : Setting) (keep : ActsKeep set) where
   keeps_nothing : (w : World) → Keeps set w (only w [])
   keeps_nothing w mo t = t
-
-  keeps_refused : (w : World) (n : ℕ) (why : Refused) → Keeps set w (only w (refused_item n why ∷ []))
-  keeps_refused w n Busy mo t = t
-  keeps_refused w n Guarded mo t = t
-  keeps_refused w n Masked mo t = t
 
   keeps_then : (w : World) (a : Acted) (rest : World → Acted) → Keeps set w a → Keeps set a.world (rest a.world) → Keeps set w (then_ a rest)
   keeps_then w a rest f g mo t = fares_then set.app mo a.items (rest a.world).items (Tied set a.world) (Tied set (rest a.world).world) (f mo t) g

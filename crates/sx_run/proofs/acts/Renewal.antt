@@ -4,7 +4,7 @@ use Rattle.std.proofs.Common.{true, false, if◌then◌else◌, List, [], ◌∷
 use Rattle.std.proofs.Common.{refl, sym, ◌∙◌, ap, subst, arith}
 use Rattle.std.specs.Prelude.{slice_get, slice_index, nat_lt, nat_le}
 use Rattle.std.specs.List.{cons_option}
-use Rattle.std.proofs.lemmas.Bool.{true≢false, and_parts, or_left, or_parts, ltb-true, not-true}
+use Rattle.std.proofs.lemmas.Bool.{true≢false, and_parts, or_left, or_parts, ltb-true, not-true, eq-eqb}
 use Rattle.sx_lang.specs.declared.sides.Side.TheVariants.{From, To}
 use Rattle.sx_mean.specs.declared.apps.Link.{Link}
 use Rattle.sx_mean.specs.declared.events.End.{End}
@@ -13,7 +13,6 @@ use Rattle.sx_mean.specs.Ends.{receiving, ends_after, ends_of}
 use Rattle.sx_model.specs.State.{Attestation}
 use Rattle.sx_model.specs.Renewal.{is_of, raised_epochs, is_spent, may_attest, boot_of, renewed}
 use Rattle.sx_run.proofs.tie.Lists.{some_inj}
-use Rattle.sx_run.proofs.tie.Unique.{eq_refl}
 use Rattle.sx_run.proofs.tie.Tied.{HasEnd}
 
 head_grows : (b : Bool) (e : ℕ) → e ≤ (if b then e + 1 else e)
@@ -50,7 +49,7 @@ raised_own m (k ∷ ls) (x ∷ es) zero l e h n = subst (λ b. x < (if b then x 
 raised_own m (k ∷ ls) (x ∷ es) (suc c) l e h n = raised_own m ls es c l e h (omega (arith, n))
 
 pub from_is_of : (m : ℕ) (l : Link) → l.from ≡ m → is_of m l ≡ true
-from_is_of m l e = or_left (l.from == m) (l.to == m) (subst (λ z. (l.from == z) ≡ true) e (eq_refl l.from))
+from_is_of m l e = or_left (l.from == m) (l.to == m) (subst (λ z. (l.from == z) ≡ true) e (eq-eqb l.from l.from refl))
 
 head_small : (b : Bool) (e : ℕ) → e ≤ 255 → (b && nat_le 255 e) ≡ false → (if b then e + 1 else e) ≤ 255
 head_small true e h s = let lt = below_top e s in omega (arith, lt)
@@ -91,16 +90,13 @@ tail_end : (b : Bool) (x e : End) (es : List End) → HasEnd es e → HasEnd (co
 tail_end true x e es h = inr h
 tail_end false x e es h = h
 
-to_same : (a m : ℕ) → a ≡ m → (a == m) ≡ true
-to_same a m e = subst (λ z. (a == z) ≡ true) e (eq_refl a)
-
 end_from : (n m : ℕ) (ls : List Link) (k : ℕ) (l : Link) → slice_get ls k ≡ Some l → l.from ≡ m → HasEnd (ends_after n m ls) (record { link = n + k; side = From; port = l.output })
 end_from n m [] k l e own = absurd cc
 end_from n m (x ∷ ls) zero l e own =
     let same = some_inj x l e in
     subst (λ (z : Link). HasEnd (ends_after n m (x ∷ ls)) (record { link = n + 0; side = From; port = z.output })) same
     (subst (λ i. HasEnd (ends_after n m (x ∷ ls)) (record { link = i; side = From; port = x.output })) (omega arith)
-    (head_end (x.from == m) (record { link = n; side = From; port = x.output }) (cons_option (receiving n m x) (ends_after (n + 1) m ls)) (to_same x.from m (ap (λ (z : Link). z.from) same ∙ own))))
+    (head_end (x.from == m) (record { link = n; side = From; port = x.output }) (cons_option (receiving n m x) (ends_after (n + 1) m ls)) (eq-eqb x.from m (ap (λ (z : Link). z.from) same ∙ own))))
 end_from n m (x ∷ ls) (suc k) l e own =
     let rest = ends_after (n + 1) m ls in
     let s : End = record { link = n; side = From; port = x.output } in
@@ -117,7 +113,7 @@ end_to n m (x ∷ ls) zero l e own =
     subst (λ (z : Link). HasEnd (ends_after n m (x ∷ ls)) (record { link = n + 0; side = To; port = z.input })) same
     (subst (λ i. HasEnd (ends_after n m (x ∷ ls)) (record { link = i; side = To; port = x.input })) (omega arith)
     (tail_end (x.from == m) s (record { link = n; side = To; port = x.input }) (cons_option (receiving n m x) (ends_after (n + 1) m ls))
-    (head_end (x.to == m) (record { link = n; side = To; port = x.input }) (ends_after (n + 1) m ls) (to_same x.to m (ap (λ (z : Link). z.to) same ∙ own)))))
+    (head_end (x.to == m) (record { link = n; side = To; port = x.input }) (ends_after (n + 1) m ls) (eq-eqb x.to m (ap (λ (z : Link). z.to) same ∙ own)))))
 end_to n m (x ∷ ls) (suc k) l e own =
     let rest = ends_after (n + 1) m ls in
     let s : End = record { link = n; side = From; port = x.output } in

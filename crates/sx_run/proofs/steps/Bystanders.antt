@@ -12,7 +12,7 @@ use Rattle.sx_bus.specs.declared.devices.Window.{Window}
 use Rattle.sx_bus.specs.Devices.{cleared, stale}
 use Rattle.sx_machine.specs.declared.kinds.Touch.{Touch}
 use Rattle.sx_machine.specs.declared.kinds.Touch.TheVariants as touch
-use Rattle.sx_machine.specs.State.{State, reset}
+use Rattle.sx_machine.specs.State.{State}
 use Rattle.sx_machine.specs.Step.{step, own_of}
 use Rattle.sx_machine.specs.Guard.{PrivateKept}
 use Rattle.sx_machine.proofs.StepGuard.{step_guarded}
@@ -28,7 +28,7 @@ use Rattle.sx_run.proofs.tie.Lists.{get_other, some_inj}
 use Rattle.sx_run.proofs.tie.Tied.{SameState, DeviceTied, ModuleTied, Absent, Rests, Runs, shapes}
 use Rattle.sx_run.proofs.steps.Stretch.{readings_all}
 use Rattle.sx_machine.specs.Touches.{Replays}
-use Rattle.sx_run.proofs.steps.Machine.{MachineLaws, Onward, onward}
+use Rattle.sx_run.proofs.steps.Machine.{MachineLaws, Onward, onward, no_reset}
 use Rattle.sx_machine.proofs.Devices.{cleared_shapes}
 use Rattle.sx_machine.proofs.Meanings.{same_bytes}
 
@@ -68,9 +68,6 @@ bystander set n m q site s x sent laws node quiet same foreign (Rests sec pr p i
       | inl k ↦ subst (λ bs. SameState (ends_of set.app m) (state_of q.tree (ends_of set.app m) bs) pr.cells pr.ends sent) (sym (kept_bytes sec s.mem (step set.mac s).state.mem k.0)) h
       | inr r ↦ absurd (no_reset s (step set.mac s).state on.boot r)
     ])
-  where
-    no_reset : (s t : State) → t.boot ≡ s.boot → t ≡ reset s → ⊥
-    no_reset s t b r = let e = ap (λ (z : State). z.boot) r in absurd (omega (arith, b, e))
 bystander set n m q site s x sent laws node quiet same foreign (Runs sec pr p i c u) = absurd ((foreign sec i.lives i.here).2 c)
 
 -- the same where the step is of other code altogether: sections may come and go
@@ -93,9 +90,6 @@ onlooker set n m q site s x sent laws node quiet after foreign (Rests sec pr p i
           (subst (λ bs. SameState (ends_of set.app m) (state_of q.tree (ends_of set.app m) bs) pr.cells pr.ends sent) (sym (kept_bytes sec s.mem (step set.mac s).state.mem k.0)) h)
       | inr r ↦ absurd (no_reset s (step set.mac s).state on.boot r)
     ]
-  where
-    no_reset : (s t : State) → t.boot ≡ s.boot → t ≡ reset s → ⊥
-    no_reset s t b r = let e = ap (λ (z : State). z.boot) r in absurd (omega (arith, b, e))
 onlooker set n m q site s x sent laws node quiet after foreign (Runs sec pr p i c u) = absurd ((foreign sec i.lives i.here).2 c)
 
 -- two live sections of one layout are one

@@ -40,10 +40,10 @@ use Rattle.sx_machine.proofs.Devices.{device_at_same, window_same, device_of_par
 
 -- Devices of the same places and kinds.
 
-device_of_from : (a : List Window) (at k : ℕ) (w : Window) → device_at a at ≡ Some k → slice_get a k ≡ Some w → device_of a at ≡ Some (k, w)
+pub device_of_from : (a : List Window) (at k : ℕ) (w : Window) → device_at a at ≡ Some k → slice_get a k ≡ Some w → device_of a at ≡ Some (k, w)
 device_of_from a at k w d g = rw (d, g) refl
 
-drives_same : (a b : List Window) (kind : Kind) (l : Layout) → shapes a ≡ shapes b → Drives a kind l → Drives b kind l
+pub drives_same : (a b : List Window) (kind : Kind) (l : Layout) → shapes a ≡ shapes b → Drives a kind l → Drives b kind l
 drives_same a b kind l e h =
     let p = device_of_parts a l.priv_from h.device h.window h.found in
     let v = window_same a b h.device h.window e p.1 in
@@ -56,7 +56,7 @@ drives_same a b kind l e h =
       alone = λ at lo hi. sym (device_at_same a b at e) ∙ h.alone at lo hi;
     }
 
-has_devices_same : (a b : List Window) (kind : Option DeviceKind) (l : Layout) → shapes a ≡ shapes b → HasDevices a kind l → HasDevices b kind l
+pub has_devices_same : (a b : List Window) (kind : Option DeviceKind) (l : Layout) → shapes a ≡ shapes b → HasDevices a kind l → HasDevices b kind l
 has_devices_same a b None l e h = λ at lo hi. sym (device_at_same a b at e) ∙ h at lo hi
 has_devices_same a b (Some declared.Sensor) l e h = drives_same a b _ l e h
 has_devices_same a b (Some declared.Actuator) l e h = drives_same a b _ l e h
@@ -143,7 +143,7 @@ held_by t sec at pl lives nz e =
 
 -- The entry.
 
-quiet_left : (id : ℕ) → ◌≡◌ {A = Rattle.sx_machine.specs.declared.kinds.Event.Event} event.Quiet (event.Left id) → ⊥
+pub quiet_left : (id : ℕ) → ◌≡◌ {A = Rattle.sx_machine.specs.declared.kinds.Event.Event} event.Quiet (event.Left id) → ⊥
 quiet_left id e = cc
 
 module _ (set : Setting) (m : ℕ) (q : PartTree) (site : Site) (s : State) (sec : Section) (boot : ℕ) (deployed : IsDeployedModule set m q site)

@@ -6,6 +6,7 @@ use Rattle.std.specs.Prelude.{slice_get, slice_index_or, nat_lt, count_by}
 use Rattle.std.specs.List.{list_any, find}
 use Rattle.std.proofs.lemmas.List.Sums.{sum_by-cons}
 use Rattle.std.proofs.lemmas.Bool.{true≢false, or_parts, and_cases, not-false, cases_eq, cases_lt, ltb-false}
+use Rattle.std.proofs.lemmas.Option.{none-some}
 use Rattle.sx_lang.specs.declared.tree.Decl.{Decl}
 use Rattle.sx_lang.specs.declared.tree.Decl.TheVariants.{Device, Input, Output, Var, Array}
 use Rattle.sx_lang.specs.declared.tree.DeviceKind.{DeviceKind}
@@ -28,7 +29,7 @@ use Rattle.sx_check.proofs.Keeps.{keeps}
 use Rattle.sx_rules.specs.declared.section.Section.{Section}
 use Rattle.sx_rules.specs.declared.section.Layout.{Layout}
 use Rattle.sx_bus.specs.declared.devices.Window.{Window}
-use Rattle.sx_bus.specs.Devices.{ArePlaces, places_of, device_at}
+use Rattle.sx_bus.specs.Devices.{ArePlaces, places_of}
 use Rattle.sx_machine.specs.Run.{device_of}
 use Rattle.sx_machine.specs.State.{State}
 use Rattle.sx_machine.proofs.Devices.{device_of_parts, device_at_same, window_same, same_places}
@@ -44,7 +45,7 @@ use Rattle.sx_run.specs.Run.{place_at}
 use Rattle.sx_run.specs.Law.{IsSoundSetting, IsDeployedModule, devices_of}
 use Rattle.sx_run.proofs.tie.Lists.{get_some, get_within, some_inj}
 use Rattle.sx_run.proofs.tie.Tied.{NodeTied, IsModule, OwnSensor, shapes}
-use Rattle.sx_run.proofs.steps.Entry.{at_site, shapes_on}
+use Rattle.sx_run.proofs.steps.Entry.{at_site, shapes_on, device_of_from}
 use Rattle.sx_run.proofs.steps.Nodes.{index_get, shapes_long, windows_long}
 use Rattle.sx_run.proofs.steps.Foreign.{device_of_window}
 use Rattle.sx_run.proofs.acts.Sensing.{place_is}
@@ -185,12 +186,6 @@ driven_window : (ds : List Window) (kd : DeviceKind) (l : Layout) → HasDevices
 driven_window ds declared.Sensor l h = (h.device, h.window, h.found, h.at_start)
 driven_window ds declared.Actuator l h = (h.device, h.window, h.found, h.at_start)
 
-device_of_from : (a : List Window) (at k : ℕ) (w : Window) → device_at a at ≡ Some k → slice_get a k ≡ Some w → device_of a at ≡ Some (k, w)
-device_of_from a at k w d g = rw (d, g) refl
-
-none_some : {X : Type 0} → (v : X) → ◌≡◌ {A = Option X} (Some v) None → ⊥
-none_some v e = cc
-
 module _ (set : Setting) (sound : IsSoundSetting set) (m : ℕ) (q : PartTree) (site : Site) (s : State)
     (sec : Section) (boot : ℕ) (dep : IsDeployedModule set m q site) (node : NodeTied set q.node s boot) (is : IsModule q.node site s sec) where
   abbrev setup : Setup
@@ -211,7 +206,7 @@ module _ (set : Setting) (sound : IsSoundSetting set) (m : ℕ) (q : PartTree) (
   own kd decl b same = by_device q.device refl
     where
       by_device : (o : Option ℕ) → q.device ≡ o → Own b
-      by_device None e = absurd (none_some kd (sym decl ∙ dep.none e))
+      by_device None e = absurd (none-some kd (sym (sym decl ∙ dep.none e)))
       by_device (Some d) e =
           let driven = dep.device d e in
           let first = driven_window (devices_of set q.node) kd site.layout (subst (λ o. HasDevices (devices_of set q.node) o site.layout) decl dep.devices) in

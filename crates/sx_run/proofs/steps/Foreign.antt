@@ -5,6 +5,7 @@ use Rattle.std.proofs.Common.{Option, Some, None, refl, sym, ◌∙◌, ap, subs
 use Rattle.std.specs.Prelude.{slice_get, slice_set, nat_lt, nat_le, is_some}
 use Rattle.std.specs.List.{position_from}
 use Rattle.std.proofs.lemmas.Bool.{true≢false, and_parts, and_from, eqb-true, cases_eq, cases_Bool, le-leb}
+use Rattle.std.proofs.lemmas.Option.{none-some}
 use Rattle.sx_rules.specs.declared.access.Access.{Access}
 use Rattle.sx_rules.specs.declared.access.Access.TheVariants.{Read, Write}
 use Rattle.sx_rules.specs.declared.section.Section.{Section}
@@ -125,17 +126,11 @@ pub position_some : {X : Type 0} → (test : X → Bool) (i : ℕ) (xs : List X)
 position_some test i [] k x e t n = absurd cc
 position_some test i (y ∷ xs) zero x e t n =
     let ty : test y ≡ true = subst (λ z. test z ≡ true) (sym (some_inj y x e)) t in
-    absurd (some_none (sym (ap (λ b. cond b (Some i) (position_from test (i + 1) xs)) ty) ∙ n))
-  where
-    some_none : ◌≡◌ {A = Option ℕ} (Some i) None → ⊥
-    some_none e = cc
+    absurd (none-some i (sym (sym (ap (λ b. cond b (Some i) (position_from test (i + 1) xs)) ty) ∙ n)))
 position_some test i (y ∷ xs) (suc k) x e t n = elim (cases_Bool (test y)) [
-  | inl h ↦ absurd (some_none (sym (ap (λ b. cond b (Some i) (position_from test (i + 1) xs)) h) ∙ n))
+  | inl h ↦ absurd (none-some i (sym (sym (ap (λ b. cond b (Some i) (position_from test (i + 1) xs)) h) ∙ n)))
   | inr h ↦ position_some test (i + 1) xs k x e t (sym (ap (λ b. cond b (Some i) (position_from test (i + 1) xs)) h) ∙ n)
 ]
-  where
-    some_none : ◌≡◌ {A = Option ℕ} (Some i) None → ⊥
-    some_none e = cc
 
 module _ (set : Setting) (w : World) (mo : Model) (n : ℕ) (s : State) (boot : ℕ) (sound : IsSoundSetting set)
     (t : Tied set w mo) (here : slice_get w.nodes n ≡ Some s) (boots : slice_get mo.boots n ≡ Some boot)

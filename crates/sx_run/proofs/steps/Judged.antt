@@ -3,7 +3,7 @@ use Rattle.std.proofs.Common.{◌≡◌, ℕ, zero, suc, ◌+◌, ◌*◌, ◌/�
 use Rattle.std.proofs.Common.{◌&&◌, ◌||◌, not, Bool, true, false, if◌then◌else◌, List, [], ◌∷◌}
 use Rattle.std.proofs.Common.{◌++◌, length, Option, Some, None, refl, sym, ◌∙◌, ap, subst, arith}
 use Rattle.std.specs.Prelude.{slice_get, slice_set, slice_index, is_some, nat_le}
-use Rattle.std.proofs.lemmas.Bool.{le-leb, ltb-true, true≢false, and_parts, eqb-true, cases_eq, or_cases, or_left, or_right, and_left, and_right, and_from, false_from_ne_true, ne_eqb}
+use Rattle.std.proofs.lemmas.Bool.{le-leb, ltb-true, true≢false, and_parts, eqb-true, cases_eq, or_cases, or_left, or_right, and_left, and_right, and_from, false_from_ne_true, ne_eqb, eq-eqb}
 use Rattle.sx_lang.specs.declared.sides.Side.{Side}
 use Rattle.sx_lang.specs.declared.sides.Side.TheVariants.{From, To}
 use Rattle.sx_mean.specs.declared.apps.Link.{Link}
@@ -33,7 +33,7 @@ use Rattle.sx_run.proofs.tie.Lists.{get_some, some_inj}
 use Rattle.sx_run.proofs.tie.Ends.{found_at, renumbered, takes_at, opens_at, below_at, open_stays, opens_stays, open_same, takes_leaves, newly_open, open_small, EndOf, has_link, linked, has_end-found}
 use Rattle.sx_run.proofs.tie.Flows.{Flows, flows_same, flows_all, AllSending}
 use Rattle.sx_model.specs.Legal.{is_forged}
-use Rattle.sx_run.proofs.tie.Unique.{distinct, sending_open, eq_refl}
+use Rattle.sx_run.proofs.tie.Unique.{distinct, sending_open}
 use Rattle.sx_run.proofs.tie.Verdicts.{judge, Fares}
 use Rattle.sx_run.proofs.tie.Tied.{place_in, HasLength, SameEnds, SameState, WasSent, Settled}
 use Rattle.sx_run.proofs.tie.Tied.{Settles, idle_with, Reacts, OwnSensor, Vouched, Begun, Refuses}
@@ -199,7 +199,7 @@ module _ (app : AppTree) (m : ℕ) (q : PartTree) (x : Standing) (pr : Present) 
   if_true b x y e = rw e refl
 
   is_word_same : (v : ℕ) (o : Option ℕ) → o ≡ Some v → is_word v o ≡ true
-  is_word_same v o e = rw e (eq_refl v)
+  is_word_same v o e = rw e (eq-eqb v v refl)
 
   taken_step : (link epoch last value place i : ℕ) (l : Link) (words : List ℕ) (views : List EndView) → i / 65536 ≡ epoch → i % 65536 ≡ last → place ≡ link + 256 * epoch → pr.pending ≡ None
       → slice_get app.links link ≡ Some l → slice_get mo.sent place ≡ Some words → slice_get words last ≡ Some value → changed_views (takes epoch last) link To (ends_of app m) pr.ends ≡ Some views
@@ -298,7 +298,7 @@ module _ (app : AppTree) (m : ℕ) (q : PartTree) (x : Standing) (pr : Present) 
 
   may_open_from : (o : Option Attestation) (a : Attestation) (c epoch now : ℕ) → o ≡ Some a → a.boot ≡ boot → slice_index a.floors c ≤ epoch → epoch ≤ now → may_open o boot c epoch now ≡ true
   may_open_from o a c epoch now e at floor le =
-      rw (e, at, eq_refl boot, le-leb (slice_index a.floors c) epoch floor, le-leb epoch now le) refl
+      rw (e, at, eq-eqb boot boot refl, le-leb (slice_index a.floors c) epoch floor, le-leb epoch now le) refl
 
   not_both : (o : Option ℕ) (k : ℕ) → is_below o k ≡ true → AtLeast k o → ⊥
   not_both None k b h = h
@@ -432,7 +432,7 @@ module _ (app : AppTree) (m : ℕ) (q : PartTree) (x : Standing) (pr : Present) 
       absurd (omega (arith, x, y))
 
   vouched_there : (xs : List Vow) (a b : ℕ) → is_vouched a b (xs ++ record { challenge = a; boot = b } ∷ []) ≡ true
-  vouched_there [] a b = rw (eq_refl a, eq_refl b) refl
+  vouched_there [] a b = rw (eq-eqb a a refl, eq-eqb b b refl) refl
   vouched_there (v ∷ xs) a b = or_right _ _ (vouched_there xs a b)
 
   vouched_more : (xs : List Vow) (v : Vow) (a b : ℕ) → is_vouched a b xs ≡ true → is_vouched a b (xs ++ v ∷ []) ≡ true
@@ -578,10 +578,10 @@ module _ (app : AppTree) (m : ℕ) (q : PartTree) (x : Standing) (pr : Present) 
 
   written_step : (v e : ℕ) (emits : List ℕ) (pieces : ℕ) → pr.pending ≡ Some (record { emits = e ∷ emits; pieces = pieces })
       → v ≡ e → has_written mo m v ≡ Some (with_end_of (pending_with emits pieces))
-  written_step v e emits pieces pend same = rw (there, present, pend, same, eq_refl e) refl
+  written_step v e emits pieces pend same = rw (there, present, pend, same, eq-eqb e e refl) refl
 
   driver_here : (d : ℕ) → q.device ≡ Some d → is_driver app (Some m) d ≡ true
-  driver_here d e = rw (part, e) (eq_refl d)
+  driver_here d e = rw (part, e) (eq-eqb d d refl)
 
   -- an emit that is owed is written
   write_fares : (k v : ℕ) (emits : List ℕ) (pieces : ℕ) (ms : List Mark) (result : Invoked) → pr.pending ≡ Some (record { emits = emits; pieces = pieces })
@@ -605,7 +605,7 @@ module _ (app : AppTree) (m : ℕ) (q : PartTree) (x : Standing) (pr : Present) 
   read_step d v r dev there_r sensor fresh value pend =
       let whole : pr ≡ idle_with pr.cells pr.ends = ap (λ (z : Option Pending). record { cells = pr.cells; ends = pr.ends; pending = z }) pend in
       let idle2 : idle x ≡ Some (idle_with pr.cells pr.ends) = idle_of x pr present pend ∙ ap Some whole in
-      rw (part, there, idle2, dev, there_r, sensor, fresh, value, eq_refl v) refl
+      rw (part, there, idle2, dev, there_r, sensor, fresh, value, eq-eqb v v refl) refl
 
   sample_fares : (devices : List Window) (st : ModuleState) (k : ℕ) (w : Window) (ms : List Mark) (result : Invoked) (r : Reading) → pr.pending ≡ None
       → SameState (ends_of app m) st pr.cells pr.ends mo.sent → OwnSensor app q.node q devices k w → w.fresh ≡ true
@@ -667,7 +667,7 @@ module _ (app : AppTree) (m : ℕ) (q : PartTree) (x : Standing) (pr : Present) 
     pub state : SameState (ends_of app m) p.state pr2.cells pr2.ends mo.sent
 
   done_step : (k : ℕ) → pr.pending ≡ Some (record { emits = []; pieces = k }) → is_done app mo m 1 k ≡ Some (with_end_of (idle_with pr.cells pr.ends))
-  done_step k pend = rw (part, there, present, pend, eq_refl k) refl
+  done_step k pend = rw (part, there, present, pend, eq-eqb k k refl) refl
 
   not_one : (status : ℕ) → nat_le 2 status ≡ true → (status == 1) ≡ false
   not_one status h = ne_eqb status 1 (λ e. absurd (true≢false (sym h ∙ ap (λ n. nat_le 2 n) e)))

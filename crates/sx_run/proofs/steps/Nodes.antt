@@ -7,6 +7,7 @@ use Rattle.std.proofs.lemmas.Bool.{eqb-true, eqb-false, cases_eq, ne_eqb}
 use Rattle.sx_bus.specs.declared.devices.Window.{Window}
 use Rattle.sx_bus.specs.Devices.{all_stale, stale}
 use Rattle.std.proofs.lemmas.List.{length-replicate}
+use Rattle.std.proofs.lemmas.Option.{none-some}
 use Rattle.sx_trace.specs.declared.items.Cause.{Cause}
 use Rattle.sx_trace.specs.declared.items.Item.TheVariants as item
 use Rattle.sx_machine.specs.State.{State, reset}
@@ -268,10 +269,7 @@ module _ (set : Setting) (w : World) (mo : Model) (n : ℕ) (s : State) (sound :
   boot_of q same = subst (λ j. slice_get mo.boots j ≡ Some boot_here.0) (sym same) boot_here.1
 
   none_present : (x : Standing) (pr : Present) → x.present ≡ None → x.present ≡ Some pr → ⊥
-  none_present x pr a b = absurd (none_some (sym a ∙ b))
-    where
-      none_some : ◌≡◌ {A = Option Present} None (Some pr) → ⊥
-      none_some e = cc
+  none_present x pr a b = absurd (none-some pr (sym a ∙ b))
 
   reset_sane : IsSane set.app again
   reset_sane = record {

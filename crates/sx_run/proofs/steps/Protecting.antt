@@ -1,10 +1,11 @@
 -- A step of other code whole: with what it does at devices, and the module that it may protect.
-use Rattle.std.proofs.Common.{◌≡◌, ◌≢◌, ℕ, zero, suc, ◌+◌, ◌-◌, ◌<◌, ◌⊎◌, inl, inr, ◌==◌, ◌&&◌}
+use Rattle.std.proofs.Common.{◌≡◌, ◌≢◌, ℕ, zero, suc, ◌+◌, ◌-◌, ◌⊎◌, inl, inr, ◌==◌, ◌&&◌}
 use Rattle.std.proofs.Common.{Bool, true, false, cond, if◌then◌else◌, List, [], ◌∷◌, ◌++◌, length}
 use Rattle.std.proofs.Common.{map, replicate, Option, Some, None, refl, sym, ◌∙◌, ap, subst, arith}
 use Rattle.std.specs.Prelude.{slice_get, slice_set, is_some}
 use Rattle.std.specs.List.{position_from}
 use Rattle.std.proofs.lemmas.Bool.{true≢false, and_parts, cases_eq, cases_Bool, eq-eqb}
+use Rattle.std.proofs.lemmas.Option.{none-some}
 use Rattle.sx_lang.specs.declared.sides.Side.{Side}
 use Rattle.sx_lang.specs.Sizes.{module_data_size}
 use Rattle.sx_mean.specs.declared.events.End.{End}
@@ -12,7 +13,6 @@ use Rattle.sx_rules.specs.declared.section.Section.{Section}
 use Rattle.sx_rules.specs.declared.section.Layout.{Layout}
 use Rattle.sx_rules.specs.Access.{Sections, Lives, section_of}
 use Rattle.sx_rules.specs.Admission.{apart, clear_of, parts_apart, refusal}
-use Rattle.sx_rules.specs.Placed.{AllSound}
 use Rattle.sx_rules.proofs.Placing.{placed_found}
 use Rattle.sx_rules.proofs.Admits.{admits}
 use Rattle.sx_machine.proofs.PlanGuard.{passes}
@@ -52,17 +52,15 @@ use Rattle.sx_run.proofs.steps.Steps.{nonzero, bounds_of, ForeignSteps}
 use Rattle.sx_run.proofs.steps.Foreign.{strangers, append_lives, touches_n, goes_n, unprotected, boot_n, node_n, touched}
 use Rattle.sx_lists.proofs.Lists.{get_same}
 use Rattle.sx_machine.proofs.Meanings.{end_lives}
+use Rattle.sx_machine.proofs.Stays.{lives_below}
 
 position_none : {X : Type 0} → (test : X → Bool) (i : ℕ) (xs : List X) (k : ℕ) (x : X) → position_from test i xs ≡ None → slice_get xs k ≡ Some x → test x ≡ false
 position_none test i [] k x n e = absurd cc
 position_none test i (y ∷ xs) k x n e = elim (cases_Bool (test y)) [
-  | inl h ↦ absurd (some_none (sym (ap (λ b. cond b (Some i) (position_from test (i + 1) xs)) h) ∙ n))
+  | inl h ↦ absurd (none-some i (sym (sym (ap (λ b. cond b (Some i) (position_from test (i + 1) xs)) h) ∙ n)))
   | inr h ↦ by_place k e (λ j g. position_none test (i + 1) xs j x (sym (ap (λ b. cond b (Some i) (position_from test (i + 1) xs)) h) ∙ n) g) h
 ]
   where
-    some_none : ◌≡◌ {A = Option ℕ} (Some i) None → ⊥
-    some_none e = cc
-
     by_place : (k : ℕ) → slice_get (y ∷ xs) k ≡ Some x → ((j : ℕ) → slice_get xs j ≡ Some x → test x ≡ false) → test y ≡ false → test x ≡ false
     by_place zero e f h = subst (λ z. test z ≡ false) (some_inj y x e) h
     by_place (suc j) e f h = f j e
@@ -244,10 +242,7 @@ module _ (set : Setting) (w : World) (mo : Model) (n : ℕ) (s : State) (sound :
     )
 
     no_present : (pr : Present) → x.present ≡ Some pr → ⊥
-    no_present pr e = absurd (none_some (sym absent ∙ e))
-      where
-        none_some : ◌≡◌ {A = Option Present} None (Some pr) → ⊥
-        none_some e = cc
+    no_present pr e = absurd (none-some pr (sym absent ∙ e))
 
     sane_new : IsSane set.app mo2
     sane_new = record {
@@ -312,10 +307,6 @@ module _ (set : Setting) (w : World) (mo : Model) (n : ℕ) (s : State) (sound :
         (touches_n set w mo n s sound laws t here none quiet)
         (λ z e. subst (λ a. Fares (judge set.app a (item.Protect n (Some m) ∷ [])) (Tied set (with_node w n r.state w.ledger (w.steps + 1)))) (sym e)
         (subst (λ (o : Option Model). Fares (judge_on o (λ a. Going a)) (Tied set (with_node w n r.state w.ledger (w.steps + 1)))) (sym (protected_step m q x part there qn absent)) protected_tied))
-
-  lives_below : (next : ℕ) (live : List Section) (sec : Section) → AllSound next live → Lives live sec → sec.id < next
-  lives_below next [] sec h l = absurd l
-  lives_below next (x ∷ live) sec h l = elim l [ inl e ↦ subst (λ (z : Section). z.id < next) e h.0.below | inr g ↦ lives_below next live sec h.1 g ]
 
   -- a new section is at a module's site only where the module is absent
   absent_where : (m : ℕ) (q : PartTree) (site : Site) (x : Standing) (l : Layout) (places : List ℕ)

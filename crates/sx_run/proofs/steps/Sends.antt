@@ -1,5 +1,5 @@
 -- What a handler's acts do to a module's state and the out-window is what they do in the source.
-use Rattle.std.proofs.Common.{◌≡◌, ℕ, zero, suc, ◌+◌, ◌*◌, ◌%◌, ◌/◌, ◌<◌, ◌≤◌, inl, inr, ◌==◌, ◌&&◌}
+use Rattle.std.proofs.Common.{◌≡◌, ℕ, zero, suc, ◌+◌, ◌*◌, ◌≤◌, inl, inr, ◌==◌, ◌&&◌}
 use Rattle.std.proofs.Common.{Bool, true, false, if◌then◌else◌, List, [], ◌∷◌, ◌++◌, length, Option}
 use Rattle.std.proofs.Common.{Some, None, Result, Ok, Err, refl, sym, ◌∙◌, ap, subst, arith}
 use Rattle.std.specs.Prelude.{slice_get, slice_set, is_some, nat_lt}
@@ -32,6 +32,7 @@ use Rattle.sx_run.proofs.tie.Unique.{Distinct, distinct}
 use Rattle.sx_run.proofs.tie.Frames.{ends_frame}
 use Rattle.sx_run.proofs.tie.Tied.{HasLength, Counts, SameEnd, SameEnds, WasSent, Settles, HasEnd}
 use Rattle.sx_lists.proofs.Lists.{get_same}
+use Rattle.sx_lists.proofs.Numbers.{two_bytes}
 
 -- an end and what the source knows of it, at one place
 abbrev pub PlaceAt : List End → List EndView → ℕ → End → EndView → Type 0
@@ -95,12 +96,6 @@ counted_at (y ∷ es) (x ∷ xs) (w ∷ vs) sent (suc k) v e view words d h p f 
         → Counts side x w (slice_get (longer sent place words v) x.field)
     counts_other From x w sent place v words ne h = subst (λ o. HasLength o x.number) (sym (get_other sent place x.field (words ++ v ∷ []) (λ e. ne refl e))) h
     counts_other To x w sent place v words ne h = h
-
-low_byte : (n : ℕ) → n % 256 + 256 * (n / 256) ≡ n
-low_byte n = omega arith
-
-small_field : (n : ℕ) → n < 256 → (n % 256 ≡ n) × (n / 256 ≡ 0)
-small_field n h = (omega arith, omega arith)
 
 all_unit : (es : List End) (vs : List EndView) → AllSending (λ c. Unit {0}) es vs
 all_unit [] vs = tt
@@ -166,13 +161,13 @@ module _ (app : AppTree) (m n : ℕ) (q : PartTree) (s : Setup) (c : Call) (cell
       let at : l.place ≡ e.link = sym (omega (arith, l.at)) in
       let link_there : slice_get app.links e.link ≡ Some l.link = subst (λ k. slice_get app.links k ≡ Some l.link) at l.there in
       let g = flows.grown x.field (words ++ v ∷ []) (get_same f.sent x.field (words ++ v ∷ []) words there) in
-      let last : last_in (event_header x) ≡ length words = low_byte x.number ∙ sym n in
+      let last : last_in (event_header x) ≡ length words = two_bytes x.number ∙ sym n in
       record {
         sender = ap (λ k. sender_of app k) fe ∙ ap (λ o. Rattle.sx_run.specs.Observation.from_of o) link_there ∙ (subst (λ t. EndOf m t e.port l.link) side l.ends).0;
         words = (words ++ v ∷ []) ++ g.0;
-        there = subst (λ k. slice_get final k ≡ Some ((words ++ v ∷ []) ++ g.0)) (sym (low_byte x.field)) g.1;
+        there = subst (λ k. slice_get final k ≡ Some ((words ++ v ∷ []) ++ g.0)) (sym (two_bytes x.field)) g.1;
         word = subst (λ k. slice_get ((words ++ v ∷ []) ++ g.0) k ≡ Some (value_in (two v))) (sym last)
-            (get_before (words ++ v ∷ []) g.0 (length words) (value_in (two v)) (get_end words v ∙ ap Some (sym (low_byte v))));
+            (get_before (words ++ v ∷ []) g.0 (length words) (value_in (two v)) (get_end words v ∙ ap Some (sym (two_bytes v))));
       }
 
   abbrev sealed : EndState → ℕ → Mark

@@ -9,7 +9,6 @@ use Rattle.sx_rules.specs.declared.section.Section.{Section}
 use Rattle.sx_rules.specs.declared.section.Layout.{Layout}
 use Rattle.sx_rules.specs.Access.{Sections, Lives, section_of}
 use Rattle.sx_rules.specs.Admission.{good_bounds, apart}
-use Rattle.sx_rules.specs.Placed.{AllSound}
 use Rattle.sx_rules.proofs.Placing.{placed_found}
 use Rattle.sx_bus.specs.declared.devices.Window.{Window}
 use Rattle.sx_mean.specs.declared.apps.AppDevice.{AppDevice}
@@ -59,6 +58,7 @@ use Rattle.sx_run.proofs.steps.Machine.{MachineLaws, violates, Onward, onward}
 use Rattle.sx_run.proofs.steps.Bystanders.{bystander, at_site_same, one_section, DevicesTied, Apart, replayed, replayed_shapes}
 use Rattle.sx_lists.proofs.Lists.{get_same}
 use Rattle.sx_machine.proofs.Stays.{found_lives}
+use Rattle.sx_machine.proofs.RunGuard.{lives_given}
 
 -- what a module drives is its own, as its source says
 abbrev pub DriversFit : Setting → Type 0
@@ -66,10 +66,6 @@ DriversFit set = (m : ℕ) (q : PartTree) (site : Site) (s : State) (sec : Secti
     → (let setup = setup_at set.mac q.tree (ends_of set.app m) sec s in
     ((d : List Window) → shapes d ≡ shapes s.devices → (e : SourceEvent) (cells : List ℕ) → Emits set.app q.node q setup d (react q.tree e cells).acts)
     × (is_sensor_driver (declared_kind q.tree.decls) ≡ true → (k : ℕ) × (w : Window) × (own_window setup s.devices ≡ Some (k, w)) × OwnSensor set.app q.node q s.devices k w))
-
-lives_given : (next : ℕ) (live : List Section) (sec : Section) → AllSound next live → Lives live sec → 0 < sec.id
-lives_given next [] sec h l = absurd l
-lives_given next (x ∷ live) sec h l = elim l [ inl e ↦ subst (λ (z : Section). 0 < z.id) e h.0.given | inr r ↦ lives_given next live sec h.1 r ]
 
 pub nonzero : (s : State) (sec : Section) → IsNode s → Lives s.sections.live sec → sec.id ≢ 0
 nonzero s sec h l e = let g = lives_given s.sections.next s.sections.live sec h.placed.each l in absurd (omega (arith, g, e))

@@ -41,7 +41,7 @@ use Rattle.sx_machine.proofs.Devices.{cleared_shapes}
 
 -- Packets as they are read.
 
-bound_bytes : (k : ℕ) (o : Option ℕ) (x : ℕ) (b : ℕ) → unless_device o x ≡ Ok b → x ≡ b
+pub bound_bytes : (k : ℕ) (o : Option ℕ) (x : ℕ) (b : ℕ) → unless_device o x ≡ Ok b → x ≡ b
 bound_bytes k None x b e = cc
 bound_bytes k (Some d) x b e = absurd cc
 
@@ -64,20 +64,17 @@ cons_bytes n b bs lt h = record { long = ap suc h.long; small = small }
     small zero = lt
     small (suc i) = h.small i
 
-read_all : (s : Setup) (devices : List Window) (mem : List ℕ) (small : (k : ℕ) → slice_index mem k < 256) (n at : ℕ) (bs : List ℕ) → read_bytes s devices mem at n ≡ Ok bs → Bytes n bs
+ok_inj : (a b : List ℕ) → ◌≡◌ {A = Result (List ℕ) Violation} (Ok a) (Ok b) → a ≡ b
+ok_inj a b e = cc
+
+pub read_all : (s : Setup) (devices : List Window) (mem : List ℕ) (small : (k : ℕ) → slice_index mem k < 256) (n at : ℕ) (bs : List ℕ) → read_bytes s devices mem at n ≡ Ok bs → Bytes n bs
 unfolding read_bytes
 read_all s devices mem small zero at bs e = subst (λ z. Bytes 0 z) (ok_inj [] bs e) (record { long = refl; small = λ i. omega arith })
-  where
-    ok_inj : (a b : List ℕ) → ◌≡◌ {A = Result (List ℕ) Violation} (Ok a) (Ok b) → a ≡ b
-    ok_inj a b e = cc
 read_all s devices mem small (suc n) at bs e = first (read_byte s devices mem at) refl (read_bytes s devices mem (at + 1) n) (read_all s devices mem small n (at + 1)) e
   where
     last : (b : ℕ) → b < 256 → (r : Result (List ℕ) Violation) → ((xs : List ℕ) → r ≡ Ok xs → Bytes n xs) → then_ r (λ xs. Ok (b ∷ xs)) ≡ Ok bs → Bytes (suc n) bs
     last b lt (Err v) f e = absurd cc
     last b lt (Ok xs) f e = subst (λ z. Bytes (suc n) z) (ok_inj (b ∷ xs) bs e) (cons_bytes n b xs lt (f xs refl))
-      where
-        ok_inj : (a b : List ℕ) → ◌≡◌ {A = Result (List ℕ) Violation} (Ok a) (Ok b) → a ≡ b
-        ok_inj a b e = cc
 
     first : (r : Result ℕ Violation) → read_byte s devices mem at ≡ r → (r2 : Result (List ℕ) Violation) → ((xs : List ℕ) → r2 ≡ Ok xs → Bytes n xs)
         → then_ r (λ b. then_ r2 (λ xs. Ok (b ∷ xs))) ≡ Ok bs → Bytes (suc n) bs

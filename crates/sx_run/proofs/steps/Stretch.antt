@@ -1,7 +1,7 @@
 -- The marks of one step of a module that is under way, one after the other.
 use Rattle.std.proofs.Common.{◌≡◌, ℕ, zero, suc, ◌⊎◌, inl, inr, true, List, [], ◌∷◌, ◌++◌, length, Some, refl, sym, ◌∙◌, ap}
 use Rattle.std.specs.Prelude.{slice_get, slice_set}
-use Rattle.std.proofs.lemmas.List.{append-nil, append_assoc}
+use Rattle.std.proofs.lemmas.List.{append-nil, append_assoc, set-set}
 use Rattle.sx_trace.specs.declared.items.Item.{Item}
 use Rattle.sx_trace.specs.declared.items.Item.TheVariants as item
 use Rattle.sx_bus.specs.declared.devices.Window.{Window}
@@ -50,11 +50,6 @@ pub record Moves (app : AppTree) (n m : ℕ) (ms : List Mark) (x y : Standing) (
   pub devices : mo'.devices ≡ readings_all app n ms mo.devices
   pub sent : Flows (IsOwn app m) mo.sent mo'.sent
 
-pub set_set : {X : Type 0} → (xs : List X) (i : ℕ) (v w : X) → slice_set (slice_set xs i v) i w ≡ slice_set xs i w
-set_set [] i v w = refl
-set_set (x ∷ xs) zero v w = refl
-set_set (x ∷ xs) (suc i) v w = ap (λ r. x ∷ r) (set_set xs i v w)
-
 pub set_same : {X : Type 0} → (xs : List X) (i : ℕ) (v : X) → slice_get xs i ≡ Some v → slice_set xs i v ≡ xs
 set_same [] i v e = refl
 set_same (z ∷ xs) zero v e = ap (λ w. w ∷ xs) (sym (some_inj z v e))
@@ -80,7 +75,7 @@ moves_on app n m mark ms x y z mo mo1 mo2 f g = record {
   boots = g.boots ∙ f.boots;
   asks = g.asks ∙ f.asks;
   epochs = g.epochs ∙ f.epochs;
-  modules = g.modules ∙ ap (λ s. slice_set s m z) f.modules ∙ set_set mo.modules m y z;
+  modules = g.modules ∙ ap (λ s. slice_set s m z) f.modules ∙ set-set mo.modules m y z;
   asked = g.asked ∙ f.asked;
   attested = g.attested ∙ f.attested;
   vouched = λ a b t. g.vouched a b (f.vouched a b t);

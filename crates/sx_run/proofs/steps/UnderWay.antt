@@ -1,10 +1,9 @@
 -- One step of a node on which a deployed module is under way.
 use Rattle.std.proofs.Common.{◌≡◌, ℕ, ◌⊎◌, inl, inr, true, List, [], ◌∷◌, ◌++◌, length, Some, None, refl, sym, ◌∙◌, ap, subst}
 use Rattle.std.specs.Prelude.{slice_get, slice_set, slice_index, is_some}
-use Rattle.std.proofs.lemmas.List.{append-nil, append_assoc}
+use Rattle.std.proofs.lemmas.List.{append-nil, append_assoc, set-set}
 use Rattle.sx_rules.specs.declared.access.Violation.{Violation}
 use Rattle.sx_rules.specs.declared.section.Section.{Section}
-use Rattle.sx_rules.specs.Placed.{Placed}
 use Rattle.sx_bus.specs.declared.devices.Window.{Window}
 use Rattle.sx_trace.specs.declared.items.Item.{Item}
 use Rattle.sx_trace.specs.declared.items.Item.TheVariants as item
@@ -21,7 +20,7 @@ use Rattle.sx_invoke.specs.Marks.{Mark, Wrapped}
 use Rattle.sx_image.specs.Watched.{Watched, watch, violation_of, marks_of}
 use Rattle.sx_invoke.specs.Progress.{Invoked, marks_in}
 use Rattle.sx_image.specs.Image.{private_bytes, setup_at}
-use Rattle.sx_image.specs.Realizes.{Underway, Aborted, Exited, exit_registers}
+use Rattle.sx_image.specs.Realizes.{Underway, Aborted, Exited}
 use Rattle.sx_mean.specs.Application.{PartTree, AppTree}
 use Rattle.sx_mean.specs.Ends.{ends_of}
 use Rattle.sx_lang.specs.declared.sides.Side.TheVariants.{From}
@@ -37,12 +36,8 @@ use Rattle.sx_run.proofs.tie.Tied.{open_at, AtLeast, Owes, Known, IsSane, IsUnde
 use Rattle.sx_run.proofs.tie.Moves.{IsOwn, Moved, known_moved, sane_moved}
 use Rattle.sx_run.proofs.steps.Judged.{Readings, Finished, done_owes}
 use Rattle.sx_run.proofs.steps.Events.{left_outside, not_left}
-use Rattle.sx_run.proofs.steps.Stretch.{set_set, readings_all, marks_seen, Moves, HasMarks, Nexts, marks_fares, IsPlain, done_items, seen_as_marks}
+use Rattle.sx_run.proofs.steps.Stretch.{readings_all, marks_seen, Moves, HasMarks, Nexts, marks_fares, IsPlain, done_items, seen_as_marks}
 use Rattle.sx_lists.proofs.Lists.{get_same}
-
--- an instruction that leaves the table of sections is neither protect nor unprotect
-abbrev pub PlainEvents : Mac → Type 0
-PlainEvents mac = (s : State) → Placed s.sections → (step mac s).state.sections ≡ s.sections → violation_of (step mac s).shown.event ≡ None → IsPlain (step mac s).shown.event
 
 append_cancel : {X : Type 0} → (xs ys zs : List X) → xs ++ ys ≡ xs ++ zs → ys ≡ zs
 append_cancel [] ys zs h = h
@@ -122,7 +117,7 @@ moves_last app n m ms x y z mo mo1 mo2 f g = record {
   boots = g.boots ∙ f.boots;
   asks = g.asks ∙ f.asks;
   epochs = g.epochs ∙ f.epochs;
-  modules = g.modules ∙ ap (λ s. slice_set s m z) f.modules ∙ set_set mo.modules m y z;
+  modules = g.modules ∙ ap (λ s. slice_set s m z) f.modules ∙ set-set mo.modules m y z;
   asked = g.asked ∙ f.asked;
   attested = g.attested ∙ f.attested;
   vouched = λ a b t. g.vouched a b (f.vouched a b t);
@@ -132,9 +127,6 @@ moves_last app n m ms x y z mo mo1 mo2 f g = record {
 
 no_more : (seen ms : List Mark) (all : List Mark) → seen ++ ms ≡ all → (seen ++ ms) ++ [] ≡ all
 no_more seen ms all e = append-nil (seen ++ ms) ∙ e
-
-status_at_exit : (before : State) (status count : ℕ) → (slice_index (exit_registers before status count) 12 ≡ status) × (slice_index (exit_registers before status count) 13 ≡ count)
-status_at_exit before status count = (refl, refl)
 
 either_marks : (ms : List Mark) → (ms ≡ []) ⊎ HasMarks ms
 either_marks [] = inl refl

@@ -2,7 +2,7 @@
 use Rattle.std.proofs.Common.{◌≡◌, ℕ, zero, suc, ◌+◌, ◌<◌, ◌≤◌, ◌⊎◌, inl, inr, ◌==◌, ◌&&◌, Bool, true, false, if◌then◌else◌, List, [], ◌∷◌, Option, Some, None, refl, sym, ◌∙◌, ap, subst, arith}
 use Rattle.std.specs.Prelude.{slice_get, nat_le, nat_lt}
 use Rattle.std.specs.List.{list_any, cons_option}
-use Rattle.std.proofs.lemmas.Bool.{true≢false, and_parts, eqb-true, le-leb, ltb-true}
+use Rattle.std.proofs.lemmas.Bool.{true≢false, and_parts, eqb-true, le-leb, ltb-true, eq-eqb}
 use Rattle.sx_lang.specs.declared.sides.Side.{Side}
 use Rattle.sx_lang.specs.declared.sides.Side.TheVariants.{From, To}
 use Rattle.sx_mean.specs.declared.apps.Link.{Link}
@@ -81,11 +81,8 @@ epoch_open x e = rw e refl
 pub epoch_closed : (x : EndState) → x.is_open ≡ false → epoch_at x ≡ None
 epoch_closed x e = rw e refl
 
-same_number : (n : ℕ) → (n == n) ≡ true
-same_number n = grind arith
-
 takes_open : (epoch i : ℕ) (v : EndView) → v.epoch ≡ Some epoch → v.next ≤ i → takes epoch i v ≡ Some (record { epoch = v.epoch; next = i + 1 })
-takes_open epoch i v e le = rw (e, same_number epoch, le-leb v.next i le) refl
+takes_open epoch i v e le = rw (e, eq-eqb epoch epoch refl, le-leb v.next i le) refl
 
 is_to : (link : ℕ) (e : End) → end_is link To e ≡ true → e.side ≡ To
 is_to link e h = same_side-same To e.side (and_parts (e.link == link) (same_side To e.side) h).1

@@ -2,6 +2,7 @@
 use Rattle.std.proofs.Common.{◌≡◌, ℕ, zero, suc, ◌+◌, ◌≤◌, inl, true, false, List, [], ◌∷◌, length, map, replicate, Option, Some, None, refl, sym, ◌∙◌, ap, subst, arith}
 use Rattle.std.specs.Prelude.{slice_get, slice_index}
 use Rattle.std.proofs.lemmas.Bool.{true≢false}
+use Rattle.std.proofs.lemmas.List.{length-map}
 use Rattle.sx_bus.specs.declared.devices.Kind.{Kind}
 use Rattle.sx_bus.specs.declared.devices.Window.{Window}
 use Rattle.sx_bus.specs.Devices.{powered_on}
@@ -19,10 +20,6 @@ use Rattle.sx_run.proofs.tie.Lists.{some_inj}
 use Rattle.sx_run.proofs.steps.Entry.{shapes_on}
 use Rattle.sx_run.proofs.steps.Nodes.{zeros_long}
 use Rattle.sx_run.proofs.tie.Tied.{NodeTied, Absent, Tied}
-
-map_long : {X Y : Type 0} → (f : X → Y) (xs : List X) → length (map f xs) ≡ length xs
-map_long f [] = refl
-map_long f (x ∷ xs) = ap suc (map_long f xs)
 
 get_map : {X Y : Type 0} → (f : X → Y) (xs : List X) (k : ℕ) (y : Y) → slice_get (map f xs) k ≡ Some y → (x : X) × (slice_get xs k ≡ Some x) × (y ≡ f x)
 get_map f [] k y e = absurd cc
@@ -69,7 +66,7 @@ get_blank zero k words e = absurd cc
 get_blank (suc n) zero words e = sym (some_inj [] words e)
 get_blank (suc n) (suc k) words e = get_blank n k words e
 
-zero_epochs : (ls : List Link) (c : ℕ) → slice_index (map (λ l. 0) ls) c ≡ 0
+pub zero_epochs : (ls : List Link) (c : ℕ) → slice_index (map (λ l. 0) ls) c ≡ 0
 zero_epochs [] c = refl
 zero_epochs (l ∷ ls) zero = refl
 zero_epochs (l ∷ ls) (suc c) = zero_epochs ls c
@@ -79,12 +76,12 @@ starts_tied set sound = record {
   size = record {
     nodes = nodes_long set 0 set.keys ∙ sound.keys;
     boots = zeros_long set.app.nodes;
-    devices = map_long _ set.app.devices;
-    modules = map_long _ set.app.parts;
-    epochs = map_long _ set.app.links;
+    devices = length-map set.app.devices _;
+    modules = length-map set.app.parts _;
+    epochs = length-map set.app.links _;
     sent = blank_sent FIELDS;
-    asks = map_long _ set.app.parts;
-    attested = map_long _ set.app.parts;
+    asks = length-map set.app.parts _;
+    attested = length-map set.app.parts _;
   };
   nodes = λ n s boot sk bk.
       let r = get_nodes set 0 set.keys n s sk in

@@ -2,12 +2,13 @@
 use Rattle.std.proofs.Common.{◌≡◌, ℕ, ◌+◌, ◌*◌, inl, inr, ◌==◌, ◌&&◌, Bool, true, false, if◌then◌else◌, List, [], ◌∷◌, Option, Some, None, refl, sym, ◌∙◌, subst, arith}
 use Rattle.std.specs.Prelude.{is_some}
 use Rattle.std.specs.List.{cons_option}
-use Rattle.std.proofs.lemmas.Bool.{true≢false, and_parts, eqb-true}
+use Rattle.std.proofs.lemmas.Bool.{true≢false, and_parts, eqb-true, eq-eqb}
 use Rattle.sx_lang.specs.declared.sides.Side.{Side}
 use Rattle.sx_lang.specs.declared.sides.Side.TheVariants.{From, To}
 use Rattle.sx_mean.specs.declared.apps.Link.{Link}
 use Rattle.sx_mean.specs.declared.events.End.{End}
 use Rattle.sx_mean.specs.Ends.{receiving, ends_after, same_side}
+use Rattle.sx_mean.proofs.Ends.{same_side-refl}
 use Rattle.sx_model.specs.State.{EndView}
 use Rattle.sx_model.specs.Reaction.{field_at}
 use Rattle.sx_run.proofs.tie.Tied.{HasEnd, open_at}
@@ -48,16 +49,9 @@ distinct n m (l ∷ ls) =
     (cons_not (l.to == m) s r rest (λ h. to_from h.1) (later_not n m ls s refl))
     (cons_distinct (l.to == m) r rest (later_not n m ls r refl) (distinct (n + 1) m ls))
 
-same_side-refl : (s : Side) → same_side s s ≡ true
-same_side-refl From = refl
-same_side-refl To = refl
-
-pub eq_refl : (n : ℕ) → (n == n) ≡ true
-eq_refl n = grind arith
-
 open_first : (link : ℕ) (side : Side) (e : End) (es : List End) (v : EndView) (vs : List EndView) → e.link ≡ link → e.side ≡ side → open_at link side (e ∷ es) (v ∷ vs) ≡ v.epoch
 open_first link side e es v vs a b =
-    let t : (e.link == link) ≡ true = subst (λ k. (e.link == k) ≡ true) a (eq_refl e.link) in
+    let t : (e.link == link) ≡ true = subst (λ k. (e.link == k) ≡ true) a (eq-eqb e.link e.link refl) in
     let u : same_side e.side side ≡ true = subst (λ k. same_side e.side k ≡ true) b (same_side-refl e.side) in
     rw (t, u) refl
 

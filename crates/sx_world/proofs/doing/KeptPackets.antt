@@ -1,5 +1,5 @@
 -- Packets that are kept, and what is given of them.
-use Rattle.std.proofs.Common.{◌≡◌, ℕ, suc, ◌<◌, ◌≤◌, List, [], ◌∷◌, ◌++◌, length, map, get_or, Vec, Global, Some, None, Result, Ok, Err, OnOk, OnErr, refl, sym, subst, ap, ◌∙◌}
+use Rattle.std.proofs.Common.{◌≡◌, ℕ, suc, ◌<◌, ◌≤◌, List, [], ◌∷◌, ◌++◌, length, map, get_or, Vec, Global, Some, None, Result, Ok, Err, OnOk, refl, sym, subst, ap, ◌∙◌}
 use Rattle.std.specs.Prelude.{slice_get}
 use Rattle.std.proofs.lemmas.Option.{slice_get-map, slice_get-get_or, slice_get_past, get_or_from_slice_get}
 use Rattle.std.specs.Option.{option_map}
@@ -12,7 +12,7 @@ use Rattle.sx_machine.specs.Acts.{take}
 use Rattle.sx_run.specs.Acts.{at_node, refused_item, after_take, new_packet}
 use Rattle.sx_run.specs.Run.{give, put_on}
 use Rattle.sx_run.specs.State.{World, Acted}
-use Rattle.sx_world.specs.Held.{AddsFront, Running, Shows, Did, Wanted, DoesAct}
+use Rattle.sx_world.specs.Held.{Running, Shows, Did, DoesAct}
 use Rattle.sx_world.proofs.doing.Composed.{does_same}
 
 -- the bytes of a packet in memory
@@ -39,12 +39,6 @@ pub give_did : {T E : Type 0} (r : Result T E) (old new : Running) (before after
 give_did (Ok x) old new before after n at k bytes found f = λ set w h.
     subst (λ o. Shows set new (give w n at o).world × (after ≡ before ++ (give w n at o).items)) (sym (ap (λ ps. slice_get ps k) (sym h.packets) ∙ found)) (f set w h)
 give_did (Err x) old new before after n at k bytes found f = tt
-
-pub give_wanted : {T E : Type 0} (r : Result T E) (old : Running) (before after : List Item) (n at k : ℕ) (bytes : List ℕ) → slice_get old.packets k ≡ Some bytes
-    → OnErr r ((set : Setting) → Wanted set old before after (put_on n at bytes)) → OnErr r ((set : Setting) → Wanted set old before after (λ w. give w n at (slice_get w.packets k)))
-give_wanted (Ok x) old before after n at k bytes found f = tt
-give_wanted (Err x) old before after n at k bytes found f = λ set w h.
-    subst (λ o. AddsFront before after (give w n at o).items) (sym (ap (λ ps. slice_get ps k) (sym h.packets) ∙ found)) (f set w h)
 
 -- no packet is there
 pub give_none : {T E : Type 0} (r : Result T E) (old : Running) (before after : List Item) (n at k : ℕ) → slice_get old.packets k ≡ None

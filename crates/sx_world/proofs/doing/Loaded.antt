@@ -1,5 +1,5 @@
 -- An image's pieces, registers, and what is done to a node where no module of it runs.
-use Rattle.std.proofs.Common.{◌≡◌, ◌≢◌, ℕ, suc, ◌+◌, ◌-◌, ◌*◌, ◌/◌, ◌<◌, ◌≤◌, ◌==◌, Bool, true}
+use Rattle.std.proofs.Common.{◌≡◌, ◌≢◌, ℕ, ◌+◌, ◌-◌, ◌*◌, ◌/◌, ◌<◌, ◌≤◌, ◌==◌, Bool, true}
 use Rattle.std.proofs.Common.{false, if◌then◌else◌, List, [], ◌∷◌, ◌++◌, length, length-drop, take}
 use Rattle.std.proofs.Common.{drop, drop-cons, add-one, get_or, min, Option, Some, None, option_map}
 use Rattle.std.proofs.Common.{Result, Ok, Err, OnOk, OnErr, refl, sym, subst, ap, ◌∙◌, arith}
@@ -21,6 +21,7 @@ use Rattle.sx_world.specs.Loading.{AreSettable, after_loading}
 use Rattle.sx_run.specs.Run.{protect_registers}
 use Rattle.sx_world.proofs.doing.Composed.{does_same, then_does, then_wanted, first_wanted}
 use Rattle.sx_world.proofs.showing.Fronts.{front_same}
+use Rattle.sx_world.proofs.passing.Passed.{one_less}
 use Rattle.sx_run.proofs.tie.Lists.{get_some, some_inj}
 
 -- nodes with the same counts of resets can be reset once more
@@ -61,9 +62,6 @@ pieces_first n at bytes k count same =
 -- a piece that is due begins within the image
 pub piece_within : (len i : ℕ) → i < div_ceil len 1024 → i * 1024 < len
 piece_within len i lt = omega arith
-
-one_less : (count i : ℕ) → i < count → count - i ≡ suc (count - (i + 1))
-one_less count i lt = omega arith
 
 piece_is : (bytes : List ℕ) (start : ℕ) → start < length bytes → slice_range bytes start (min (length bytes) (start + 1024)) ≡ take 1024 (drop start bytes)
 piece_is bytes start lt =

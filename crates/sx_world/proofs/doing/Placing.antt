@@ -1,28 +1,17 @@
 -- The place of a device among those of its node, counted over the devices before it.
-use Rattle.std.proofs.Common.{◌≡◌, ℕ, zero, suc, ◌+◌, ◌<◌, ◌==◌, cond, Bool, false, List, [], ◌∷◌, length, drop, Some, refl, sym, ap, ◌∙◌, arith}
+use Rattle.std.proofs.Common.{◌≡◌, ℕ, zero, suc, ◌+◌, ◌<◌, ◌==◌, cond, Bool, List, [], ◌∷◌, length, drop, Some, refl, sym, ap, ◌∙◌}
 use Rattle.std.specs.Prelude.{slice_get, if◌then◌else◌}
 use Rattle.std.specs.List.{position_from}
-use Rattle.std.proofs.lemmas.Bool.{eq-eqb}
-use Rattle.std.proofs.lemmas.Bool.Decides.{nat_tests}
+use Rattle.std.proofs.lemmas.Bool.{eq-eqb, ne_eqb}
 use Rattle.sx_mean.specs.declared.apps.AppDevice.{AppDevice}
 use Rattle.sx_run.specs.Setting.{devices_at}
 use Rattle.sx_run.specs.Run.{or_else}
 use Rattle.sx_run.proofs.tie.Lists.{get_some, some_inj}
 
-other : (n k : ℕ) → (n ≡ k → ⊥) → (n == k) ≡ false
-other n k h = grind (arith, nat_tests)
-
--- a device of the node, before the d-th
-pub one_before : (ds : List AppDevice) (n d i c : ℕ) (x : AppDevice) → i < d → x.node ≡ n
-    → position_from (λ k. k == d) c (devices_at n i (x ∷ ds)) ≡ position_from (λ k. k == d) (c + 1) (devices_at n (i + 1) ds)
-one_before ds n d i c x lt here =
-    ap (λ (b : Bool). position_from (λ k. k == d) c (if b then i ∷ devices_at n (i + 1) ds else devices_at n (i + 1) ds)) (eq-eqb x.node n here)
-    ∙ ap (λ (b : Bool). cond b (Some c) (position_from (λ k. k == d) (c + 1) (devices_at n (i + 1) ds))) (other i d (λ e. absurd (omega (arith, e, lt))))
-
 -- a device of another node
 pub none_before : (ds : List AppDevice) (n d i c : ℕ) (x : AppDevice) → (x.node ≡ n → ⊥)
     → position_from (λ k. k == d) c (devices_at n i (x ∷ ds)) ≡ position_from (λ k. k == d) c (devices_at n (i + 1) ds)
-none_before ds n d i c x h = ap (λ (b : Bool). position_from (λ k. k == d) c (if b then i ∷ devices_at n (i + 1) ds else devices_at n (i + 1) ds)) (other x.node n h)
+none_before ds n d i c x h = ap (λ (b : Bool). position_from (λ k. k == d) c (if b then i ∷ devices_at n (i + 1) ds else devices_at n (i + 1) ds)) (ne_eqb x.node n h)
 
 -- the d-th device itself
 pub found : (ds : List AppDevice) (n d c : ℕ) (x : AppDevice) → x.node ≡ n → position_from (λ k. k == d) c (devices_at n d (x ∷ ds)) ≡ Some c

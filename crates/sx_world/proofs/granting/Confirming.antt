@@ -5,6 +5,7 @@ use Rattle.std.proofs.Common.{OnErr, refl, sym, subst, ap, ◌∙◌, arith}
 use Rattle.std.specs.Prelude.{slice_get}
 use Rattle.std.proofs.lemmas.Bool.{true≢false}
 use Rattle.std.proofs.lemmas.List.{append_assoc}
+use Rattle.std.proofs.lemmas.Option.{none-some}
 use Rattle.sx_trace.specs.declared.items.Item.{Item}
 use Rattle.sx_trace.specs.declared.items.Item.TheVariants.{Attested, Denied}
 use Rattle.sx_ledger.specs.declared.entry.Maker.TheVariants as maker
@@ -83,9 +84,6 @@ has_site set old w m h lt e =
     no_known : (t : Known) → ◌≡◌ {A = Option Known} (Some t) None → ⊥
     no_known t e = cc
 
-no_ask : (a : List ℕ) → ◌≡◌ {A = Option (List ℕ)} None (Some a) → ⊥
-no_ask a e = cc
-
 -- the answer was accepted
 seen : (set : Setting) (old : Running) (k : Keeping) (m boot n : ℕ) (ask : List ℕ) → m < length set.app.parts → m < length old.deployer.targets
     → k ≡ judged_by set.mac old.deployer m boot (slice_get old.packets n) → accepted_ask set.mac old.deployer m boot (slice_get old.packets n) ≡ Some ask
@@ -120,10 +118,10 @@ seen set old k m boot n ask lt known kj aa w h = by_packet (slice_get old.packet
     by_verdict : (answer : List ℕ) → slice_get old.packets n ≡ Some answer → (b : Bool) → keeping.accepts set.mac old.deployer m boot answer ≡ b
         → k ≡ (if b then keeping.accepted old.deployer m boot else old.deployer) → (if b then keeping.open_ask old.deployer m else None) ≡ Some ask → Due
     by_verdict answer e true acc kj aa = by_site answer e acc kj aa (slice_get set.sites m) refl
-    by_verdict answer e false acc kj aa = absurd (no_ask ask aa)
+    by_verdict answer e false acc kj aa = absurd (none-some ask aa)
 
     by_packet : (p : Option (List ℕ)) → slice_get old.packets n ≡ p → k ≡ judged_by set.mac old.deployer m boot p → accepted_ask set.mac old.deployer m boot p ≡ Some ask → Due
-    by_packet None e kj aa = absurd (no_ask ask aa)
+    by_packet None e kj aa = absurd (none-some ask aa)
     by_packet (Some answer) e kj aa = by_verdict answer e (keeping.accepts set.mac old.deployer m boot answer) refl kj aa
 
 -- it was denied

@@ -4,6 +4,7 @@ use Rattle.std.proofs.Common.{drop-cons, add-one, get_or, IsErr, Option, Some, N
 use Rattle.std.proofs.Common.{Result, Ok, Err, OnOk, OnErr, refl, sym, subst, ap, ◌∙◌, arith}
 use Rattle.std.specs.Prelude.{slice_get}
 use Rattle.std.proofs.lemmas.List.{append-nil}
+use Rattle.std.proofs.lemmas.Option.{same_Some}
 use Rattle.sx_lang.specs.declared.sides.Side.{Side}
 use Rattle.sx_lang.specs.declared.sides.Side.TheVariants.{From, To}
 use Rattle.sx_trace.specs.declared.items.Item.{Item}
@@ -24,7 +25,7 @@ use Rattle.sx_run.specs.Deployer.{DeployerState, Grant, key_of, side_number, con
 use Rattle.sx_run.specs.State.{World, Acted}
 use Rattle.sx_run.specs.Acts.{then_, with_deployer, key_given, keys_given}
 use Rattle.sx_world.specs.Held.{Running, IsKept, Records, AddsFront, Shows, Did, Wanted, DoesAct}
-use Rattle.sx_world.proofs.showing.Fronts.{front_more, front_same, Comes, comes_first, comes_on, comes_all, comes_front}
+use Rattle.sx_world.proofs.showing.Fronts.{front_more, front_same, Comes, comes_on, comes_all, comes_front}
 use Rattle.sx_world.proofs.granting.SameKeys.{low_bytes, known_as, known_site, unknown_site}
 use Rattle.sx_world.proofs.granting.Sent.{sent, deployer_shown, packet_shown, packet_item}
 
@@ -66,9 +67,6 @@ same_answer set k d g (Some site) h hl he e =
     ap (option_map (λ t. granting.set_key set.mac k.secret t g.boot g.«end» g.epoch)) (known_site set k d g.holder site h e)
     ∙ ap (λ (p : List ℕ). Some p) (same_set_key set k d g.holder site g h hl he)
 
-some_bytes : (x y : List ℕ) → ◌≡◌ {A = Option (List ℕ)} (Some x) (Some y) → x ≡ y
-some_bytes x y e = cc
-
 -- a key was given
 pub given_some : {X E : Type 0} (set : Setting) (r : Result X E) (old : Running) (entries : List Entry) (packets : List (List ℕ)) (before after : List Item) (g : Grant)
     (count : ℕ) (packet key : List ℕ) → g.«end».link < 256 → g.epoch < 256
@@ -88,7 +86,7 @@ given_some set (Ok x) old entries packets before after g count packet key hl he 
         no_packet : ◌≡◌ {A = Option (List ℕ)} (Some packet) None → ⊥
         no_packet e = cc
     did w h (Some site) e =
-        let same : packet ≡ set_key set site g = some_bytes packet (set_key set site g) (made_by ∙ same_answer set old.deployer w.deployer g (Some site) h.deployer hl he e) in
+        let same : packet ≡ set_key set site g = same_Some packet (set_key set site g) (made_by ∙ same_answer set old.deployer w.deployer g (Some site) h.deployer hl he e) in
         let entry : made maker.Deployer g.holder g.boot (take 6 packet) key ≡ set_key_entry set g =
         ap (λ (p : List ℕ). made maker.Deployer g.holder g.boot (take 6 p) key) same
         ∙ ap (λ (p : List ℕ). made maker.Deployer g.holder g.boot (grant_header g) p) (key_is ∙ same_key set g.«end».link g.epoch) in
@@ -120,9 +118,6 @@ pub record Giving (set : Setting) (all left : List Grant) (old now : Running) (b
   pub goes : (w : World) → Shows set old w → (v : World) × Shows set now v
       × ((keys_given set left v).world ≡ (keys_given set all w).world)
       × Comes before came (keys_given set left v).items (keys_given set all w).items
-
-pub giving_first : (set : Setting) (all : List Grant) (old : Running) (before : List Item) → Giving set all all old old before before
-giving_first set all old before = record { goes = λ w h. (w, h, refl, comes_first before (keys_given set all w).items) }
 
 -- one more key was given
 pub giving_on : (set : Setting) (all left rest : List Grant) (g : Grant) (old now new : Running) (before came after : List Item)

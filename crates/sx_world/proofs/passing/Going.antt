@@ -1,5 +1,5 @@
 -- Steps that the program does one by one.
-use Rattle.std.proofs.Common.{◌≡◌, ℕ, suc, Bool, true, false, if◌then◌else◌, ◌||◌, List, ◌++◌, Some, refl, sym, subst, ap, ◌∙◌, ◌∷◌, [], Option, None, Result, Ok, Err, OnOk, OnErr}
+use Rattle.std.proofs.Common.{◌≡◌, ℕ, suc, Bool, true, false, if◌then◌else◌, ◌||◌, List, ◌++◌, Some, sym, subst, ap, ◌∙◌, ◌∷◌, [], Option, None, Result, Ok, Err, OnOk, OnErr}
 use Rattle.std.specs.Prelude.{slice_get}
 use Rattle.std.specs.Option.{option_to_list}
 use Rattle.std.proofs.lemmas.List.{append-nil}
@@ -11,16 +11,13 @@ use Rattle.sx_run.specs.State.{World, Acted}
 use Rattle.sx_run.specs.Acts.{at_node, after_step, then_, only}
 use Rattle.sx_run.specs.Run.{is_reset, steps_of}
 use Rattle.sx_world.specs.Held.{Running, AddsFront, Shows, Did, Wanted}
-use Rattle.sx_world.proofs.showing.Fronts.{front_more, front_same, Comes, comes_first, comes_on, comes_all, comes_front}
+use Rattle.sx_world.proofs.showing.Fronts.{front_more, front_same, Comes, comes_on, comes_all, comes_front}
 
 -- of all the steps that are due, this many are left, and these items have come
 pub record Going (set : Setting) (stops : State → Bool) (ends : List Item) (n all left : ℕ) (old now : Running) (before came : List Item) : Type 0 where
   pub goes : (w : World) → Shows set old w → (v : World) × Shows set now v
       × ((steps_of set stops ends n left v).world ≡ (steps_of set stops ends n all w).world)
       × Comes before came (steps_of set stops ends n left v).items (steps_of set stops ends n all w).items
-
-pub going_first : (set : Setting) (stops : State → Bool) (ends : List Item) (n all : ℕ) (old : Running) (before : List Item) → Going set stops ends n all all old old before before
-going_first set stops ends n all old before = record { goes = λ w h. (w, h, refl, comes_first before (steps_of set stops ends n all w).items) }
 
 -- the step is the last one
 abbrev pub is_last : Setting → (State → Bool) → State → Bool
@@ -35,9 +32,6 @@ first_of : (set : Setting) (stops : State → Bool) (ends : List Item) (n left k
 first_of set stops ends n left k v s e here =
     ap (λ i. steps_of set stops ends n i v) e
     ∙ ap (at_node v (λ s. if is_last set stops s then after_step set v n s else then_ (after_step set v n s) (steps_of set stops ends n k))) here
-
-choose : (b c : Bool) (x y : Acted) → b ≡ c → (if b then x else y) ≡ (if c then x else y)
-choose b c x y e = ap (λ (d : Bool). if d then x else y) e
 
 -- what a step shows of each world that the program's world shows
 abbrev pub Steps : Setting → ℕ → Running → Running → List Item → List Item → Type 0
@@ -59,7 +53,7 @@ going_on set stops ends n all left k old now new before came after s going e the
       let here : slice_get v.nodes n ≡ Some s = ap (λ ns. slice_get ns n) (sym g.1.nodes) ∙ there in
       let d = did set n now new came after v s here g.1 steps in
       let whole : steps_of set stops ends n left v ≡ then_ (after_step set v n s) (steps_of set stops ends n k) =
-      first_of set stops ends n left k v s e here ∙ choose _ false (after_step set v n s) (then_ (after_step set v n s) (steps_of set stops ends n k)) more in
+      first_of set stops ends n left k v s e here ∙ ap (λ (d : Bool). if d then after_step set v n s else then_ (after_step set v n s) (steps_of set stops ends n k)) more in
       let u = (after_step set v n s).world in
       let rest = (steps_of set stops ends n k u).items in (
         u,
@@ -80,7 +74,7 @@ going_over set stops ends n all left k old now new before came after s going e t
     let here : slice_get v.nodes n ≡ Some s = ap (λ ns. slice_get ns n) (sym g.1.nodes) ∙ there in
     let d = did set n now new came after v s here g.1 steps in
     let whole : steps_of set stops ends n left v ≡ after_step set v n s =
-    first_of set stops ends n left k v s e here ∙ choose _ true (after_step set v n s) (then_ (after_step set v n s) (steps_of set stops ends n k)) last in (
+    first_of set stops ends n left k v s e here ∙ ap (λ (d : Bool). if d then after_step set v n s else then_ (after_step set v n s) (steps_of set stops ends n k)) last in (
       subst (λ x. Shows set new x) (sym (ap (λ (a : Acted). a.world) whole) ∙ g.2) d.0,
       comes_all before came after (steps_of set stops ends n left v).items (steps_of set stops ends n all w).items g.3 (d.1 ∙ sym (ap (λ (a : Acted). came ++ a.items) whole)),
     )
@@ -139,7 +133,3 @@ pub went_on : {T E : Type 0} (r : Result T E) (came after : List Item) (end : Op
     → end ≡ Some item → OnOk r (after ≡ came ++ item ∷ []) → OnOk r (after ≡ came ++ option_to_list end)
 went_on (Ok x) came after end item e h = h ∙ sym (ap (λ o. came ++ option_to_list o) e)
 went_on (Err x) came after end item e h = tt
-
-pub or_first : (a b : Bool) → (a || b) ≡ false → a ≡ false
-or_first true b h = h
-or_first false b h = refl

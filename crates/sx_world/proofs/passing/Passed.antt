@@ -3,8 +3,9 @@ use Rattle.std.proofs.Common.{◌≡◌, ℕ, zero, suc, ◌+◌, ◌-◌, ◌<�
 use Rattle.std.proofs.Common.{◌++◌, Option, Some, None, Result, Ok, Err, OnOk, OnErr, get_or, ◌≤◌}
 use Rattle.std.proofs.Common.{length, refl, sym, subst, ap, ◌∙◌, arith}
 use Rattle.std.specs.Prelude.{slice_get, slice_set}
-use Rattle.std.proofs.lemmas.List.{append-nil}
+use Rattle.std.proofs.lemmas.List.{append-nil, set-set}
 use Rattle.std.proofs.lemmas.Option.{get_or_from_slice_get}
+use Rattle.std.proofs.lemmas.Bool.{or_parts}
 use Rattle.sx_tag.specs.Mac.{Mac}
 use Rattle.sx_rules.specs.declared.access.Violation.{Violation}
 use Rattle.sx_trace.specs.declared.items.Item.{Item}
@@ -25,8 +26,8 @@ use Rattle.sx_run.specs.Accepted.{setting}
 use Rattle.sx_run.specs.Run.{is_reset}
 use Rattle.sx_world.specs.Passing.{after_steps, AreQuiet, EndsWith, stepped, taken}
 use Rattle.sx_run.proofs.tie.Lists.{get_some, some_inj, length_set}
-use Rattle.sx_run.proofs.steps.Stretch.{set_same, set_set}
-use Rattle.sx_world.proofs.passing.Going.{Going, Steps, next, going_on, is_last, or_first}
+use Rattle.sx_run.proofs.steps.Stretch.{set_same}
+use Rattle.sx_world.proofs.passing.Going.{Going, Steps, next, going_on, is_last}
 use Rattle.sx_run.proofs.acts.Bounds.{no_reset}
 use Rattle.sx_world.proofs.passing.Stepped.{step_does, program_did, program_wanted, seen_behind}
 use Rattle.sx_world.proofs.doing.Doing.{with_nodes}
@@ -48,14 +49,6 @@ quiet_boot mac idle (suc k) s q =
     let shown : (step mac t).shown.event ≡ Quiet = ap (λ (z : Seen). z.event) q.1 in
     step_quiet mac t (λ v e. quiet_event (step mac t).shown.event v shown e) ∙ quiet_boot mac idle k s q.0
 
--- one more
-pub quiet_more : (mac : Mac) (idle : Bool) (k j : ℕ) (s t : State) (seen : Seen) → j ≡ suc k → AreQuiet mac idle k s
-    → t ≡ (step mac (after_steps mac k s)).state → seen ≡ (step mac (after_steps mac k s)).shown
-    → seen ≡ nothing → (idle && (t.cur == 0)) ≡ false → AreQuiet mac idle j s
-quiet_more mac idle k j s t seen e q left shown none more =
-    subst (λ i. AreQuiet mac idle i s) (sym e)
-    (q, sym shown ∙ none, ap (λ (u : State). idle && (u.cur == 0)) (sym left) ∙ more)
-
 -- the node after none is the node, and what is kept stays
 stepped_none : (mac : Mac) (n : ℕ) (s : State) (now : Running) → slice_get now.nodes n ≡ Some s → stepped mac n 0 s now ≡ now
 stepped_none mac n s now here =
@@ -74,7 +67,7 @@ stepped_next mac n k s now entries =
     let e : now.steps + suc k ≡ now.steps + k + 1 = omega arith in
     let t = after_steps mac k s in
     ap (λ i. with_nodes now (slice_set now.nodes n (step mac t).state) entries i) e
-    ∙ sym (ap (λ ns. with_nodes now ns entries (now.steps + k + 1)) (set_set now.nodes n t (step mac t).state))
+    ∙ sym (ap (λ ns. with_nodes now ns entries (now.steps + k + 1)) (set-set now.nodes n t (step mac t).state))
 
 -- a step that shows nothing adds no item, and leaves the ledger
 quiet_saw : (mac : Mac) (d : Deployed) (sites : List Site) (n : ℕ) (t : State) (entries : List Entry) (came : List Item) → (step mac t).shown ≡ nothing
@@ -251,7 +244,7 @@ passed_small mac idle n k left now mid new seen p kept more small t here =
     let m = after_steps mac k p.node in
     let there = passed_there mac idle n k left now mid new seen p kept in
     let same : t ≡ (step mac m).state = some_inj t (step mac m).state (sym here ∙ there) in
-    let on = or_first (is_reset (step mac m).shown.event) (idle && ((step mac m).state.cur == 0)) more in
+    let on = (or_parts (is_reset (step mac m).shown.event) (idle && ((step mac m).state.cur == 0)) more).0 in
     subst (λ b. b < 4294967295) (sym (ap (λ (u : State). u.boot) same ∙ step_quiet mac m (λ v e. no_reset (step mac m).shown.event v on e) ∙ quiet_boot mac idle k p.node p.quiet)) small
 
 pub passed_within : (mac : Mac) (idle : Bool) (n k left : ℕ) (now mid : Running) (seen : Seen) → Passage mac idle n k left now mid seen → n < length now.nodes → n < length mid.nodes

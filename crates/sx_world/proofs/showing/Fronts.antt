@@ -83,15 +83,6 @@ comes_front before came after left due c f = (
   (f.2.0, append_assoc c.0 f.0 f.2.0 ∙ ap (λ x. c.0 ++ x) f.2.1 ∙ c.2),
 )
 
--- both parts
-pub whole_next : (new mid old a b : List Item) → mid ≡ old ++ a → new ≡ mid ++ b → new ≡ old ++ (a ++ b)
-whole_next new mid old a b e f = f ∙ ap (λ x. x ++ b) e ∙ append_assoc old a b
-
--- a fact that holds of every answer holds of a lack of memory
-pub err_any : {T E : Type 0} (r : Result T E) {A : Type 0} → A → OnErr r A
-err_any (Ok x) a = tt
-err_any (Err e) a = a
-
 -- a prefix of what is due, said otherwise
 pub due_same : {T E : Type 0} (r : Result T E) (old : List Entry) (before after : List Item) (due said : List Made → Observed) → ((list : List Made) → due list ≡ said list)
     → OnErr r (ObservesFront old before after due) → OnErr r (ObservesFront old before after said)

@@ -2,8 +2,7 @@
 use Rattle.std.proofs.Common.{◌≡◌, ℕ, zero, suc, ◌+◌, ◌<◌, ◌==◌, ◌&&◌, ◌||◌, Bool, true, false, if◌then◌else◌, List, [], ◌∷◌, Option, Some, None, refl, subst, ap, ◌∙◌, arith}
 use Rattle.std.specs.Prelude.{slice_get}
 use Rattle.std.specs.List.{list_any, cons_option}
-use Rattle.std.proofs.lemmas.Bool.{eq-eqb}
-use Rattle.std.proofs.lemmas.Bool.Decides.{nat_tests}
+use Rattle.std.proofs.lemmas.Bool.{eq-eqb, ne_eqb}
 use Rattle.sx_lang.specs.declared.sides.Side.{Side}
 use Rattle.sx_lang.specs.declared.sides.Side.TheVariants.{From, To}
 use Rattle.sx_mean.specs.declared.apps.Link.{Link}
@@ -61,12 +60,9 @@ first side k n m l ls c h =
     ∙ or_same (is_one (is_end k side) (sending n m l)) (is_one (is_end k side) (receiving n m l)) rest
     ∙ ap (λ x. x || rest) (hits side k n m l c h)
 
-other : (n k : ℕ) → (n ≡ k → ⊥) → (n == k) ≡ false
-other n k h = grind (arith, nat_tests)
-
 below : (side : Side) (k n m : ℕ) (ls : List Link) → k < n → list_any (is_end k side) (ends_after n m ls) ≡ false
 below side k n m [] h = refl
-below side k n m (l ∷ ls) h = first side k n m l ls false (other n k (λ e. absurd (omega (arith, e, h)))) ∙ below side k (n + 1) m ls (omega (arith, h))
+below side k n m (l ∷ ls) h = first side k n m l ls false (ne_eqb n k (λ e. absurd (omega (arith, e, h)))) ∙ below side k (n + 1) m ls (omega (arith, h))
 
 or_none : (a b : Bool) → b ≡ false → (a || b) ≡ a
 or_none true b h = refl
@@ -78,7 +74,7 @@ at_place side zero n m (l ∷ ls) =
     first side (n + 0) n m l ls true (eq-eqb n (n + 0) (omega arith)) ∙ or_none (at_side m side l)
     (list_any (is_end (n + 0) side) (ends_after (n + 1) m ls)) (below side (n + 0) (n + 1) m ls (omega arith))
 at_place side (suc c) n m (l ∷ ls) =
-    first side (n + suc c) n m l ls false (other n (n + suc c) (λ e. absurd (omega (arith, e))))
+    first side (n + suc c) n m l ls false (ne_eqb n (n + suc c) (λ e. absurd (omega (arith, e))))
     ∙ subst (λ k. list_any (is_end k side) (ends_after (n + 1) m ls) ≡ is_held m side (slice_get ls c)) (omega arith) (at_place side c (n + 1) m ls)
 
 -- a module has the end exactly where the connection's side is at it

@@ -2,7 +2,7 @@
 use Rattle.std.proofs.Common.{◌≡◌, ℕ, ◌+◌, inl, inr, ◌==◌, ◌||◌, cond, Bool, true, false, if◌then◌else◌, List, [], ◌∷◌, ◌++◌, Option, Some, None, refl, sym, ap, ◌∙◌}
 use Rattle.std.specs.Prelude.{slice_index, option_and_then}
 use Rattle.std.specs.List.{list_any, position_from}
-use Rattle.std.proofs.lemmas.Bool.{true≢false, cases_Bool, eqb-true, or_cases}
+use Rattle.std.proofs.lemmas.Bool.{true≢false, cases_Bool, eqb-true, or_cases, or_parts}
 use Rattle.sx_rules.specs.declared.section.Section.{Section}
 use Rattle.sx_rules.specs.Access.{Sections, holder, section_of}
 use Rattle.sx_rules.specs.Placed.{Placed}
@@ -72,9 +72,6 @@ told_same mac g m0 m u e t h (Same told same) = (told_author g e t h told, same)
 told_same mac g m0 m u e t h (Admits r a w) = absurd (true≢false (sym h))
 told_same mac g m0 m u e t h (Removes s f r w) = absurd (true≢false (sym h))
 
-no_touches : list_any is_touch untouched ≡ false
-no_touches = refl
-
 by_event : (ts : List Touch) (e : Event) → ts ≡ untouched → (list_any is_touch ts || is_own e) ≡ true → is_own e ≡ true
 by_event ts e u h = sym (ap (λ x. list_any is_touch x || is_own e) u) ∙ h
 
@@ -119,14 +116,10 @@ same_runner mac sites n s placed h =
     ∙ ap (λ (u : Sections). option_and_then (deployed sites n t.mem) (section_of u.live (own_of s))) a.sections
     ∙ module_same mac sites n s (section_of s.sections.live (own_of s)) placed h refl
 
-or_both : (a b : Bool) → (a || b) ≡ false → (a ≡ false) × (b ≡ false)
-or_both true b h = absurd (true≢false h)
-or_both false b h = (refl, h)
-
 -- where what is seen tells of no module, it is the same of every module
 pub unseen : (set : Setting) (n : ℕ) (a b : Option ℕ) (s : State) (seen : Seen) (ledger : List Made) → tells seen ≡ false → observed set n a s seen ledger ≡ observed set n b s seen ledger
 unseen set n a b s seen ledger h =
-    let p = or_both (list_any is_touch seen.touch) (is_own seen.event) h in
+    let p = or_parts (list_any is_touch seen.touch) (is_own seen.event) h in
     let e = no_event set n a b s ledger seen.event p.1 in
     ap (λ ts. record { items = ts ++ (event_seen set n a s ledger seen.event).items; ledger = (event_seen set n a s ledger seen.event).ledger }) (no_touch set.app n a b seen.touch p.0)
     ∙ ap (λ (o : Observed). record { items = touch_items set.app n b seen.touch ++ o.items; ledger = o.ledger }) e

@@ -1,8 +1,7 @@
 -- Whether a memory holds the bytes of a text from an address on.
-use Rattle.std.proofs.Common.{◌≡◌, ℕ, ◌==◌, inl, inr, false, List, length, sym, ap, ◌∙◌, arith}
+use Rattle.std.proofs.Common.{◌≡◌, ℕ, ◌==◌, inl, inr, false, List, length, sym, ap, ◌∙◌}
 use Rattle.std.specs.Prelude.{bytes_eq}
-use Rattle.std.proofs.lemmas.Bool.{cases_Bool}
-use Rattle.std.proofs.lemmas.Bool.Decides.{nat_tests}
+use Rattle.std.proofs.lemmas.Bool.{cases_Bool, ne_eqb}
 use Rattle.std.proofs.lemmas.Slice.Eq.{bytes_eq-Decides}
 use Rattle.sx_machine.specs.Memory.{bytes_from}
 use Rattle.sx_machine.proofs.Lengths.{length-bytes_from}
@@ -14,8 +13,5 @@ not_as_long m a n text h = elim (cases_Bool (bytes_eq (bytes_from m a n) text)) 
   | inr f ↦ sym f
 ]
 
-other : (n k : ℕ) → (n ≡ k → ⊥) → (n == k) ≡ false
-other n k h = grind (arith, nat_tests)
-
 pub unlike : (m : List ℕ) (a k n : ℕ) (text : List ℕ) → k ≡ n → (k ≡ length text → ⊥) → (k == length text) ≡ bytes_eq (bytes_from m a n) text
-unlike m a k n text e h = other k (length text) h ∙ not_as_long m a n text (λ x. h (e ∙ x))
+unlike m a k n text e h = ne_eqb k (length text) h ∙ not_as_long m a n text (λ x. h (e ∙ x))

@@ -1,13 +1,14 @@
 use Rattle.sx_mean.specs.View.{app_as}
 use Rattle.sx_world.specs.InMemory.{setting_in}
 use Rattle.sx_run.specs.Observation.{event_seen, touch_items}
-use Rattle.sx_world.proofs.showing.Fronts.{err_any, front_more, due_next}
+use Rattle.sx_world.proofs.showing.Fronts.{front_more, due_next}
 use Rattle.sx_world.proofs.observation.add_seen.Goals as goal
+use Rattle.sx_lists.proofs.Results.{on_any_err}
 
 pub returns-in_err-add_touches-clause-front : goal.returns-in_err-add_touches-clause-front
 returns-in_err-add_touches-clause-front g c =
     let set = setting_in g.T.Tag.mac c.args.setting.now in
-    err_any c.from_residual.result (λ list h.
+    on_any_err c.from_residual.result (λ list h.
     front_more c.add_touches.new.items.items c.args.items.now.items (touch_items (app_as c.args.setting.now.deployment.now.app) c.args.n c.args.runner c.args.seen.now.touch)
     (event_seen set c.args.n c.args.runner c.args.node.now list c.args.seen.now.event).items c.in_err-add_touches.ensures.front)
 

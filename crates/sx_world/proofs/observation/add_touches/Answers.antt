@@ -4,8 +4,9 @@ use Rattle.std.proofs.lemmas.List.{append-nil}
 use Rattle.sx_mean.specs.View.{app_as}
 use Rattle.sx_machine.specs.declared.kinds.Touch.TheVariants.{Quiet}
 use Rattle.sx_run.specs.Observation.{touch_items}
-use Rattle.sx_world.proofs.showing.Fronts.{comes_all, comes_front, err_any, front_same, touches_on}
+use Rattle.sx_world.proofs.showing.Fronts.{comes_all, comes_front, front_same, touches_on}
 use Rattle.sx_world.proofs.observation.add_touches.Goals as goal
+use Rattle.sx_lists.proofs.Results.{on_any_err}
 
 pub loop-touch-preserved : goal.loop-touch-preserved
 loop-touch-preserved c =
@@ -18,7 +19,7 @@ loop-touch-preserved c =
 pub returns-in_err-add_touch-clause-front : goal.returns-in_err-add_touch-clause-front
 returns-in_err-add_touch-clause-front c =
     let due = touch_items (app_as c.args.app.now) c.args.n c.args.runner in
-    err_any c.from_residual.result
+    on_any_err c.from_residual.result
     (comes_front c.args.items.now.items c.loop-touch.items.items c.add_touch.new.items.items (due (drop c.loop-touch.touch-index c.args.touches.now)) (due c.args.touches.now) c.loop-touch.invariant
     (front_same c.add_touch.new.items.items c.loop-touch.items.items (due (drop c.loop-touch.touch-index c.args.touches.now)) c.in_err-add_touch.ensures.err))
 

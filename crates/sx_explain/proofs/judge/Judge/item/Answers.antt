@@ -1,10 +1,11 @@
 use Rattle.std.proofs.Common.{◌≡◌, ◌∙◌, false, true, sym, ap}
 use Rattle.sx_mean.specs.View.{app_as}
 use Rattle.sx_mean.proofs.ValidApplications.{valid_applications}
-use Rattle.sx_explain.specs.Followed.{Seen, Follows}
-use Rattle.sx_explain.proofs.Ending.{answer_is, err_is, follows_is, on_err_any}
+use Rattle.sx_explain.specs.Followed.{Seen}
+use Rattle.sx_explain.proofs.Ending.{answer_is, err_is, follows_is}
 use Rattle.sx_explain.proofs.Following.{tried_up, unjudged_follows}
 use Rattle.sx_explain.proofs.judge.Judge.item.Goals as goal
+use Rattle.sx_lists.proofs.Results.{on_any_err}
 
 pub catch_up-requires : goal.catch_up-requires
 catch_up-requires c = (valid_applications (app_as c.args.app.now) c.requires.valid).few_links
@@ -30,7 +31,7 @@ returns-clause-err c items h =
 pub returns-in_err-catch_up-clause-err : goal.returns-in_err-catch_up-clause-err
 returns-in_err-catch_up-clause-err c items h =
     let e : c.args.self.now.has_forged ≡ false = (ap (λ (j : Seen). j.has_forged) (sym c.self.view_is) ∙ c.if-self.false) in
-    on_err_any c.from_residual.result (Follows (app_as c.args.app.now) items c.catch_up.new.self)
+    on_any_err c.from_residual.result
     (tried_up (app_as c.args.app.now) items c.args.self.now c.catch_up.new.self h e c.in_err-catch_up.ensures.err c.in_err-catch_up.ensures.fills)
 
 pub returns-then-self-clause-follows : goal.returns-then-self-clause-follows

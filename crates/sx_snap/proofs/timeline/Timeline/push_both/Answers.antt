@@ -7,9 +7,10 @@ use Rattle.sx_sched.specs.declared.lines.Line.{Line as Read}
 use Rattle.sx_run.specs.Setting.{Site}
 use Rattle.sx_world.specs.Held.{Held}
 use Rattle.sx_snap.specs.Kept.{Kept, first_sites}
-use Rattle.sx_snap.proofs.Longer.{first_kept, on_err, on_ok}
+use Rattle.sx_snap.proofs.Longer.{first_kept, on_ok}
 use Rattle.sx_snap.proofs.timeline.Timeline.push_both.Goals.{in-Ok, in-Err}
 use Rattle.sx_snap.proofs.timeline.Timeline.push_both.Goals as goal
+use Rattle.sx_lists.proofs.Results.{on_any_err}
 
 pub returns-clause-ok : goal.returns-clause-ok
 returns-clause-ok g c = elim c.match-push.branch [
@@ -40,7 +41,7 @@ returns-clause-err g c = elim c.match-push.branch [
       let count : c.len-count.result ≡ length ls = omega (arith, c.len-count.ensures, c.self.inside.lines.ok) in
       let back = w.truncate.ensures.items ∙ ap (λ n. take n c.push.new.self.items) count ∙ ap (λ (l : List Read). take (length ls) l) c.in_ok-push.ensures.items
       ∙ take-append_seam ls (c.args.line ∷ []) in
-      on_err c.match-push.result _ (w.self-is
+      on_any_err c.match-push.result (w.self-is
       ∙ ap (λ (x : List Held). record { sites = first_sites x; lines = map line_of w.truncate.new.self.items; every = ev; checkpoints = x }) w.in-Err.ensures.items
       ∙ ap (λ (l : List Read). record { sites = first_sites cs; lines = map line_of l; every = ev; checkpoints = cs }) back
       ∙ c.self.view_is)
