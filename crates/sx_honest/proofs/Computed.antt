@@ -4,7 +4,8 @@ use Rattle.std.proofs.lemmas.List.Elements.{All-nil, All-cons}
 use Rattle.sx_mean.specs.Validity.{is_valid}
 use Rattle.sx_honest.specs.Plain.{Sampling}
 use Rattle.sx_honest.specs.Course.{IsSampling, course_start, sensed, settled}
-use Rattle.sx_honest.specs.Worked.{LightingPredicted, lighting}
+use Rattle.sx_honest.specs.Worked.{LightingPredicted}
+use Rattle.sx_model.specs.Worked.{lighting}
 
 valid : is_valid lighting ≡ true
 unfolding is_valid Rattle.sx_mean.specs.Validity.is_too_large Rattle.sx_mean.specs.Validity.is_wrong Rattle.sx_mean.specs.Validity.is_misplaced
