@@ -16,8 +16,8 @@ use Rattle.sx_mean.specs.Ends.{ends_of, same_side}
 use Rattle.sx_model.specs.Reaction.{after_event, flow_of}
 use Rattle.sx_model.specs.State.{EndView, Model, Pending, Present, Reading, Standing, Vouched}
 use Rattle.sx_model.specs.Step.{◌>>?◌, absent_at, first_present, idle, is_fresh_with, is_word}
-use Rattle.sx_model.specs.Step.{is_nothing, kind_is, is_vouched, after_sample, stale_at}
-use Rattle.sx_model.specs.Step.{is_undriven, waits, with_pending, without_first, wrote_raw}
+use Rattle.sx_model.specs.Step.{is_nothing, kind_is, is_vouched, stale_at, state_if}
+use Rattle.sx_model.specs.Step.{is_undriven, waits, with_device, with_pending, without_first}
 use Rattle.sx_trace.specs.declared.items.Item.{Item}
 use Rattle.sx_trace.specs.declared.items.Item.TheVariants.{Reset, Protect, Sense, Read, Drain, Ask}
 use Rattle.sx_trace.specs.declared.items.Item.TheVariants.{Attested, Denied, Vouch, Open, Take, Out}
@@ -263,6 +263,16 @@ takes_in app s m c i v =
     slice_get app.parts m >>? (λ q. slice_get app.links c >>?
     (λ l. if_so (is_word v (word_at s.sent c i)) (takes_at app s m q c i l.input v)))
 
+-- a sensor gets a value
+abbrev pub after_sample : AppTree → Model → ℕ → ℕ → Option Model
+after_sample app s d v = slice_get app.devices d >>?
+    (λ w. state_if (is_sensor w.kind) (with_device s d (record { value = v; fresh = true })))
+
+-- other code writes an actuator, while no driver of it is present
+abbrev pub wrote_raw : AppTree → Model → ℕ → Option Model
+wrote_raw app s d = state_if (kind_is (λ k. not (is_sensor k)) (slice_get app.devices d)
+    && is_undriven app.parts s.modules d) s
+
 -- the state after an allowed item, put together from these
 abbrev pub steps : AppTree → Model → Item → Option Model
 steps app s (Reset n cause) = resets app s n
@@ -285,14 +295,3 @@ steps app s (Forged m) = Some s
 steps app s (Busy n) = Some s
 steps app s (Skip n) = Some s
 steps app s (Budget n) = Some s
-
--- an item that takes no memory
-abbrev pub is_plain : Item → Bool
-is_plain (Protect n None) = true
-is_plain (Protect n (Some m)) = false
-is_plain (Read m v) = false
-is_plain (Attested m b) = false
-is_plain (Vouch m a) = false
-is_plain (Open m c side epoch) = false
-is_plain (Take m c i v) = false
-is_plain _ = true

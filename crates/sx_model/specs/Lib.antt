@@ -8,5 +8,6 @@ pub mod Consequences
 pub mod Worked
 pub mod Laws
 pub mod Changes
+pub mod Memory
 pub mod Sendings
 pub mod Counted

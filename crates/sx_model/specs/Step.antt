@@ -91,19 +91,6 @@ first_present tree es = record {
   pending = None;
 }
 
--- an absent module of the node is protected, or other code
-abbrev pub protected_as : AppTree → Model → ℕ → Option ℕ → Option Model
-protected_as app s n None = Some s
-protected_as app s n (Some m) =
-    slice_get app.parts m >>? (λ q. slice_get s.modules m >>? (λ x.
-    state_if ((q.node == n) && is_none x.present)
-    (with_present s m x (first_present q.tree (ends_of app m)))))
-
--- a sensor gets a value
-abbrev pub after_sample : AppTree → Model → ℕ → ℕ → Option Model
-after_sample app s d v = slice_get app.devices d >>?
-    (λ w. state_if (is_sensor w.kind) (with_device s d (record { value = v; fresh = true })))
-
 -- the module reacts to an event
 abbrev pub reacts : AppTree → Model → ℕ → PartTree → Standing → Present → SourceEvent → Model
 reacts app s m q x p e =
@@ -119,48 +106,9 @@ abbrev pub kind_is : (DeviceKind → Bool) → Option AppDevice → Bool
 kind_is test None = false
 kind_is test (Some w) = test w.kind
 
--- a driver takes its sensor's fresh value, and reacts to it
-abbrev pub has_read : AppTree → Model → ℕ → ℕ → Option Model
-has_read app s m v =
-    slice_get app.parts m >>? (λ q. slice_get s.modules m >>?
-    (λ x. idle x >>? (λ p. q.device >>? (λ d. slice_get s.devices d >>? (λ r.
-    state_if (kind_is is_sensor (slice_get app.devices d) && is_fresh_with v r)
-    (reacts app (with_device s d (record r { fresh = false })) m q x p (event.Sample v)))))))
-
--- other code takes a sensor's fresh value, while no driver of it is present
-abbrev pub after_drain : AppTree → Model → ℕ → Option Model
-after_drain app s d =
-    slice_get s.devices d >>? (λ r.
-    state_if (r.fresh && (kind_is is_sensor (slice_get app.devices d)
-    && is_undriven app.parts s.modules d)) (with_device s d (record r { fresh = false })))
-
--- the deployer asks a module; the challenge is the number of asks before
-abbrev pub asked_of : Model → ℕ → ℕ → Option Model
-asked_of s m a = slice_get s.modules m >>? (λ x. state_if (a == s.asks)
-    (with_standing (record s { asks = s.asks + 1 }) m (record x { asked = Some a })))
-
--- a module vouches for a challenge at its node's boot, in one piece
-abbrev pub has_vouched : AppTree → Model → ℕ → ℕ → Option Model
-has_vouched app s m a =
-    slice_get app.parts m >>? (λ q. slice_get s.modules m >>?
-    (λ x. idle x >>? (λ p. slice_get s.boots q.node >>? (λ boot.
-    Some (with_standing s m (record x {
-      present = Some (with_pending p (owing [] 1));
-      vouched = x.vouched ++ record { challenge = a; boot = boot } ∷ [];
-    }))))))
-
 -- the challenge was vouched for at the boot
 abbrev pub is_vouched : ℕ → ℕ → List Vouched → Bool
 is_vouched a b xs = list_any (λ v. (v.challenge == a) && (v.boot == b)) xs
-
--- the deployer accepts a module's answer to its open challenge
-abbrev pub was_attested : AppTree → Model → ℕ → ℕ → Option Model
-was_attested app s m b =
-    slice_get s.modules m >>? (λ x. x.asked >>? (λ a.
-    let epochs = renewed m app.links (boot_of x.attested) s.epochs in
-    state_if (is_vouched a b x.vouched && may_attest m app.links s.epochs (boot_of x.attested) b)
-    (with_standing (record s { epochs = epochs }) m
-    (record x { asked = None; attested = Some (record { boot = b; floors = epochs }) }))))
 
 -- the views of the ends, with a change of that of the end with this connection and side; none where
 -- there is no such end
@@ -171,42 +119,15 @@ changed_views change c side (e ∷ es) (view ∷ views) =
     else changed_views change c side es views >>? (λ vs. Some (view ∷ vs))
 changed_views change c side _ _ = None
 
--- a module opens an end in an epoch from its floor to the connection's
-abbrev pub has_opened : AppTree → Model → ℕ → ℕ → Side → ℕ → Option Model
-has_opened app s m c side epoch =
-    slice_get app.parts m >>? (λ q. slice_get s.modules m >>?
-    (λ x. idle x >>? (λ p. slice_get s.boots q.node >>? (λ boot.
-    changed_views (opens epoch) c side (ends_of app m) p.ends >>? (λ views.
-    state_if (may_open x.attested boot c epoch (slice_index s.epochs c))
-    (with_present s m x (record p { ends = views; pending = owing [] 0 })))))))
-
 -- the word is there, and is this one
 abbrev pub is_word : ℕ → Option ℕ → Bool
 is_word v None = false
 is_word v (Some w) = w == v
 
--- a module takes a word that was sent over a connection, and reacts to it; the number is 65,536
--- times the epoch plus the word's index
-abbrev pub has_taken : AppTree → Model → ℕ → ℕ → ℕ → ℕ → Option Model
-has_taken app s m c i v =
-    slice_get app.parts m >>? (λ q. slice_get s.modules m >>?
-    (λ x. idle x >>? (λ p. slice_get app.links c >>?
-    (λ l. slice_get s.sent (c + 256 * (i / 65536)) >>? (λ words.
-    changed_views (takes (i / 65536) (i % 65536)) c To (ends_of app m) p.ends >>? (λ views.
-    state_if (is_word v (slice_get words (i % 65536)))
-    (reacts app s m q x (record p { ends = views }) (event.Input l.input v))))))))
-
 -- the first of the emits that are owed, written
 abbrev pub without_first : ℕ → List ℕ → ℕ → Option Pending
 without_first v [] k = None
 without_first v (e ∷ es) k = if e == v then owing es k else None
-
--- a module writes the first emit that it owes
-abbrev pub has_written : Model → ℕ → ℕ → Option Model
-has_written s m v =
-    slice_get s.modules m >>? (λ x. x.present >>?
-    (λ p. p.pending >>? (λ owed. without_first v owed.emits owed.pieces >>? (λ left.
-    Some (with_present s m x (with_pending p (Some left)))))))
 
 -- no emit is left
 abbrev pub is_nothing : List ℕ → Bool
@@ -224,37 +145,70 @@ waits app devices None = false
 waits app devices (Some d) =
     kind_is is_sensor (slice_get app.devices d) && is_stale (slice_get devices d)
 
--- an invocation that did its event, or that was refused with a status from 2 to 8
-abbrev pub is_done : AppTree → Model → ℕ → ℕ → ℕ → Option Model
-is_done app s m status k =
-    slice_get app.parts m >>? (λ q. slice_get s.modules m >>? (λ x. x.present >>? (λ p.
-    if status == 1 then p.pending >>? (λ owed.
+-- the state after an allowed item
+abbrev pub step : AppTree → Model → Item → Option Model
+-- a node is reset
+step app s (Reset n cause) = slice_get s.boots n >>? (λ boot. Some (reset_at app s n boot))
+-- an absent module of the node is protected
+step app s (Protect n (Some m)) = slice_get app.parts m >>? (λ q. slice_get s.modules m >>? (λ x.
+    state_if ((q.node == n) && is_none x.present)
+    (with_present s m x (first_present q.tree (ends_of app m)))))
+-- a sensor gets a value
+step app s (Sense d v) = slice_get app.devices d >>? (λ w. state_if (is_sensor w.kind)
+    (with_device s d (record { value = v; fresh = true })))
+-- a driver takes its sensor's fresh value, and reacts to it
+step app s (Read m v) = slice_get app.parts m >>? (λ q. slice_get s.modules m >>? (λ x.
+    idle x >>? (λ p. q.device >>? (λ d. slice_get s.devices d >>? (λ r.
+    state_if (kind_is is_sensor (slice_get app.devices d) && is_fresh_with v r)
+    (reacts app (with_device s d (record r { fresh = false })) m q x p (event.Sample v)))))))
+-- other code takes a sensor's fresh value, while no driver of it is present
+step app s (Drain d) = slice_get s.devices d >>? (λ r.
+    state_if (r.fresh && (kind_is is_sensor (slice_get app.devices d)
+    && is_undriven app.parts s.modules d)) (with_device s d (record r { fresh = false })))
+-- the deployer asks a module; the challenge is the number of asks before
+step app s (Ask m a) = slice_get s.modules m >>? (λ x. state_if (a == s.asks)
+    (with_standing (record s { asks = s.asks + 1 }) m (record x { asked = Some a })))
+-- the deployer accepts a module's answer to its open challenge
+step app s (Attested m b) = slice_get s.modules m >>? (λ x. x.asked >>? (λ a.
+    let epochs = renewed m app.links (boot_of x.attested) s.epochs in
+    state_if (is_vouched a b x.vouched && may_attest m app.links s.epochs (boot_of x.attested) b)
+    (with_standing (record s { epochs = epochs }) m
+    (record x { asked = None; attested = Some (record { boot = b; floors = epochs }) }))))
+-- a module vouches for a challenge at its node's boot, in one piece
+step app s (Vouch m a) = slice_get app.parts m >>? (λ q. slice_get s.modules m >>? (λ x.
+    idle x >>? (λ p. slice_get s.boots q.node >>? (λ boot. Some (with_standing s m (record x {
+      present = Some (with_pending p (owing [] 1));
+      vouched = x.vouched ++ record { challenge = a; boot = boot } ∷ [];
+    }))))))
+-- a module opens an end in an epoch from its floor to the connection's
+step app s (Open m c side epoch) = slice_get app.parts m >>? (λ q. slice_get s.modules m >>? (λ x.
+    idle x >>? (λ p. slice_get s.boots q.node >>? (λ boot.
+    changed_views (opens epoch) c side (ends_of app m) p.ends >>? (λ views.
+    state_if (may_open x.attested boot c epoch (slice_index s.epochs c))
+    (with_present s m x (record p { ends = views; pending = owing [] 0 })))))))
+-- a module takes a word that was sent over a connection, and reacts to it; the number is 65,536
+-- times the epoch plus the word's index
+step app s (Take m c i v) = slice_get app.parts m >>? (λ q. slice_get s.modules m >>? (λ x.
+    idle x >>? (λ p. slice_get app.links c >>? (λ l.
+    slice_get s.sent (c + 256 * (i / 65536)) >>? (λ words.
+    changed_views (takes (i / 65536) (i % 65536)) c To (ends_of app m) p.ends >>? (λ views.
+    state_if (is_word v (slice_get words (i % 65536)))
+    (reacts app s m q x (record p { ends = views }) (event.Input l.input v))))))))
+-- a module writes the first emit that it owes
+step app s (Out m v) = slice_get s.modules m >>? (λ x. x.present >>? (λ p. p.pending >>? (λ owed.
+    without_first v owed.emits owed.pieces >>? (λ left.
+    Some (with_present s m x (with_pending p (Some left)))))))
+-- other code writes an actuator, while no driver of it is present
+step app s (Raw d v) = state_if (kind_is (λ k. not (is_sensor k)) (slice_get app.devices d)
+    && is_undriven app.parts s.modules d) s
+-- an invocation did its event, or was refused with a status from 2 to 8
+step app s (Done m status k) = slice_get app.parts m >>? (λ q. slice_get s.modules m >>? (λ x.
+    x.present >>? (λ p. if status == 1 then p.pending >>? (λ owed.
     state_if (is_nothing owed.emits && (k == owed.pieces))
     (with_present s m x (with_pending p None)))
     else state_if ((nat_le 2 status && nat_le status 8)
     && ((k == 0) && (is_none p.pending && (not (status == 8) || waits app s.devices q.device))))
     s)))
-
--- other code writes an actuator, while no driver of it is present
-abbrev pub wrote_raw : AppTree → Model → ℕ → Option Model
-wrote_raw app s d = state_if (kind_is (λ k. not (is_sensor k)) (slice_get app.devices d)
-    && is_undriven app.parts s.modules d) s
-
--- the state after an allowed item
-abbrev pub step : AppTree → Model → Item → Option Model
-step app s (Reset n cause) = slice_get s.boots n >>? (λ boot. Some (reset_at app s n boot))
-step app s (Protect n m) = protected_as app s n m
-step app s (Sense d v) = after_sample app s d v
-step app s (Read m v) = has_read app s m v
-step app s (Drain d) = after_drain app s d
-step app s (Ask m a) = asked_of s m a
-step app s (Attested m b) = was_attested app s m b
-step app s (Vouch m a) = has_vouched app s m a
-step app s (Open m c side epoch) = has_opened app s m c side epoch
-step app s (Take m c i v) = has_taken app s m c i v
-step app s (Out m v) = has_written s m v
-step app s (Raw d v) = wrote_raw app s d
-step app s (Done m status k) = is_done app s m status k
 step app s _ = Some s
 
 -- the device that a module drives, if any

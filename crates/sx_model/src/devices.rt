@@ -5,8 +5,8 @@ ghost use Rattle.std.specs.Prelude.{slice_set, unwrap_or};
 ghost use Rattle.sx_mean.specs.View.{app_as, part_as};
 ghost use Rattle.sx_mean.specs.Application.{is_sensor};
 ghost use Rattle.sx_model.specs.Step.{drives, is_stale, kind_is};
-ghost use Rattle.sx_model.specs.Step.{after_sample, is_undriven, waits, wrote_raw};
-ghost use Rattle.sx_model.specs.Changes.{drains, takes_fresh};
+ghost use Rattle.sx_model.specs.Step.{is_undriven, waits};
+ghost use Rattle.sx_model.specs.Changes.{after_sample, drains, takes_fresh, wrote_raw};
 
 use crate::state::{Reading, Standing, State};
 use sx_mean::apps::{App, AppDevice, Part, is_sensor};

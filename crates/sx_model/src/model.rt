@@ -2,14 +2,15 @@
 
 ghost use Rattle.std.specs.Prelude.{◌≡◌, ◌+◌, ◌*◌, ◌<◌, ◌≤◌, [], All, IfOk, OnErr, OnOk};
 ghost use Rattle.std.specs.Prelude.{if◌then◌else◌, is_some, length, slice_get, slice_index_or};
-ghost use Rattle.std.specs.Prelude.{true, unwrap_or};
+ghost use Rattle.std.specs.Prelude.{false, true, unwrap_or};
 ghost use Rattle.sx_mean.specs.View.{app_as};
 ghost use Rattle.sx_mean.specs.Validity.{is_valid};
 ghost use Rattle.sx_model.specs.Counted.{CountsWithin};
 ghost use Rattle.sx_model.specs.State.{power_on};
 ghost use Rattle.sx_model.specs.Step.{◌>>?◌, step};
 ghost use Rattle.sx_model.specs.Epochs.{open_epoch};
-ghost use Rattle.sx_model.specs.Changes.{is_plain, steps};
+ghost use Rattle.sx_model.specs.Changes.{steps};
+ghost use Rattle.sx_model.specs.Memory.{may_take_memory};
 
 use crate::asks::{ask, attest, vouch};
 use crate::devices::{drain, may_write, sense};
@@ -28,7 +29,7 @@ use sx_trace::items::Item;
 fn take_plain(state: &mut State, app: &App, item: Item) -> bool
     requires boots { All (λ b. b < 4294967295) state.old.boots }
     requires asks { state.old.asks < 4294967295 }
-    requires plain { is_plain item ≡ true }
+    requires plain { may_take_memory item ≡ false }
     ensures answer { result ≡ is_some (steps (app_as app.now) state.old item) }
     ensures state { state.new ≡ unwrap_or (steps (app_as app.now) state.old item) state.old }
 {
@@ -57,6 +58,7 @@ fn take_item(alloc: Global, state: &mut State, app: &App, item: Item) -> Result<
     ensures state { OnOk result (state.new ≡ unwrap_or (steps (app_as app.now) state.old item)
         state.old) }
     ensures err { OnErr result (state.new ≡ state.old) }
+    ensures memory { OnErr result (may_take_memory item ≡ true) }
 {
     match item {
         Item::Protect {
@@ -156,6 +158,7 @@ impl Model {
             ≡ (if b then self.old.taken + 1 else self.old.taken)) }
         ensures err { OnErr result ((self.new.state ≡ self.old.state)
             × (self.new.taken ≡ self.old.taken)) }
+        ensures memory { OnErr result (may_take_memory item.now ≡ true) }
     {
         let is_allowed = take_item(self.alloc, &mut self.state, app, *item)?;
         if is_allowed {

@@ -17,7 +17,7 @@ use Rattle.sx_mean.specs.Ends.{ends_of}
 use Rattle.sx_model.specs.State.{Attestation, Standing, Model}
 use Rattle.sx_mean.specs.declared.apps.Link.{Link}
 use Rattle.sx_invoke.specs.ModuleState.{link_of, epoch_of}
-use Rattle.sx_model.specs.Step.{is_vouched, asked_of, was_attested}
+use Rattle.sx_model.specs.Step.{is_vouched, step}
 use Rattle.sx_model.specs.Renewal.{may_attest, boot_of, renewed}
 use Rattle.sx_run.specs.Setting.{Site, Setting}
 use Rattle.sx_run.specs.Wire.{low_first, number_in, ask_packet, challenge_in, is_ask}
@@ -296,7 +296,7 @@ module _ (set : Setting) (w : World) (mo : Model) (m : ℕ) (x : Standing) (t : 
   }
 
   -- an ask
-  pub asked_step : (a : ℕ) → a ≡ mo.asks → asked_of mo m a ≡ Some (model_with (with_asked a) mo.epochs (mo.asks + 1))
+  pub asked_step : (a : ℕ) → a ≡ mo.asks → step set.app mo (item.Ask m a) ≡ Some (model_with (with_asked a) mo.epochs (mo.asks + 1))
   asked_step a e = rw (there, e, eq-eqb mo.asks mo.asks refl) refl
 
   asked_fares : (lines : w.lines < 65536) → Fares (judge set.app mo (ask (line_counted w) m).items) (Tied set (ask (line_counted w) m).world)
@@ -332,7 +332,8 @@ module _ (set : Setting) (w : World) (mo : Model) (m : ℕ) (x : Standing) (t : 
 
   -- an answer that is accepted
   attested_step : (a b : ℕ) → x.asked ≡ Some a → is_vouched a b x.vouched ≡ true → may_attest m set.app.links mo.epochs (boot_of x.attested) b ≡ true
-      → (let epochs = renewed m set.app.links (boot_of x.attested) mo.epochs in was_attested set.app mo m b ≡ Some (model_with (with_attested (record { boot = b; floors = epochs })) epochs mo.asks))
+      → (let epochs = renewed m set.app.links (boot_of x.attested) mo.epochs in
+      step set.app mo (item.Attested m b) ≡ Some (model_with (with_attested (record { boot = b; floors = epochs })) epochs mo.asks))
   attested_step a b e v n = rw (there, e, v, n) refl
 
 -- a key that may be given: for an end of a module, at the boot at which it was last attested, with an epoch from the floor on that the connection has
@@ -482,7 +483,7 @@ module _ (set : Setting) (w : World) (mo : Model) (m : ℕ) (site : Site) (boot 
   unless_fares true i rest good f = f refl
   unless_fares false i rest good f = tt
 
-  head_fares : (m2 b : ℕ) (mo1 : Model) (rest : List Item) (good : Model → Type 0) → was_attested set.app mo m2 b ≡ Some mo1
+  head_fares : (m2 b : ℕ) (mo1 : Model) (rest : List Item) (good : Model → Type 0) → step set.app mo (item.Attested m2 b) ≡ Some mo1
       → Fares (judge set.app mo1 rest) good → Fares (judge set.app mo (item.Attested m2 b ∷ rest)) good
   head_fares m2 b mo1 rest good e f = rw e f
 
@@ -538,7 +539,7 @@ module _ (set : Setting) (w : World) (mo : Model) (m : ℕ) (site : Site) (boot 
         floors = λ b c e. subst (λ (z : Attestation). slice_index z.floors c ≤ slice_index d.epochs c) (some_inj new b e) (omega arith);
       })
       (λ k ne. (get_other w.deployer.open_asks m k None ne, get_other w.deployer.attested m k (Some boot) ne))) in
-      let step1 : was_attested set.app mo m boot ≡ Some mo1 =
+      let step1 : step set.app mo (item.Attested m boot) ≡ Some mo1 =
       attested_step set w mo m x t there a boot asked_a vow may2
       ∙ ap (λ es. Some (record {
         boots = mo.boots;

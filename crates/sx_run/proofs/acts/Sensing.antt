@@ -15,7 +15,7 @@ use Rattle.sx_machine.specs.Acts.{busy, unless, sense as sense_on}
 use Rattle.sx_machine.proofs.Stays.{sense_is_node, busy_idle}
 use Rattle.sx_mean.specs.Application.{PartTree, is_sensor}
 use Rattle.sx_model.specs.State.{Reading, Standing, Model}
-use Rattle.sx_model.specs.Step.{with_device, after_sample as model_sensed}
+use Rattle.sx_model.specs.Step.{step, with_device}
 use Rattle.sx_run.specs.Setting.{Site, Setting, devices_at, device_number}
 use Rattle.sx_run.specs.Ledger.{Made}
 use Rattle.sx_run.specs.State.{World}
@@ -186,7 +186,7 @@ module _ (set : Setting) (sound : IsSoundSetting set) (w : World) (mo : Model) (
           let g : (g : ℕ) × (slice_get (devices_at x.node 0 set.app.devices) j ≡ Some g) = get_some (devices_at x.node 0 set.app.devices) j lt2 in
           g.1 ∙ ap Some (sym (index_get (devices_at x.node 0 set.app.devices) j g.0 g.1) ∙ same)
 
-  sense_step : model_sensed set.app mo d v ≡ Some mo2
+  sense_step : step set.app mo (item.Sense d v) ≡ Some mo2
   sense_step = rw (dev, sensor) refl
 
   sense_fares : Fares (judge set.app mo (item.Sense d v ∷ [])) (Tied set (with_node w x.node s2 w.ledger w.steps))

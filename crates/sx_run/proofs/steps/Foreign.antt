@@ -30,11 +30,12 @@ use Rattle.sx_machine.proofs.PlanGuard.{barred}
 use Rattle.sx_image.specs.Watched.{marks_of_touches, violation_of}
 use Rattle.sx_mean.specs.Application.{PartTree, is_sensor}
 use Rattle.sx_model.specs.State.{Reading, Standing, Model}
-use Rattle.sx_model.specs.Step.{drives, is_undriven, after_drain, wrote_raw}
+use Rattle.sx_model.specs.Step.{drives, is_undriven, step as source_step}
 use Rattle.sx_run.specs.Setting.{Site, Setting, module_of, deployed, is_at_site, device_number, devices_at, windows_at, kind_of}
 use Rattle.sx_run.specs.Ledger.{Made, is_made}
 use Rattle.sx_run.specs.State.{World}
 use Rattle.sx_run.specs.Acts.{with_node}
+use Rattle.sx_trace.specs.declared.items.Item.TheVariants as item
 use Rattle.sx_run.specs.Observation.{touch_items}
 use Rattle.sx_run.specs.Law.{IsSoundSetting}
 use Rattle.sx_run.proofs.tie.Lists.{get_some, get_within, length_set, some_inj}
@@ -201,12 +202,12 @@ module _ (set : Setting) (w : World) (mo : Model) (n : ℕ) (s : State) (boot : 
 
   drain_step : (rs : List Reading) (d : ℕ) (dev : AppDevice) (r : Reading) → slice_get set.app.devices d ≡ Some dev
       → is_sensor dev.kind ≡ true → slice_get rs d ≡ Some r → r.fresh ≡ true → is_undriven set.app.parts mo.modules d ≡ true
-      → after_drain set.app (with_devices rs) d ≡ Some (with_devices (slice_set rs d (record { value = r.value; fresh = false })))
+      → source_step set.app (with_devices rs) (item.Drain d) ≡ Some (with_devices (slice_set rs d (record { value = r.value; fresh = false })))
   drain_step rs d dev r a b c e u = rw (c, e, a, b, u) refl
 
-  raw_step : (rs : List Reading) (d : ℕ) (dev : AppDevice) → slice_get set.app.devices d ≡ Some dev → is_sensor dev.kind ≡ false → is_undriven set.app.parts mo.modules d ≡ true
-      → wrote_raw set.app (with_devices rs) d ≡ Some (with_devices rs)
-  raw_step rs d dev a b u = rw (a, b, u) refl
+  raw_step : (rs : List Reading) (d v : ℕ) (dev : AppDevice) → slice_get set.app.devices d ≡ Some dev → is_sensor dev.kind ≡ false → is_undriven set.app.parts mo.modules d ≡ true
+      → source_step set.app (with_devices rs) (item.Raw d v) ≡ Some (with_devices rs)
+  raw_step rs d v dev a b u = rw (a, b, u) refl
 
   -- the window of the node at the same place
   same_window : (k : ℕ) (a : List Window) (x : Window) → shapes a ≡ shapes s.devices → slice_get a k ≡ Some x → (y : Window) × (slice_get s.devices k ≡ Some y) × (y.at ≡ x.at)
@@ -225,10 +226,9 @@ module _ (set : Setting) (w : World) (mo : Model) (n : ℕ) (s : State) (boot : 
       let r : (r : Reading) × (slice_get rs num ≡ Some r) = get_some rs num (omega (arith, get_within set.app.devices num d.device d.there, long)) in
       let was = tied k h.0 r.0 h.1 r.1 in
       let undr = driver_absent k x.0 Read x.1 (subst (λ j. may s.sections.live own Read j ≡ true) (sym x.2) h.5) in
-      let next : Option Model = after_drain set.app (with_devices rs) num in
       let rs2 = slice_set rs num (record { value = v; fresh = false }) in
       let value : (record { value = r.0.value; fresh = false }) ≡ (record { value = v; fresh = false }) = ap (λ z. record { value = z; fresh = false }) (was.value ∙ h.4) in
-      let go : after_drain set.app (with_devices rs) num ≡ Some (with_devices rs2) = drain_step rs num d.device r.0 d.there
+      let go : source_step set.app (with_devices rs) (item.Drain num) ≡ Some (with_devices rs2) = drain_step rs num d.device r.0 d.there
       (kind_sensor k h.0 d h.2) r.1 (was.fresh ∙ h.3) undr ∙ ap (λ z. Some (with_devices (slice_set rs num z))) value in
       subst (λ o. Fares (Rattle.sx_run.proofs.tie.Verdicts.judge_on o (λ z. judge set.app z (touch_items set.app n None ts)))
       (λ mo2. mo2 ≡ with_devices (readings_all set.app n (marks_of_touches ts) rs2))) (sym go)
@@ -241,7 +241,7 @@ module _ (set : Setting) (w : World) (mo : Model) (n : ℕ) (s : State) (boot : 
       let undr = driver_absent k x.0 Write x.1 (subst (λ j. may s.sections.live own Write j ≡ true) (sym x.2) h.3) in
       subst (λ o. Fares (Rattle.sx_run.proofs.tie.Verdicts.judge_on o (λ z. judge set.app z (touch_items set.app n None ts)))
       (λ mo2. mo2 ≡ with_devices (readings_all set.app n (marks_of_touches ts) rs)))
-      (sym (raw_step rs num d.device d.there (kind_actuator k h.0 d h.2) undr))
+      (sym (raw_step rs num v d.device d.there (kind_actuator k h.0 d h.2) undr))
       (touches_fare ts a b rs sh long h.4 apart tied)
 
 -- The node goes on, and no deployed module was protected.

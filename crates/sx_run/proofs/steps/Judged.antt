@@ -23,7 +23,7 @@ use Rattle.sx_mean.specs.Application.{PartTree, AppTree, is_sensor}
 use Rattle.sx_mean.specs.Ends.{ends_of}
 use Rattle.sx_model.specs.State.{Reading, EndView, Pending, Present, Vouched as Vow, Attestation, Standing, Model, FIELDS}
 use Rattle.sx_model.specs.Reaction.{flow_of, after_event}
-use Rattle.sx_model.specs.Step.{idle, changed_views, is_word, has_taken, has_opened, has_vouched, has_written, has_read, kind_is, waits, is_done, is_vouched, step}
+use Rattle.sx_model.specs.Step.{idle, changed_views, is_word, kind_is, waits, is_vouched, step}
 use Rattle.sx_model.specs.Renewal.{takes, opens, is_below, may_open}
 use Rattle.sx_run.specs.Setting.{device_number}
 use Rattle.sx_run.specs.Wire.{begins, is_ask, is_set_key_header, is_event_header, challenge_in, link_in, epoch_in, last_in, value_in}
@@ -203,7 +203,7 @@ module _ (app : AppTree) (m : ℕ) (q : PartTree) (x : Standing) (pr : Present) 
 
   taken_step : (link epoch last value place i : ℕ) (l : Link) (words : List ℕ) (views : List EndView) → i / 65536 ≡ epoch → i % 65536 ≡ last → place ≡ link + 256 * epoch → pr.pending ≡ None
       → slice_get app.links link ≡ Some l → slice_get mo.sent place ≡ Some words → slice_get words last ≡ Some value → changed_views (takes epoch last) link To (ends_of app m) pr.ends ≡ Some views
-      → has_taken app mo m link i value ≡ Some (behind views (event.Input l.input value) mo.devices)
+      → step app mo (item.Take m link i value) ≡ Some (behind views (event.Input l.input value) mo.devices)
   taken_step link epoch last value place i l words views ie il pe pend lk wk word ch =
       let there2 : slice_get mo.sent (link + 256 * epoch) ≡ Some words = subst (λ f. slice_get mo.sent f ≡ Some words) pe wk in
       rw (part, there, idle_of x pr present pend, lk, ie, il, there2, ch, is_word_same value (slice_get words last) word) refl
@@ -333,7 +333,7 @@ module _ (app : AppTree) (m : ℕ) (q : PartTree) (x : Standing) (pr : Present) 
 
   opened_step : (link epoch : ℕ) (side : Side) (views : List EndView) → pr.pending ≡ None → changed_views (opens epoch) link side (ends_of app m) pr.ends ≡ Some views
       → may_open x.attested boot link epoch (slice_index mo.epochs link) ≡ true
-      → has_opened app mo m link side epoch ≡ Some (with_end_of (opened_with views))
+      → step app mo (item.Open m link side epoch) ≡ Some (with_end_of (opened_with views))
   opened_step link epoch side views pend ch may = rw (part, there, idle_of x pr present pend, boots, ch, may) refl
 
   -- a key that the deployer gave for the module at this boot
@@ -466,7 +466,7 @@ module _ (app : AppTree) (m : ℕ) (q : PartTree) (x : Standing) (pr : Present) 
   abbrev vouched_model : ℕ → Model
   vouched_model a = record { boots = mo.boots; devices = mo.devices; modules = slice_set mo.modules m (vouched_as a); epochs = mo.epochs; sent = mo.sent; asks = mo.asks }
 
-  vouched_step : (a : ℕ) → pr.pending ≡ None → has_vouched app mo m a ≡ Some (vouched_model a)
+  vouched_step : (a : ℕ) → pr.pending ≡ None → step app mo (item.Vouch m a) ≡ Some (vouched_model a)
   vouched_step a pend = rw (part, there, idle_of x pr present pend, boots) refl
 
   vouch_fares : (st : ModuleState) (header : List ℕ) (result : Invoked) → pr.pending ≡ None → SameState (ends_of app m) st pr.cells pr.ends mo.sent → is_ask header ≡ true → Vouched st result
@@ -577,7 +577,7 @@ module _ (app : AppTree) (m : ℕ) (q : PartTree) (x : Standing) (pr : Present) 
   pending_with emits pieces = record { cells = pr.cells; ends = pr.ends; pending = Some (record { emits = emits; pieces = pieces }) }
 
   written_step : (v e : ℕ) (emits : List ℕ) (pieces : ℕ) → pr.pending ≡ Some (record { emits = e ∷ emits; pieces = pieces })
-      → v ≡ e → has_written mo m v ≡ Some (with_end_of (pending_with emits pieces))
+      → v ≡ e → step app mo (item.Out m v) ≡ Some (with_end_of (pending_with emits pieces))
   written_step v e emits pieces pend same = rw (there, present, pend, same, eq-eqb e e refl) refl
 
   driver_here : (d : ℕ) → q.device ≡ Some d → is_driver app (Some m) d ≡ true
@@ -601,7 +601,7 @@ module _ (app : AppTree) (m : ℕ) (q : PartTree) (x : Standing) (pr : Present) 
   stale_devices d v = slice_set mo.devices d (record { value = v; fresh = false })
 
   read_step : (d v : ℕ) (r : Reading) → q.device ≡ Some d → slice_get mo.devices d ≡ Some r → kind_is is_sensor (slice_get app.devices d) ≡ true → r.fresh ≡ true → r.value ≡ v → pr.pending ≡ None
-      → has_read app mo m v ≡ Some (behind pr.ends (event.Sample v) (stale_devices d v))
+      → step app mo (item.Read m v) ≡ Some (behind pr.ends (event.Sample v) (stale_devices d v))
   read_step d v r dev there_r sensor fresh value pend =
       let whole : pr ≡ idle_with pr.cells pr.ends = ap (λ (z : Option Pending). record { cells = pr.cells; ends = pr.ends; pending = z }) pend in
       let idle2 : idle x ≡ Some (idle_with pr.cells pr.ends) = idle_of x pr present pend ∙ ap Some whole in
@@ -666,13 +666,14 @@ module _ (app : AppTree) (m : ℕ) (q : PartTree) (x : Standing) (pr : Present) 
     pub ends : pr2.ends ≡ pr.ends
     pub state : SameState (ends_of app m) p.state pr2.cells pr2.ends mo.sent
 
-  done_step : (k : ℕ) → pr.pending ≡ Some (record { emits = []; pieces = k }) → is_done app mo m 1 k ≡ Some (with_end_of (idle_with pr.cells pr.ends))
+  done_step : (k : ℕ) → pr.pending ≡ Some (record { emits = []; pieces = k }) → step app mo (item.Done m 1 k) ≡ Some (with_end_of (idle_with pr.cells pr.ends))
   done_step k pend = rw (part, there, present, pend, eq-eqb k k refl) refl
 
   not_one : (status : ℕ) → nat_le 2 status ≡ true → (status == 1) ≡ false
   not_one status h = ne_eqb status 1 (λ e. absurd (true≢false (sym h ∙ ap (λ n. nat_le 2 n) e)))
 
-  refused_step : (status : ℕ) → pr.pending ≡ None → nat_le 2 status ≡ true → nat_le status 8 ≡ true → (not (status == 8) || waits app mo.devices q.device) ≡ true → is_done app mo m status 0 ≡ Some mo
+  refused_step : (status : ℕ) → pr.pending ≡ None → nat_le 2 status ≡ true → nat_le status 8 ≡ true → (not (status == 8) || waits app mo.devices q.device) ≡ true
+      → step app mo (item.Done m status 0) ≡ Some mo
   refused_step status pend lo hi w = rw (part, there, present, pend, not_one status lo, lo, hi, w) refl
 
   waits_stale : (d : ℕ) (r : Reading) → q.device ≡ Some d → kind_is is_sensor (slice_get app.devices d) ≡ true
@@ -692,7 +693,7 @@ module _ (app : AppTree) (m : ℕ) (q : PartTree) (x : Standing) (pr : Present) 
       let f = fresh e in
       let r = readings f.0 f.1 f.2.there f.2.sensor in
       waits_stale (device_number app q.node f.0) r.0 f.2.device f.2.sensor r.1 (r.2.fresh ∙ f.3)) in
-      fares_one (item.Done m status (length p.pieces)) mo (Finished p) refl (subst (λ k. is_done app mo m status k ≡ Some mo) (sym pieces) (refused_step status pend lo hi w))
+      fares_one (item.Done m status (length p.pieces)) mo (Finished p) refl (subst (λ k. step app mo (item.Done m status k) ≡ Some mo) (sym pieces) (refused_step status pend lo hi w))
       (record {
         y = x;
         changed = ap (λ z. record { boots = mo.boots; devices = mo.devices; modules = z; epochs = mo.epochs; sent = mo.sent; asks = mo.asks }) (sym (set_same mo.modules m x there));

@@ -25,7 +25,7 @@ use Rattle.sx_machine.specs.declared.kinds.Event.TheVariants as event
 use Rattle.sx_machine.specs.declared.kinds.Seen.{Seen}
 use Rattle.sx_machine.specs.State.{State}
 use Rattle.sx_machine.specs.Step.{Shown, step, own_of}
-use Rattle.sx_model.specs.Step.{first_present, protected_as, is_vouched}
+use Rattle.sx_model.specs.Step.{first_present, is_vouched, step as source_step}
 use Rattle.sx_invoke.specs.ModuleState.{initial_ends, state_of, link_of, epoch_of}
 use Rattle.sx_image.specs.Watched.{violation_of}
 use Rattle.sx_image.specs.Image.{private_bytes}
@@ -126,7 +126,7 @@ module _ (set : Setting) (w : World) (mo : Model) (n : ℕ) (s : State) (sound :
   -- a deployed module is protected
 
   protected_step : (m : ℕ) (q : PartTree) (x : Standing) → slice_get set.app.parts m ≡ Some q → slice_get mo.modules m ≡ Some x → q.node ≡ n → x.present ≡ None
-      → protected_as set.app mo1 n (Some m) ≡ Some (record {
+      → source_step set.app mo1 (item.Protect n (Some m)) ≡ Some (record {
         boots = mo.boots;
         devices = reads;
         modules = slice_set mo.modules m
