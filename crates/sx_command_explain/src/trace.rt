@@ -1,13 +1,14 @@
 //! The lines of a trace. Each is judged, and what is said of it is written, before the next is
 //! read.
 
-ghost use Rattle.std.specs.Prelude.{◌≡◌, ◌+◌, ◌<◌, [], IsTrue, List, true, false};
+ghost use Rattle.std.specs.Prelude.{◌≡◌, ◌+◌, ◌<◌, ◌||◌, [], IsTrue, List, false, is_some, true};
 ghost use Rattle.sx_told.specs.Told.{command_at, out_of_memory};
 ghost use Rattle.sx_told.specs.Parts.{Rest};
 ghost use Rattle.sx_trace.specs.declared.items.Item.{Item as Listed};
 ghost use Rattle.sx_trace.specs.ValidNames.{are_valid};
 ghost use Rattle.sx_mean.specs.Validity.{is_valid};
 ghost use Rattle.sx_mean.specs.View.{app_as};
+ghost use Rattle.sx_model.specs.Memory.{may_take_memory};
 ghost use Rattle.sx_explain.specs.Followed.{Follows};
 ghost use Rattle.sx_command_explain.specs.Explain.{explain_from, stop_output};
 ghost use Rattle.sx_command_explain.specs.Meant.{AreMeanings, Meanings};
@@ -27,14 +28,16 @@ use sx_trace::items::Item;
 /// The rule that a trace ends with its last line.
 const NO_END: u8 = 3;
 
-/// Judges an item with this number, and writes what is said of it. Behind an item that is forged
-/// memory doesn't run out.
+/// Judges an item with this number, and writes what is said of it. Memory runs out only where no
+/// item was forged before, and the item may take memory or comes next after an event.
 fn turn<K: Sink>(output: &mut K, judge: &mut Judge, app: &App, item: &Item, number: u32) -> Turned
     requires valid { is_valid (app_as app.now) ≡ true }
     requires few { judge.old.taken < 4000000 }
     ensures judges { JudgesFrom K.tells (K.at output.old) (K.at output.new) (app_as app.now)
         judge.old judge.new number item.now result }
     ensures memory { result ≡ Turned.Stop out_of_memory → judge.old.has_forged ≡ false }
+    ensures wants { result ≡ Turned.Stop out_of_memory
+        → (may_take_memory item.now || is_some judge.old.behind) ≡ true }
 {
     match judge.item(app, item) {
         Ok(said) => put_said(output, number, said),

@@ -1,13 +1,15 @@
 //! The judge of a trace.
 
 ghost use Rattle.std.specs.Prelude.{◌≡◌, ◌+◌, ◌*◌, ◌/◌, ◌%◌, ◌<◌, ◌≤◌, [], IfOk, List, None, OnErr};
-ghost use Rattle.std.specs.Prelude.{Ok, OnOk, length, replicate, slice_get, slice_set, true};
+ghost use Rattle.std.specs.Prelude.{◌||◌, Ok, OnOk, is_some, length, replicate, slice_get, slice_set};
+ghost use Rattle.std.specs.Prelude.{true};
 ghost use Rattle.sx_mean.specs.Application.{AppTree};
 ghost use Rattle.sx_mean.specs.Validity.{is_valid};
 ghost use Rattle.sx_mean.specs.View.{app_as};
 ghost use Rattle.sx_model.specs.State.{FIELDS};
 ghost use Rattle.sx_model.specs.Step.{device_of, ◌>>?◌, step};
 ghost use Rattle.sx_model.specs.Legal.{before};
+ghost use Rattle.sx_model.specs.Memory.{may_take_memory};
 ghost use Rattle.sx_trace.specs.declared.items.Item.{Item as Listed};
 ghost use Rattle.sx_explain.specs.Followed.{FillsFor, Follows, IsFullFor, answered, found, noted};
 ghost use Rattle.sx_explain.specs.Followed.{taken_in, items_after};
@@ -165,6 +167,7 @@ impl Judge {
         ensures ok { OnOk result (self.new
             ≡ record self.old { causes = self.new.causes; behind = None }) }
         ensures err { OnErr result (self.new ≡ record self.old { causes = self.new.causes }) }
+        ensures memory { OnErr result (is_some self.old.behind ≡ true) }
         ensures fills { FillsFor self.old.behind self.old.model.sent self.old.causes
             self.new.causes }
         ensures all { OnOk result (IsFullFor self.old.behind app.now.links.items self.old.model
@@ -236,6 +239,7 @@ impl Judge {
         ensures kept { OnOk result (self.new ≡ taken_in item.now self.old
             (step (app_as app.now) self.old.model item.now)) }
         ensures err { OnErr result (self.new ≡ self.old) }
+        ensures memory { OnErr result (may_take_memory item.now ≡ true) }
     {
         let cause = self.found(app, *item);
         if !self.model.step(app, item)? {
@@ -248,7 +252,8 @@ impl Judge {
 
     /// Judges the next item. After one that is illegal, or where memory runs out, the judge follows
     /// the items that it followed before. The error says that memory ran out, which it doesn't
-    /// behind an item that is forged.
+    /// behind an item that is forged, and elsewhere only where the item may take memory or comes
+    /// next after an event, whose words then get their numbers.
     pub fn item(&mut self, app: &App, item: &Item) -> Result<Judged, AllocError>
         requires valid { is_valid (app_as app.now) ≡ true }
         requires few { self.old.taken < 4000000 }
@@ -259,6 +264,8 @@ impl Judge {
             self.new) }
         ensures err { (items : List Listed) → Follows (app_as app.now) items self.old
             → OnErr result (Follows (app_as app.now) items self.new) }
+        ensures memory { OnErr result
+            ((may_take_memory item.now || is_some self.old.behind) ≡ true) }
         ensures unjudged { self.old.has_forged ≡ true → result ≡ Ok Judged.Unjudged }
     {
         if self.has_forged {

@@ -16,3 +16,9 @@ returns-in-Err-clause-judges g c = λ items h counted. judges_none (app_as c.arg
 
 pub returns-in-Err-clause-memory : goal.returns-in-Err-clause-memory
 returns-in-Err-clause-memory g c = λ six. wanted_unforged c.args.judge.now.has_forged c.in-Err.ensures.unjudged
+
+pub returns-in-Ok-clause-wants : goal.returns-in-Ok-clause-wants
+returns-in-Ok-clause-wants g c = λ six. absurd (c.put_said.ensures.memory six)
+
+pub returns-in-Err-clause-wants : goal.returns-in-Err-clause-wants
+returns-in-Err-clause-wants g c = λ six. c.in-Err.ensures.memory

@@ -1,8 +1,10 @@
-use Rattle.std.proofs.Common.{◌≡◌, ◌∙◌, false, true, sym, ap}
+use Rattle.std.proofs.Common.{◌≡◌, ◌∙◌, false, true, is_some, refl, sym, ap}
+use Rattle.std.proofs.lemmas.Result.{on_err_weaker}
 use Rattle.sx_mean.specs.View.{app_as}
 use Rattle.sx_mean.proofs.ValidApplications.{valid_applications}
 use Rattle.sx_explain.specs.Followed.{Seen}
-use Rattle.sx_explain.proofs.Ending.{answer_is, err_is, follows_is}
+use Rattle.sx_model.specs.Memory.{may_take_memory}
+use Rattle.sx_explain.proofs.Ending.{answer_is, err_is, follows_is, wants_late}
 use Rattle.sx_explain.proofs.Following.{tried_up, unjudged_follows}
 use Rattle.sx_explain.proofs.judge.Judge.item.Goals as goal
 use Rattle.sx_lists.proofs.Results.{on_any_err}
@@ -33,6 +35,13 @@ returns-in_err-catch_up-clause-err c items h =
     let e : c.args.self.now.has_forged ≡ false = (ap (λ (j : Seen). j.has_forged) (sym c.self.view_is) ∙ c.if-self.false) in
     on_any_err c.from_residual.result
     (tried_up (app_as c.args.app.now) items c.args.self.now c.catch_up.new.self h e c.in_err-catch_up.ensures.err c.in_err-catch_up.ensures.fills)
+
+pub returns-clause-memory : goal.returns-clause-memory
+returns-clause-memory c = on_err_weaker c.judge_next.result (λ e. rw e refl) c.judge_next.ensures.memory
+
+pub returns-in_err-catch_up-clause-memory : goal.returns-in_err-catch_up-clause-memory
+returns-in_err-catch_up-clause-memory c =
+    on_any_err c.from_residual.result (wants_late (may_take_memory c.args.item.now) (is_some c.args.self.now.behind) c.in_err-catch_up.ensures.memory)
 
 pub returns-then-self-clause-follows : goal.returns-then-self-clause-follows
 returns-then-self-clause-follows c items h =
