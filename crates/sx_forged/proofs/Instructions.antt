@@ -44,12 +44,12 @@ module _ (mac nac : Mac) where
       ap₂ (λ (c t : List ℕ). record { cipher = c; tag = t }) (crypt_same key ley ad body h)
       (ap (λ c. wrap_tag mac key ad c) (crypt_same key ley ad body h) ∙ wrap_tag_same key ley ad (crypt nac ley ad body) h)
 
-  unwrapped_same : (key ley ad cipher tag : List ℕ) → SameTags mac key nac ley → unwrapped mac key ad cipher tag ≡ unwrapped nac ley ad cipher tag
+  pub unwrapped_same : (key ley ad cipher tag : List ℕ) → SameTags mac key nac ley → unwrapped mac key ad cipher tag ≡ unwrapped nac ley ad cipher tag
   unfolding unwrapped
   unwrapped_same key ley ad cipher tag h =
       ap₂ (λ (t c : List ℕ). cond (bytes_eq tag t) (Some (padded c)) None) (wrap_tag_same key ley ad cipher h) (crypt_same key ley ad cipher h)
 
-  attest_same : (key ley id : List ℕ) → SameTags mac key nac ley → attest_tag mac key id ≡ attest_tag nac ley id
+  pub attest_same : (key ley id : List ℕ) → SameTags mac key nac ley → attest_tag mac key id ≡ attest_tag nac ley id
   unfolding attest_tag
   attest_same key ley id h = ap (take 16) (h 0x41 id (λ e. absurd (omega (arith, e))))
 

@@ -51,21 +51,21 @@ module _ (mac nac : Mac) where
     may_at_like true access at = ap₂ (λ b c. b && c) (may_like mac nac t.live u.live own access (even at) like) (may_like mac nac t.live u.live own access (even at + 1) like)
     may_at_like false access at = may_like mac nac t.live u.live own access at like
 
-    may_range_like : (access : Access) (at n : ℕ) → may_range u.live own access at n ≡ may_range t.live own access at n
+    pub may_range_like : (access : Access) (at n : ℕ) → may_range u.live own access at n ≡ may_range t.live own access at n
     may_range_like access at zero = refl
     may_range_like access at (suc n) = ap₂ (λ b c. b && c) (may_like mac nac t.live u.live own access (at + n) like) (may_range_like access at n)
 
-    may_each_like : (access : Access) (at : ℕ) (bs : List ℕ) → may_each u.live own access at bs ≡ may_each t.live own access at bs
+    pub may_each_like : (access : Access) (at : ℕ) (bs : List ℕ) → may_each u.live own access at bs ≡ may_each t.live own access at bs
     may_each_like access at [] = refl
     may_each_like access at (b ∷ bs) = ap₂ (λ b c. b && c) (may_like mac nac t.live u.live own access at like) (may_each_like access (at + 1) bs)
 
-    load_same : (wide : Bool) (at : ℕ) (x : Moment) → load u.live own wide at x ≡ load t.live own wide at x
+    pub load_same : (wide : Bool) (at : ℕ) (x : Moment) → load u.live own wide at x ≡ load t.live own wide at x
     load_same wide at x = ap (λ b. cond b (read_place wide at (device_of x.devices at) x) (Err bad.Read)) (may_at_like wide Read at)
 
-    store_same : (wide : Bool) (at v : ℕ) (x : Moment) → store u.live own wide at v x ≡ store t.live own wide at v x
+    pub store_same : (wide : Bool) (at v : ℕ) (x : Moment) → store u.live own wide at v x ≡ store t.live own wide at v x
     store_same wide at v x = ap (λ b. cond b (write_place wide at v (device_of x.devices at) x) (Err bad.Write)) (may_at_like wide Write at)
 
-    fetch_same : (at : ℕ) (x : Moment) → fetch u.live own at x ≡ fetch t.live own at x
+    pub fetch_same : (at : ℕ) (x : Moment) → fetch u.live own at x ≡ fetch t.live own at x
     fetch_same at x =
         ap (λ b. cond b (fetch_place at (device_of x.devices at) x) (Err bad.Fetch))
         (ap₂ (λ b c. b && c) (extends_like mac nac t.live u.live own (even at) like) (extends_like mac nac t.live u.live own (even at + 1) like))
