@@ -1,0 +1,138 @@
+-- Whether a key is a deployed module's can be found out: boots enter keys as four bytes.
+use Rattle.std.proofs.Common.{◌≡◌, ◌≢◌, ℕ, zero, suc, ◌-◌, ◌/◌, ◌%◌, ◌<◌, Bool, true, false, cond, not, bytes_eq, List, [], ◌∷◌, length, refl, sym, ◌∙◌, ap, subst, arith, lit<}
+use Rattle.std.specs.Prelude.{slice_get, Option, Some, None}
+use Rattle.std.specs.Int.{w32, to_le_bytes}
+use Rattle.std.proofs.lemmas.Nat.{mod_below}
+use Rattle.std.proofs.lemmas.Slice.Eq.{bytes_eq-Decides}
+use Rattle.sx_tag.specs.Keys.{kdf, boot_key, section_key, module_key, identity}
+use Rattle.sx_run.specs.Setting.{Setting, Site}
+use Rattle.sx_run.specs.Deployer.{list_at, key_of, connection_key}
+use Rattle.sx_run.specs.Law.{IsSoundSetting}
+use Rattle.sx_links.specs.Unlinked.{Modules}
+use Rattle.sx_links.specs.Unlinks.{IsMoving, RealizesAlways, IsDeployedKey, AreAllOthers, UnlinksAll}
+use Rattle.sx_links.proofs.Moved.{TellsApart, moved_setting}
+use Rattle.sx_links.proofs.Unlinking.{unlinks}
+
+-- the test is true below the bound
+any_below : ℕ → (ℕ → Bool) → Bool
+any_below zero test = false
+any_below (suc n) test = cond (test n) true (any_below n test)
+
+any_found : (n i : ℕ) (test : ℕ → Bool) → i < n → test i ≡ true → any_below n test ≡ true
+unfolding any_below
+any_found zero i test lt h = absurd (omega (arith, lt))
+any_found (suc n) i test lt h = by (test n) refl (λ l. any_found n i test l h)
+  where
+    clash : (b : Bool) → b ≡ false → b ≡ true → ⊥
+    clash true e h = subst (λ (t : Bool). cond t ⊥ (Unit {0})) (sym e) tt
+    clash false e h = subst (λ (t : Bool). cond t ⊥ (Unit {0})) h tt
+
+    differ : test n ≡ false → i ≢ n
+    differ e same = clash (test n) e (ap test (sym same) ∙ h)
+
+    by : (b : Bool) → test n ≡ b → (i < n → any_below n test ≡ true) → cond b true (any_below n test) ≡ true
+    by true e rest = refl
+    by false e rest = rest (omega (arith, lt, differ e))
+
+no_truth : false ≡ true → ⊥
+no_truth e = subst (λ (t : Bool). cond t ⊥ (Unit {0})) e tt
+
+any_which : (n : ℕ) (test : ℕ → Bool) → any_below n test ≡ true → (i : ℕ) × (test i ≡ true)
+unfolding any_below
+any_which zero test h = absurd (no_truth h)
+any_which (suc n) test h = by (test n) refl h (any_which n test)
+  where
+    by : (b : Bool) → test n ≡ b → cond b true (any_below n test) ≡ true → (any_below n test ≡ true → (i : ℕ) × (test i ≡ true)) → (i : ℕ) × (test i ≡ true)
+    by true e h rest = (n, e)
+    by false e h rest = rest h
+
+bytes_mod : (boot : ℕ) → to_le_bytes w32 (boot % 4294967296) ≡ to_le_bytes w32 boot
+bytes_mod boot =
+    let a : boot % 4294967296 % 256 ≡ boot % 256 = omega arith in
+    let b : boot % 4294967296 / 256 % 256 ≡ boot / 256 % 256 = omega arith in
+    let c : boot % 4294967296 / 65536 % 256 ≡ boot / 65536 % 256 = omega arith in
+    let d : boot % 4294967296 / 16777216 % 256 ≡ boot / 16777216 % 256 = omega arith in
+    ap (λ (z : ℕ). z ∷ (boot % 4294967296 / 256 % 256) ∷ (boot % 4294967296 / 65536 % 256) ∷ (boot % 4294967296 / 16777216 % 256) ∷ []) a
+    ∙ ap (λ (z : ℕ). (boot % 256) ∷ z ∷ (boot % 4294967296 / 65536 % 256) ∷ (boot % 4294967296 / 16777216 % 256) ∷ []) b
+    ∙ ap (λ (z : ℕ). (boot % 256) ∷ (boot / 256 % 256) ∷ z ∷ (boot % 4294967296 / 16777216 % 256) ∷ []) c
+    ∙ ap (λ (z : ℕ). (boot % 256) ∷ (boot / 256 % 256) ∷ (boot / 65536 % 256) ∷ z ∷ []) d
+
+get_short : {X : Type 0} (xs : List X) (m : ℕ) (x : X) → slice_get xs m ≡ Some x → m < length xs
+get_short [] m x h = absurd (cc h)
+get_short (y ∷ xs) zero x h = omega arith
+get_short (y ∷ xs) (suc m) x h = omega (arith, get_short xs m x h)
+
+module _ (a : Setting) where
+  key_mod : (site : Site) (boot : ℕ) → key_of a site (boot % 4294967296) ≡ key_of a site boot
+  unfolding module_key boot_key
+  key_mod site boot =
+      ap (λ (part : List ℕ). section_key a.mac (kdf a.mac (list_at a.keys site.node) part) site.provider
+      (identity site.text site.layout.pub_from site.layout.pub_to site.layout.priv_from site.layout.priv_to)) (bytes_mod boot)
+
+  -- the key is the site's below this boot
+  of_site : ℕ → List ℕ → Option Site → Bool
+  of_site top k None = false
+  of_site top k (Some site) = any_below top (λ boot. bytes_eq k (key_of a site boot))
+
+  finds : ℕ → List ℕ → Bool
+  finds top k = any_below (length a.sites) (λ m. of_site top k (slice_get a.sites m))
+
+  finds_all : (top : ℕ) → (m boot : ℕ) (site : Site) → boot < top → slice_get a.sites m ≡ Some site → finds top (key_of a site boot) ≡ true
+  unfolding finds of_site
+  finds_all top m boot site lt found =
+      any_found (length a.sites) m (λ i. of_site top (key_of a site boot) (slice_get a.sites i)) (get_short a.sites m site found)
+      (ap (of_site top (key_of a site boot)) found
+      ∙ any_found top boot (λ i. bytes_eq (key_of a site boot) (key_of a site i)) lt ((bytes_eq-Decides (key_of a site boot) (key_of a site boot)).1 refl))
+
+  finds_only : (top : ℕ) (k : List ℕ) → finds top k ≡ true → IsDeployedKey a k
+  unfolding finds of_site
+  finds_only top k h =
+      let w = any_which (length a.sites) (λ i. of_site top k (slice_get a.sites i)) h in
+      by w.0 (slice_get a.sites w.0) refl w.1
+    where
+      by : (m : ℕ) (o : Option Site) → slice_get a.sites m ≡ o → of_site top k o ≡ true → IsDeployedKey a k
+      by m None e h = absurd (no_truth h)
+      by m (Some site) e h =
+          let w = any_which top (λ i. bytes_eq k (key_of a site i)) h in
+          (m, w.0, site, e, (bytes_eq-Decides k (key_of a site w.0)).0 w.1)
+
+  finds_none : (top : ℕ) (k : List ℕ) → (IsDeployedKey a k → ⊥) → finds top k ≡ false
+  finds_none top k none = by (finds top k) refl
+    where
+      by : (b : Bool) → finds top k ≡ b → b ≡ false
+      by true e = absurd (none (finds_only top k e))
+      by false e = refl
+
+  others_of : ℕ → Modules
+  others_of top n boot provider id = not (finds top (module_key a.mac (list_at a.keys n) boot provider id))
+
+  from_not : (b : Bool) → not b ≡ true → b ≡ false
+  from_not true e = absurd (no_truth e)
+  from_not false e = refl
+
+  all_for : (top : ℕ) → ((boot : ℕ) → (boot % 4294967296) < top) → (move back : List ℕ → List ℕ) → IsSoundSetting a → RealizesAlways a → IsMoving move back
+      → ((link epoch : ℕ) → IsDeployedKey a (connection_key a link epoch) → ⊥) → TellsApart (others_of top) a (finds top)
+  unfolding others_of
+  all_for top below move back sound always moving links = record {
+    sites = λ m boot site found.
+        ap (finds top) (sym (key_mod site boot)) ∙ finds_all top m (boot % 4294967296) site (below boot) found;
+    links = λ link epoch. finds_none top (connection_key a link epoch) (links link epoch);
+    others = λ n boot provider id is. from_not (finds top (module_key a.mac (list_at a.keys n) boot provider id)) is;
+  }
+
+  all_others : (top : ℕ) → AreAllOthers a (others_of top)
+  unfolding others_of
+  all_others top n boot provider id none = ap not (finds_none top (module_key a.mac (list_at a.keys n) boot provider id) none)
+
+pub unlinks_all : UnlinksAll
+unlinks_all a move back sound always moving links =
+    let tells = all_for a 4294967296 (λ boot. mod_below boot 4294967296 (lit< tt)) move back sound always moving links in
+    let r = unlinks (others_of a 4294967296) a move back (finds a 4294967296) sound always moving tells in (
+      moved_setting move back (finds a 4294967296) a,
+      others_of a 4294967296,
+      r.0,
+      r.1,
+      all_others a 4294967296,
+      r.2,
+      λ k stays none. r.3 k stays (finds_none a 4294967296 k none),
+    )

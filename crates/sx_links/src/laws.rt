@@ -1,0 +1,21 @@
+//! What holds of every run. Each law is a function that does nothing: its contract is the law.
+
+ghost use Rattle.sx_links.specs.Choices.{ChoicesMove};
+ghost use Rattle.sx_links.specs.Compiles.{CompiledAlways};
+ghost use Rattle.sx_links.specs.Unlinks.{UnlinksAll};
+
+/// There is a setting whose connections have other keys, for every choice of them, wherever no
+/// connection has a deployed module's key.
+pub fn unlinks_all()
+    ensures { UnlinksAll }
+{}
+
+/// Each list of other keys for keys is such a choice.
+pub fn choices_move()
+    ensures { ChoicesMove }
+{}
+
+/// Compiled images realize their modules whatever the tag function is.
+pub fn compiled_always()
+    ensures { CompiledAlways }
+{}
