@@ -60,7 +60,7 @@ module _ (mac nac : Mac) (kind : Kind) (s : State) (n key : List ℕ) (u : Secti
   own_same : own_of twin ≡ own_of s
   own_same = holder_like blank_mac blank_mac s.sections.live u.live (pc_of s) Blank
 
-  caller_same : (own : ℕ) → entered_from twin own ≡ entered_from s own
+  pub caller_same : (own : ℕ) → entered_from twin own ≡ entered_from s own
   caller_same own = ap (λ b. cond (own == s.cur) s.caller (cond b s.last 0)) (live_like blank_mac blank_mac s.sections.live u.live s.last Blank)
 
   -- Of code that belongs to no deployed module.

@@ -23,7 +23,7 @@ take_front zero (x ∷ xs) ys h = absurd (omega arith)
 take_front (suc n) [] ys h = absurd (omega arith)
 take_front (suc n) (x ∷ xs) ys h = ap (λ (r : List ℕ). x ∷ r) (take_front n xs ys (omega arith))
 
-take_length : (n : ℕ) (xs : List ℕ) → n ≤ length xs → length (take n xs) ≡ n
+pub take_length : (n : ℕ) (xs : List ℕ) → n ≤ length xs → length (take n xs) ≡ n
 take_length zero xs h = refl
 take_length (suc n) [] h = absurd (omega arith)
 take_length (suc n) (x ∷ xs) h = ap suc (take_length n xs (omega arith))

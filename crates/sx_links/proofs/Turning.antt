@@ -10,27 +10,28 @@ use Rattle.sx_rules.proofs.Placing.{placed_found}
 use Rattle.sx_bus.specs.declared.devices.Window.{Window}
 use Rattle.sx_bus.specs.Devices.{cleared}
 use Rattle.sx_tag.specs.Mac.{Mac}
+use Rattle.sx_machine.specs.declared.kinds.Event.{Event}
 use Rattle.sx_machine.specs.declared.kinds.Exchange.{Exchange}
 use Rattle.sx_machine.specs.Memory.{bytes_from}
 use Rattle.sx_machine.specs.State.{State}
 use Rattle.sx_machine.proofs.PlanGuard.{barred}
 use Rattle.sx_machine.proofs.Devices.{some_inj}
-use Rattle.sx_invoke.specs.Setup.{Setup, Call}
+use Rattle.sx_invoke.specs.Setup.{Setup}
 use Rattle.sx_invoke.specs.Marks as mark
 use Rattle.sx_invoke.specs.Marks.{Mark}
-use Rattle.sx_invoke.specs.Progress.{Progress, bytes_in}
-use Rattle.sx_image.specs.Realizes.{is_piece_address, Stand, KeepsOutside, exit_registers}
-use Rattle.sx_run.specs.Setting.{Setting}
+use Rattle.sx_invoke.specs.Progress.{Progress, Invoked, bytes_in}
+use Rattle.sx_image.specs.Image.{call_at}
+use Rattle.sx_image.specs.Realizes.{is_piece_address, Stand, KeepsOutside, Exited, exit_registers}
 use Rattle.sx_calls.specs.Shown.{devices_after}
-use Rattle.sx_calls.specs.Calls.{Callee, setup_of, IsReturned}
+use Rattle.sx_calls.proofs.Middle.{Middle}
 use Rattle.sx_machine.proofs.Lengths.{length-bytes_from}
 use Rattle.std.proofs.lemmas.List.{get_or_append_left}
 use Rattle.std.proofs.Math.Seq.{get_or-append_seam}
-use Rattle.sx_links.proofs.Outside.{Kind, text_at, is_deployed, InTheOpen, AgreeAt, SameSections, SameOutside}
+use Rattle.sx_links.proofs.Outside.{Kind, is_deployed, InTheOpen, AgreeAt, SameSections, SameOutside}
 use Rattle.sx_forged.proofs.Tables.{may_like}
 use Rattle.sx_links.proofs.Opened.{agree_fewer, blank_mac, blank_all, same_hides}
 use Rattle.sx_links.proofs.Bystanding.{with_hidden}
-use Rattle.sx_links.proofs.Twice.{SameMarks, SameProgress}
+use Rattle.sx_links.proofs.Twice.{SameMarks, SameLeft}
 
 byte_at : (m : List ℕ) (a n i : ℕ) → i < n → slice_index (bytes_from m a n) i ≡ slice_index m (a + i)
 unfolding bytes_from
@@ -59,13 +60,14 @@ stand_same m n (piece ∷ pieces) at k a b lo hi = elim (cases_lt k (at + length
 ]
 
 -- the devices after marks that are the same but for set-key bodies
-devices_same : (Linked : ℕ → List ℕ → List ℕ → Type 0) (places : ℕ → Type 0) (ms ns : List Mark) (ds : List Window) → SameMarks Linked places ms ns → devices_after ns ds ≡ devices_after ms ds
-devices_same Linked places [] [] ds h = refl
-devices_same Linked places [] (y ∷ ns) ds h = absurd h
-devices_same Linked places (x ∷ ms) [] ds h = absurd h
-devices_same Linked places (x ∷ ms) (y ∷ ns) ds h = elim h.0 [
-  | inl e ↦ subst (λ (z : Mark). devices_after (z ∷ ns) ds ≡ devices_after (x ∷ ms) ds) e (same x ds (λ cs. devices_same Linked places ms ns cs h.1))
-  | inr o ↦ ap (λ (z : Mark). devices_after (z ∷ ns) ds) o.second ∙ devices_same Linked places ms ns ds h.1 ∙ sym (ap (λ (z : Mark). devices_after (z ∷ ms) ds) o.first)
+devices_same : (Linked : ℕ → List ℕ → List ℕ → Type 0) (Opens : List ℕ → List ℕ → List ℕ → Type 0) (places : ℕ → Type 0) (ms ns : List Mark) (ds : List Window)
+    → SameMarks Linked Opens places ms ns → devices_after ns ds ≡ devices_after ms ds
+devices_same Linked Opens places [] [] ds h = refl
+devices_same Linked Opens places [] (y ∷ ns) ds h = absurd h
+devices_same Linked Opens places (x ∷ ms) [] ds h = absurd h
+devices_same Linked Opens places (x ∷ ms) (y ∷ ns) ds h = elim h.0 [
+  | inl e ↦ subst (λ (z : Mark). devices_after (z ∷ ns) ds ≡ devices_after (x ∷ ms) ds) e (same x ds (λ cs. devices_same Linked Opens places ms ns cs h.1))
+  | inr o ↦ ap (λ (z : Mark). devices_after (z ∷ ns) ds) o.second ∙ devices_same Linked Opens places ms ns ds h.1 ∙ sym (ap (λ (z : Mark). devices_after (z ∷ ms) ds) o.first)
 ]
   where
     same : (z : Mark) (ds : List Window) → ((cs : List Window) → devices_after ns cs ≡ devices_after ms cs) → devices_after (z ∷ ns) ds ≡ devices_after (z ∷ ms) ds
@@ -126,58 +128,48 @@ module _ (mac nac : Mac) (kind : Kind) (s : State) (n key : List ℕ) (u : Secti
           ku k (ap (λ (z : Section). in_private z k) es ∙ clear) e ∙ agree.same k free
           ∙ sym (kv k (ap (λ (z : Section). in_private z k) sections_same ∙ ap (λ (z : Section). in_private z k) es ∙ clear) (address_same k ∙ e))
 
-  -- the nodes are again so related, where the module's number and its caller are remembered alike
-  pub turn_same : (Linked : ℕ → List ℕ → List ℕ → Type 0) (places : ℕ → Type 0) (a b : Setting) (c d : Callee) (asks : Call) (status : ℕ) (p q : Progress) (after later : State)
-      → c.node ≡ s → c.section ≡ own → d ≡ record c { node = twin; section = other }
-      → SameProgress Linked places p q → IsReturned a c asks status p after → IsReturned b d asks status q later
-      → later.last ≡ after.last → later.caller ≡ after.caller
+  -- The nodes are again so related, where the module is remembered alike.
+  pub turn_same : (Linked : ℕ → List ℕ → List ℕ → Type 0) (Opens : List ℕ → List ℕ → List ℕ → Type 0) (places : ℕ → Type 0) (su sv : Setup) (ra rb : Invoked) (after later : State)
+      (ms ns : List Mark) (ea eb : Event) → su.section ≡ own → su.live ≡ s.sections.live → sv.section ≡ other → sv.live ≡ u.live
+      → (x : Exited su ra s (record { node = after; marks = ms; event = ea })) → Middle own s after ms
+      → (y : Exited sv rb twin (record { node = later; marks = ns; event = eb })) → Middle other twin later ns
+      → x.status ≡ y.status → SameLeft Linked Opens places x.progress y.progress → later.last ≡ after.last → later.caller ≡ after.caller
       → SameOutside mac nac kind after later
-  turn_same Linked places a b c d asks status p q after later cn cs cd h x y last caller = record {
+  turn_same Linked Opens places su sv ra rb after later ms ns ea eb es el fs fl x mx y my status h last caller = record {
     rest = remade later.regs after.regs later.devices after.devices later.cur after.cur later.last after.last later.caller after.caller later.boot after.boot
-        later.mem later.sections later.key later.exchange regs devs (y.idle ∙ sym x.idle) last caller boots;
+        later.mem later.sections later.key later.exchange regs devs (y.idle ∙ sym x.idle) last caller (my.boot ∙ sym mx.boot);
     mem = agree_fewer (InTheOpen hides s.sections.live) (InTheOpen (is_deployed kind after.mem) after.sections.live) after.mem later.mem
-        (λ k f z l e. f z (subst (λ (t : Sections). Lives t.live z) (sym secs) l) (sym (status_same z l) ∙ e))
-        (turn_agree (setup_of a c) (setup_of b d) cs (ap (λ (z : State). z.sections.live) cn) (ap (λ (z : Callee). z.section) cd) (ap (λ (z : Callee). z.node.sections.live) cd)
-        asks.output p.pieces after.mem later.mem
-        (subst (λ (z : List ℕ). KeepsOutside (setup_of a c) asks.output p.pieces z after.mem) (ap (λ (z : State). z.mem) cn) x.outside)
-        (subst (λ (z : List (List ℕ)). KeepsOutside (setup_of b d) asks.output z n later.mem) pieces
-        (subst (λ (z : List ℕ). KeepsOutside (setup_of b d) asks.output q.pieces z later.mem) (ap (λ (z : Callee). z.node.mem) cd) y.outside))
-        x.pieces (subst (λ (z : List (List ℕ)). Stand later.mem asks.output z) pieces y.pieces)
-        (x.node.memory.size ∙ sym y.node.memory.size));
-    sections = subst (λ (z : Sections). SameSections mac nac (is_deployed kind after.mem) z.live later.sections.live) (sym secs)
-        (subst (λ (z : Sections). SameSections mac nac (is_deployed kind after.mem) s.sections.live z.live) (sym secs_too)
+        (λ k f z l e. f z (subst (λ (t : Sections). Lives t.live z) (sym mx.sections) l) (sym (status_same z l) ∙ e))
+        (turn_agree su sv es el fs fl out x.progress.pieces after.mem later.mem x.outside
+        (subst (λ (z : List (List ℕ)). KeepsOutside sv out z n later.mem) pieces y.outside)
+        x.pieces (subst (λ (z : List (List ℕ)). Stand later.mem out z) pieces y.pieces)
+        (mx.node.memory.size ∙ sym my.node.memory.size));
+    sections = subst (λ (z : Sections). SameSections mac nac (is_deployed kind after.mem) z.live later.sections.live) (sym mx.sections)
+        (subst (λ (z : Sections). SameSections mac nac (is_deployed kind after.mem) s.sections.live z.live) (sym my.sections)
         (same_hides mac nac hides (is_deployed kind after.mem) s.sections.live u.live (λ z l. sym (status_same z l)) same));
-    next = ap (λ (z : Sections). z.next) secs_too ∙ next ∙ sym (ap (λ (z : Sections). z.next) secs);
+    next = ap (λ (z : Sections). z.next) my.sections ∙ next ∙ sym (ap (λ (z : Sections). z.next) mx.sections);
   }
     where
-      secs : after.sections ≡ s.sections
-      secs = x.sections ∙ ap (λ (z : State). z.sections) cn
+      out : ℕ
+      out = (call_at s).output
 
-      secs_too : later.sections ≡ u
-      secs_too = y.sections ∙ ap (λ (z : Callee). z.node.sections) cd
-
-      pieces : q.pieces ≡ p.pieces
+      pieces : y.progress.pieces ≡ x.progress.pieces
       pieces = ap (λ (z : Progress). z.pieces) h.rest
 
       status_same : (z : Section) → Lives s.sections.live z → hides z ≡ is_deployed kind after.mem z
-      status_same z l = sym (ap (kind z.layout z.provider)
-          (x.texts z (subst (λ (t : State). Lives t.sections.live z) (sym cn) l) ∙ ap (λ (t : State). text_at t.mem z.layout) cn))
-
-      boots : later.boot ≡ after.boot
-      boots = y.boot ∙ ap (λ (z : Callee). z.node.boot) cd ∙ sym (x.boot ∙ ap (λ (z : State). z.boot) cn)
+      status_same z l = sym (ap (kind z.layout z.provider) (mx.texts z l))
 
       devs : later.devices ≡ after.devices
-      devs = y.devices ∙ ap (λ (z : Callee). devices_after q.marks z.node.devices) cd ∙ devices_same Linked places p.marks q.marks s.devices h.marks
-          ∙ sym (x.devices ∙ ap (λ (z : State). devices_after p.marks z.devices) cn)
+      devs = my.devices ∙ ap (λ (z : List Mark). devices_after z s.devices) y.marks ∙ devices_same Linked Opens places x.progress.marks y.progress.marks s.devices h.marks
+          ∙ sym (mx.devices ∙ ap (λ (z : List Mark). devices_after z s.devices) x.marks)
 
       regs : later.regs ≡ after.regs
-      regs = y.registers ∙ ap (λ (z : Callee). exit_registers (Rattle.sx_calls.specs.Calls.called z asks) status (length q.pieces)) cd
-          ∙ ap (λ (ps : List (List ℕ)). exit_registers (Rattle.sx_calls.specs.Calls.called (record c { node = twin; section = other }) asks) status (length ps)) pieces
-          ∙ sym (x.registers ∙ ap (λ (z : State). exit_registers (Rattle.sx_calls.specs.Calls.called (record c { node = z }) asks) status (length p.pieces)) cn)
+      regs = y.registers ∙ ap (λ (z : ℕ). exit_registers s z (length y.progress.pieces)) (sym status) ∙ ap (λ (z : List (List ℕ)). exit_registers s x.status (length z)) pieces
+          ∙ sym x.registers
 
       remade : (r q2 : List ℕ) (ds es : List Window) (cu dv la lb ca cb bo bp : ℕ) (m : List ℕ) (v : Sections) (k : List ℕ) (e : Exchange)
           → r ≡ q2 → ds ≡ es → cu ≡ dv → la ≡ lb → ca ≡ cb → bo ≡ bp
-          → (let made : List ℕ → List Window → ℕ → ℕ → ℕ → ℕ
-          → State = λ r2 d2 c2 l2 a2 b2. record { regs = r2; mem = m; devices = d2; sections = v; cur = c2; last = l2; caller = a2; boot = b2; key = k; exchange = e } in
+          → (let made : List ℕ → List Window → ℕ → ℕ → ℕ → ℕ → State = λ r2 d2 c2 l2 a2 b2.
+          record { regs = r2; mem = m; devices = d2; sections = v; cur = c2; last = l2; caller = a2; boot = b2; key = k; exchange = e } in
           made r ds cu la ca bo ≡ made q2 es dv lb cb bp)
       remade r q2 ds es cu dv la lb ca cb bo bp m v k e e1 e2 e3 e4 e5 e6 = cc

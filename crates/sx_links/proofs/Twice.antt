@@ -58,26 +58,58 @@ read_length s d m at (suc n) bs e = by (read_byte s d m at) (read_bytes s d m (a
     by (Ok b) (Err v) f e = absurd cc
     by (Err v) q f e = absurd cc
 
--- Linked: two keys that ends with this connection field may have.
-module _ (Linked : ℕ → List ℕ → List ℕ → Type 0) (places : ℕ → Type 0) where
-  -- the ends differ in keys alone, which are linked where they are open
-  abbrev pub SameEnd : EndState → EndState → Type 0
-  SameEnd e f = (f ≡ record e { key = f.key }) × (e.is_open ≡ true → Linked e.field e.key f.key)
+-- the ends differ in keys alone, which are related where they are open
+abbrev pub SameEnd : (ℕ → List ℕ → List ℕ → Type 0) → EndState → EndState → Type 0
+SameEnd Related e f = (f ≡ record e { key = f.key }) × (e.is_open ≡ true → Related e.field e.key f.key)
 
-  abbrev pub SameEnds : List EndState → List EndState → Type 0
-  SameEnds [] [] = Unit {0}
-  SameEnds [] (f ∷ fs) = ⊥
-  SameEnds (e ∷ es) [] = ⊥
-  SameEnds (e ∷ es) (f ∷ fs) = SameEnd e f × SameEnds es fs
+abbrev pub SameEnds : (ℕ → List ℕ → List ℕ → Type 0) → List EndState → List EndState → Type 0
+SameEnds Related [] [] = Unit {0}
+SameEnds Related [] (f ∷ fs) = ⊥
+SameEnds Related (e ∷ es) [] = ⊥
+SameEnds Related (e ∷ es) (f ∷ fs) = SameEnd Related e f × SameEnds Related es fs
 
-  -- two unwraps of a set-key packet, whose bodies are linked
+end_same : (Related : ℕ → List ℕ → List ℕ → Type 0) (es fs : List EndState) (k : ℕ) → SameEnds Related es fs → SameEnd Related (end_of es k) (end_of fs k)
+end_same Related [] [] k h = (refl, λ e. absurd (true≢false (sym e)))
+end_same Related [] (f ∷ fs) k h = absurd h
+end_same Related (e ∷ es) [] k h = absurd h
+end_same Related (e ∷ es) (f ∷ fs) zero h = h.0
+end_same Related (e ∷ es) (f ∷ fs) (suc k) h = end_same Related es fs k h.1
+
+with_end_same : (Related : ℕ → List ℕ → List ℕ → Type 0) (es fs : List EndState) (k : ℕ) (e f : EndState) → SameEnds Related es fs → SameEnd Related e f
+    → SameEnds Related (with_end es k e) (with_end fs k f)
+with_end_same Related [] [] k a b h g = tt
+with_end_same Related [] (f ∷ fs) k a b h g = absurd h
+with_end_same Related (e ∷ es) [] k a b h g = absurd h
+with_end_same Related (e ∷ es) (f ∷ fs) zero a b h g = (g, h.1)
+with_end_same Related (e ∷ es) (f ∷ fs) (suc k) a b h g = (h.0, with_end_same Related es fs k a b h.1 g)
+
+-- ends whose keys are related otherwise
+pub ends_map : (R S : ℕ → List ℕ → List ℕ → Type 0) → ((field : ℕ) (k l : List ℕ) → R field k l → S field k l) → (es fs : List EndState) → SameEnds R es fs → SameEnds S es fs
+ends_map R S f [] [] h = tt
+ends_map R S f [] (y ∷ fs) h = absurd h
+ends_map R S f (x ∷ es) [] h = absurd h
+ends_map R S f (x ∷ es) (y ∷ fs) h = ((h.0.0, λ o. f x.field x.key y.key (h.0.1 o)), ends_map R S f es fs h.1)
+
+-- the mark is one of these
+abbrev pub IsMark : Mark → List Mark → Type 0
+IsMark m [] = ⊥
+IsMark m (x ∷ xs) = (x ≡ m) ⊎ IsMark m xs
+
+last_mark : (ms : List Mark) (m : Mark) → IsMark m (ms ++ m ∷ [])
+last_mark [] m = inl refl
+last_mark (x ∷ ms) m = inr (last_mark ms m)
+
+-- Linked: two keys that ends with this connection field have before. Opens: what a set-key packet
+-- with this header opens to in each.
+module _ (Linked : ℕ → List ℕ → List ℕ → Type 0) (Opens : List ℕ → List ℕ → List ℕ → Type 0) (places : ℕ → Type 0) where
+  -- two unwraps of a set-key packet
   pub record SameOpened (m n : Mark) : Type 0 where
     pub packet : List ℕ
     pub a : List ℕ
     pub b : List ℕ
     pub first : m ≡ mark.Unwrapped (header_in packet) a true
     pub second : n ≡ mark.Unwrapped (header_in packet) b true
-    pub linked : Linked (field_in packet) a b
+    pub opens : Opens (header_in packet) a b
 
   -- the marks are the same but for the bodies of set-key packets
   abbrev pub SameMarks : List Mark → List Mark → Type 0
@@ -92,7 +124,7 @@ module _ (Linked : ℕ → List ℕ → List ℕ → Type 0) (places : ℕ → T
 
   pub record SameProgress (p q : Progress) : Type 0 where
     pub rest : q ≡ mate p q.state.ends q.mem q.marks
-    pub ends : SameEnds p.state.ends q.state.ends
+    pub ends : SameEnds Linked p.state.ends q.state.ends
     pub mem : AgreeAt places p.mem q.mem
     pub marks : SameMarks p.marks q.marks
 
@@ -102,25 +134,34 @@ module _ (Linked : ℕ → List ℕ → List ℕ → Type 0) (places : ℕ → T
   SameCourse (Going p) (Broken w q) = ⊥
   SameCourse (Broken v p) (Going q) = ⊥
 
+  -- a key that an end was given by one of these marks
+  abbrev pub Given : List Mark → ℕ → List ℕ → List ℕ → Type 0
+  Given ms field k l =
+      (packet : List ℕ) × (field ≡ field_in packet) × IsMark (mark.Unwrapped (header_in packet) k true) ms × Opens (header_in packet) k l
+
+  abbrev pub After : List Mark → ℕ → List ℕ → List ℕ → Type 0
+  After ms field k l = Linked field k l ⊎ Given ms field k l
+
+  -- where an invocation ends: an open end has the keys that it had, or was given them
+  pub record SameLeft (p q : Progress) : Type 0 where
+    pub rest : q ≡ mate p q.state.ends q.mem q.marks
+    pub ends : SameEnds (After p.marks) p.state.ends q.state.ends
+    pub mem : AgreeAt places p.mem q.mem
+    pub marks : SameMarks p.marks q.marks
+
+  left_of : (p q : Progress) → SameProgress p q → SameLeft p q
+  left_of p q h = record {
+    rest = h.rest;
+    ends = ends_map Linked (After p.marks) (λ f k l x. inl x) p.state.ends q.state.ends h.ends;
+    mem = h.mem;
+    marks = h.marks;
+  }
+
   abbrev pub SameInvoked : Invoked → Invoked → Type 0
-  SameInvoked (Returns a p) (Returns b q) = (a ≡ b) × SameProgress p q
-  SameInvoked (Violates v p) (Violates w q) = (v ≡ w) × SameProgress p q
+  SameInvoked (Returns a p) (Returns b q) = (a ≡ b) × SameLeft p q
+  SameInvoked (Violates v p) (Violates w q) = (v ≡ w) × SameLeft p q
   SameInvoked (Returns a p) (Violates w q) = ⊥
   SameInvoked (Violates v p) (Returns b q) = ⊥
-
-  end_same : (es fs : List EndState) (k : ℕ) → SameEnds es fs → SameEnd (end_of es k) (end_of fs k)
-  end_same [] [] k h = (refl, λ e. absurd (true≢false (sym e)))
-  end_same [] (f ∷ fs) k h = absurd h
-  end_same (e ∷ es) [] k h = absurd h
-  end_same (e ∷ es) (f ∷ fs) zero h = h.0
-  end_same (e ∷ es) (f ∷ fs) (suc k) h = end_same es fs k h.1
-
-  with_end_same : (es fs : List EndState) (k : ℕ) (e f : EndState) → SameEnds es fs → SameEnd e f → SameEnds (with_end es k e) (with_end fs k f)
-  with_end_same [] [] k a b h g = tt
-  with_end_same [] (f ∷ fs) k a b h g = absurd h
-  with_end_same (e ∷ es) [] k a b h g = absurd h
-  with_end_same (e ∷ es) (f ∷ fs) zero a b h g = (g, h.1)
-  with_end_same (e ∷ es) (f ∷ fs) (suc k) a b h g = (h.0, with_end_same es fs k a b h.1 g)
 
   marks_more : (ms ns : List Mark) (m n : Mark) → SameMarks ms ns → (m ≡ n) ⊎ SameOpened m n → SameMarks (ms ++ m ∷ []) (ns ++ n ∷ [])
   marks_more [] [] m n h g = (g, tt)
@@ -135,8 +176,8 @@ module _ (Linked : ℕ → List ℕ → List ℕ → Type 0) (places : ℕ → T
   and_same (Broken v p) (Going q) f g h j = absurd h
 
   finished_same : (x y : Course) → SameCourse x y → SameInvoked (finished x) (finished y)
-  finished_same (Going p) (Going q) h = (refl, h)
-  finished_same (Broken v p) (Broken w q) h = h
+  finished_same (Going p) (Going q) h = (refl, left_of p q h)
+  finished_same (Broken v p) (Broken w q) h = (h.0, left_of p q h.1)
   finished_same (Going p) (Broken w q) h = absurd h
   finished_same (Broken v p) (Going q) h = absurd h
 
@@ -153,7 +194,7 @@ module _ (Linked : ℕ → List ℕ → List ℕ → Type 0) (places : ℕ → T
       (tags : (rest : List ℕ) → s.mac s.section.key (0x54 ∷ rest) ≡ nac key (0x54 ∷ rest))
       (linked : (field : ℕ) (k l : List ℕ) → Linked field k l → SameTags s.mac k nac l)
       (opens : (packet : List ℕ) → length packet ≡ set_key_size → bytes_eq (drop key_tag_at packet) (wrap_tag s.mac s.section.key (header_in packet) (key_cipher packet)) ≡ true
-      → Linked (field_in packet) (key_in s.mac s.section.key packet) (key_in nac key packet)) where
+      → Opens (header_in packet) (key_in s.mac s.section.key packet) (key_in nac key packet)) where
     abbrev pub other : Setup
     other = record s { mac = nac; section = record s.section { key = key }; live = us }
 
@@ -223,7 +264,7 @@ module _ (Linked : ℕ → List ℕ → List ℕ → Type 0) (places : ℕ → T
       Alike f g = (p q : Progress) → SameProgress p q → SameCourse (f p) (g q)
 
       abbrev AlikeAt : (Progress → Course) → (Progress → Course) → Type 0
-      AlikeAt f g = (p : Progress) (es : List EndState) (n : List ℕ) (ms : List Mark) → SameEnds p.state.ends es → AgreeAt places p.mem n → SameMarks p.marks ms
+      AlikeAt f g = (p : Progress) (es : List EndState) (n : List ℕ) (ms : List Mark) → SameEnds Linked p.state.ends es → AgreeAt places p.mem n → SameMarks p.marks ms
           → SameCourse (f p) (g (mate p es n ms))
 
       lifted : (f g : Progress → Course) → AlikeAt f g → Alike f g
@@ -252,13 +293,13 @@ module _ (Linked : ℕ → List ℕ → List ℕ → Type 0) (places : ℕ → T
           subst (λ (piece : List ℕ). SameCourse (with_piece s c (event_packet s e v) (wrap_counted k e v p)) (with_piece other c piece (wrap_counted k (record e { key = l }) v (mate p es n ms))))
           (ap (λ (w : WrappedBytes). event_header e ++ w.cipher ++ w.tag) (wrapped_same s.mac nac e.key l (event_header e) (two v) (linked e.field e.key l (f refl))))
           (piece_same (event_packet s e v) (wrap_counted k e v p) (with_end es k two_) n (ms ++ mk ∷ [])
-          (with_end_same p.state.ends es k one two_ ends (refl, λ o. f refl)) a (marks_more p.marks ms mk mk m (inl refl)))
+          (with_end_same Linked p.state.ends es k one two_ ends (refl, λ o. f refl)) a (marks_more p.marks ms mk mk m (inl refl)))
 
       packet_same : (v k : ℕ) → AlikeAt (with_packet s c v k) (with_packet other c v k)
       unfolding with_packet
       packet_same v k p es n ms ends a m =
           let e = end_of p.state.ends k in
-          let h = end_same p.state.ends es k ends in
+          let h = end_same Linked p.state.ends es k ends in
           subst (λ (f : EndState). SameCourse (with_packet s c v k p)
           (cond (f.is_open && nat_lt f.number last_number) (with_piece other c (event_packet other f v) (wrap_counted k f v (mate p es n ms))) (Going (mate p es n ms)))) (sym h.0)
           (packet_at v k e (end_of es k).key (e.is_open && nat_lt e.number last_number) (λ b. h.1 (and_parts e.is_open (nat_lt e.number last_number) b).0) p es n ms ends a m)
@@ -298,12 +339,12 @@ module _ (Linked : ℕ → List ℕ → List ℕ → Type 0) (places : ℕ → T
 
       -- The entries.
 
-      module _ (p : Progress) (es : List EndState) (n : List ℕ) (ms : List Mark) (ends : SameEnds p.state.ends es) (agree : AgreeAt places p.mem n) (marks : SameMarks p.marks ms) where
+      module _ (p : Progress) (es : List EndState) (n : List ℕ) (ms : List Mark) (ends : SameEnds Linked p.state.ends es) (agree : AgreeAt places p.mem n) (marks : SameMarks p.marks ms) where
         abbrev q : Progress
         q = mate p es n ms
 
-        plain : SameProgress p q
-        plain = record { rest = refl; ends = ends; mem = agree; marks = marks }
+        plain : SameLeft p q
+        plain = left_of p q (record { rest = refl; ends = ends; mem = agree; marks = marks })
 
         ways : (b : Bool) (x y u v : Invoked) → (b ≡ true → SameInvoked x u) → (b ≡ false → SameInvoked y v) → SameInvoked (cond b x y) (cond b u v)
         ways true x y u v f g = f refl
@@ -339,7 +380,7 @@ module _ (Linked : ℕ → List ℕ → List ℕ → Type 0) (places : ℕ → T
             (ap (take 16) (tags (length ad ∷ (ad ++ key_cipher packet))))
             (by (bytes_eq (drop key_tag_at packet) (wrap_tag s.mac s.section.key ad (key_cipher packet))) (opens packet size))
           where
-            by : (b : Bool) → (b ≡ true → Linked (field_in packet) (key_in s.mac s.section.key packet) (key_in nac key packet))
+            by : (b : Bool) → (b ≡ true → Opens (header_in packet) (key_in s.mac s.section.key packet) (key_in nac key packet))
                 → SameInvoked (key_opened k packet (cond b (Some (padded (crypt s.mac s.section.key (header_in packet) (key_cipher packet)))) None) p)
                 (key_opened k packet (cond b (Some (padded (crypt nac key (header_in packet) (key_cipher packet)))) None) q)
             by true f =
@@ -350,11 +391,12 @@ module _ (Linked : ℕ → List ℕ → List ℕ → Type 0) (places : ℕ → T
                   refl,
                   record {
                     rest = refl;
-                    ends = with_end_same p.state.ends es k (record { is_open = true; field = field_in packet; number = 0; key = a })
-                        (record { is_open = true; field = field_in packet; number = 0; key = b }) ends
-                        (refl, λ o. f refl);
+                    ends = with_end_same (After (p.marks ++ x ∷ [])) p.state.ends es k (record { is_open = true; field = field_in packet; number = 0; key = a })
+                        (record { is_open = true; field = field_in packet; number = 0; key = b })
+                        (ends_map Linked (After (p.marks ++ x ∷ [])) (λ field k l g. inl g) p.state.ends es ends)
+                        (refl, λ o. inr (packet, refl, last_mark p.marks x, f refl));
                     mem = agree;
-                    marks = marks_more p.marks ms x y marks (inr (record { packet = packet; a = a; b = b; first = refl; second = refl; linked = f refl }));
+                    marks = marks_more p.marks ms x y marks (inr (record { packet = packet; a = a; b = b; first = refl; second = refl; opens = f refl }));
                   },
                 )
             by false f = (refl, plain)
@@ -369,7 +411,7 @@ module _ (Linked : ℕ → List ℕ → List ℕ → Type 0) (places : ℕ → T
                 let x = key_opened e.0 packet (unwrapped s.mac s.section.key (header_in packet) (key_cipher packet) (drop key_tag_at packet)) p in
                 let y = key_opened e.0 packet (unwrapped nac key (header_in packet) (key_cipher packet) (drop key_tag_at packet)) q in
                 subst (λ (f : EndState). SameInvoked (cond (is_keyed now (field_in packet)) (Returns no_end p) x) (cond (is_keyed f (field_in packet)) (Returns no_end q) y))
-                (sym (end_same p.state.ends es e.0 ends).0)
+                (sym (end_same Linked p.state.ends es e.0 ends).0)
                 (way (is_keyed now (field_in packet)) (Returns no_end p) x (Returns no_end q) y (refl, plain) (key_opened_same e.0 packet size))
 
         attest_same : (ask : List ℕ) → SameInvoked (attest s c ask p) (attest other c ask q)
@@ -391,8 +433,8 @@ module _ (Linked : ℕ → List ℕ → List ℕ → Type 0) (places : ℕ → T
             let one = number_taken e.0 packet (take value_size body) (end_of p.state.ends e.0) p in
             finished_same (handled s c ev one) (handled other c ev (number_taken e.0 packet (take value_size body) (end_of es e.0) q))
             (handled_same ev one (with_end es e.0 (record (end_of es e.0) { number = second_in packet + 1 })) n (ms ++ mk ∷ [])
-            (with_end_same p.state.ends es e.0 (record (end_of p.state.ends e.0) { number = second_in packet + 1 }) (record (end_of es e.0) { number = second_in packet + 1 }) ends
-            (let h = end_same p.state.ends es e.0 ends in (ap (λ (x : EndState). record x { number = second_in packet + 1 }) h.0, h.1)))
+            (with_end_same Linked p.state.ends es e.0 (record (end_of p.state.ends e.0) { number = second_in packet + 1 }) (record (end_of es e.0) { number = second_in packet + 1 }) ends
+            (let h = end_same Linked p.state.ends es e.0 ends in (ap (λ (x : EndState). record x { number = second_in packet + 1 }) h.0, h.1)))
             agree (marks_more p.marks ms mk mk marks (inl refl)))
 
         input_same : (packet : List ℕ) → SameInvoked (input s c packet p) (input other c packet q)
@@ -429,7 +471,7 @@ module _ (Linked : ℕ → List ℕ → List ℕ → Type 0) (places : ℕ → T
             by_end None = (refl, plain)
             by_end (Some e) =
                 let now = end_of p.state.ends e.0 in
-                let h = end_same p.state.ends es e.0 ends in
+                let h = end_same Linked p.state.ends es e.0 ends in
                 subst (λ (f : EndState). SameInvoked (input_at s c packet (Some e) p)
                 (cond (not f.is_open || not (epoch_of f.field == epoch_of (field_in packet))) (Returns no_end q) (event_numbered other c e packet f q))) (sym h.0)
                 (by_open e now (end_of es e.0).key refl h.0 h.1)
