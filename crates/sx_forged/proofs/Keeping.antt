@@ -169,7 +169,7 @@ module _ (set : Setting) (Past : State → Type 0) (w : World) (n : ℕ) (s : St
 
 -- Other acts.
 
-abbrev Outside : State → State → Type 0
+abbrev pub Outside : State → State → Type 0
 Outside s t = (t ≡ s) ⊎ (((sec : Section) → Lives t.sections.live sec → ⊥) ⊎ ((t.sections ≡ s.sections) × (s.cur ≡ 0) × (t.cur ≡ 0)))
 
 unless_outside : {T : Type 0} (o : Option Refused) (s : State) (done : Shown T)
@@ -184,7 +184,7 @@ interrupted_outside s (Finished regs x) h = inr (refl, h, h)
 interrupted_outside s (Violated v) h = inl (λ sec l. l)
 interrupted_outside s (Module regs x t e c) h = inr (refl, h, h)
 
-act_outside : (set : Setting) (a : Act) (s : State) → (a ≡ act.Step → ⊥) → Outside s (acted set.mac a s).state
+pub act_outside : (set : Setting) (a : Act) (s : State) → (a ≡ act.Step → ⊥) → Outside s (acted set.mac a s).state
 act_outside set act.Step s ne = absurd (ne refl)
 act_outside set act.Restart s ne = inr (inl (λ sec l. l))
 act_outside set (act.Put at bytes) s ne = unless_outside {T = Unit {0}} (put_refusal s at (length bytes)) s
@@ -199,7 +199,7 @@ act_outside set (act.Interrupt line) s ne =
     unless_outside (irq_refusal s) s (interrupted s (exec s.sections 0 (interrupt line s.regs) (start s)))
     (λ e. interrupted_outside s (exec s.sections 0 (interrupt line s.regs) (start s)) (not_busy s _ e))
 
-from_outside : (sec : Section) (a : Act) (s : State) → (a ≡ act.Step → ⊥) → FromOutside sec a s
+pub from_outside : (sec : Section) (a : Act) (s : State) → (a ≡ act.Step → ⊥) → FromOutside sec a s
 from_outside sec act.Step s ne = absurd (ne refl)
 from_outside sec act.Restart s ne = tt
 from_outside sec (act.Put at bytes) s ne = tt
