@@ -305,7 +305,7 @@ module _ (mac nac : Mac) (kind : Kind) (s : State) (n key : List ℕ) (u : Secti
     step_untouched h = settled_untouched (attempt mac s) (attempt nac twin) (steps_framed mac s placed) (steps_framed nac twin placed_too) h
 
 -- the module whose code it is isn't deployed
-not_deployed : (sites : List Site) (n : ℕ) (s : State) (o : Option Section) → option_and_then (deployed sites n s.mem) o ≡ None → (x : Section) → o ≡ Some x
+pub not_deployed : (sites : List Site) (n : ℕ) (s : State) (o : Option Section) → option_and_then (deployed sites n s.mem) o ≡ None → (x : Section) → o ≡ Some x
     → is_deployed (sites_on sites n) s.mem x ≡ false
 not_deployed sites n s o none x e =
     ap is_some (subst (λ (p : Option Section). option_and_then (deployed sites n s.mem) p ≡ None) e none)
@@ -322,7 +322,7 @@ outsiders_see mac nac sites n s t placed words foreign guess h =
         → SameOutcome mac nac (is_deployed (sites_on sites n) s.mem) s.sections.live s.mem (attempt mac s) (attempt nac (with_hidden s t.mem t.key t.sections t.exchange))
     either (inl none) =
         attempt_same mac nac (sites_on sites n) s t.mem t.key t.sections t.exchange placed h.sections h.next h.mem words
-        (not_deployed sites n s (section_of s.sections.live (own_of s)) none) guess
+        (not_deployed sites n s (section_of s.sections.live (own_of s)) none) (guess none)
     either (inr stopped) = stopped_same mac nac (sites_on sites n) s t.mem t.key t.sections t.exchange placed h.sections h.next h.mem stopped
 
 -- after an instruction that isn't let run no section stands
@@ -346,5 +346,5 @@ outsiders_touch_none mac nac sites n s t placed too words (inl none) guess h x l
     let bare = not_deployed sites n s (section_of s.sections.live (own_of s)) none in
     subst (λ (z : State). IsUntouched kind s z (step mac s).state (step nac z).state x) (sym h.rest)
     (step_untouched mac nac kind s t.mem t.key t.sections t.exchange placed h.sections h.next h.mem too
-    (outsider mac nac kind s t.mem t.key t.sections t.exchange placed h.sections h.next h.mem words bare guess)
-    (attempt_same mac nac kind s t.mem t.key t.sections t.exchange placed h.sections h.next h.mem words bare guess) x l e)
+    (outsider mac nac kind s t.mem t.key t.sections t.exchange placed h.sections h.next h.mem words bare (guess none))
+    (attempt_same mac nac kind s t.mem t.key t.sections t.exchange placed h.sections h.next h.mem words bare (guess none)) x l e)

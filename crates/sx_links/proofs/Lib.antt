@@ -18,3 +18,6 @@ pub mod Twice
 pub mod KeyPackets
 pub mod Leaving
 pub mod Turning
+pub mod Linking
+pub mod Entering
+pub mod Turned

@@ -104,7 +104,8 @@ abbrev pub OutsidersSeeTheSame : Type 0
 OutsidersSeeTheSame = (mac nac : Mac) (sites : List Site) (n : ℕ) (s t : State) → Placed s.sections
     → ((r : ℕ) → slice_index s.regs r < 65536)
     → (module_of sites n s (own_of s) ≡ None) ⊎ (is_let_run s ≡ false)
-    → NoGuess mac nac (sites_on sites n) s t.key → SameOutside mac nac (sites_on sites n) s t
+    → (module_of sites n s (own_of s) ≡ None → NoGuess mac nac (sites_on sites n) s t.key)
+    → SameOutside mac nac (sites_on sites n) s t
     → ((step mac s).shown ≡ (step nac t).shown)
     × SameOutside mac nac (sites_on sites n) (step mac s).state (step nac t).state
 
@@ -122,7 +123,8 @@ abbrev pub OutsidersTouchNone : Type 0
 OutsidersTouchNone = (mac nac : Mac) (sites : List Site) (n : ℕ) (s t : State) → Placed s.sections
     → Placed t.sections → ((r : ℕ) → slice_index s.regs r < 65536)
     → (module_of sites n s (own_of s) ≡ None) ⊎ (is_let_run s ≡ false)
-    → NoGuess mac nac (sites_on sites n) s t.key → SameOutside mac nac (sites_on sites n) s t
+    → (module_of sites n s (own_of s) ≡ None → NoGuess mac nac (sites_on sites n) s t.key)
+    → SameOutside mac nac (sites_on sites n) s t
     → (x : Section) → Lives (step mac s).state.sections.live x
     → is_deployed (sites_on sites n) (step mac s).state.mem x ≡ true
     → IsUntouched (sites_on sites n) s t (step mac s).state (step nac t).state x

@@ -66,7 +66,7 @@ devices_same Linked Opens places [] [] ds h = refl
 devices_same Linked Opens places [] (y ∷ ns) ds h = absurd h
 devices_same Linked Opens places (x ∷ ms) [] ds h = absurd h
 devices_same Linked Opens places (x ∷ ms) (y ∷ ns) ds h = elim h.0 [
-  | inl e ↦ subst (λ (z : Mark). devices_after (z ∷ ns) ds ≡ devices_after (x ∷ ms) ds) e (same x ds (λ cs. devices_same Linked Opens places ms ns cs h.1))
+  | inl e ↦ subst (λ (z : Mark). devices_after (z ∷ ns) ds ≡ devices_after (x ∷ ms) ds) e.0 (same x ds (λ cs. devices_same Linked Opens places ms ns cs h.1))
   | inr o ↦ ap (λ (z : Mark). devices_after (z ∷ ns) ds) o.second ∙ devices_same Linked Opens places ms ns ds h.1 ∙ sym (ap (λ (z : Mark). devices_after (z ∷ ms) ds) o.first)
 ]
   where

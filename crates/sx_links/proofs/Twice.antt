@@ -95,6 +95,14 @@ abbrev pub IsMark : Mark → List Mark → Type 0
 IsMark m [] = ⊥
 IsMark m (x ∷ xs) = (x ≡ m) ⊎ IsMark m xs
 
+-- it is the unwrap of a set-key packet
+abbrev pub IsKey : Mark → Type 0
+IsKey (mark.Wrapped header body own) = ⊥
+IsKey (mark.Unwrapped header body true) = Unit {0}
+IsKey (mark.Unwrapped header body false) = ⊥
+IsKey (mark.Sampled device v) = ⊥
+IsKey (mark.Actuated device v) = ⊥
+
 last_mark : (ms : List Mark) (m : Mark) → IsMark m (ms ++ m ∷ [])
 last_mark [] m = inl refl
 last_mark (x ∷ ms) m = inr (last_mark ms m)
@@ -116,7 +124,7 @@ module _ (Linked : ℕ → List ℕ → List ℕ → Type 0) (Opens : List ℕ �
   SameMarks [] [] = Unit {0}
   SameMarks [] (n ∷ ns) = ⊥
   SameMarks (m ∷ ms) [] = ⊥
-  SameMarks (m ∷ ms) (n ∷ ns) = ((m ≡ n) ⊎ SameOpened m n) × SameMarks ms ns
+  SameMarks (m ∷ ms) (n ∷ ns) = (((m ≡ n) × (IsKey m → ⊥)) ⊎ SameOpened m n) × SameMarks ms ns
 
   -- the same progress with other ends, memory and marks
   abbrev pub mate : Progress → List EndState → List ℕ → List Mark → Progress
@@ -163,7 +171,7 @@ module _ (Linked : ℕ → List ℕ → List ℕ → Type 0) (Opens : List ℕ �
   SameInvoked (Returns a p) (Violates w q) = ⊥
   SameInvoked (Violates v p) (Returns b q) = ⊥
 
-  marks_more : (ms ns : List Mark) (m n : Mark) → SameMarks ms ns → (m ≡ n) ⊎ SameOpened m n → SameMarks (ms ++ m ∷ []) (ns ++ n ∷ [])
+  marks_more : (ms ns : List Mark) (m n : Mark) → SameMarks ms ns → ((m ≡ n) × (IsKey m → ⊥)) ⊎ SameOpened m n → SameMarks (ms ++ m ∷ []) (ns ++ n ∷ [])
   marks_more [] [] m n h g = (g, tt)
   marks_more [] (y ∷ ns) m n h g = absurd h
   marks_more (x ∷ ms) [] m n h g = absurd h
@@ -293,7 +301,7 @@ module _ (Linked : ℕ → List ℕ → List ℕ → Type 0) (Opens : List ℕ �
           subst (λ (piece : List ℕ). SameCourse (with_piece s c (event_packet s e v) (wrap_counted k e v p)) (with_piece other c piece (wrap_counted k (record e { key = l }) v (mate p es n ms))))
           (ap (λ (w : WrappedBytes). event_header e ++ w.cipher ++ w.tag) (wrapped_same s.mac nac e.key l (event_header e) (two v) (linked e.field e.key l (f refl))))
           (piece_same (event_packet s e v) (wrap_counted k e v p) (with_end es k two_) n (ms ++ mk ∷ [])
-          (with_end_same Linked p.state.ends es k one two_ ends (refl, λ o. f refl)) a (marks_more p.marks ms mk mk m (inl refl)))
+          (with_end_same Linked p.state.ends es k one two_ ends (refl, λ o. f refl)) a (marks_more p.marks ms mk mk m (inl (refl, λ z. z))))
 
       packet_same : (v k : ℕ) → AlikeAt (with_packet s c v k) (with_packet other c v k)
       unfolding with_packet
@@ -318,7 +326,7 @@ module _ (Linked : ℕ → List ℕ → List ℕ → Type 0) (Opens : List ℕ �
       emitted : (v : ℕ) (o : Option (ℕ × Window)) → AlikeAt (λ p. Going (actuated v o p)) (λ p. Going (actuated v o p))
       emitted v None p es n ms e a m = record { rest = refl; ends = e; mem = a; marks = m }
       emitted v (Some d) p es n ms e a m =
-          record { rest = refl; ends = e; mem = a; marks = marks_more p.marks ms (mark.Actuated d.0 v) (mark.Actuated d.0 v) m (inl refl) }
+          record { rest = refl; ends = e; mem = a; marks = marks_more p.marks ms (mark.Actuated d.0 v) (mark.Actuated d.0 v) m (inl (refl, λ z. z)) }
 
       act_same : (act : Act) → Alike (with_act s c act) (with_act other c act)
       act_same (Send output v) p q h = packets_same output v 0 s.ends p q h
@@ -422,7 +430,7 @@ module _ (Linked : ℕ → List ℕ → List ℕ → Type 0) (Opens : List ℕ �
             let two_ = mate p es n (ms ++ mk ∷ []) in
             subst (λ (t : List ℕ). SameInvoked (attest s c ask p) (finished (with_piece other c t two_))) (ap (take 16) (tags (length ask ∷ (ask ++ []))))
             (finished_same (with_piece s c (wrapped s.mac s.section.key ask []).tag one) (with_piece other c (wrapped s.mac s.section.key ask []).tag two_)
-            (piece_same (wrapped s.mac s.section.key ask []).tag one es n (ms ++ mk ∷ []) ends agree (marks_more p.marks ms mk mk marks (inl refl))))
+            (piece_same (wrapped s.mac s.section.key ask []).tag one es n (ms ++ mk ∷ []) ends agree (marks_more p.marks ms mk mk marks (inl (refl, λ z. z)))))
 
         opened_same : (e : ℕ × End) (packet : List ℕ) (now : EndState) (l : List ℕ) (o : Option (List ℕ)) → end_of p.state.ends e.0 ≡ now → end_of es e.0 ≡ record now { key = l }
             → (now.is_open ≡ true → Linked now.field now.key l) → SameInvoked (event_opened s c e packet o p) (event_opened other c e packet o q)
@@ -435,7 +443,7 @@ module _ (Linked : ℕ → List ℕ → List ℕ → Type 0) (Opens : List ℕ �
             (handled_same ev one (with_end es e.0 (record (end_of es e.0) { number = second_in packet + 1 })) n (ms ++ mk ∷ [])
             (with_end_same Linked p.state.ends es e.0 (record (end_of p.state.ends e.0) { number = second_in packet + 1 }) (record (end_of es e.0) { number = second_in packet + 1 }) ends
             (let h = end_same Linked p.state.ends es e.0 ends in (ap (λ (x : EndState). record x { number = second_in packet + 1 }) h.0, h.1)))
-            agree (marks_more p.marks ms mk mk marks (inl refl)))
+            agree (marks_more p.marks ms mk mk marks (inl (refl, λ z. z))))
 
         input_same : (packet : List ℕ) → SameInvoked (input s c packet p) (input other c packet q)
         input_same packet = by_end (end_found (link_of (field_in packet)) To 0 s.ends)
@@ -487,7 +495,7 @@ module _ (Linked : ℕ → List ℕ → List ℕ → Type 0) (Opens : List ℕ �
                 let y = finished (handled other c (event.Sample d.1.value) (sample_read d q)) in
                 way d.1.fresh x (Returns no_sample p) y (Returns no_sample q)
                 (finished_same (handled s c (event.Sample d.1.value) (sample_read d p)) (handled other c (event.Sample d.1.value) (sample_read d q))
-                (handled_same (event.Sample d.1.value) (sample_read d p) es n (ms ++ mk ∷ []) ends agree (marks_more p.marks ms mk mk marks (inl refl)))) (refl, plain)
+                (handled_same (event.Sample d.1.value) (sample_read d p) es n (ms ++ mk ∷ []) ends agree (marks_more p.marks ms mk mk marks (inl (refl, λ z. z))))) (refl, plain)
 
         entered_same : is_bad_window s c.input in_window_size ≡ false → SameInvoked (entered s c p) (entered other c q)
         unfolding entered
