@@ -21,3 +21,9 @@ pub mod Turning
 pub mod Linking
 pub mod Entering
 pub mod Turned
+pub mod Ledgers
+pub mod Upto
+pub mod Worlds
+pub mod Doing
+pub mod Deploying
+pub mod Stepping

@@ -1,6 +1,8 @@
--- Unlinked says what two settings have in common whose connections have keys of their own; Unlinks,
--- Choices and Compiles, that there are such settings.
+-- Read LinksUnseen first, over Unlinked, which says what two settings have in common whose
+-- connections have keys of their own. Unlinks, Choices and Compiles say that there are such
+-- settings.
 pub mod Unlinked
+pub mod LinksUnseen
 pub mod Unlinks
 pub mod Choices
 pub mod Compiles

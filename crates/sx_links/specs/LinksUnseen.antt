@@ -1,0 +1,119 @@
+-- What the keys of connections show.
+use Rattle.std.specs.Prelude.{◌≡◌, ◌≢◌, ◌⊎◌, ℕ, if◌then◌else◌, true, false, List, [], ◌∷◌}
+use Rattle.std.specs.Prelude.{length, map, slice_get, slice_index, Option, Some, None}
+use Rattle.sx_trace.specs.declared.items.Item.{Item}
+use Rattle.sx_rules.specs.declared.access.Access.TheVariants.{Read}
+use Rattle.sx_rules.specs.declared.section.Section.{Section}
+use Rattle.sx_rules.specs.Access.{Lives, in_private, section_of}
+use Rattle.sx_tag.specs.Keys.{module_key, identity}
+use Rattle.sx_model.specs.Legal.{is_forged}
+use Rattle.sx_machine.specs.Memory.{word, bytes_from}
+use Rattle.sx_machine.specs.State.{State}
+use Rattle.sx_machine.specs.Run.{may_range}
+use Rattle.sx_machine.specs.ModuleRows.{own_key}
+use Rattle.sx_machine.specs.Step.{pc_of, own_of}
+use Rattle.sx_image.specs.Image.{public_bytes}
+use Rattle.sx_sched.specs.Lines.{Line, Run}
+use Rattle.sx_run.specs.Setting.{Setting, Site, deployed, module_of}
+use Rattle.sx_run.specs.Deployer.{list_at}
+use Rattle.sx_run.specs.Law.{IsSoundSetting, LinesInForm}
+use Rattle.sx_run.specs.State.{World, switched_on}
+use Rattle.sx_run.specs.Run.{run}
+use Rattle.sx_guard.specs.Happening.{Step}
+use Rattle.sx_forged.specs.Tags.{SameTags}
+use Rattle.sx_forged.specs.Bare.{bare_section}
+use Rattle.sx_forged.specs.Moments.{Moment, moment, NoForged, NoneBefore}
+use Rattle.sx_links.specs.Unlinked.{Modules, Unlinked}
+
+-- the items up to the first `forged`, and with it
+abbrev pub upto_forged : List Item → List Item
+upto_forged [] = []
+upto_forged (i ∷ items) = i ∷ (if is_forged i then [] else upto_forged items)
+
+-- the line cuts no module's turn
+abbrev pub IsWhole : Line → Type 0
+IsWhole (Run n k) = ⊥
+IsWhole _ = Unit {0}
+
+-- no line does
+abbrev pub TurnsWhole : List Line → Type 0
+TurnsWhole [] = Unit {0}
+TurnsWhole (line ∷ lines) = IsWhole line × TurnsWhole lines
+
+-- no module's code stands at 0, where `load` puts its one instruction
+abbrev pub SparesZero : Setting → Type 0
+SparesZero a = (m : ℕ) (site : Site) → slice_get a.sites m ≡ Some site → site.layout.pub_from ≢ 0
+
+-- the byte is in no private section of a deployed module of the n-th node
+abbrev pub InTheOpen : Setting → ℕ → State → ℕ → Type 0
+InTheOpen a n s k = (x : Section) → Lives s.sections.live x → deployed a.sites n s.mem x ≢ None
+    → in_private x k ≡ false
+
+-- The n-th nodes differ in keys, in private bytes of deployed modules, and in what was last wrapped
+-- or unwrapped, alone.
+pub record SameOutside (a : Setting) (n : ℕ) (s t : State) : Type 0 where
+  pub rest : t
+      ≡ record s { mem = t.mem; sections = t.sections; key = t.key; exchange = t.exchange }
+  pub live : map bare_section t.sections.live ≡ map bare_section s.sections.live
+  pub next : t.sections.next ≡ s.sections.next
+  pub size : length t.mem ≡ length s.mem
+  pub mem : (k : ℕ) → InTheOpen a n s k → slice_index t.mem k ≡ slice_index s.mem k
+
+-- the worlds are the same outside deployed modules: nodes, packets and deployer
+pub record SameWorldOutside (a : Setting) (w v : World) : Type 0 where
+  pub count : length v.nodes ≡ length w.nodes
+  pub nodes : (n : ℕ) (s t : State) → slice_get w.nodes n ≡ Some s → slice_get v.nodes n ≡ Some t
+      → SameOutside a n s t
+  pub packets : v.packets ≡ w.packets
+  pub deployer : v.deployer ≡ w.deployer
+
+-- the section that a protect would make of what registers hold
+abbrev pub wanted : State → Section
+wanted s = record {
+  layout = record {
+    pub_from = slice_index s.regs 10;
+    pub_to = slice_index s.regs 11;
+    priv_from = slice_index s.regs 12;
+    priv_to = slice_index s.regs 13;
+  };
+  provider = slice_index s.regs 9;
+  id = 0;
+  key = [];
+}
+
+-- the identity of a section with the bytes that stand there
+abbrev pub identity_in : List ℕ → Section → List ℕ
+identity_in mem x = let l = x.layout in
+    identity (public_bytes l mem) l.pub_from l.pub_to l.priv_from l.priv_to
+
+-- The next step of the n-th node, of code of no deployed module, guesses nothing: where it wraps or
+-- unwraps with 16 bytes that it may read, the tags under them are the same in both settings, and
+-- where it admits a module that isn't deployed, so are those under the keys that this one gets.
+pub record GuessesNone (a b : Setting) (n : ℕ) (s : State) : Type 0 where
+  pub held : (word s.mem (pc_of s) ≡ 0x1384) ⊎ (word s.mem (pc_of s) ≡ 0x1385) → (own : Section)
+      → section_of s.sections.live (own_of s) ≡ Some own → own_key s.regs ≡ false
+      → may_range s.sections.live (own_of s) Read (slice_index s.regs 9) 16 ≡ true
+      → let k = bytes_from s.mem (slice_index s.regs 9) 16 in SameTags a.mac k b.mac k
+  pub admitted : word s.mem (pc_of s) ≡ 0x1381 → deployed a.sites n s.mem (wanted s) ≡ None
+      → let id = identity_in s.mem (wanted s) in
+      SameTags a.mac (module_key a.mac (list_at a.keys n) s.boot (slice_index s.regs 9) id) b.mac
+      (module_key b.mac (list_at b.keys n) s.boot (slice_index s.regs 9) id)
+
+-- no step of the run does, until a `forged` is shown
+abbrev pub NothingGuessed : Setting → Setting → List Line → Type 0
+NothingGuessed a b lines = (k : ℕ) (now : Moment) → moment a lines k ≡ Some now
+    → NoneBefore a lines k → (n : ℕ) (s : State) → now.next ≡ Step n
+    → slice_get now.world.nodes n ≡ Some s → module_of a.sites n s (own_of s) ≡ None
+    → GuessesNone a b n s
+
+-- Settings whose connections have keys of their own show the same up to the first `forged`, and as
+-- long as there is none come to worlds that are the same outside deployed modules, for every
+-- schedule that cuts no turn, unless code of no deployed module guesses.
+abbrev pub LinksUnseen : Type 0
+LinksUnseen = (others_are : Modules) (a b : Setting) (lines : List Line) → IsSoundSetting a
+    → IsSoundSetting b → Unlinked others_are a b → SparesZero a → LinesInForm a lines
+    → TurnsWhole lines → NothingGuessed a b lines
+    → let x = run a (switched_on a) lines in
+    let y = run b (switched_on b) lines in
+    (upto_forged y.items ≡ upto_forged x.items)
+    × (NoForged x.items → SameWorldOutside a x.world y.world)
