@@ -27,3 +27,7 @@ pub mod Worlds
 pub mod Doing
 pub mod Deploying
 pub mod Stepping
+pub mod Happenings
+pub mod Whole
+pub mod Lines
+pub mod Final

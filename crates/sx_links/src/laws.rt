@@ -2,7 +2,14 @@
 
 ghost use Rattle.sx_links.specs.Choices.{ChoicesMove};
 ghost use Rattle.sx_links.specs.Compiles.{CompiledAlways};
+ghost use Rattle.sx_links.specs.LinksUnseen.{LinksUnseen};
 ghost use Rattle.sx_links.specs.Unlinks.{UnlinksAll};
+
+/// Two settings whose connections have keys of their own show the same up to the first `forged`,
+/// unless code of no deployed module guesses, for every schedule that cuts no turn.
+pub fn links_unseen()
+    ensures { LinksUnseen }
+{}
 
 /// There is a setting whose connections have other keys, for every choice of them, wherever no
 /// connection has a deployed module's key.

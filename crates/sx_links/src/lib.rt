@@ -1,6 +1,7 @@
-//! What the keys of connections show in a run: nothing but tags.
+//! What the keys of connections show in a run: nothing but tags, up to the first `forged`.
 //!
-//! There are settings whose connections have other keys (`unlinks_all`). Read specs/Lib.antt first.
+//! Two settings whose connections have keys of their own show the same (`links_unseen`), and there
+//! are such settings (`unlinks_all`). Read specs/Lib.antt first.
 #![tactic(auto)]
 
 pub mod laws;
