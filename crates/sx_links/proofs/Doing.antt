@@ -105,39 +105,36 @@ module _ (a : Setting) (nac : Mac) (keys : List (List ℕ)) (secret : List ℕ) 
     abbrev pub NodesSame : {T : Type 0} → Shown T → Shown T → Type 0
     NodesSame x y = (x.shown ≡ y.shown) × SameNode a nac keys secret n x.state y.state
 
-    abbrev Twin : State
-    Twin = with_hidden s t.mem t.key t.sections t.exchange
-
-    abbrev Seen2 : {T : Type 0} → Shown T → Shown T → Type 0
-    Seen2 x y = (x.shown ≡ y.shown) × SameOutside a.mac nac (sites_on a.sites n) x.state y.state
+    abbrev Alike : {T : Type 0} → Shown T → Shown T → Type 0
+    Alike x y = (x.shown ≡ y.shown) × SameOutside a.mac nac (sites_on a.sites n) x.state y.state
 
     pub put_node : (at : ℕ) (bytes : List ℕ) → NodesSame (put s at bytes) (put t at bytes)
     put_node at bytes =
-        let k : Seen2 (put s at bytes) (put t at bytes) = subst (λ (z : State). Seen2 (put s at bytes) (put z at bytes)) (sym h.outside.rest)
+        let k : Alike (put s at bytes) (put t at bytes) = subst (λ (z : State). Alike (put s at bytes) (put z at bytes)) (sym h.outside.rest)
         (put_same a.mac nac kind s t.mem t.key t.sections t.exchange ta.node.placed h.outside.sections h.outside.next h.outside.mem at bytes) in
         (k.0, after_act (act.Put at bytes) (λ e. cc) k.1)
 
     pub set_node : (r v : ℕ) → NodesSame (set s r v) (set t r v)
     set_node r v =
-        let k : Seen2 (set s r v) (set t r v) = subst (λ (z : State). Seen2 (set s r v) (set z r v)) (sym h.outside.rest)
+        let k : Alike (set s r v) (set t r v) = subst (λ (z : State). Alike (set s r v) (set z r v)) (sym h.outside.rest)
         (set_same a.mac nac kind s t.mem t.key t.sections t.exchange ta.node.placed h.outside.sections h.outside.next h.outside.mem r v) in
         (k.0, after_act (act.Set r v) (λ e. cc) k.1)
 
     pub take_node : (at len : ℕ) → (take_from s at len).shown ≡ (take_from t at len).shown
     take_node at len =
-        let k : Seen2 (take_from s at len) (take_from t at len) = subst (λ (z : State). Seen2 (take_from s at len) (take_from z at len)) (sym h.outside.rest)
+        let k : Alike (take_from s at len) (take_from t at len) = subst (λ (z : State). Alike (take_from s at len) (take_from z at len)) (sym h.outside.rest)
         (take_same a.mac nac kind s t.mem t.key t.sections t.exchange ta.node.placed h.outside.sections h.outside.next h.outside.mem at len) in
         k.0
 
     pub sense_node : (d v : ℕ) → NodesSame (sense s d v) (sense t d v)
     sense_node d v =
-        let k : Seen2 (sense s d v) (sense t d v) = subst (λ (z : State). Seen2 (sense s d v) (sense z d v)) (sym h.outside.rest)
+        let k : Alike (sense s d v) (sense t d v) = subst (λ (z : State). Alike (sense s d v) (sense z d v)) (sym h.outside.rest)
         (sense_same a.mac nac kind s t.mem t.key t.sections t.exchange ta.node.placed h.outside.sections h.outside.next h.outside.mem d v) in
         (k.0, after_act (act.Sense d v) (λ e. cc) k.1)
 
     pub irq_node : (line : ℕ) → NodesSame (irq s line) (irq t line)
     irq_node line =
-        let k : Seen2 (irq s line) (irq t line) = subst (λ (z : State). Seen2 (irq s line) (irq z line)) (sym h.outside.rest)
+        let k : Alike (irq s line) (irq t line) = subst (λ (z : State). Alike (irq s line) (irq z line)) (sym h.outside.rest)
         (irq_same a.mac nac kind s t.mem t.key t.sections t.exchange ta.node.placed h.outside.sections h.outside.next h.outside.mem line) in
         (k.0, after_act (act.Interrupt line) (λ e. cc) k.1)
 

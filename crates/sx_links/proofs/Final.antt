@@ -19,8 +19,17 @@ use Rattle.sx_guard.specs.Lines.{script_of}
 use Rattle.sx_forged.specs.Bare.{bare_section}
 use Rattle.sx_forged.specs.Moments.{Moment, moment_from, moment, shown_at, NoForged, NoneBefore}
 use Rattle.sx_forged.proofs.Reaching.{starts_turning}
+use Rattle.sx_deploy.specs.Law.{IsSoundDeployment}
+use Rattle.sx_deploy.proofs.Sound.{sound}
+use Rattle.sx_run.specs.Setting.{Site}
+use Rattle.sx_run.specs.Accepted.{setting_of, sites_of}
+use Rattle.sx_run.proofs.accepted.Settled.{settled}
+use Rattle.sx_run.proofs.accepted.FormedLines.{lines_in_form}
+use Rattle.sx_run.proofs.accepted.LaidSites.{site_at, laid_at}
+use Rattle.sx_deploy.specs.Deployment.{Deployed}
 use Rattle.sx_links.specs.Unlinked.{Modules, Unlinked}
-use Rattle.sx_links.specs.LinksUnseen.{upto_forged, TurnsWhole, SparesZero, InTheOpen, SameOutside, SameWorldOutside, GuessesNone, NothingGuessed, LinksUnseen}
+use Rattle.sx_links.specs.Accepted.{AcceptedUnseen}
+use Rattle.sx_links.specs.LinksUnseen.{upto_forged, TurnsWhole, SparesZero, InTheOpen, SameOutside, SameWorldOutside, GuessesNone, NothingGuessed, RunsAlike, LinksUnseen}
 use Rattle.sx_links.proofs.Outside.{sites_on, is_deployed, SameSections}
 use Rattle.sx_links.proofs.Opened.{agree_self}
 use Rattle.sx_links.proofs.Upto.{none_clean}
@@ -108,25 +117,37 @@ module _ (a : Setting) (nac : Mac) (keys : List (List ℕ)) (secret : List ℕ) 
 
   of_second : (others_are : Modules) (lines : List Line) → IsSoundSetting a → IsSoundSetting (second a nac keys secret) → Unlinked others_are a (second a nac keys secret) → SparesZero a
       → LinesInForm a lines → TurnsWhole lines → NothingGuessed a (second a nac keys secret) lines
-      → let x = run a (switched_on a) lines in let y = run (second a nac keys secret) (switched_on (second a nac keys secret)) lines in
-      (upto_forged y.items ≡ upto_forged x.items) × (NoForged x.items → SameWorldOutside a x.world y.world)
-  of_second others_are lines sound sound2 unlinked spares form whole guess =
+      → RunsAlike a (second a nac keys secret) lines
+  of_second others_are lines first_sound sound2 unlinked spares form whole guess =
       let start : SameRun a nac keys secret (switched_on a) (switched_on b) = record {
         same = record { nodes = λ n. nodes_same 0 a.keys keys unlinked.count n n; packets = refl; deployer = refl; lines = refl; ledger = tt };
-        first = starts_turning a sound;
+        first = starts_turning a first_sound;
         second = starts_turning b sound2;
       } in
       let none : NoGuesses a b (script_of a lines) (switched_on a) =
       of_moments a b (script_of a lines) (switched_on a) (λ k now e none n s is here runs. guess k now e none n s is here runs) in
-      let h = lines_same a nac keys secret others_are sound sound2 unlinked lines (switched_on a) (switched_on b) start spares form whole none in
+      let h = lines_same a nac keys secret others_are first_sound sound2 unlinked lines (switched_on a) (switched_on b) start spares form whole none in
       let x = run a (switched_on a) lines in
       let y = run b (switched_on b) lines in
       (h.0, λ clean. world_outside x.world y.world (h.1 (none_clean x.items clean)).same)
 
 pub links_unseen : LinksUnseen
-links_unseen others_are a b lines sound sound2 unlinked spares form whole guess =
+links_unseen others_are a b lines first_sound sound2 unlinked spares form whole guess =
     let is = unlinked.rest in
-    subst (λ (z : Setting). let x = run a (switched_on a) lines in let y = run z (switched_on z) lines in
-    (upto_forged y.items ≡ upto_forged x.items) × (NoForged x.items → SameWorldOutside a x.world y.world)) (sym is)
-    (of_second a b.mac b.keys b.secret others_are lines sound (subst IsSoundSetting is sound2) (subst (Unlinked others_are a) is unlinked) spares form whole
+    subst (λ (z : Setting). RunsAlike a z lines) (sym is)
+    (of_second a b.mac b.keys b.secret others_are lines first_sound (subst IsSoundSetting is sound2) (subst (Unlinked others_are a) is unlinked) spares form whole
     (subst (λ (z : Setting). NothingGuessed a z lines) is guess))
+
+-- An accepted deployment.
+
+spares_zero : (mac : Mac) (d : Deployed) (texts : List (List ℕ)) → IsSoundDeployment d → SparesZero (setting_of mac d texts)
+spares_zero mac d texts acc m site sited zero_from =
+    let r = site_at d.app.parts d.layouts d.providers texts m site sited in
+    let low = (laid_at d 0 d.app.parts d.layouts m r.part site.layout acc.laid r.found r.layout).text.low in
+    omega (arith, low, zero_from)
+
+pub accepted_unseen : AcceptedUnseen
+accepted_unseen text d read mac texts tag images others_are b sound2 unlinked lines are whole guess =
+    let acc = sound text d read in
+    links_unseen others_are (setting_of mac d texts) b lines (settled mac d texts acc images tag) sound2 unlinked (spares_zero mac d texts acc)
+    (lines_in_form mac d (sites_of d.app.parts d.layouts d.providers texts) acc lines are) whole guess

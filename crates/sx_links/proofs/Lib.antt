@@ -1,6 +1,10 @@
--- That there are settings with other keys: Unlinking, Finding, Choosing and Compiling. That two such
--- settings show the same: one instruction of outside code in Bystanding, over Outside to Outsiders;
--- an invocation in Twice, and a whole turn in Turning.
+-- Two developments. That settings with other keys show the same: begin with Final and Lines, where
+-- two worlds go side by side, line by line. One step of outside code in them is Stepping, over
+-- Outside, Opened, Blind, Outsiders and Bystanding, which know one node alone; acts from outside are
+-- Doing, over Touching; the deployer is Deploying. A whole turn of a deployed module is Whole, over
+-- Turned: the invocation in Twice, the node afterwards in Turning, what is remembered of it in
+-- Leaving; what its marks show over the ledgers is Ledgers. That there are settings with other keys:
+-- Moved to Compiling.
 pub mod Moved
 pub mod Unlinking
 pub mod Finding

@@ -80,11 +80,11 @@ module _ (a : Setting) (nac : Mac) (keys : List (List ℕ)) (secret : List ℕ) 
   abbrev b : Setting
   b = second a nac keys secret
 
-  abbrev Run2 : World → World → Type 0
-  Run2 = SameRun a nac keys secret
+  abbrev Beside : World → World → Type 0
+  Beside = SameRun a nac keys secret
 
-  abbrev Acted2 : Acted → Acted → Type 0
-  Acted2 = SameActed a nac keys secret
+  abbrev Shows : Acted → Acted → Type 0
+  Shows = SameActed a nac keys secret
 
   -- where no deployed module's code is let run, or one that rests is at its entry
   pub data Standing (n : ℕ) (s : State) : Type 0 where
@@ -154,17 +154,17 @@ module _ (a : Setting) (nac : Mac) (keys : List (List ℕ)) (secret : List ℕ) 
 
   -- what comes of a part of a line in both runs, after which nothing is guessed either
   abbrev pub Goes : (List Look → Script) → Acted → Acted → Type 0
-  Goes rest x y = Acted2 x y × (Clean x.items → NoGuesses a b (rest (looks x.world)) x.world)
+  Goes rest x y = Shows x y × (Clean x.items → NoGuesses a b (rest (looks x.world)) x.world)
 
   pub goes_then : (first rest : List Look → Script) (x y : Acted) (f g : World → Acted) → Goes first x y
-      → (Run2 x.world y.world → NoGuesses a b (first (looks x.world)) x.world → Goes rest (f x.world) (g y.world)) → Goes rest (then_ x f) (then_ y g)
+      → (Beside x.world y.world → NoGuesses a b (first (looks x.world)) x.world → Goes rest (f x.world) (g y.world)) → Goes rest (then_ x f) (then_ y g)
   goes_then first rest x y f g h next = (
     then_same a nac keys secret x y f g h.0 (λ clean run. (next run (h.1 clean)).0),
     λ clean. let c = clean_left x.items (f x.world).items clean in (next (h.0.1 c) (h.1 c)).1 (clean_right x.items (f x.world).items clean),
   )
 
   -- one thing that is done
-  pub goes_one : (x : Happening) (rest : List Look → Script) (w v : World) → Run2 w v → InForm x → ((n : ℕ) → x ≡ Step n → ⊥) → NoGuesses a b (Do x rest) w → Goes rest (done a x w) (done b x v)
+  pub goes_one : (x : Happening) (rest : List Look → Script) (w v : World) → Beside w v → InForm x → ((n : ℕ) → x ≡ Step n → ⊥) → NoGuesses a b (Do x rest) w → Goes rest (done a x w) (done b x v)
   goes_one x rest w v h form ne g =
       let d = outside_done a nac keys secret others_are unlinked w v h x ne in (
         acted_same a nac keys secret (done a x w) (done b x v) d.0 (λ clean. record { same = d.1; first = done_turns a x w sound form h.first; second = done_turns b x v sound2 form h.second }),
@@ -246,9 +246,9 @@ module _ (a : Setting) (nac : Mac) (keys : List (List ℕ)) (secret : List ℕ) 
           (on s (is_last s) refl e more g2.1 (subst (λ (z : Acted). Clean z.items) same clean))
 
   -- a stretch of code of no deployed module
-  steps_same : (n k : ℕ) (rest : List Look → Script) (w v : World) → Run2 w v
+  steps_same : (n k : ℕ) (rest : List Look → Script) (w v : World) → Beside w v
       → ((s : State) → slice_get w.nodes n ≡ Some s → (module_of a.sites n s (own_of s) ≡ None) ⊎ (is_let_run s ≡ false))
-      → NoGuesses a b (steps (λ x. x.cur == 0) (Last n) n k rest (looks w)) w → Acted2 (steps_of a Idle (item.Budget n ∷ []) n k w) (steps_of b Idle (item.Budget n ∷ []) n k v)
+      → NoGuesses a b (steps (λ x. x.cur == 0) (Last n) n k rest (looks w)) w → Shows (steps_of a Idle (item.Budget n ∷ []) n k w) (steps_of b Idle (item.Budget n ∷ []) n k v)
   steps_same n zero rest w v h foreign g = (refl, λ clean. h)
   steps_same n (suc k) rest w v h foreign g =
       at_same a nac keys secret w v n _ _ h (λ s t here there node.
@@ -268,7 +268,7 @@ module _ (a : Setting) (nac : Mac) (keys : List (List ℕ)) (secret : List ℕ) 
           let guess : module_of a.sites n s (own_of s) ≡ None → GuessesNone a b n s = λ none. g2.0 n s refl here none in
           let st = stepped a nac keys secret sound n s t node ta tb (foreign s here) guess in
           let d = step_done a nac keys secret sound n s t node ta tb (foreign s here) guess w v h.same here there in
-          let run : Run2 (after_step a w n s).world (after_step b v n t).world =
+          let run : Beside (after_step a w n s).world (after_step b v n t).world =
           record {
             same = d.1;
             first = subst (λ (o : Option State). AllTurn a (at_node w (after_step a w n) o).world) here (done_turns a (Step n) w sound tt h.first);
@@ -302,7 +302,7 @@ module _ (a : Setting) (nac : Mac) (keys : List (List ℕ)) (secret : List ℕ) 
               (f (clean_none (after_step a w n s).items clean)))
 
   -- a `finish`
-  pub goes_finish : (n : ℕ) (rest : List Look → Script) (w v : World) → Run2 w v → NoGuesses a b (finishing n rest (looks w)) w → Goes rest (finish a n w) (finish b n v)
+  pub goes_finish : (n : ℕ) (rest : List Look → Script) (w v : World) → Beside w v → NoGuesses a b (finishing n rest (looks w)) w → Goes rest (finish a n w) (finish b n v)
   goes_finish n rest w v h g = (by (slice_get w.nodes n) (slice_get v.nodes n) refl refl (h.same.nodes n), λ clean. guess_steps n FINISH_STEPS rest w g clean)
     where
       none_some : (s : State) → ◌≡◌ {A = Option State} None (Some s) → ⊥
@@ -333,7 +333,7 @@ module _ (a : Setting) (nac : Mac) (keys : List (List ℕ)) (secret : List ℕ) 
 
   -- The parts of `load` and `call`.
 
-  unless_goes : (n : ℕ) (doing rest : List Look → Script) (f g : World → Acted) (w v : World) → Run2 w v
+  unless_goes : (n : ℕ) (doing rest : List Look → Script) (f g : World → Acted) (w v : World) → Beside w v
       → ((s : State) → slice_get w.nodes n ≡ Some s → s.cur ≡ 0 → NoGuesses a b (doing (looks w)) w → Goes rest (f w) (g v))
       → NoGuesses a b (unless_running n doing rest (looks w)) w → Goes rest (unless_busy n w f) (unless_busy n v g)
   unless_goes n doing rest f g w v h next guess = by (slice_get w.nodes n) (slice_get v.nodes n) refl refl (h.same.nodes n)
@@ -367,7 +367,7 @@ module _ (a : Setting) (nac : Mac) (keys : List (List ℕ)) (secret : List ℕ) 
   Words [] = Unit {0}
   Words (r ∷ rs) = (r.value < 65536) × Words rs
 
-  set_goes : (n : ℕ) (rs : List Register) (rest : List Look → Script) (w v : World) → Run2 w v → Words rs → NoGuesses a b (all (setting_of n rs) rest (looks w)) w
+  set_goes : (n : ℕ) (rs : List Register) (rest : List Look → Script) (w v : World) → Beside w v → Words rs → NoGuesses a b (all (setting_of n rs) rest (looks w)) w
       → Goes rest (set_all n rs w) (set_all n rs v)
   set_goes n [] rest w v h words g = ((refl, λ clean. h), λ clean. g)
   set_goes n (r ∷ rs) rest w v h words g =
@@ -375,7 +375,7 @@ module _ (a : Setting) (nac : Mac) (keys : List (List ℕ)) (secret : List ℕ) 
       (goes_one (Set n r.number r.value) (all (setting_of n rs) rest) w v h words.0 (λ i q. cc) g)
       (λ run k. set_goes n rs rest (set_on n r.number r.value w).world (set_on n r.number r.value v).world run words.1 k)
 
-  put_goes : (n k at : ℕ) (bytes : List ℕ) (rest : List Look → Script) (w v : World) → Run2 w v → NoGuesses a b (all (pieces n k at bytes) rest (looks w)) w
+  put_goes : (n k at : ℕ) (bytes : List ℕ) (rest : List Look → Script) (w v : World) → Beside w v → NoGuesses a b (all (pieces n k at bytes) rest (looks w)) w
       → Goes rest (put_pieces n k at bytes w) (put_pieces n k at bytes v)
   put_goes n zero at bytes rest w v h g = ((refl, λ clean. h), λ clean. g)
   put_goes n (suc k) at bytes rest w v h g =
@@ -384,7 +384,7 @@ module _ (a : Setting) (nac : Mac) (keys : List (List ℕ)) (secret : List ℕ) 
       (goes_one (Put n at (take 1024 bytes)) (all (pieces n k (at + 1024) (drop 1024 bytes)) rest) w v h tt (λ i q. cc) g)
       (λ run q. put_goes n k (at + 1024) (drop 1024 bytes) rest (put_on n at (take 1024 bytes) w).world (put_on n at (take 1024 bytes) v).world run q)
 
-  call_goes : (m e input output : ℕ) (rest : List Look → Script) (w v : World) → Run2 w v → (e < 65536) × (input < 65536) × (output < 65536)
+  call_goes : (m e input output : ℕ) (rest : List Look → Script) (w v : World) → Beside w v → (e < 65536) × (input < 65536) × (output < 65536)
       → (o : Option Site) → slice_get a.sites m ≡ o → NoGuesses a b (calling e input output o rest (looks w)) w → Goes rest (call a w e input output o) (call b v e input output o)
   call_goes m e input output rest w v h form None sited g = ((refl, λ clean. h), λ clean. g)
   call_goes m e input output rest w v h form (Some site) sited g =
@@ -436,7 +436,7 @@ module _ (a : Setting) (nac : Mac) (keys : List (List ℕ)) (secret : List ℕ) 
       by true = g
       by false = goes_then rest rest x y (λ u. only u []) (λ u. only u []) g (λ run k. ((refl, λ clean. run), λ clean. k))
 
-  last_goes : (n : ℕ) (rest : List Look → Script) (w v : World) → Run2 w v → SparesZero a → ((s : State) → slice_get w.nodes n ≡ Some s → pc_of s ≡ 0) → NoGuesses a b (Do (Step n) rest) w
+  last_goes : (n : ℕ) (rest : List Look → Script) (w v : World) → Beside w v → SparesZero a → ((s : State) → slice_get w.nodes n ≡ Some s → pc_of s ≡ 0) → NoGuesses a b (Do (Step n) rest) w
       → Goes rest (steps_of a (λ s. false) [] n 1 w) (steps_of b (λ s. false) [] n 1 v)
   last_goes n rest w v h spares pc g = by (slice_get w.nodes n) (slice_get v.nodes n) refl refl (h.same.nodes n)
     where
@@ -474,7 +474,7 @@ module _ (a : Setting) (nac : Mac) (keys : List (List ℕ)) (secret : List ℕ) 
       by (Some s) None e d k = absurd k
       by (Some s) (Some t) e d k = one s t e d k (foreign s t k e (standing n s t k (h.first n s e)))
 
-  load_goes : (m : ℕ) (rest : List Look → Script) (w v : World) → Run2 w v → SparesZero a → (o : Option Site) → slice_get a.sites m ≡ o
+  load_goes : (m : ℕ) (rest : List Look → Script) (w v : World) → Beside w v → SparesZero a → (o : Option Site) → slice_get a.sites m ≡ o
       → NoGuesses a b (loading o rest (looks w)) w → Goes rest (load a w o) (load b v o)
   load_goes m rest w v h spares None sited g = ((refl, λ clean. h), λ clean. g)
   load_goes m rest w v h spares (Some site) sited g =
@@ -482,28 +482,28 @@ module _ (a : Setting) (nac : Mac) (keys : List (List ℕ)) (secret : List ℕ) 
       let k = (length site.text + 1023) / 1024 in
       let from = site.layout.pub_from in
       let regs = protect_registers site in
-      let zero_ : List ℕ = 0x81 ∷ 0x13 ∷ [] in
+      let instruction : List ℕ = 0x81 ∷ 0x13 ∷ [] in
       let r3 : List Look → Script = all (Step n ∷ []) rest in
       let r2 : List Look → Script = all (setting_of n regs) r3 in
-      let r1 : List Look → Script = all (Put n 0 zero_ ∷ []) r2 in
+      let r1 : List Look → Script = all (Put n 0 instruction ∷ []) r2 in
       let r0 : List Look → Script = all (pieces n k from site.text) r1 in
       let one = λ (set : Setting) (u : World). steps_of set (λ s. false) [] n 1 u in
-      let p = wordly_site m site sited in
+      let p = words_at m site sited in
       unless_goes n r0 rest
-      (λ u. then_ (put_pieces n k from site.text u) (λ u1. then_ (put_on n 0 zero_ u1) (λ u2. then_ (set_all n regs u2) (one a))))
-      (λ u. then_ (put_pieces n k from site.text u) (λ u1. then_ (put_on n 0 zero_ u1) (λ u2. then_ (set_all n regs u2) (one b)))) w v h
+      (λ u. then_ (put_pieces n k from site.text u) (λ u1. then_ (put_on n 0 instruction u1) (λ u2. then_ (set_all n regs u2) (one a))))
+      (λ u. then_ (put_pieces n k from site.text u) (λ u1. then_ (put_on n 0 instruction u1) (λ u2. then_ (set_all n regs u2) (one b)))) w v h
       (λ s here idle g0.
       let w1 = (put_pieces n k from site.text w).world in
       let v1 = (put_pieces n k from site.text v).world in
-      let w2 = (put_on n 0 zero_ w1).world in
-      let v2 = (put_on n 0 zero_ v1).world in
+      let w2 = (put_on n 0 instruction w1).world in
+      let v2 = (put_on n 0 instruction v1).world in
       let w3 = (set_all n regs w2).world in
       let v3 = (set_all n regs v2).world in
-      let rests : RestsAt n w2 = put_rests n 0 zero_ w1 (pieces_rest n k from site.text w (s, here, idle)) in
-      goes_then r1 rest (put_pieces n k from site.text w) (put_pieces n k from site.text v) (λ u1. then_ (put_on n 0 zero_ u1) (λ u2. then_ (set_all n regs u2) (one a)))
-      (λ u1. then_ (put_on n 0 zero_ u1) (λ u2. then_ (set_all n regs u2) (one b))) (put_goes n k from site.text r1 w v h g0)
-      (λ run1 g1. goes_then r2 rest (put_on n 0 zero_ w1) (put_on n 0 zero_ v1) (λ u2. then_ (set_all n regs u2) (one a)) (λ u2. then_ (set_all n regs u2) (one b))
-      (goes_one (Put n 0 zero_) r2 w1 v1 run1 tt (λ i q. cc) g1)
+      let rests : RestsAt n w2 = put_rests n 0 instruction w1 (pieces_rest n k from site.text w (s, here, idle)) in
+      goes_then r1 rest (put_pieces n k from site.text w) (put_pieces n k from site.text v) (λ u1. then_ (put_on n 0 instruction u1) (λ u2. then_ (set_all n regs u2) (one a)))
+      (λ u1. then_ (put_on n 0 instruction u1) (λ u2. then_ (set_all n regs u2) (one b))) (put_goes n k from site.text r1 w v h g0)
+      (λ run1 g1. goes_then r2 rest (put_on n 0 instruction w1) (put_on n 0 instruction v1) (λ u2. then_ (set_all n regs u2) (one a)) (λ u2. then_ (set_all n regs u2) (one b))
+      (goes_one (Put n 0 instruction) r2 w1 v1 run1 tt (λ i q. cc) g1)
       (λ run2 g2. goes_then r3 rest (set_all n regs w2) (set_all n regs v2) (one a) (one b) (set_goes n regs r3 w2 v2 run2 p g2)
       (λ run3 g3. last_goes n rest w3 v3 run3 spares (λ z e.
       let after : State = with_registers rests.0 regs in
@@ -511,8 +511,8 @@ module _ (a : Setting) (nac : Mac) (keys : List (List ℕ)) (secret : List ℕ) 
       ap (λ (x : Acted). slice_get x.world.nodes n) (all_set regs w2 n rests.0 rests.1 rests.2) ∙ get_same w2.nodes n after rests.0 rests.1 in
       subst (λ (y : State). pc_of y ≡ 0) (some_inj after z (sym there ∙ e)) (zero_pc rests.0 site (run2.first n rests.0 rests.1).node.registers.sixteen)) g3)))) g
     where
-      wordly_site : (m : ℕ) (site : Site) → slice_get a.sites m ≡ Some site → Words (protect_registers site)
-      wordly_site m site sited =
+      words_at : (m : ℕ) (site : Site) → slice_get a.sites m ≡ Some site → Words (protect_registers site)
+      words_at m site sited =
           let q = get_some a.app.parts m (let i = get_within a.sites m site sited in let j = sound.sites in omega (arith, i, j)) in
           let dep = sound.deployed m q.0 site q.1 sited in
           let te = dep.text_end in
@@ -523,7 +523,7 @@ module _ (a : Setting) (nac : Mac) (keys : List (List ℕ)) (secret : List ℕ) 
 
   -- Lines.
 
-  pub line_goes : (l : Line) (rest : List Look → Script) (w v : World) → Run2 w v → SparesZero a → LineInForm a l → IsWhole l → NoGuesses a b (line_script a l rest (looks w)) w
+  pub line_goes : (l : Line) (rest : List Look → Script) (w v : World) → Beside w v → SparesZero a → LineInForm a l → IsWhole l → NoGuesses a b (line_script a l rest (looks w)) w
       → Goes rest (after_line a w l) (after_line b v l)
   line_goes line.Blank rest w v h spares form whole g = ((refl, λ clean. h), λ clean. g)
   line_goes (line.Run n k) rest w v h spares form whole g = absurd whole
@@ -541,13 +541,13 @@ module _ (a : Setting) (nac : Mac) (keys : List (List ℕ)) (secret : List ℕ) 
   line_goes (line.Load m) rest w v h spares form whole g = load_goes m rest w v h spares (slice_get a.sites m) refl g
   line_goes (line.Call m e input output) rest w v h spares form whole g = call_goes m e input output rest w v h form (slice_get a.sites m) refl g
 
-  pub lines_same : (lines : List Line) (w v : World) → Run2 w v → SparesZero a → LinesInForm a lines → TurnsWhole lines → NoGuesses a b (script_of a lines) w
-      → Acted2 (run a w lines) (run b v lines)
+  pub lines_same : (lines : List Line) (w v : World) → Beside w v → SparesZero a → LinesInForm a lines → TurnsWhole lines → NoGuesses a b (script_of a lines) w
+      → Shows (run a w lines) (run b v lines)
   lines_same [] w v h spares form whole g = (refl, λ clean. h)
   lines_same (l ∷ lines) w v h spares form whole g =
       let w1 = line_counted w in
       let v1 = line_counted v in
-      let h1 : Run2 w1 v1 = record {
+      let h1 : Beside w1 v1 = record {
         same = record { nodes = h.same.nodes; packets = h.same.packets; deployer = h.same.deployer; lines = ap (λ (z : ℕ). z + 1) h.same.lines; ledger = h.same.ledger };
         first = h.first;
         second = h.second;

@@ -181,16 +181,16 @@ module _ (a : Setting) (nac : Mac) (keys : List (List ℕ)) (secret : List ℕ) 
             (bytes_same (step a.mac s).state.mem s.mem x.layout.priv_from len (λ i lo hi. (k.2 i (range_private x i lo hi)).0))
             (bytes_same (step nac t).state.mem t.mem x.layout.priv_from len (λ i lo hi. (k.2 i (range_private x i lo hi)).1))
             (h.states m q site x part sited k.0 (sym (at_site_same n s.mem (step a.mac s).state.mem x site ((machine_laws a.mac).public s x ta.node k.0 quiet)) ∙ at))
-        by (inr zero_) =
+        by (inr zeros) =
             let len = x.layout.priv_to - x.layout.priv_from in
             let es = ends_of a.app m in
             let dep : IsDeployedModule a m q site = sound.deployed m q site part sited in
             let place = at_site n (step a.mac s).state.mem x site at in
             let size : len ≡ module_data_size q.tree (length es) = ap (λ (y : Layout). y.priv_to - y.priv_from) place.layout ∙ omega (arith, dep.data_size) in
             let first : private_bytes x.layout (step a.mac s).state.mem ≡ replicate (module_data_size q.tree (length es)) 0 =
-            zeros_from (step a.mac s).state.mem x.layout.priv_from len (λ i lo hi. (zero_ i (range_private x i lo hi)).0) ∙ ap (λ (z : ℕ). replicate z 0) size in
+            zeros_from (step a.mac s).state.mem x.layout.priv_from len (λ i lo hi. (zeros i (range_private x i lo hi)).0) ∙ ap (λ (z : ℕ). replicate z 0) size in
             let other : private_bytes x.layout (step nac t).state.mem ≡ replicate (module_data_size q.tree (length es)) 0 =
-            zeros_from (step nac t).state.mem x.layout.priv_from len (λ i lo hi. (zero_ i (range_private x i lo hi)).1) ∙ ap (λ (z : ℕ). replicate z 0) size in
+            zeros_from (step nac t).state.mem x.layout.priv_from len (λ i lo hi. (zeros i (range_private x i lo hi)).1) ∙ ap (λ (z : ℕ). replicate z 0) size in
             let one : state_of q.tree es (private_bytes x.layout (step a.mac s).state.mem) ≡ initial_state q.tree es = ap (state_of q.tree es) first ∙ dep.realizes.zeros in
             let two : state_of q.tree es (private_bytes x.layout (step nac t).state.mem) ≡ initial_state q.tree es = ap (state_of q.tree es) other ∙ dep.realizes.zeros in (
               ap (λ (z : ModuleState). z.cells) two ∙ sym (ap (λ (z : ModuleState). z.cells) one),

@@ -103,23 +103,26 @@ module _ (a : Setting) (nac : Mac) (keys : List (List ℕ)) (secret : List ℕ) 
     abbrev twin : State
     twin = with_hidden s t.mem t.key t.sections t.exchange
 
-    h2 : SameNode a nac keys secret site.node s (with_hidden s t.mem t.key t.sections t.exchange)
-    h2 = subst (SameNode a nac keys secret site.node s) h.outside.rest h
+    beside : SameNode a nac keys secret site.node s (with_hidden s t.mem t.key t.sections t.exchange)
+    beside = subst (SameNode a nac keys secret site.node s) h.outside.rest h
 
-    tb2 : NodeTurns (second a nac keys secret) site.node (with_hidden s t.mem t.key t.sections t.exchange)
-    tb2 = subst (NodeTurns (second a nac keys secret) site.node) h.outside.rest tb
+    turns : NodeTurns (second a nac keys secret) site.node (with_hidden s t.mem t.key t.sections t.exchange)
+    turns = subst (NodeTurns (second a nac keys secret) site.node) h.outside.rest tb
 
-    there2 : slice_get v.nodes site.node ≡ Some (with_hidden s t.mem t.key t.sections t.exchange)
-    there2 = there ∙ ap (λ (z : State). Some z) h.outside.rest
+    stands : slice_get v.nodes site.node ≡ Some (with_hidden s t.mem t.key t.sections t.exchange)
+    stands = there ∙ ap (λ (z : State). Some z) h.outside.rest
 
     other : (k : List ℕ) × Lives t.sections.live (record sec { key = k })
     other = mate_lives a.mac nac _ s.sections.live t.sections.live sec h.outside.sections lives
 
     abbrev T : World → World → Type 0
-    T = Turned a nac keys secret others_are sound sound2 unlinked m q site part sited s t.mem t.key t.sections t.exchange h2 ta tb2 sec other.0 lives other.1 at idle entry
+    T = Turned a nac keys secret others_are sound sound2 unlinked m q site part sited s t.mem t.key t.sections t.exchange beside ta turns sec other.0 lives other.1 at idle entry
+
+    abbrev Rests : State → State → List Mark → Type 0
+    Rests = Rested a nac keys secret others_are sound sound2 unlinked m q site part sited s t.mem t.key t.sections t.exchange beside ta turns sec other.0 lives other.1 at idle entry
 
     turn : T w v
-    turn = turned a nac keys secret others_are sound sound2 unlinked m q site part sited s t.mem t.key t.sections t.exchange h2 ta tb2 sec other.0 lives other.1 at idle entry w v here there2
+    turn = turned a nac keys secret others_are sound sound2 unlinked m q site part sited s t.mem t.key t.sections t.exchange beside ta turns sec other.0 lives other.1 at idle entry w v here stands
 
     abbrev P : Mark → Type 0
     P = Told (setup_of a m q sec s) (call_at s) (progress_at (setup_of a m q sec s) s)
@@ -133,7 +136,7 @@ module _ (a : Setting) (nac : Mac) (keys : List (List ℕ)) (secret : List ℕ) 
     event header body told = ap is_set_key_header told.header_is ∙ event_no_key told.packet told.kind
 
     abbrev pl : ℕ → Type 0
-    pl = places a nac keys secret others_are sound sound2 unlinked m q site part sited s t.mem t.key t.sections t.exchange h2 ta tb2 sec other.0 lives other.1 at idle entry
+    pl = places a nac keys secret others_are sound sound2 unlinked m q site part sited s t.mem t.key t.sections t.exchange beside ta turns sec other.0 lives other.1 at idle entry
 
     -- the nodes that it leaves, where no `forged` shows
     left_same : (r : T w v) → NoForged (marks_observed a.app n m s.boot r.ms w.ledger).items → SameNode a nac keys secret n r.after r.later
@@ -143,13 +146,13 @@ module _ (a : Setting) (nac : Mac) (keys : List (List ℕ)) (secret : List ℕ) 
         granted = keys_granted a nac keys secret pl n m s.boot P keyed event r.ms r.ns w.ledger v.ledger same.ledger r.told r.marks clean
 
         by_rest : (x : Section) → Lives r.after.sections.live x → r.after.cur ≡ x.id
-            → (r.after ≡ reset s) ⊎ Rested a nac keys secret others_are sound sound2 unlinked m q site part sited s t.mem t.key t.sections t.exchange h2 ta tb2 sec other.0 lives other.1 at idle entry r.after r.later r.ms → ⊥
+            → (r.after ≡ reset s) ⊎ Rests r.after r.later r.ms → ⊥
         by_rest x l c (inl e) = subst (λ (z : State). Lives z.sections.live x) e l
         by_rest x l c (inr k) = nonzero s x ta.node (subst (λ (z : Sections). Lives z.live x) k.sections l) (sym c ∙ r.stopped)
 
         by_state : (k : ℕ) (p : PartTree) (place : Site) (x : Section) → slice_get a.app.parts k ≡ Some p → slice_get a.sites k ≡ Some place
             → Lives r.after.sections.live x → is_at_site site.node r.after.mem x place ≡ true
-            → (r.after ≡ reset s) ⊎ Rested a nac keys secret others_are sound sound2 unlinked m q site part sited s t.mem t.key t.sections t.exchange h2 ta tb2 sec other.0 lives other.1 at idle entry r.after r.later r.ms
+            → (r.after ≡ reset s) ⊎ Rests r.after r.later r.ms
             → SameStates a nac keys secret (Linked a nac keys secret) k p x r.after.mem r.later.mem
         by_state k p place x pk sk l e (inl gone) = absurd (subst (λ (z : State). Lives z.sections.live x) gone l)
         by_state k p place x pk sk l e (inr kept) =

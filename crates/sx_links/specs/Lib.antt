@@ -1,8 +1,9 @@
 -- Read LinksUnseen first, over Unlinked, which says what two settings have in common whose
 -- connections have keys of their own. Unlinks, Choices and Compiles say that there are such
--- settings.
+-- settings. Accepted says the first from the text of a deployment on.
 pub mod Unlinked
 pub mod LinksUnseen
 pub mod Unlinks
 pub mod Choices
 pub mod Compiles
+pub mod Accepted

@@ -106,14 +106,18 @@ NothingGuessed a b lines = (k : ℕ) (now : Moment) → moment a lines k ≡ Som
     → slice_get now.world.nodes n ≡ Some s → module_of a.sites n s (own_of s) ≡ None
     → GuessesNone a b n s
 
--- Settings whose connections have keys of their own show the same up to the first `forged`, and as
--- long as there is none come to worlds that are the same outside deployed modules, for every
--- schedule that cuts no turn, unless code of no deployed module guesses.
-abbrev pub LinksUnseen : Type 0
-LinksUnseen = (others_are : Modules) (a b : Setting) (lines : List Line) → IsSoundSetting a
-    → IsSoundSetting b → Unlinked others_are a b → SparesZero a → LinesInForm a lines
-    → TurnsWhole lines → NothingGuessed a b lines
-    → let x = run a (switched_on a) lines in
+-- The runs show the same up to the first `forged`, and where there is none they come to worlds that
+-- are the same outside deployed modules.
+abbrev pub RunsAlike : Setting → Setting → List Line → Type 0
+RunsAlike a b lines =
+    let x = run a (switched_on a) lines in
     let y = run b (switched_on b) lines in
     (upto_forged y.items ≡ upto_forged x.items)
     × (NoForged x.items → SameWorldOutside a x.world y.world)
+
+-- Settings whose connections have keys of their own do so, for every schedule that cuts no turn,
+-- unless code of no deployed module guesses.
+abbrev pub LinksUnseen : Type 0
+LinksUnseen = (others_are : Modules) (a b : Setting) (lines : List Line) → IsSoundSetting a
+    → IsSoundSetting b → Unlinked others_are a b → SparesZero a → LinesInForm a lines
+    → TurnsWhole lines → NothingGuessed a b lines → RunsAlike a b lines

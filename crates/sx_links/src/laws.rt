@@ -1,5 +1,6 @@
 //! What holds of every run. Each law is a function that does nothing: its contract is the law.
 
+ghost use Rattle.sx_links.specs.Accepted.{AcceptedUnseen};
 ghost use Rattle.sx_links.specs.Choices.{ChoicesMove};
 ghost use Rattle.sx_links.specs.Compiles.{CompiledAlways};
 ghost use Rattle.sx_links.specs.LinksUnseen.{LinksUnseen};
@@ -9,6 +10,11 @@ ghost use Rattle.sx_links.specs.Unlinks.{UnlinksAll};
 /// unless code of no deployed module guesses, for every schedule that cuts no turn.
 pub fn links_unseen()
     ensures { LinksUnseen }
+{}
+
+/// So do the run of an accepted deployment, from its text on, and any such other.
+pub fn accepted_unseen()
+    ensures { AcceptedUnseen }
 {}
 
 /// There is a setting whose connections have other keys, for every choice of them, wherever no
