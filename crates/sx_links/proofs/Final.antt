@@ -29,7 +29,7 @@ use Rattle.sx_run.proofs.accepted.LaidSites.{site_at, laid_at}
 use Rattle.sx_deploy.specs.Deployment.{Deployed}
 use Rattle.sx_links.specs.Unlinked.{Modules, Unlinked}
 use Rattle.sx_links.specs.Accepted.{AcceptedUnseen}
-use Rattle.sx_links.specs.LinksUnseen.{upto_forged, TurnsWhole, SparesZero, InTheOpen, SameOutside, SameWorldOutside, GuessesNone, NothingGuessed, RunsAlike, LinksUnseen}
+use Rattle.sx_links.specs.LinksUnseen.{upto_forged, TurnsWhole, SparesZero, InTheOpen, SameOutside, SameWorldOutside, NothingGuessed, RunsAlike, LinksUnseen}
 use Rattle.sx_links.proofs.Outside.{sites_on, is_deployed, SameSections}
 use Rattle.sx_links.proofs.Opened.{agree_self}
 use Rattle.sx_links.proofs.Upto.{none_clean}

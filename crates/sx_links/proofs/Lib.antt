@@ -4,12 +4,13 @@
 -- Doing, over Touching; the deployer is Deploying. A whole turn of a deployed module is Whole, over
 -- Turned: the invocation in Twice, the node afterwards in Turning, what is remembered of it in
 -- Leaving; what its marks show over the ledgers is Ledgers. That there are settings with other keys:
--- Moved to Compiling.
+-- Moved to Compiling; what a guess then is, Guessing.
 pub mod Moved
 pub mod Unlinking
 pub mod Finding
 pub mod Choosing
 pub mod Compiling
+pub mod Guessing
 pub mod Outside
 pub mod Opened
 pub mod Blind

@@ -42,11 +42,11 @@ use Rattle.sx_forged.specs.Moments.{NoForged}
 use Rattle.sx_forged.proofs.Turns.{NodeTurns, AllTurn}
 use Rattle.sx_forged.proofs.Reaching.{InForm, done_turns}
 use Rattle.sx_links.specs.Unlinked.{Modules, Unlinked}
-use Rattle.sx_links.specs.LinksUnseen.{IsWhole, TurnsWhole, SparesZero, GuessesNone}
+use Rattle.sx_links.specs.LinksUnseen.{IsWhole, TurnsWhole, SparesZero}
 use Rattle.sx_links.proofs.Upto.{Clean, clean_none, clean_left, clean_right}
 use Rattle.sx_links.proofs.Linking.{second, SameNode}
 use Rattle.sx_links.proofs.Worlds.{SameAt, SameWorld, SameRun, SameActed, acted_same, then_same, at_same}
-use Rattle.sx_links.proofs.Stepping.{site_deployed, stepped, step_node, step_done}
+use Rattle.sx_links.proofs.Stepping.{GuessesNone, site_deployed, stepped, step_node, step_done}
 use Rattle.sx_links.proofs.Happenings.{step_boot, outside_done}
 use Rattle.sx_links.proofs.Whole.{whole_done}
 
@@ -425,7 +425,8 @@ module _ (a : Setting) (nac : Mac) (keys : List (List ℕ)) (secret : List ℕ) 
 
   zero_pc : (s : State) (site : Site) → length s.regs ≡ 16 → pc_of (with_registers s (protect_registers site)) ≡ 0
   zero_pc s site size =
-      let rs : List Register = register 9 site.provider ∷ register 10 site.layout.pub_from ∷ register 11 site.layout.pub_to ∷ register 12 site.layout.priv_from ∷ register 13 site.layout.priv_to ∷ [] in
+      let rs : List Register =
+      register 9 site.provider ∷ register 10 site.layout.pub_from ∷ register 11 site.layout.pub_to ∷ register 12 site.layout.priv_from ∷ register 13 site.layout.priv_to ∷ [] in
       last_zero (with_registers s rs).regs (regs_length rs s ∙ size)
 
   -- one step, at 0

@@ -43,7 +43,7 @@ use Rattle.sx_calls.proofs.Running.{violated_step}
 use Rattle.sx_forged.specs.Tags.{SameTags}
 use Rattle.sx_forged.proofs.Turns.{NodeTurns}
 use Rattle.sx_forged.proofs.Turning.{stood}
-use Rattle.sx_links.specs.LinksUnseen.{wanted, identity_in, GuessesNone}
+use Rattle.sx_links.specs.LinksUnseen.{wanted, identity_in, KeepsTo, SameKey, SameModule}
 use Rattle.sx_links.proofs.Outside.{Kind, sites_on, is_deployed, NoGuess, SameOutside, IsUntouched}
 use Rattle.sx_links.proofs.Opened.{bytes_same}
 use Rattle.sx_links.proofs.Bystanding.{outsiders_see, outsiders_touch_none, not_deployed}
@@ -53,6 +53,10 @@ use Rattle.sx_links.proofs.Linking.{second, Linked, SameStates, SameNode}
 use Rattle.sx_links.proofs.Ledgers.{SameLedger}
 use Rattle.sx_links.proofs.Worlds.{SameWorld, with_same}
 use Rattle.sx_links.proofs.Doing.{SameDone, states_kept, reset_node, unowned_same}
+
+-- the next step of the n-th node guesses nothing
+abbrev pub GuessesNone : Setting → Setting → ℕ → State → Type 0
+GuessesNone a b n s = KeepsTo a (SameKey a b) (SameModule a b n) n s
 
 some_false : (o : Option ℕ) → is_some o ≡ false → o ≡ None
 some_false None e = refl

@@ -86,25 +86,38 @@ abbrev pub identity_in : List ℕ → Section → List ℕ
 identity_in mem x = let l = x.layout in
     identity (public_bytes l mem) l.pub_from l.pub_to l.priv_from l.priv_to
 
--- The next step of the n-th node, of code of no deployed module, guesses nothing: where it wraps or
--- unwraps with 16 bytes that it may read, the tags under them are the same in both settings, and
--- where it admits a module that isn't deployed, so are those under the keys that this one gets.
-pub record GuessesNone (a b : Setting) (n : ℕ) (s : State) : Type 0 where
+-- The next step of the n-th node, of code of no deployed module, keeps to such keys and modules:
+-- where it wraps or unwraps with 16 bytes that it may read, they are such a key, and where it admits
+-- a module that isn't deployed, this is such a one, by boot, provider and identity.
+pub record KeepsTo (a : Setting) (IsKey : List ℕ → Type 0) (IsModule : ℕ → ℕ → List ℕ → Type 0)
+    (n : ℕ) (s : State) : Type 0 where
   pub held : (word s.mem (pc_of s) ≡ 0x1384) ⊎ (word s.mem (pc_of s) ≡ 0x1385) → (own : Section)
       → section_of s.sections.live (own_of s) ≡ Some own → own_key s.regs ≡ false
       → may_range s.sections.live (own_of s) Read (slice_index s.regs 9) 16 ≡ true
-      → let k = bytes_from s.mem (slice_index s.regs 9) 16 in SameTags a.mac k b.mac k
+      → IsKey (bytes_from s.mem (slice_index s.regs 9) 16)
   pub admitted : word s.mem (pc_of s) ≡ 0x1381 → deployed a.sites n s.mem (wanted s) ≡ None
-      → let id = identity_in s.mem (wanted s) in
-      SameTags a.mac (module_key a.mac (list_at a.keys n) s.boot (slice_index s.regs 9) id) b.mac
-      (module_key b.mac (list_at b.keys n) s.boot (slice_index s.regs 9) id)
+      → IsModule s.boot (slice_index s.regs 9) (identity_in s.mem (wanted s))
 
--- no step of the run does, until a `forged` is shown
-abbrev pub NothingGuessed : Setting → Setting → List Line → Type 0
-NothingGuessed a b lines = (k : ℕ) (now : Moment) → moment a lines k ≡ Some now
+-- so does each step of the run, until a `forged` is shown; a module is such by its node, too
+abbrev pub RunKeepsTo : Setting → (List ℕ → Type 0) → (ℕ → ℕ → ℕ → List ℕ → Type 0) → List Line
+    → Type 0
+RunKeepsTo a IsKey IsModule lines = (k : ℕ) (now : Moment) → moment a lines k ≡ Some now
     → NoneBefore a lines k → (n : ℕ) (s : State) → now.next ≡ Step n
     → slice_get now.world.nodes n ≡ Some s → module_of a.sites n s (own_of s) ≡ None
-    → GuessesNone a b n s
+    → KeepsTo a IsKey (IsModule n) n s
+
+-- no tag tells the settings apart, neither one under this key, nor one under that of this module
+abbrev pub SameKey : Setting → Setting → List ℕ → Type 0
+SameKey a b k = SameTags a.mac k b.mac k
+
+abbrev pub SameModule : Setting → Setting → ℕ → ℕ → ℕ → List ℕ → Type 0
+SameModule a b n boot provider identity =
+    SameTags a.mac (module_key a.mac (list_at a.keys n) boot provider identity) b.mac
+    (module_key b.mac (list_at b.keys n) boot provider identity)
+
+-- no step of the run uses a key or admits a module that tells the settings apart
+abbrev pub NothingGuessed : Setting → Setting → List Line → Type 0
+NothingGuessed a b = RunKeepsTo a (SameKey a b) (SameModule a b)
 
 -- The runs show the same up to the first `forged`, and where there is none they come to worlds that
 -- are the same outside deployed modules.

@@ -3,6 +3,7 @@
 ghost use Rattle.sx_links.specs.Accepted.{AcceptedUnseen};
 ghost use Rattle.sx_links.specs.Choices.{ChoicesMove};
 ghost use Rattle.sx_links.specs.Compiles.{CompiledAlways};
+ghost use Rattle.sx_links.specs.Found.{KeysFound};
 ghost use Rattle.sx_links.specs.LinksUnseen.{LinksUnseen};
 ghost use Rattle.sx_links.specs.Unlinks.{UnlinksAll};
 
@@ -21,6 +22,11 @@ pub fn accepted_unseen()
 /// connection has a deployed module's key.
 pub fn unlinks_all()
     ensures { UnlinksAll }
+{}
+
+/// Between the two, nothing is guessed where no key is found.
+pub fn keys_found()
+    ensures { KeysFound }
 {}
 
 /// Each list of other keys for keys is such a choice.
