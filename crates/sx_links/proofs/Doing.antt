@@ -1,5 +1,5 @@
 -- What is done to a node from outside, in both runs.
-use Rattle.std.proofs.Common.{◌≡◌, ℕ, ◌+◌, true, inl, inr, List, [], ◌∷◌, ◌++◌, Option, Some, None, Result, Ok, Err, refl, sym, ◌∙◌, ap, subst}
+use Rattle.std.proofs.Common.{◌≡◌, ℕ, true, inl, inr, List, [], ◌∷◌, ◌++◌, Option, Some, None, Result, Ok, Err, refl, sym, ◌∙◌, ap, subst}
 use Rattle.std.specs.Prelude.{slice_get}
 use Rattle.sx_mean.specs.Application.{PartTree}
 use Rattle.sx_mean.specs.Ends.{ends_of}
@@ -34,7 +34,7 @@ use Rattle.sx_forged.proofs.Turns.{NodeTurns}
 use Rattle.sx_forged.proofs.Keyed.{kept_by}
 use Rattle.sx_forged.proofs.Keeping.{act_outside, from_outside}
 use Rattle.sx_links.proofs.Outside.{Kind, sites_on, is_deployed, SameOutside}
-use Rattle.sx_links.proofs.Bystanding.{with_hidden, reset_same}
+use Rattle.sx_links.proofs.Bystanding.{reset_same}
 use Rattle.sx_links.proofs.Touching.{put_same, take_same, set_same, sense_same, irq_same}
 use Rattle.sx_links.proofs.Alike.{modules_same}
 use Rattle.sx_links.proofs.Twice.{SameEnds}

@@ -1,10 +1,9 @@
 -- A `finish` from a deployed module's entry.
-use Rattle.std.proofs.Common.{◌≡◌, ℕ, ◌+◌, ◌≤◌, Bool, true, List, [], ◌∷◌, length, Some, refl, sym, ◌∙◌, ap, subst, arith}
+use Rattle.std.proofs.Common.{◌≡◌, ℕ, ◌+◌, ◌≤◌, true, [], ◌∷◌, Some, refl, sym, ◌∙◌, ap, subst, arith}
 use Rattle.std.specs.Prelude.{slice_get}
 use Rattle.sx_lists.proofs.Lists.{get_same}
 use Rattle.sx_lang.specs.Sizes.{module_cost}
 use Rattle.sx_mean.specs.Application.{PartTree, declared_kind}
-use Rattle.sx_mean.specs.Ends.{ends_of}
 use Rattle.sx_check.proofs.Accepted.{accepted}
 use Rattle.sx_trace.specs.declared.items.Item.TheVariants as item
 use Rattle.sx_rules.specs.declared.access.Violation.{Violation}
@@ -16,9 +15,8 @@ use Rattle.sx_machine.specs.declared.kinds.Event.TheVariants as event
 use Rattle.sx_machine.specs.State.{State}
 use Rattle.sx_machine.specs.NodeLaws.{shapes}
 use Rattle.sx_machine.specs.Step.{pc_of}
-use Rattle.sx_invoke.specs.Setup.{Setup}
-use Rattle.sx_invoke.specs.Progress.{Progress, Invoked, Returns, Violates}
-use Rattle.sx_image.specs.Image.{Enters, StandsProtected, public_bytes, call_at}
+use Rattle.sx_invoke.specs.Progress.{Progress, Returns, Violates}
+use Rattle.sx_image.specs.Image.{Enters, StandsProtected, public_bytes}
 use Rattle.sx_image.specs.Realizes.{begins}
 use Rattle.sx_run.specs.Setting.{Setting, Site, is_at_site, windows_at}
 use Rattle.sx_run.specs.State.{World, Acted}

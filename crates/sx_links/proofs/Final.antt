@@ -1,27 +1,25 @@
 -- Settings whose connections have keys of their own show the same.
-use Rattle.std.proofs.Common.{◌≡◌, ◌≢◌, ℕ, zero, suc, ◌+◌, ◌<◌, Bool, true, false, inl, inr, ◌⊎◌, List, [], ◌∷◌, length, Option, Some, None, is_some, refl, sym, ◌∙◌, ap, ap₂, subst, arith}
-use Rattle.std.specs.Prelude.{slice_get, slice_index, map}
+use Rattle.std.proofs.Common.{◌≡◌, ℕ, zero, suc, ◌+◌, ◌<◌, Bool, List, [], ◌∷◌, length, Option, Some, None, is_some, refl, sym, ◌∙◌, ap, ap₂, subst, arith}
+use Rattle.std.specs.Prelude.{slice_get, map}
 use Rattle.std.proofs.lemmas.Bool.{true≢false}
 use Rattle.sx_bus.specs.declared.devices.Window.{Window}
 use Rattle.sx_rules.specs.declared.section.Section.{Section}
-use Rattle.sx_rules.specs.Access.{Lives, in_private}
 use Rattle.sx_tag.specs.Mac.{Mac}
 use Rattle.sx_machine.specs.State.{State, power_on}
 use Rattle.sx_sched.specs.Lines.{Line}
-use Rattle.sx_run.specs.Setting.{Setting, deployed}
+use Rattle.sx_run.specs.Setting.{Setting}
 use Rattle.sx_run.specs.State.{World, nodes_from, switched_on}
 use Rattle.sx_run.specs.Run.{run}
 use Rattle.sx_run.specs.Law.{IsSoundSetting, LinesInForm}
 use Rattle.sx_run.proofs.tie.Lists.{some_inj}
-use Rattle.sx_guard.specs.Happening.{Step, done}
+use Rattle.sx_guard.specs.Happening.{done}
 use Rattle.sx_guard.specs.Script.{Script, End, Do, looks}
 use Rattle.sx_guard.specs.Lines.{script_of}
 use Rattle.sx_forged.specs.Bare.{bare_section}
-use Rattle.sx_forged.specs.Moments.{Moment, moment_from, moment, shown_at, NoForged, NoneBefore}
+use Rattle.sx_forged.specs.Moments.{Moment, moment_from, shown_at, NoForged}
 use Rattle.sx_forged.proofs.Reaching.{starts_turning}
 use Rattle.sx_deploy.specs.Law.{IsSoundDeployment}
 use Rattle.sx_deploy.proofs.Sound.{sound}
-use Rattle.sx_run.specs.Setting.{Site}
 use Rattle.sx_run.specs.Accepted.{setting_of, sites_of}
 use Rattle.sx_run.proofs.accepted.Settled.{settled}
 use Rattle.sx_run.proofs.accepted.FormedLines.{lines_in_form}
@@ -29,7 +27,7 @@ use Rattle.sx_run.proofs.accepted.LaidSites.{site_at, laid_at}
 use Rattle.sx_deploy.specs.Deployment.{Deployed}
 use Rattle.sx_links.specs.Unlinked.{Modules, Unlinked}
 use Rattle.sx_links.specs.Accepted.{AcceptedUnseen}
-use Rattle.sx_links.specs.LinksUnseen.{upto_forged, TurnsWhole, SparesZero, InTheOpen, SameOutside, SameWorldOutside, NothingGuessed, RunsAlike, LinksUnseen}
+use Rattle.sx_links.specs.LinksUnseen.{TurnsWhole, SparesZero, SameOutside, SameWorldOutside, NothingGuessed, RunsAlike, LinksUnseen}
 use Rattle.sx_links.proofs.Outside.{sites_on, is_deployed, SameSections}
 use Rattle.sx_links.proofs.Opened.{agree_self}
 use Rattle.sx_links.proofs.Upto.{none_clean}

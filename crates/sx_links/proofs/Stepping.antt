@@ -1,5 +1,5 @@
 -- A step of code of no deployed module, in both runs.
-use Rattle.std.proofs.Common.{◌≡◌, ◌≢◌, ℕ, zero, suc, ◌+◌, ◌-◌, ◌<◌, ◌≤◌, ◌&&◌, Bool, true, false, cond, inl, inr, ◌⊎◌, List, [], ◌∷◌, ◌++◌, length, slice_index, Option}
+use Rattle.std.proofs.Common.{◌≡◌, ℕ, zero, suc, ◌+◌, ◌-◌, ◌<◌, ◌≤◌, ◌&&◌, Bool, true, false, cond, inl, inr, ◌⊎◌, List, [], ◌∷◌, ◌++◌, length, slice_index, Option}
 use Rattle.std.proofs.Common.{Some, None, is_some, not, refl, sym, ◌∙◌, ap, ap₂, subst, arith}
 use Rattle.std.specs.Prelude.{slice_get, replicate}
 use Rattle.std.proofs.lemmas.Bool.{true≢false, and_from, le-leb, lt-ltb}
@@ -43,7 +43,8 @@ use Rattle.sx_calls.proofs.Running.{violated_step}
 use Rattle.sx_forged.specs.Tags.{SameTags}
 use Rattle.sx_forged.proofs.Turns.{NodeTurns}
 use Rattle.sx_forged.proofs.Turning.{stood}
-use Rattle.sx_links.specs.LinksUnseen.{wanted, identity_in, KeepsTo, SameKey, SameModule}
+use Rattle.sx_links.specs.LinksUnseen.{wanted, identity_in, KeepsTo}
+use Rattle.sx_links.specs.Unlinked.{SameModule}
 use Rattle.sx_links.proofs.Outside.{Kind, sites_on, is_deployed, NoGuess, SameOutside, IsUntouched}
 use Rattle.sx_links.proofs.Opened.{bytes_same}
 use Rattle.sx_links.proofs.Bystanding.{outsiders_see, outsiders_touch_none, not_deployed}
@@ -56,7 +57,7 @@ use Rattle.sx_links.proofs.Doing.{SameDone, states_kept, reset_node, unowned_sam
 
 -- the next step of the n-th node guesses nothing
 abbrev pub GuessesNone : Setting → Setting → ℕ → State → Type 0
-GuessesNone a b n s = KeepsTo a (SameKey a b) (SameModule a b n) n s
+GuessesNone a b n s = KeepsTo a (λ k. SameTags a.mac k b.mac k) (SameModule a b n) n s
 
 some_false : (o : Option ℕ) → is_some o ≡ false → o ≡ None
 some_false None e = refl

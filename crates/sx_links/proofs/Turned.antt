@@ -6,7 +6,6 @@ use Rattle.sx_trace.specs.declared.items.Item.{Item}
 use Rattle.sx_trace.specs.declared.items.Item.TheVariants as item
 use Rattle.sx_rules.specs.declared.access.Violation.{Violation}
 use Rattle.sx_rules.specs.declared.section.Section.{Section}
-use Rattle.sx_rules.specs.declared.section.Layout.{Layout}
 use Rattle.sx_rules.specs.Access.{Sections, Lives}
 use Rattle.sx_tag.specs.Mac.{Mac}
 use Rattle.sx_machine.specs.declared.kinds.Exchange.{Exchange}
@@ -22,7 +21,7 @@ use Rattle.sx_image.specs.Image.{call_at, progress_at, private_bytes, public_byt
 use Rattle.sx_run.specs.Setting.{Setting, Site, same_layout, is_at_site, deployed}
 use Rattle.sx_run.specs.Deployer.{key_of}
 use Rattle.sx_run.specs.State.{World, Acted}
-use Rattle.sx_run.specs.Observation.{Observed, cause_of}
+use Rattle.sx_run.specs.Observation.{cause_of}
 use Rattle.sx_run.specs.Acts.{with_node}
 use Rattle.sx_run.specs.Run.{finish}
 use Rattle.sx_run.specs.Law.{IsSoundSetting}
@@ -37,7 +36,6 @@ use Rattle.sx_links.proofs.Outside.{Kind, sites_on, is_deployed, InTheOpen, Same
 use Rattle.sx_links.proofs.Bystanding.{with_hidden, caller_same, reset_same}
 use Rattle.sx_links.proofs.Alike.{texts_same}
 use Rattle.sx_links.proofs.Twice.{key_in, SameEnds, SameMarks, SameProgress, SameLeft, SameInvoked, After, invoke_same}
-use Rattle.sx_links.proofs.Leaving.{Remembers}
 use Rattle.sx_links.proofs.Turning.{mays, readable, turn_same}
 use Rattle.sx_links.proofs.Linking.{second, Linked, Opens, state_in, SameStates, SameNode, linked_tags, opens_linked}
 use Rattle.sx_links.proofs.Entering.{Turn, turn, turn_remembers}

@@ -4,8 +4,9 @@ use Rattle.sx_tag.specs.Keys.{module_key}
 use Rattle.sx_sched.specs.Lines.{Line}
 use Rattle.sx_run.specs.Setting.{Setting}
 use Rattle.sx_run.specs.Deployer.{list_at}
+use Rattle.sx_forged.specs.Tags.{SameTags}
 use Rattle.sx_links.specs.Unlinked.{Modules, Unlinked}
-use Rattle.sx_links.specs.LinksUnseen.{RunKeepsTo, SameKey, NothingGuessed}
+use Rattle.sx_links.specs.LinksUnseen.{RunKeepsTo, NothingGuessed}
 use Rattle.sx_links.specs.Unlinks.{IsDeployedKey, AreAllOthers}
 
 -- code of no deployed module uses no key that has another in its place, and none of a deployed
@@ -20,5 +21,5 @@ NoKeyFound a move = RunKeepsTo a (λ k. (move k ≡ k) × (IsDeployedKey a k →
 abbrev pub KeysFound : Type 0
 KeysFound = (others_are : Modules) (a b : Setting) (move : List ℕ → List ℕ) (lines : List Line)
     → Unlinked others_are a b → AreAllOthers a others_are
-    → ((k : List ℕ) → move k ≡ k → (IsDeployedKey a k → ⊥) → SameKey a b k)
+    → ((k : List ℕ) → move k ≡ k → (IsDeployedKey a k → ⊥) → SameTags a.mac k b.mac k)
     → NoKeyFound a move lines → NothingGuessed a b lines

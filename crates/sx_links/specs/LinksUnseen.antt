@@ -1,11 +1,11 @@
 -- What the keys of connections show.
 use Rattle.std.specs.Prelude.{◌≡◌, ◌≢◌, ◌⊎◌, ℕ, if◌then◌else◌, true, false, List, [], ◌∷◌}
-use Rattle.std.specs.Prelude.{length, map, slice_get, slice_index, Option, Some, None}
+use Rattle.std.specs.Prelude.{length, map, slice_get, slice_index, Some, None}
 use Rattle.sx_trace.specs.declared.items.Item.{Item}
 use Rattle.sx_rules.specs.declared.access.Access.TheVariants.{Read}
 use Rattle.sx_rules.specs.declared.section.Section.{Section}
 use Rattle.sx_rules.specs.Access.{Lives, in_private, section_of}
-use Rattle.sx_tag.specs.Keys.{module_key, identity}
+use Rattle.sx_tag.specs.Keys.{identity}
 use Rattle.sx_model.specs.Legal.{is_forged}
 use Rattle.sx_machine.specs.Memory.{word, bytes_from}
 use Rattle.sx_machine.specs.State.{State}
@@ -15,7 +15,6 @@ use Rattle.sx_machine.specs.Step.{pc_of, own_of}
 use Rattle.sx_image.specs.Image.{public_bytes}
 use Rattle.sx_sched.specs.Lines.{Line, Run}
 use Rattle.sx_run.specs.Setting.{Setting, Site, deployed, module_of}
-use Rattle.sx_run.specs.Deployer.{list_at}
 use Rattle.sx_run.specs.Law.{IsSoundSetting, LinesInForm}
 use Rattle.sx_run.specs.State.{World, switched_on}
 use Rattle.sx_run.specs.Run.{run}
@@ -23,7 +22,7 @@ use Rattle.sx_guard.specs.Happening.{Step}
 use Rattle.sx_forged.specs.Tags.{SameTags}
 use Rattle.sx_forged.specs.Bare.{bare_section}
 use Rattle.sx_forged.specs.Moments.{Moment, moment, NoForged, NoneBefore}
-use Rattle.sx_links.specs.Unlinked.{Modules, Unlinked}
+use Rattle.sx_links.specs.Unlinked.{Modules, SameModule, Unlinked}
 
 -- the items up to the first `forged`, and with it
 abbrev pub upto_forged : List Item → List Item
@@ -87,8 +86,8 @@ identity_in mem x = let l = x.layout in
     identity (public_bytes l mem) l.pub_from l.pub_to l.priv_from l.priv_to
 
 -- The next step of the n-th node, of code of no deployed module, keeps to such keys and modules:
--- where it wraps or unwraps with 16 bytes that it may read, they are such a key, and where it admits
--- a module that isn't deployed, this is such a one, by boot, provider and identity.
+-- where it wraps or unwraps with 16 bytes that it may read, they are such a key, and where it
+-- admits a module that isn't deployed, this is such a one, by boot, provider and identity.
 pub record KeepsTo (a : Setting) (IsKey : List ℕ → Type 0) (IsModule : ℕ → ℕ → List ℕ → Type 0)
     (n : ℕ) (s : State) : Type 0 where
   pub held : (word s.mem (pc_of s) ≡ 0x1384) ⊎ (word s.mem (pc_of s) ≡ 0x1385) → (own : Section)
@@ -106,18 +105,9 @@ RunKeepsTo a IsKey IsModule lines = (k : ℕ) (now : Moment) → moment a lines 
     → slice_get now.world.nodes n ≡ Some s → module_of a.sites n s (own_of s) ≡ None
     → KeepsTo a IsKey (IsModule n) n s
 
--- no tag tells the settings apart, neither one under this key, nor one under that of this module
-abbrev pub SameKey : Setting → Setting → List ℕ → Type 0
-SameKey a b k = SameTags a.mac k b.mac k
-
-abbrev pub SameModule : Setting → Setting → ℕ → ℕ → ℕ → List ℕ → Type 0
-SameModule a b n boot provider identity =
-    SameTags a.mac (module_key a.mac (list_at a.keys n) boot provider identity) b.mac
-    (module_key b.mac (list_at b.keys n) boot provider identity)
-
--- no step of the run uses a key or admits a module that tells the settings apart
+-- no step of the run uses a key, or admits a module, under which a tag tells the settings apart
 abbrev pub NothingGuessed : Setting → Setting → List Line → Type 0
-NothingGuessed a b = RunKeepsTo a (SameKey a b) (SameModule a b)
+NothingGuessed a b = RunKeepsTo a (λ k. SameTags a.mac k b.mac k) (SameModule a b)
 
 -- The runs show the same up to the first `forged`, and where there is none they come to worlds that
 -- are the same outside deployed modules.

@@ -11,6 +11,12 @@ use Rattle.sx_forged.specs.Tags.{SameTags, rekeyed}
 abbrev pub Modules : Type 0
 Modules = ℕ → ℕ → ℕ → List ℕ → Bool
 
+-- no tag under the key of this module tells the settings apart
+abbrev pub SameModule : Setting → Setting → ℕ → ℕ → ℕ → List ℕ → Type 0
+SameModule a b n boot provider identity =
+    SameTags a.mac (module_key a.mac (list_at a.keys n) boot provider identity) b.mac
+    (module_key b.mac (list_at b.keys n) boot provider identity)
+
 -- Settings with keys of their own: no tag tells apart the keys of connections, nor those of these
 -- modules, which aren't deployed; and set-key packets are the same.
 pub record Unlinked (others_are : Modules) (a b : Setting) : Type 0 where
@@ -19,13 +25,10 @@ pub record Unlinked (others_are : Modules) (a b : Setting) : Type 0 where
   pub links : (link epoch : ℕ)
       → SameTags a.mac (connection_key a link epoch) b.mac (connection_key b link epoch)
   pub others : (n boot provider : ℕ) (identity : List ℕ)
-      → others_are n boot provider identity ≡ true
-      → SameTags a.mac (module_key a.mac (list_at a.keys n) boot provider identity) b.mac
-      (module_key b.mac (list_at b.keys n) boot provider identity)
+      → others_are n boot provider identity ≡ true → SameModule a b n boot provider identity
   pub tags : (m boot : ℕ) (site : Site) (rest : List ℕ) → slice_get a.sites m ≡ Some site
       → a.mac (key_of a site boot) (0x54 ∷ rest) ≡ b.mac (key_of b site boot) (0x54 ∷ rest)
   pub pads : (m boot link epoch side : ℕ) (site : Site) → slice_get a.sites m ≡ Some site
-      → crypt a.mac (key_of a site boot) (set_key_header link epoch side)
-      (connection_key a link epoch)
-      ≡ crypt b.mac (key_of b site boot) (set_key_header link epoch side)
-      (connection_key b link epoch)
+      → let header = set_key_header link epoch side in
+      crypt a.mac (key_of a site boot) header (connection_key a link epoch)
+      ≡ crypt b.mac (key_of b site boot) header (connection_key b link epoch)
