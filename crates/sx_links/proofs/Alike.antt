@@ -14,16 +14,16 @@ use Rattle.sx_machine.proofs.Devices.{some_inj}
 use Rattle.sx_machine.proofs.Frame.{out_of, lives_sound}
 use Rattle.sx_machine.proofs.Stays.{found_lives}
 use Rattle.sx_run.specs.Setting.{Site, deployed, module_of}
-use Rattle.sx_links.proofs.Outside.{Kind, text_at, is_deployed, InTheOpen, SameOutside}
+use Rattle.sx_links.proofs.Outside.{Kind, text_at, is_deployed, Unhidden, AlikeOutside}
 use Rattle.sx_forged.proofs.Tables.{holder_like}
 use Rattle.sx_links.proofs.Opened.{bytes_same, SameFound, found_same, blank_mac, blank_all}
 
-module _ (mac nac : Mac) (kind : Kind) (s t : State) (placed : Placed s.sections) (h : SameOutside mac nac kind s t) where
+module _ (mac nac : Mac) (kind : Kind) (s t : State) (placed : Placed s.sections) (h : AlikeOutside mac nac kind s t) where
   abbrev hides : Section → Bool
   hides = is_deployed kind s.mem
 
   -- a public byte of a live section is in the open
-  public_open : (z : Section) → Lives s.sections.live z → (k : ℕ) → z.layout.pub_from ≤ k → k < z.layout.pub_to → InTheOpen hides s.sections.live k
+  public_open : (z : Section) → Lives s.sections.live z → (k : ℕ) → z.layout.pub_from ≤ k → k < z.layout.pub_to → Unhidden hides s.sections.live k
   public_open z l k a b x lx d = elim (cases_eq z.id x.id) [
     | inl e ↦
         let one : z ≡ x = some_inj z x (sym (placed_found s.sections z placed l) ∙ ap (λ i. section_of s.sections.live i) e ∙ placed_found s.sections x placed lx) in

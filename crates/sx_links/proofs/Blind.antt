@@ -19,7 +19,7 @@ use Rattle.sx_machine.specs.Plan.{Plan, Done, Tell, Stop, Fetch, Load, Store, Ne
 use Rattle.sx_machine.specs.Run.{Moment, with_touch, Outcome, Finished, Violated, Module, may_at, may_range, may_each, sampled, device_of, read_device, read_place, load, write_device}
 use Rattle.sx_machine.specs.Run.{write_place, store, fetch_place, fetch, after_read, after_write, after_fetch, exec}
 use Rattle.sx_machine.proofs.PlanGuard.{with_mem}
-use Rattle.sx_links.proofs.Outside.{InTheOpen, AgreeAt, SameSections, text_at}
+use Rattle.sx_links.proofs.Outside.{Unhidden, AgreeAt, SameSections, text_at}
 use Rattle.sx_forged.proofs.Tables.{LikeAll}
 use Rattle.sx_forged.proofs.Plans.{may_range_like, may_each_like, load_same, store_same, fetch_same}
 use Rattle.sx_links.proofs.Opened.{AtPlaces, word_agree, read_agree, write_agree, put_agree, bytes_same, IsOutsider, readable_places, range_open, extends_open, blank_mac, blank_all}
@@ -31,7 +31,7 @@ AreZero x m n = (k : ℕ) → in_private x k ≡ true → (slice_index m k ≡ 0
 -- A table that came of another: nothing that was hidden is in the open, and each of its sections
 -- stood before, or has its text of before and private bytes of 0.
 pub record Grown (hides : Section → Bool) (live after : List Section) (m0 m n : List ℕ) : Type 0 where
-  pub hidden : (k : ℕ) → InTheOpen hides after k → InTheOpen hides live k
+  pub hidden : (k : ℕ) → Unhidden hides after k → Unhidden hides live k
   pub known : (x : Section) → Lives after x → Lives live x ⊎ ((text_at m x.layout ≡ text_at m0 x.layout) × AreZero x m n)
 
 pub grown_self : (hides : Section → Bool) (live : List Section) (m0 m n : List ℕ) → Grown hides live live m0 m n
@@ -110,7 +110,7 @@ fetch_if false x y v f = refl
 
 module _ (hides : Section → Bool) (live : List Section) (own : ℕ) (outsider : IsOutsider hides live own) where
   abbrev Free : ℕ → Type 0
-  Free = InTheOpen hides live
+  Free = Unhidden hides live
 
   load_blind : (wide : Bool) (at : ℕ) (x : Moment) (n : List ℕ) → AgreeAt Free x.mem n
       → SameRead Free (load live own wide at x) (load live own wide at (with_mem x n))
@@ -127,10 +127,10 @@ module _ (hides : Section → Bool) (live : List Section) (own : ℕ) (outsider 
 module _ (mac nac : Mac) (hides : Section → Bool) (live : List Section) (m0 : List ℕ) where
   -- outcomes that differ in keys, in the exchange, and in what is hidden
   abbrev pub SameOutcome : Outcome → Outcome → Type 0
-  SameOutcome (Finished r x) (Finished q y) = (r ≡ q) × SameMoments (InTheOpen hides live) x y
+  SameOutcome (Finished r x) (Finished q y) = (r ≡ q) × SameMoments (Unhidden hides live) x y
   SameOutcome (Violated v) (Violated w) = v ≡ w
   SameOutcome (Module r x t e c) (Module q y u f d) =
-      (r ≡ q) × SameMoments (InTheOpen hides live) x y × SameSections mac nac hides t.live u.live × (u.next ≡ t.next) × (e ≡ f) × Grown hides live t.live m0 x.mem y.mem
+      (r ≡ q) × SameMoments (Unhidden hides live) x y × SameSections mac nac hides t.live u.live × (u.next ≡ t.next) × (e ≡ f) × Grown hides live t.live m0 x.mem y.mem
   SameOutcome (Finished r x) (Violated w) = ⊥
   SameOutcome (Finished r x) (Module q y u f d) = ⊥
   SameOutcome (Violated v) (Finished q y) = ⊥
@@ -150,8 +150,8 @@ module _ (mac nac : Mac) (hides : Section → Bool) (live : List Section) (m0 : 
   fetched_same (Ok w) f g h = h w
   fetched_same (Err v) f g h = refl
 
-  read_same : (r q : Result (ℕ × Moment) Violation) (f g : ℕ → Moment → Outcome) → SameRead (InTheOpen hides live) r q
-      → ((v : ℕ) (x : Moment) (n : List ℕ) → AgreeAt (InTheOpen hides live) x.mem n → SameOutcome (f v x) (g v (with_mem x n))) → SameOutcome (after_read r f) (after_read q g)
+  read_same : (r q : Result (ℕ × Moment) Violation) (f g : ℕ → Moment → Outcome) → SameRead (Unhidden hides live) r q
+      → ((v : ℕ) (x : Moment) (n : List ℕ) → AgreeAt (Unhidden hides live) x.mem n → SameOutcome (f v x) (g v (with_mem x n))) → SameOutcome (after_read r f) (after_read q g)
   read_same (Ok r) (Ok q) f g h j =
       subst (λ (y : Moment). SameOutcome (f r.0 r.1) (g q.0 y)) (sym h.1.rest)
       (subst (λ (v : ℕ). SameOutcome (f r.0 r.1) (g v (with_mem r.1 q.1.mem))) h.0 (j r.0 r.1 q.1.mem h.1.mem))
@@ -159,8 +159,8 @@ module _ (mac nac : Mac) (hides : Section → Bool) (live : List Section) (m0 : 
   read_same (Ok r) (Err w) f g h j = absurd h
   read_same (Err v) (Ok q) f g h j = absurd h
 
-  written_same : (r q : Result Moment Violation) (f g : Moment → Outcome) → SameWrite (InTheOpen hides live) r q
-      → ((x : Moment) (n : List ℕ) → AgreeAt (InTheOpen hides live) x.mem n → SameOutcome (f x) (g (with_mem x n))) → SameOutcome (after_write r f) (after_write q g)
+  written_same : (r q : Result Moment Violation) (f g : Moment → Outcome) → SameWrite (Unhidden hides live) r q
+      → ((x : Moment) (n : List ℕ) → AgreeAt (Unhidden hides live) x.mem n → SameOutcome (f x) (g (with_mem x n))) → SameOutcome (after_write r f) (after_write q g)
   written_same (Ok x) (Ok y) f g h j = subst (λ (z : Moment). SameOutcome (f x) (g z)) (sym h.rest) (j x y.mem h.mem)
   written_same (Err v) (Err w) f g h j = h
   written_same (Ok x) (Err w) f g h j = absurd h
@@ -180,7 +180,7 @@ module _ (mac nac : Mac) (hides : Section → Bool) (m0 : List ℕ) (t u : Secti
   AlikeIn x n p q = Same (exec t own p x) (exec u own q (with_mem x n))
 
   abbrev pub Agree : Moment → List ℕ → Type 0
-  Agree x n = AgreeAt (InTheOpen hides t.live) x.mem n
+  Agree x n = AgreeAt (Unhidden hides t.live) x.mem n
 
   pub same_blind : (p : Plan) (x : Moment) (n : List ℕ) → Agree x n → AlikeIn x n p p
   same_blind (Done regs) x n h = (refl, record { rest = refl; mem = h })
@@ -199,7 +199,7 @@ module _ (mac nac : Mac) (hides : Section → Bool) (m0 : List ℕ) (t u : Secti
       subst (λ (r : Result Moment Violation). Same (after_write (store t.live own wide at v x) (λ y. exec t own k y)) (after_write r (λ y. exec u own k y)))
       (sym (store_same blank_mac blank_mac t u Blank next own wide at v (with_mem x n)))
       (written_same mac nac hides t.live m0 (store t.live own wide at v x) (store t.live own wide at v (with_mem x n)) (λ y. exec t own k y) (λ y. exec u own k y)
-      (store_blind (InTheOpen hides t.live) t.live own wide at v x n h) (λ y o g. same_blind k y o g))
+      (store_blind (Unhidden hides t.live) t.live own wide at v x n h) (λ y o g. same_blind k y o g))
   same_blind (Need b v k) x n h = ifs_same mac nac hides t.live m0 b b (exec t own k x) (exec u own k (with_mem x n)) v refl (λ e. same_blind k x n h)
   same_blind (Writable at len k) x n h =
       ifs_same mac nac hides t.live m0 (may_range t.live own Write at len) (may_range u.live own Write at len) (exec t own k x) (exec u own k (with_mem x n)) bad.Write
@@ -213,7 +213,7 @@ module _ (mac nac : Mac) (hides : Section → Bool) (m0 : List ℕ) (t u : Secti
   same_blind (Put at bs k) x n h =
       ifs_same mac nac hides t.live m0 (may_each t.live own Write at bs) (may_each u.live own Write at bs) (exec t own k (record x { mem = put_bytes x.mem at bs }))
       (exec u own k (record (with_mem x n) { mem = put_bytes n at bs })) bad.Write (may_each_like blank_mac blank_mac t u Blank next own Write at bs) (λ e.
-      same_blind k (record x { mem = put_bytes x.mem at bs }) (put_bytes n at bs) (put_agree (InTheOpen hides t.live) bs x.mem n at h))
+      same_blind k (record x { mem = put_bytes x.mem at bs }) (put_bytes n at bs) (put_agree (Unhidden hides t.live) bs x.mem n at h))
 
   -- At one moment.
   module _ (x : Moment) (n : List ℕ) (agree : Agree x n) where

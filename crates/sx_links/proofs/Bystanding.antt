@@ -30,7 +30,7 @@ use Rattle.sx_machine.proofs.Frame.{steps_framed}
 use Rattle.sx_machine.proofs.PublicKept.{framed_public}
 use Rattle.sx_run.specs.Setting.{Site, module_of, deployed}
 use Rattle.sx_forged.specs.Tags.{SameTags}
-use Rattle.sx_links.proofs.Outside.{Kind, sites_on, text_at, is_deployed, InTheOpen, AgreeAt, SameSections, InWords, SameOutside, UsesKey, given_layout, NoGuess, OutsidersSeeTheSame, IsUntouched}
+use Rattle.sx_links.proofs.Outside.{Kind, sites_on, text_at, is_deployed, Unhidden, AgreeAt, SameSections, InWords, AlikeOutside, UsesKey, given_layout, NoGuess, OutsidersSeeTheSame, IsUntouched}
 use Rattle.sx_links.proofs.Outside.{OutsidersTouchNone}
 use Rattle.sx_forged.proofs.Tables.{LikeAll, may_like, holder_like, in_order_like, word_outside_like, live_like}
 use Rattle.sx_links.proofs.Opened.{agree_fewer, agree_self, word_agree, bytes_same, IsOutsider, outside_open, blank_mac, blank_all, same_hides}
@@ -44,7 +44,7 @@ with_hidden s n key u c = record s { mem = n; sections = u; key = key; exchange 
 module _ (mac nac : Mac) (kind : Kind) (s : State) (n key : List ℕ) (u : Sections) (exchange : Exchange)
     (placed : Placed s.sections)
     (same : SameSections mac nac (is_deployed kind s.mem) s.sections.live u.live) (next : u.next ≡ s.sections.next)
-    (agree : AgreeAt (InTheOpen (is_deployed kind s.mem) s.sections.live) s.mem n) where
+    (agree : AgreeAt (Unhidden (is_deployed kind s.mem) s.sections.live) s.mem n) where
   abbrev hides : Section → Bool
   hides = is_deployed kind s.mem
 
@@ -131,7 +131,7 @@ module _ (mac nac : Mac) (kind : Kind) (s : State) (n key : List ℕ) (u : Secti
         ifs_same mac nac hides live s.mem (word_outside live pc) (word_outside u.live pc) (ordered mac s (device_at s.devices pc)) (ordered nac twin (device_at s.devices pc)) bad.Fetch
         (word_outside_like blank_mac blank_mac live u.live pc Blank) (λ e.
         let p = and_parts (outside_private live (even pc)) (outside_private live (even pc + 1)) e in
-        ordered_same (device_at s.devices pc) (word_agree (InTheOpen hides live) s.mem n pc agree (outside_open hides live (even pc) p.0, outside_open hides live (even pc + 1) p.1)))
+        ordered_same (device_at s.devices pc) (word_agree (Unhidden hides live) s.mem n pc agree (outside_open hides live (even pc) p.0, outside_open hides live (even pc + 1) p.1)))
 
   -- Of an instruction that isn't let run.
 
@@ -182,21 +182,21 @@ module _ (mac nac : Mac) (kind : Kind) (s : State) (n key : List ℕ) (u : Secti
     exchange = c;
   }
 
-  after_same : (regs : List ℕ) (x : Moment) (o : List ℕ) (v w : Sections) (c d : Exchange) → AgreeAt (InTheOpen hides s.sections.live) x.mem o
+  after_same : (regs : List ℕ) (x : Moment) (o : List ℕ) (v w : Sections) (c d : Exchange) → AgreeAt (Unhidden hides s.sections.live) x.mem o
       → SameSections mac nac hides v.live w.live → w.next ≡ v.next → Grown hides s.sections.live v.live s.mem x.mem o
       → IsFramed (state_after s (own_of s) regs x v c)
-      → SameOutside mac nac kind (state_after s (own_of s) regs x v c) (state_after twin (own_of twin) regs (with_mem x o) w d)
+      → AlikeOutside mac nac kind (state_after s (own_of s) regs x v c) (state_after twin (own_of twin) regs (with_mem x o) w d)
   after_same regs x o v w c d mem secs e grown framed =
       let at = holder v.live (slice_index regs 0) in
       let after = state_after s (own_of s) regs x v c in
       let kept = status_kept after o framed grown in
-      subst (λ (own : ℕ). SameOutside mac nac kind after (ended twin w regs (with_mem x o) d own (holder w.live (slice_index regs 0)) (entered_from twin own))) (sym own_same)
-      (subst (λ (a : ℕ). SameOutside mac nac kind after (ended twin w regs (with_mem x o) d (own_of s) a (entered_from twin (own_of s))))
+      subst (λ (own : ℕ). AlikeOutside mac nac kind after (ended twin w regs (with_mem x o) d own (holder w.live (slice_index regs 0)) (entered_from twin own))) (sym own_same)
+      (subst (λ (a : ℕ). AlikeOutside mac nac kind after (ended twin w regs (with_mem x o) d (own_of s) a (entered_from twin (own_of s))))
       (sym (holder_like blank_mac blank_mac v.live w.live (slice_index regs 0) (blank_all mac nac hides v.live w.live secs)))
-      (subst (λ (i : ℕ). SameOutside mac nac kind after (ended twin w regs (with_mem x o) d (own_of s) at i)) (sym (caller_same (own_of s)))
+      (subst (λ (i : ℕ). AlikeOutside mac nac kind after (ended twin w regs (with_mem x o) d (own_of s) at i)) (sym (caller_same (own_of s)))
       (record {
         rest = refl;
-        mem = agree_fewer (InTheOpen hides s.sections.live) (InTheOpen (is_deployed kind x.mem) v.live) x.mem o
+        mem = agree_fewer (Unhidden hides s.sections.live) (Unhidden (is_deployed kind x.mem) v.live) x.mem o
             (λ k f. grown.hidden k (λ z l h. f z l (kept z l ∙ h))) mem;
         sections = same_hides mac nac hides (is_deployed kind x.mem) v.live w.live kept secs;
         next = e;
@@ -207,17 +207,17 @@ module _ (mac nac : Mac) (kind : Kind) (s : State) (n key : List ℕ) (u : Secti
       sym (ap (λ (own : ℕ). cond ((own == 0) || (holder u.live (slice_index regs 0) == own)) Quiet (Left own)) own_same
       ∙ ap (λ (a : ℕ). cond ((own_of s == 0) || (a == own_of s)) Quiet (Left (own_of s))) (holder_like blank_mac blank_mac s.sections.live u.live (slice_index regs 0) Blank))
 
-  pub reset_same : SameOutside mac nac kind (reset s) (reset twin)
+  pub reset_same : AlikeOutside mac nac kind (reset s) (reset twin)
   reset_same = record {
     rest = refl;
-    mem = agree_self (InTheOpen (is_deployed kind (reset s).mem) []) (reset s).mem;
+    mem = agree_self (Unhidden (is_deployed kind (reset s).mem) []) (reset s).mem;
     sections = tt;
     next = refl;
   }
 
   -- what is shown is the same, and the nodes are again so related
   abbrev pub SameShown : {T : Type 0} → Shown T → Shown T → Type 0
-  SameShown x y = (x.shown ≡ y.shown) × SameOutside mac nac kind x.state y.state
+  SameShown x y = (x.shown ≡ y.shown) × AlikeOutside mac nac kind x.state y.state
 
   settled_same : (o p : Outcome) → IsFramed (settled_step s o).state → Match o p → SameShown (settled_step s o) (settled_step twin p)
   settled_same (Finished r x) (Finished q y) f h =
@@ -315,7 +315,7 @@ outsiders_see mac nac sites n s t placed words foreign guess h =
     let kind = sites_on sites n in
     let twin = with_hidden s t.mem t.key t.sections t.exchange in
     let attempts = either foreign in
-    subst (λ (z : State). ((step mac s).shown ≡ (step nac z).shown) × SameOutside mac nac kind (step mac s).state (step nac z).state) (sym h.rest)
+    subst (λ (z : State). ((step mac s).shown ≡ (step nac z).shown) × AlikeOutside mac nac kind (step mac s).state (step nac z).state) (sym h.rest)
     (step_same mac nac kind s t.mem t.key t.sections t.exchange placed h.sections h.next h.mem attempts)
   where
     either : (module_of sites n s (own_of s) ≡ None) ⊎ (is_let_run s ≡ false)

@@ -13,13 +13,13 @@ use Rattle.sx_run.specs.Deployer.{DeployerState, Grant, grant_header, set_key, s
 use Rattle.sx_run.specs.State.{World, Acted}
 use Rattle.sx_run.specs.Observation.{unless_made}
 use Rattle.sx_run.specs.Acts.{only, then_, with_deployer, ask, key_given, keys_given, attested, attested_at, open_ask, after_denial, after_verdict, after_answer}
-use Rattle.sx_links.specs.Unlinked.{Modules, Unlinked}
+use Rattle.sx_links.specs.Unlinked.{Unlinked}
 use Rattle.sx_links.proofs.Linking.{second}
 use Rattle.sx_links.proofs.Ledgers.{same_more, module_made}
 use Rattle.sx_links.proofs.Worlds.{SameWorld}
 use Rattle.sx_links.proofs.Doing.{SameDone}
 
-module _ (a : Setting) (nac : Mac) (keys : List (List ℕ)) (secret : List ℕ) (others_are : Modules) (unlinked : Unlinked others_are a (second a nac keys secret)) where
+module _ (a : Setting) (nac : Mac) (keys : List (List ℕ)) (secret : List ℕ) (unlinked : Unlinked a (second a nac keys secret)) where
   abbrev b : Setting
   b = second a nac keys secret
 

@@ -33,7 +33,7 @@ use Rattle.sx_run.proofs.steps.Bystanders.{at_site_same}
 use Rattle.sx_forged.proofs.Turns.{NodeTurns}
 use Rattle.sx_forged.proofs.Keyed.{kept_by}
 use Rattle.sx_forged.proofs.Keeping.{act_outside, from_outside}
-use Rattle.sx_links.proofs.Outside.{Kind, sites_on, is_deployed, SameOutside}
+use Rattle.sx_links.proofs.Outside.{Kind, sites_on, is_deployed, AlikeOutside}
 use Rattle.sx_links.proofs.Bystanding.{reset_same}
 use Rattle.sx_links.proofs.Touching.{put_same, take_same, set_same, sense_same, irq_same}
 use Rattle.sx_links.proofs.Alike.{modules_same}
@@ -76,7 +76,7 @@ module _ (a : Setting) (nac : Mac) (keys : List (List ℕ)) (secret : List ℕ) 
     kind = sites_on a.sites n
 
     -- the nodes after an act from outside
-    after_act : (x : Act) → (x ≡ act.Step → ⊥) → SameOutside a.mac nac (sites_on a.sites n) (acted a.mac x s).state (acted nac x t).state
+    after_act : (x : Act) → (x ≡ act.Step → ⊥) → AlikeOutside a.mac nac (sites_on a.sites n) (acted a.mac x s).state (acted nac x t).state
         → SameNode a nac keys secret n (acted a.mac x s).state (acted nac x t).state
     after_act x ne o = record { outside = o; rests = rests; states = states }
       where
@@ -106,7 +106,7 @@ module _ (a : Setting) (nac : Mac) (keys : List (List ℕ)) (secret : List ℕ) 
     NodesSame x y = (x.shown ≡ y.shown) × SameNode a nac keys secret n x.state y.state
 
     abbrev Alike : {T : Type 0} → Shown T → Shown T → Type 0
-    Alike x y = (x.shown ≡ y.shown) × SameOutside a.mac nac (sites_on a.sites n) x.state y.state
+    Alike x y = (x.shown ≡ y.shown) × AlikeOutside a.mac nac (sites_on a.sites n) x.state y.state
 
     pub put_node : (at : ℕ) (bytes : List ℕ) → NodesSame (put s at bytes) (put t at bytes)
     put_node at bytes =
@@ -140,11 +140,11 @@ module _ (a : Setting) (nac : Mac) (keys : List (List ℕ)) (secret : List ℕ) 
 
     pub reset_node : SameNode a nac keys secret n (reset s) (reset t)
     reset_node =
-        after_act act.Restart (λ e. cc) (subst (λ (z : State). SameOutside a.mac nac (sites_on a.sites n) (reset s) (reset z)) (sym h.outside.rest)
+        after_act act.Restart (λ e. cc) (subst (λ (z : State). AlikeOutside a.mac nac (sites_on a.sites n) (reset s) (reset z)) (sym h.outside.rest)
         (reset_same a.mac nac kind s t.mem t.key t.sections t.exchange ta.node.placed h.outside.sections h.outside.next h.outside.mem))
 
   -- what is seen of code of no deployed module
-  pub unowned_same : (n : ℕ) (s t : State) (seen : Seen) (es fs : List Made) → Placed s.sections → SameOutside a.mac nac (sites_on a.sites n) s t
+  pub unowned_same : (n : ℕ) (s t : State) (seen : Seen) (es fs : List Made) → Placed s.sections → AlikeOutside a.mac nac (sites_on a.sites n) s t
       → let x = observed a n None s seen es in let y = observed b n None t seen fs in (y.items ≡ x.items) × (x.ledger ≡ es) × (y.ledger ≡ fs)
   unowned_same n s t seen es fs placed o = by seen.event
     where

@@ -25,9 +25,10 @@ use Rattle.sx_run.proofs.accepted.Settled.{settled}
 use Rattle.sx_run.proofs.accepted.FormedLines.{lines_in_form}
 use Rattle.sx_run.proofs.accepted.LaidSites.{site_at, laid_at}
 use Rattle.sx_deploy.specs.Deployment.{Deployed}
-use Rattle.sx_links.specs.Unlinked.{Modules, Unlinked}
+use Rattle.sx_links.specs.Unlinked.{Unlinked}
 use Rattle.sx_links.specs.Accepted.{AcceptedUnseen}
-use Rattle.sx_links.specs.LinksUnseen.{TurnsWhole, SparesZero, SameOutside, SameWorldOutside, NothingGuessed, RunsAlike, LinksUnseen}
+use Rattle.sx_links.specs.LinksUnseen.{TurnsWhole, SameOutside, SameWorldOutside, NothingGuessed, RunsAlike}
+use Rattle.sx_links.specs.Laws.{SparesZero, LinksUnseen}
 use Rattle.sx_links.proofs.Outside.{sites_on, is_deployed, SameSections}
 use Rattle.sx_links.proofs.Opened.{agree_self}
 use Rattle.sx_links.proofs.Upto.{none_clean}
@@ -113,10 +114,10 @@ module _ (a : Setting) (nac : Mac) (keys : List (List ℕ)) (secret : List ℕ) 
     deployer = h.deployer;
   }
 
-  of_second : (others_are : Modules) (lines : List Line) → IsSoundSetting a → IsSoundSetting (second a nac keys secret) → Unlinked others_are a (second a nac keys secret) → SparesZero a
+  of_second : (lines : List Line) → IsSoundSetting a → IsSoundSetting (second a nac keys secret) → Unlinked a (second a nac keys secret) → SparesZero a
       → LinesInForm a lines → TurnsWhole lines → NothingGuessed a (second a nac keys secret) lines
       → RunsAlike a (second a nac keys secret) lines
-  of_second others_are lines first_sound sound2 unlinked spares form whole guess =
+  of_second lines first_sound sound2 unlinked spares form whole guess =
       let start : SameRun a nac keys secret (switched_on a) (switched_on b) = record {
         same = record { nodes = λ n. nodes_same 0 a.keys keys unlinked.count n n; packets = refl; deployer = refl; lines = refl; ledger = tt };
         first = starts_turning a first_sound;
@@ -124,16 +125,16 @@ module _ (a : Setting) (nac : Mac) (keys : List (List ℕ)) (secret : List ℕ) 
       } in
       let none : NoGuesses a b (script_of a lines) (switched_on a) =
       of_moments a b (script_of a lines) (switched_on a) (λ k now e none n s is here runs. guess k now e none n s is here runs) in
-      let h = lines_same a nac keys secret others_are first_sound sound2 unlinked lines (switched_on a) (switched_on b) start spares form whole none in
+      let h = lines_same a nac keys secret first_sound sound2 unlinked lines (switched_on a) (switched_on b) start spares form whole none in
       let x = run a (switched_on a) lines in
       let y = run b (switched_on b) lines in
       (h.0, λ clean. world_outside x.world y.world (h.1 (none_clean x.items clean)).same)
 
 pub links_unseen : LinksUnseen
-links_unseen others_are a b lines first_sound sound2 unlinked spares form whole guess =
+links_unseen a lines first_sound spares form b sound2 unlinked whole guess =
     let is = unlinked.rest in
     subst (λ (z : Setting). RunsAlike a z lines) (sym is)
-    (of_second a b.mac b.keys b.secret others_are lines first_sound (subst IsSoundSetting is sound2) (subst (Unlinked others_are a) is unlinked) spares form whole
+    (of_second a b.mac b.keys b.secret lines first_sound (subst IsSoundSetting is sound2) (subst (Unlinked a) is unlinked) spares form whole
     (subst (λ (z : Setting). NothingGuessed a z lines) is guess))
 
 -- An accepted deployment.
@@ -145,7 +146,7 @@ spares_zero mac d texts acc m site sited zero_from =
     omega (arith, low, zero_from)
 
 pub accepted_unseen : AcceptedUnseen
-accepted_unseen text d read mac texts tag images others_are b sound2 unlinked lines are whole guess =
+accepted_unseen text d read mac texts tag images lines are =
     let acc = sound text d read in
-    links_unseen others_are (setting_of mac d texts) b lines (settled mac d texts acc images tag) sound2 unlinked (spares_zero mac d texts acc)
-    (lines_in_form mac d (sites_of d.app.parts d.layouts d.providers texts) acc lines are) whole guess
+    links_unseen (setting_of mac d texts) lines (settled mac d texts acc images tag) (spares_zero mac d texts acc)
+    (lines_in_form mac d (sites_of d.app.parts d.layouts d.providers texts) acc lines are)

@@ -1,17 +1,16 @@
 -- Whether a key is a deployed module's can be found out: boots enter keys as four bytes.
-use Rattle.std.proofs.Common.{◌≡◌, ◌≢◌, ℕ, zero, suc, ◌/◌, ◌%◌, ◌<◌, Bool, true, false, cond, not, bytes_eq, List, [], ◌∷◌, length, refl, sym, ◌∙◌, ap, subst, arith, lit<}
+use Rattle.std.proofs.Common.{◌≡◌, ◌≢◌, ℕ, zero, suc, ◌/◌, ◌%◌, ◌<◌, Bool, true, false, cond, bytes_eq, List, [], ◌∷◌, length, refl, sym, ◌∙◌, ap, subst, arith, lit<}
 use Rattle.std.specs.Prelude.{slice_get, Option, Some, None}
 use Rattle.std.specs.Int.{w32, to_le_bytes}
 use Rattle.std.proofs.lemmas.Nat.{mod_below}
 use Rattle.std.proofs.lemmas.Slice.Eq.{bytes_eq-Decides}
 use Rattle.sx_tag.specs.Keys.{kdf, boot_key, section_key, module_key, identity}
 use Rattle.sx_run.specs.Setting.{Setting, Site}
-use Rattle.sx_run.specs.Deployer.{list_at, key_of, connection_key}
-use Rattle.sx_run.specs.Law.{IsSoundSetting}
-use Rattle.sx_links.specs.Unlinked.{Modules}
-use Rattle.sx_links.specs.Unlinks.{IsMoving, RealizesAlways, IsDeployedKey, AreAllOthers, UnlinksAll}
+use Rattle.sx_run.specs.Deployer.{list_at, key_of}
+use Rattle.sx_links.specs.Unlinks.{IsDeployedKey}
+use Rattle.sx_links.specs.Laws.{UnlinksAll}
 use Rattle.sx_links.proofs.Moved.{TellsApart, moved_setting}
-use Rattle.sx_links.proofs.Unlinking.{unlinks}
+use Rattle.sx_links.proofs.Unlinking.{moves}
 
 -- the test is true below the bound
 any_below : ℕ → (ℕ → Bool) → Bool
@@ -103,36 +102,15 @@ module _ (a : Setting) where
       by true e = absurd (none (finds_only top k e))
       by false e = refl
 
-  others_of : ℕ → Modules
-  others_of top n boot provider id = not (finds top (module_key a.mac (list_at a.keys n) boot provider id))
-
-  from_not : (b : Bool) → not b ≡ true → b ≡ false
-  from_not true e = absurd (no_truth e)
-  from_not false e = refl
-
-  all_for : (top : ℕ) → ((boot : ℕ) → (boot % 4294967296) < top) → (move back : List ℕ → List ℕ) → IsSoundSetting a → RealizesAlways a → IsMoving move back
-      → ((link epoch : ℕ) → IsDeployedKey a (connection_key a link epoch) → ⊥) → TellsApart (others_of top) a (finds top)
-  unfolding others_of
-  all_for top below move back sound always moving links = record {
+  tells_apart : (top : ℕ) → ((boot : ℕ) → (boot % 4294967296) < top) → TellsApart a (finds top)
+  tells_apart top below = record {
     sites = λ m boot site found.
         ap (finds top) (sym (key_mod site boot)) ∙ finds_all top m (boot % 4294967296) site (below boot) found;
-    links = λ link epoch. finds_none top (connection_key a link epoch) (links link epoch);
-    others = λ n boot provider id is. from_not (finds top (module_key a.mac (list_at a.keys n) boot provider id)) is;
+    others = λ k none. finds_none top k none;
   }
 
-  all_others : (top : ℕ) → AreAllOthers a (others_of top)
-  unfolding others_of
-  all_others top n boot provider id none = ap not (finds_none top (module_key a.mac (list_at a.keys n) boot provider id) none)
-
 pub unlinks_all : UnlinksAll
-unlinks_all a move back sound always moving links =
-    let tells = all_for a 4294967296 (λ boot. mod_below boot 4294967296 (lit< tt)) move back sound always moving links in
-    let r = unlinks (others_of a 4294967296) a move back (finds a 4294967296) sound always moving tells in (
-      moved_setting move back (finds a 4294967296) a,
-      others_of a 4294967296,
-      r.0,
-      r.1,
-      all_others a 4294967296,
-      r.2,
-      λ k stays none. r.3 k stays (finds_none a 4294967296 k none),
-    )
+unlinks_all a sound always move back moving apart =
+    let holds = finds a 4294967296 in
+    let tells = tells_apart a 4294967296 (λ boot. mod_below boot 4294967296 (lit< tt)) in
+    (moved_setting move back holds a, moves a move back holds sound always moving tells apart)

@@ -2,9 +2,9 @@
 use Rattle.sx_links.specs.Found.{KeysFound}
 
 pub keys_found : KeysFound
-keys_found others_are a b move lines unlinked all kept found k now at none n s next there runs =
+keys_found a b move lines is found k now at none n s next there runs =
     let f = found k now at none n s next there runs in
     record {
-      held = λ is own sec other read. let g = f.held is own sec other read in kept _ g.0 g.1;
-      admitted = λ is new. unlinked.others n s.boot _ _ (all n s.boot _ _ (f.admitted is new));
+      held = λ row own sec other read. let g = f.held row own sec other read in is.stay _ g.0 g.1;
+      admitted = λ row new. is.modules n s.boot _ _ (f.admitted row new);
     }

@@ -17,7 +17,7 @@ use Rattle.sx_run.specs.State.{World}
 use Rattle.sx_run.specs.Run.{is_reset}
 use Rattle.sx_run.proofs.steps.Machine.{violates, onward}
 use Rattle.sx_guard.specs.Happening.{Happening, Begin, Step, Put, Set, Take, Give, Forge, Sense, Irq, Reset, Ask, Answer, Show, done}
-use Rattle.sx_links.specs.Unlinked.{Modules, Unlinked}
+use Rattle.sx_links.specs.Unlinked.{Unlinked}
 use Rattle.sx_links.proofs.Linking.{second}
 use Rattle.sx_links.proofs.Worlds.{SameRun, packet_same}
 use Rattle.sx_links.proofs.Doing.{SameDone, put_done, set_done, take_done, give_done, sense_done, irq_done, reset_done}
@@ -44,7 +44,7 @@ step_boot mac s = by (violation_of (step mac s).shown.event) refl
     by (Some v) e =
         reset_is (step mac s).shown.event ∙ ap is_some e ∙ next_boot s.boot ∙ sym (ap (λ (z : State). not (z.boot == s.boot)) (violates mac s v e).state)
 
-module _ (a : Setting) (nac : Mac) (keys : List (List ℕ)) (secret : List ℕ) (others_are : Modules) (unlinked : Unlinked others_are a (second a nac keys secret))
+module _ (a : Setting) (nac : Mac) (keys : List (List ℕ)) (secret : List ℕ) (unlinked : Unlinked a (second a nac keys secret))
     (w v : World) (h : SameRun a nac keys secret w v) where
   abbrev b : Setting
   b = second a nac keys secret
@@ -60,6 +60,6 @@ module _ (a : Setting) (nac : Mac) (keys : List (List ℕ)) (secret : List ℕ) 
   outside_done (Sense d x) ne = sense_done a nac keys secret w v h.same h.first h.second d x (slice_get a.app.devices d)
   outside_done (Irq n line) ne = irq_done a nac keys secret w v h.same h.first h.second n line
   outside_done (Reset n) ne = reset_done a nac keys secret w v h.same h.first h.second n (item.Reset n Asked)
-  outside_done (Ask m) ne = ask_done a nac keys secret others_are unlinked w v h.same m
-  outside_done (Answer m boot k) ne = answer_done a nac keys secret others_are unlinked w v h.same m boot k
+  outside_done (Ask m) ne = ask_done a nac keys secret unlinked w v h.same m
+  outside_done (Answer m boot k) ne = answer_done a nac keys secret unlinked w v h.same m boot k
   outside_done (Show i) ne = (refl, h.same)

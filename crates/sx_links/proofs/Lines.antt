@@ -41,8 +41,9 @@ use Rattle.sx_guard.proofs.Places.{get_map, get_map_none}
 use Rattle.sx_forged.specs.Moments.{NoForged}
 use Rattle.sx_forged.proofs.Turns.{NodeTurns, AllTurn}
 use Rattle.sx_forged.proofs.Reaching.{InForm, done_turns}
-use Rattle.sx_links.specs.Unlinked.{Modules, Unlinked}
-use Rattle.sx_links.specs.LinksUnseen.{IsWhole, TurnsWhole, SparesZero}
+use Rattle.sx_links.specs.Unlinked.{Unlinked}
+use Rattle.sx_links.specs.LinksUnseen.{IsWhole, TurnsWhole}
+use Rattle.sx_links.specs.Laws.{SparesZero}
 use Rattle.sx_links.proofs.Upto.{Clean, clean_none, clean_left, clean_right}
 use Rattle.sx_links.proofs.Linking.{second, SameNode}
 use Rattle.sx_links.proofs.Worlds.{SameAt, SameWorld, SameRun, SameActed, acted_same, then_same, at_same}
@@ -75,8 +76,8 @@ steps_turn set sound stops items n (suc k) w h = by (slice_get w.nodes n) refl (
         choose (is_reset (step set.mac s).shown.event || stops (step set.mac s).state) (after_step set w n s) (steps_of set stops items n k)
         (subst (λ (o : Option State). AllTurn set (at_node w (after_step set w n) o).world) e (done_turns set (Step n) w sound tt h)) more
 
-module _ (a : Setting) (nac : Mac) (keys : List (List ℕ)) (secret : List ℕ) (others_are : Modules) (sound : IsSoundSetting a) (sound2 : IsSoundSetting (second a nac keys secret))
-    (unlinked : Unlinked others_are a (second a nac keys secret)) where
+module _ (a : Setting) (nac : Mac) (keys : List (List ℕ)) (secret : List ℕ) (sound : IsSoundSetting a) (sound2 : IsSoundSetting (second a nac keys secret))
+    (unlinked : Unlinked a (second a nac keys secret)) where
   abbrev b : Setting
   b = second a nac keys secret
 
@@ -166,7 +167,7 @@ module _ (a : Setting) (nac : Mac) (keys : List (List ℕ)) (secret : List ℕ) 
   -- one thing that is done
   pub goes_one : (x : Happening) (rest : List Look → Script) (w v : World) → Beside w v → InForm x → ((n : ℕ) → x ≡ Step n → ⊥) → NoGuesses a b (Do x rest) w → Goes rest (done a x w) (done b x v)
   goes_one x rest w v h form ne g =
-      let d = outside_done a nac keys secret others_are unlinked w v h x ne in (
+      let d = outside_done a nac keys secret unlinked w v h x ne in (
         acted_same a nac keys secret (done a x w) (done b x v) d.0 (λ clean. record { same = d.1; first = done_turns a x w sound form h.first; second = done_turns b x v sound2 form h.second }),
         λ clean. g.1 (clean_none (done a x w).items clean),
       )
@@ -317,7 +318,7 @@ module _ (a : Setting) (nac : Mac) (keys : List (List ℕ)) (secret : List ℕ) 
           let eb : slice_get v.nodes site.node ≡ Some t = subst (λ (k : ℕ). slice_get v.nodes k ≡ Some t) (sym is) there in
           let k : ((finish b n v).items ≡ (finish a n w).items) × (Clean (finish a n w).items → SameWorld a nac keys secret (finish a n w).world (finish b n v).world) =
           subst (λ (z : ℕ). ((finish b z v).items ≡ (finish a z w).items) × (Clean (finish a z w).items → SameWorld a nac keys secret (finish a z w).world (finish b z v).world)) is
-          (whole_done a nac keys secret others_are sound sound2 unlinked m q site part sited s t (subst (λ (z : ℕ). SameNode a nac keys secret z s t) (sym is) node)
+          (whole_done a nac keys secret sound sound2 unlinked m q site part sited s t (subst (λ (z : ℕ). SameNode a nac keys secret z s t) (sym is) node)
           (h.first site.node s ea) (h.second site.node t eb) sec lives (subst (λ (z : ℕ). is_at_site z s.mem sec site ≡ true) (sym is) at) idle entry w v ea eb h.same) in
           acted_same a nac keys secret (finish a n w) (finish b n v) k.0 (λ clean. record {
             same = k.1 clean;

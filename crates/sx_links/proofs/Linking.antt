@@ -18,8 +18,8 @@ use Rattle.sx_run.specs.Wire.{set_key_header}
 use Rattle.sx_run.specs.Deployer.{key_of, connection_key}
 use Rattle.sx_forged.specs.Tags.{SameTags, rekeyed}
 use Rattle.sx_forged.proofs.Fields.{field_key}
-use Rattle.sx_links.specs.Unlinked.{Modules, Unlinked}
-use Rattle.sx_links.proofs.Outside.{sites_on, is_deployed, SameOutside}
+use Rattle.sx_links.specs.Unlinked.{Unlinked}
+use Rattle.sx_links.proofs.Outside.{sites_on, is_deployed, AlikeOutside}
 use Rattle.sx_links.proofs.Twice.{key_in, SameEnds}
 use Rattle.sx_links.proofs.KeyPackets.{take_length, key_tells}
 
@@ -53,12 +53,12 @@ module _ (a : Setting) (nac : Mac) (keys : List (List ℕ)) (secret : List ℕ) 
 
   -- the n-th nodes of the two runs, where no deployed module runs
   pub record SameNode (n : ℕ) (s t : State) : Type 0 where
-    pub outside : SameOutside a.mac nac (sites_on a.sites n) s t
+    pub outside : AlikeOutside a.mac nac (sites_on a.sites n) s t
     pub rests : (x : Section) → Lives s.sections.live x → is_deployed (sites_on a.sites n) s.mem x ≡ true → s.cur ≡ x.id → ⊥
     pub states : (m : ℕ) (q : PartTree) (site : Site) (x : Section) → slice_get a.app.parts m ≡ Some q → slice_get a.sites m ≡ Some site
         → Lives s.sections.live x → is_at_site n s.mem x site ≡ true → SameStates Linked m q x s.mem t.mem
 
-  module _ (others_are : Modules) (unlinked : Unlinked others_are a second) where
+  module _ (unlinked : Unlinked a second) where
     pub linked_tags : (field : ℕ) (k l : List ℕ) → Linked field k l → SameTags a.mac k nac l
     linked_tags field k l h =
         let parts : field % 256 + 256 * (field / 256) ≡ field = omega arith in

@@ -1,23 +1,19 @@
 -- The setting with other keys in place of its own.
 use Rattle.std.specs.Prelude.{◌≡◌, ℕ, ◌==◌, ◌&&◌, if◌then◌else◌, Bool, true, false, List, [], ◌∷◌, ◌++◌, take, drop, map, slice_get, slice_index, Some, bit_xor}
 use Rattle.sx_tag.specs.Mac.{Mac}
-use Rattle.sx_tag.specs.Keys.{module_key}
 use Rattle.sx_tag.specs.Wrap.{xor_bytes}
 use Rattle.sx_run.specs.Setting.{Setting, Site}
-use Rattle.sx_run.specs.Deployer.{list_at, key_of, connection_key}
+use Rattle.sx_run.specs.Deployer.{key_of, connection_key}
 use Rattle.sx_run.specs.Law.{IsSoundSetting}
-use Rattle.sx_forged.specs.Tags.{SameTags, rekeyed}
-use Rattle.sx_links.specs.Unlinked.{Modules, Unlinked}
-use Rattle.sx_links.specs.Unlinks.{IsMoving, RealizesAlways}
+use Rattle.sx_forged.specs.Tags.{rekeyed}
+use Rattle.sx_links.specs.Unlinks.{IsMoving, IsDeployedKey, IsMoved}
+use Rattle.sx_links.specs.Laws.{RealizesAlways}
 
--- The test tells the keys of deployed modules from those of connections and of the other modules:
--- no key is both.
-pub record TellsApart (others_are : Modules) (a : Setting) (holds : List ℕ → Bool) : Type 0 where
+-- the test holds of the keys of deployed modules, and of no other key
+pub record TellsApart (a : Setting) (holds : List ℕ → Bool) : Type 0 where
   pub sites : (m boot : ℕ) (site : Site) → slice_get a.sites m ≡ Some site
       → holds (key_of a site boot) ≡ true
-  pub links : (link epoch : ℕ) → holds (connection_key a link epoch) ≡ false
-  pub others : (n boot provider : ℕ) (identity : List ℕ) → others_are n boot provider identity ≡ true
-      → holds (module_key a.mac (list_at a.keys n) boot provider identity) ≡ false
+  pub others : (k : List ℕ) → (IsDeployedKey a k → ⊥) → holds k ≡ false
 
 -- the bytes of a tag, exclusive or these, as far as they go
 abbrev pub mixed : List ℕ → List ℕ → List ℕ
@@ -46,15 +42,9 @@ abbrev pub moved_setting : (move back : List ℕ → List ℕ) → (List ℕ →
 moved_setting move back holds a =
     rekeyed a (moved move back holds a) (map move a.keys) (move a.secret)
 
--- For every sound setting whose images realize their modules whatever the tag function is, and
--- every choice of other keys, where no deployed module has the key of a connection or of another
--- module, there is a sound setting that is unlinked from it and has these keys for its connections;
--- and a key that stays and is no deployed module's has the same tags in both.
-abbrev pub Unlinks : Type 0
-Unlinks = (others_are : Modules) (a : Setting) (move back : List ℕ → List ℕ)
-    (holds : List ℕ → Bool) → IsSoundSetting a → RealizesAlways a → IsMoving move back
-    → TellsApart others_are a holds
-    → let b = moved_setting move back holds a in
-    IsSoundSetting b × Unlinked others_are a b
-    × ((link epoch : ℕ) → connection_key b link epoch ≡ move (connection_key a link epoch))
-    × ((k : List ℕ) → move k ≡ k → holds k ≡ false → SameTags a.mac k b.mac k)
+-- It has the chosen keys for its connections, whatever test tells deployed modules' keys apart.
+abbrev pub Moves : Type 0
+Moves = (a : Setting) (move back : List ℕ → List ℕ) (holds : List ℕ → Bool) → IsSoundSetting a
+    → RealizesAlways a → IsMoving move back → TellsApart a holds
+    → ((link epoch : ℕ) → IsDeployedKey a (connection_key a link epoch) → ⊥)
+    → IsMoved a move (moved_setting move back holds a)

@@ -11,7 +11,7 @@ use Rattle.sx_tag.specs.Mac.{Mac}
 use Rattle.sx_machine.specs.Memory.{even, word, read_at, write_at, bytes_from, put_bytes, zeroed}
 use Rattle.sx_machine.specs.Run.{may_at, may_range}
 use Rattle.sx_machine.proofs.PlanGuard.{passes, barred}
-use Rattle.sx_links.proofs.Outside.{InTheOpen, AgreeAt, SameSection, SameSections}
+use Rattle.sx_links.proofs.Outside.{Unhidden, AgreeAt, SameSection, SameSections}
 use Rattle.sx_forged.proofs.Tables.{LikeAll}
 
 -- Memories.
@@ -83,31 +83,31 @@ abbrev pub IsOutsider : (Section → Bool) → List Section → ℕ → Type 0
 IsOutsider hides live own = (x : Section) → Lives live x → hides x ≡ true → own ≢ x.id
 
 module _ (hides : Section → Bool) (live : List Section) (own : ℕ) (outsider : IsOutsider hides live own) where
-  pub readable_open : (at : ℕ) → may live own Read at ≡ true → InTheOpen hides live at
+  pub readable_open : (at : ℕ) → may live own Read at ≡ true → Unhidden hides live at
   readable_open at h x l e = barred live own Read at x l (outsider x l e) h
 
-  pub readable_places : (wide : Bool) (at : ℕ) → may_at wide live own Read at ≡ true → AtPlaces (InTheOpen hides live) wide at
+  pub readable_places : (wide : Bool) (at : ℕ) → may_at wide live own Read at ≡ true → AtPlaces (Unhidden hides live) wide at
   readable_places true at h =
       let p = and_parts (may live own Read (even at)) (may live own Read (even at + 1)) h in
       (readable_open (even at) p.0, readable_open (even at + 1) p.1)
   readable_places false at h = readable_open at h
 
-  pub range_open : (at n : ℕ) → may_range live own Read at n ≡ true → (k : ℕ) → at ≤ k → k < at + n → InTheOpen hides live k
+  pub range_open : (at n : ℕ) → may_range live own Read at n ≡ true → (k : ℕ) → at ≤ k → k < at + n → Unhidden hides live k
   range_open at zero h k a b = absurd (omega arith)
   range_open at (suc n) h k a b =
       let p = and_parts (may live own Read (at + n)) (may_range live own Read at n) h in
       elim (cases_lt k (at + n)) [
         | inl lt ↦ range_open at n p.1 k a lt
         | inr ge ↦ let e : at + n ≡ k = omega arith in
-            subst (λ (j : ℕ). InTheOpen hides live j) e (readable_open (at + n) p.0)
+            subst (λ (j : ℕ). Unhidden hides live j) e (readable_open (at + n) p.0)
       ]
 
-  pub extends_open : (at : ℕ) → extends live own at ≡ true → InTheOpen hides live at
+  pub extends_open : (at : ℕ) → extends live own at ≡ true → Unhidden hides live at
   extends_open at h x l e =
       let p = passes (λ u. not (in_private u at) && (not (in_public u at) || own == u.id)) live x l h in
       not-true (in_private x at) (and_parts (not (in_private x at)) (not (in_public x at) || own == x.id) p).0
 
-pub outside_open : (hides : Section → Bool) (live : List Section) (at : ℕ) → outside_private live at ≡ true → InTheOpen hides live at
+pub outside_open : (hides : Section → Bool) (live : List Section) (at : ℕ) → outside_private live at ≡ true → Unhidden hides live at
 outside_open hides live at h x l e = not-true (in_private x at) (passes (λ u. not (in_private u at)) live x l h)
 
 -- Tables.

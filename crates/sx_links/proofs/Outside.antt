@@ -34,9 +34,9 @@ text_at mem l = bytes_from mem l.pub_from (l.pub_to - l.pub_from)
 abbrev pub is_deployed : Kind → List ℕ → Section → Bool
 is_deployed kind mem x = kind x.layout x.provider (text_at mem x.layout)
 
--- the byte is in the private section of no deployed module
-abbrev pub InTheOpen : (Section → Bool) → List Section → ℕ → Type 0
-InTheOpen hides live k = (x : Section) → Lives live x → hides x ≡ true → in_private x k ≡ false
+-- the byte is in no private section that hides
+abbrev pub Unhidden : (Section → Bool) → List Section → ℕ → Type 0
+Unhidden hides live k = (x : Section) → Lives live x → hides x ≡ true → in_private x k ≡ false
 
 -- two memories agree at these places
 pub record AgreeAt (places : ℕ → Type 0) (m n : List ℕ) : Type 0 where
@@ -65,9 +65,9 @@ pub record InWords (l : Layout) : Type 0 where
 
 -- The nodes differ in keys, in what was last wrapped or unwrapped, and in the private bytes of
 -- deployed modules alone.
-pub record SameOutside (mac nac : Mac) (kind : Kind) (s t : State) : Type 0 where
+pub record AlikeOutside (mac nac : Mac) (kind : Kind) (s t : State) : Type 0 where
   pub rest : t ≡ record s { mem = t.mem; sections = t.sections; key = t.key; exchange = t.exchange }
-  pub mem : AgreeAt (InTheOpen (is_deployed kind s.mem) s.sections.live) s.mem t.mem
+  pub mem : AgreeAt (Unhidden (is_deployed kind s.mem) s.sections.live) s.mem t.mem
   pub sections : SameSections mac nac (is_deployed kind s.mem) s.sections.live t.sections.live
   pub next : t.sections.next ≡ s.sections.next
 
@@ -105,9 +105,9 @@ OutsidersSeeTheSame = (mac nac : Mac) (sites : List Site) (n : ℕ) (s t : State
     → ((r : ℕ) → slice_index s.regs r < 65536)
     → (module_of sites n s (own_of s) ≡ None) ⊎ (is_let_run s ≡ false)
     → (module_of sites n s (own_of s) ≡ None → NoGuess mac nac (sites_on sites n) s t.key)
-    → SameOutside mac nac (sites_on sites n) s t
+    → AlikeOutside mac nac (sites_on sites n) s t
     → ((step mac s).shown ≡ (step nac t).shown)
-    × SameOutside mac nac (sites_on sites n) (step mac s).state (step nac t).state
+    × AlikeOutside mac nac (sites_on sites n) (step mac s).state (step nac t).state
 
 -- A deployed module that stands after a step of both nodes: it stood before and its private bytes
 -- are as before, in each node; or all of them are 0.
@@ -124,7 +124,7 @@ OutsidersTouchNone = (mac nac : Mac) (sites : List Site) (n : ℕ) (s t : State)
     → Placed t.sections → ((r : ℕ) → slice_index s.regs r < 65536)
     → (module_of sites n s (own_of s) ≡ None) ⊎ (is_let_run s ≡ false)
     → (module_of sites n s (own_of s) ≡ None → NoGuess mac nac (sites_on sites n) s t.key)
-    → SameOutside mac nac (sites_on sites n) s t
+    → AlikeOutside mac nac (sites_on sites n) s t
     → (x : Section) → Lives (step mac s).state.sections.live x
     → is_deployed (sites_on sites n) (step mac s).state.mem x ≡ true
     → IsUntouched (sites_on sites n) s t (step mac s).state (step nac t).state x

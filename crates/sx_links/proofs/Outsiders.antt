@@ -32,7 +32,7 @@ use Rattle.sx_machine.proofs.PlanGuard.{passes, with_mem}
 use Rattle.sx_machine.proofs.Frame.{zeroed_other, out_of}
 use Rattle.sx_machine.proofs.Apart.{lives_push, lives_without}
 use Rattle.sx_forged.specs.Tags.{SameTags}
-use Rattle.sx_links.proofs.Outside.{InTheOpen, AgreeAt, SameSection, SameSections, text_at}
+use Rattle.sx_links.proofs.Outside.{Unhidden, AgreeAt, SameSection, SameSections, text_at}
 use Rattle.sx_forged.proofs.Tables.{LikeAll, holder_like, refusal_like}
 use Rattle.sx_forged.proofs.Instructions.{attest_same, wrapped_same, unwrapped_same}
 use Rattle.sx_links.proofs.Opened.{bytes_same, zeroed_agree, IsOutsider, blank_mac, blank_all, SameFound, found_same, append_same, without_same}
@@ -98,7 +98,7 @@ wiped_at m l k h =
 module _ (mac nac : Mac) (hides : Section → Bool) (g : Given) (u : Sections) (base : List ℕ) (exchange : Exchange) (m n : List ℕ)
     (same : SameSections mac nac hides g.sections.live u.live) (next : u.next ≡ g.sections.next)
     (outsider : IsOutsider hides g.sections.live g.own)
-    (agree : AgreeAt (InTheOpen hides g.sections.live) m n) where
+    (agree : AgreeAt (Unhidden hides g.sections.live) m n) where
   -- the same, with other keys and another exchange
   abbrev pub other : Given
   other = record g { sections = u; base = base; exchange = exchange }
@@ -319,8 +319,8 @@ module _ (mac nac : Mac) (hides : Section → Bool) (g : Given) (u : Sections) (
   protected_alike None keys e =
       let l = layout_in g.regs in
       let parts = (and_parts (parts_apart l) (list_all (clear_of l) g.sections.live) (admits g.sections l (places_of g.devices) e).overlap).0 in
-      let moments : SameMoments (InTheOpen hides g.sections.live) (untouched_with g (wiped m l)) (untouched_with other (wiped n l)) =
-      record { rest = refl; mem = zeroed_agree (InTheOpen hides g.sections.live) m n l.priv_from (l.priv_to - l.priv_from) agree } in
+      let moments : SameMoments (Unhidden hides g.sections.live) (untouched_with g (wiped m l)) (untouched_with other (wiped n l)) =
+      record { rest = refl; mem = zeroed_agree (Unhidden hides g.sections.live) m n l.priv_from (l.priv_to - l.priv_from) agree } in
       subst (λ (text : List ℕ). Match (protected_if mac g m l None)
       (Module (answer_registers g.regs u.next 0) (untouched_with other (wiped n l))
       (record {
@@ -361,7 +361,7 @@ module _ (mac nac : Mac) (hides : Section → Bool) (g : Given) (u : Sections) (
   removed_alike (Some x) (Some y) h =
       subst (λ (z : Section). Match (removed_if g m (Some x)) (removed_if other n (Some z))) (sym h.0) (
         refl,
-        record { rest = refl; mem = zeroed_agree (InTheOpen hides g.sections.live) m n x.layout.priv_from (x.layout.priv_to - x.layout.priv_from) agree },
+        record { rest = refl; mem = zeroed_agree (Unhidden hides g.sections.live) m n x.layout.priv_from (x.layout.priv_to - x.layout.priv_from) agree },
         without_same mac nac hides g.sections.live u.live g.own same,
         next,
         refl,

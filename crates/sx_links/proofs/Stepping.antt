@@ -43,9 +43,8 @@ use Rattle.sx_calls.proofs.Running.{violated_step}
 use Rattle.sx_forged.specs.Tags.{SameTags}
 use Rattle.sx_forged.proofs.Turns.{NodeTurns}
 use Rattle.sx_forged.proofs.Turning.{stood}
-use Rattle.sx_links.specs.LinksUnseen.{wanted, identity_in, KeepsTo}
-use Rattle.sx_links.specs.Unlinked.{SameModule}
-use Rattle.sx_links.proofs.Outside.{Kind, sites_on, is_deployed, NoGuess, SameOutside, IsUntouched}
+use Rattle.sx_links.specs.LinksUnseen.{SameModule, wanted, identity_in, KeepsTo}
+use Rattle.sx_links.proofs.Outside.{Kind, sites_on, is_deployed, NoGuess, AlikeOutside, IsUntouched}
 use Rattle.sx_links.proofs.Opened.{bytes_same}
 use Rattle.sx_links.proofs.Bystanding.{outsiders_see, outsiders_touch_none, not_deployed}
 use Rattle.sx_links.proofs.Alike.{own_same, modules_same}
@@ -132,7 +131,7 @@ module _ (a : Setting) (nac : Mac) (keys : List (List ℕ)) (secret : List ℕ) 
               (g.admitted is (some_false (deployed a.sites n s.mem (wanted s)) other)));
         }
 
-    pub stepped : ((step a.mac s).shown ≡ (step nac t).shown) × SameOutside a.mac nac (sites_on a.sites n) (step a.mac s).state (step nac t).state
+    pub stepped : ((step a.mac s).shown ≡ (step nac t).shown) × AlikeOutside a.mac nac (sites_on a.sites n) (step a.mac s).state (step nac t).state
     stepped = outsiders_see a.mac nac a.sites n s t ta.node.placed ta.node.registers.words foreign no_guess h.outside
 
     -- a section of the code that ran isn't deployed

@@ -25,7 +25,7 @@ use Rattle.sx_machine.specs.Frame.{Framed, KeptPublic}
 use Rattle.sx_machine.proofs.Frame.{interrupt_framed}
 use Rattle.sx_machine.proofs.PublicKept.{framed_public, public_kept, none_any, clear_of_range}
 use Rattle.sx_machine.proofs.RunGuard.{not_zero}
-use Rattle.sx_links.proofs.Outside.{Kind, is_deployed, InTheOpen, AgreeAt, SameSections, SameOutside}
+use Rattle.sx_links.proofs.Outside.{Kind, is_deployed, Unhidden, AgreeAt, SameSections, AlikeOutside}
 use Rattle.sx_forged.proofs.Tables.{LikeAll, meets_private_like, meets_public_like}
 use Rattle.sx_links.proofs.Opened.{agree_fewer, put_agree, bytes_same, IsOutsider, blank_mac, blank_all, same_hides}
 use Rattle.sx_links.proofs.Blind.{SameOutcome, same_blind}
@@ -34,7 +34,7 @@ use Rattle.sx_links.proofs.Bystanding.{with_hidden, reset_same, SameShown}
 module _ (mac nac : Mac) (kind : Kind) (s : State) (n key : List ℕ) (u : Sections) (exchange : Exchange)
     (placed : Placed s.sections)
     (same : SameSections mac nac (is_deployed kind s.mem) s.sections.live u.live) (next : u.next ≡ s.sections.next)
-    (agree : AgreeAt (InTheOpen (is_deployed kind s.mem) s.sections.live) s.mem n) where
+    (agree : AgreeAt (Unhidden (is_deployed kind s.mem) s.sections.live) s.mem n) where
   abbrev hides : Section → Bool
   hides = is_deployed kind s.mem
 
@@ -53,16 +53,16 @@ module _ (mac nac : Mac) (kind : Kind) (s : State) (n key : List ℕ) (u : Secti
       f k (and_from (nat_le z.layout.pub_from k) (nat_lt k z.layout.pub_to) (le-leb z.layout.pub_from k a) (lt-ltb k z.layout.pub_to (omega (arith, a, b))))))
 
   -- the table stays, and so do all texts
-  remade : (regs : List ℕ) (devices : List Window) (last : ℕ) (m o : List ℕ) → ((z : Section) → Lives s.sections.live z → KeptPublic z s.mem m) → AgreeAt (InTheOpen hides s.sections.live) m o
-      → SameOutside mac nac kind (record s { regs = regs; mem = m; devices = devices; last = last }) (record twin { regs = regs; mem = o; devices = devices; last = last })
+  remade : (regs : List ℕ) (devices : List Window) (last : ℕ) (m o : List ℕ) → ((z : Section) → Lives s.sections.live z → KeptPublic z s.mem m) → AgreeAt (Unhidden hides s.sections.live) m o
+      → AlikeOutside mac nac kind (record s { regs = regs; mem = m; devices = devices; last = last }) (record twin { regs = regs; mem = o; devices = devices; last = last })
   remade regs devices last m o f h = record {
     rest = refl;
-    mem = agree_fewer (InTheOpen hides s.sections.live) (InTheOpen (is_deployed kind m) s.sections.live) m o (λ k g z l e. g z l (status_same m z (f z l) ∙ e)) h;
+    mem = agree_fewer (Unhidden hides s.sections.live) (Unhidden (is_deployed kind m) s.sections.live) m o (λ k g z l e. g z l (status_same m z (f z l) ∙ e)) h;
     sections = same_hides mac nac hides (is_deployed kind m) s.sections.live u.live (λ z l. status_same m z (f z l)) same;
     next = next;
   }
 
-  as_before : SameOutside mac nac kind s twin
+  as_before : AlikeOutside mac nac kind s twin
   as_before = record { rest = refl; mem = agree; sections = same; next = next }
 
   unless_same : {T : Type 0} (o : Option Refused) (x y : Shown T) → (o ≡ None → Same x y) → Same (unless o s x) (unless o twin y)
@@ -87,7 +87,7 @@ module _ (mac nac : Mac) (kind : Kind) (s : State) (n key : List ℕ) (u : Secti
       (unless_same (put_refusal s at (length bytes)) (now (record s { mem = put_bytes s.mem at bytes })) (now (record twin { mem = put_bytes n at bytes })) (λ e. (
         refl,
         remade s.regs s.devices s.last (put_bytes s.mem at bytes) (put_bytes n at bytes) (put_kept at bytes (put_refusal s at (length bytes)) refl e)
-            (put_agree (InTheOpen hides s.sections.live) bytes s.mem n at agree),
+            (put_agree (Unhidden hides s.sections.live) bytes s.mem n at agree),
       )))
     where
       refused : put_refusal twin at (length bytes) ≡ put_refusal s at (length bytes)

@@ -31,8 +31,8 @@ use Rattle.sx_calls.proofs.Running.{Ending, IsLeft, IsBroken}
 use Rattle.sx_forged.proofs.Turns.{setup_of, NodeTurns}
 use Rattle.sx_forged.proofs.Accepting.{section_key}
 use Rattle.sx_forged.proofs.Opening.{Told, AllMarks, unwraps_told}
-use Rattle.sx_links.specs.Unlinked.{Modules, Unlinked}
-use Rattle.sx_links.proofs.Outside.{Kind, sites_on, is_deployed, InTheOpen, SameSections, SameOutside}
+use Rattle.sx_links.specs.Unlinked.{Unlinked}
+use Rattle.sx_links.proofs.Outside.{Kind, sites_on, is_deployed, Unhidden, SameSections, AlikeOutside}
 use Rattle.sx_links.proofs.Bystanding.{with_hidden, caller_same, reset_same}
 use Rattle.sx_links.proofs.Alike.{texts_same}
 use Rattle.sx_links.proofs.Twice.{key_in, SameEnds, SameMarks, SameProgress, SameLeft, SameInvoked, After, invoke_same}
@@ -50,8 +50,8 @@ mate_lives mac nac hides (z ∷ xs) (y ∷ ys) x h l = elim l [
   | inr r ↦ let g = mate_lives mac nac hides xs ys x h.1 r in (g.0, inr g.1)
 ]
 
-module _ (a : Setting) (nac : Mac) (keys : List (List ℕ)) (secret : List ℕ) (others_are : Modules) (sound : IsSoundSetting a) (sound2 : IsSoundSetting (second a nac keys secret))
-    (unlinked : Unlinked others_are a (second a nac keys secret)) where
+module _ (a : Setting) (nac : Mac) (keys : List (List ℕ)) (secret : List ℕ) (sound : IsSoundSetting a) (sound2 : IsSoundSetting (second a nac keys secret))
+    (unlinked : Unlinked a (second a nac keys secret)) where
   abbrev b : Setting
   b = second a nac keys secret
 
@@ -108,7 +108,7 @@ module _ (a : Setting) (nac : Mac) (keys : List (List ℕ)) (secret : List ℕ) 
         by (Some j) e = refl
 
     abbrev pub places : ℕ → Type 0
-    places = InTheOpen (is_deployed kind s.mem) s.sections.live
+    places = Unhidden (is_deployed kind s.mem) s.sections.live
 
     begins_same : SameProgress L O places pa pb
     begins_same =
@@ -132,11 +132,11 @@ module _ (a : Setting) (nac : Mac) (keys : List (List ℕ)) (secret : List ℕ) 
         (mays a.mac nac kind s mem key us x2 ta.node.placed h.outside.sections h.outside.next h.outside.mem sec mate lives hidden refl)
         (readable a.mac nac kind s mem key us x2 ta.node.placed h.outside.sections h.outside.next h.outside.mem sec mate lives hidden refl)
         (λ rest. ap (λ (z : List ℕ). a.mac z (0x54 ∷ rest)) own_key ∙ unlinked.tags m s.boot site rest sited ∙ ap (λ (z : List ℕ). nac z (0x54 ∷ rest)) (sym mate_key))
-        (linked_tags a nac keys secret others_are unlinked)
+        (linked_tags a nac keys secret unlinked)
         (λ packet size accepted.
         subst (λ (z : List ℕ). O (header_in packet) (key_in a.mac z packet) (key_in nac k packet)) (sym own_key)
         (subst (λ (z : List ℕ). O (header_in packet) (key_in a.mac (key_of a site s.boot) packet) (key_in nac z packet)) (sym mate_key)
-        (opens_linked a nac keys secret others_are unlinked sound.tag sound2.tag m s.boot site sited packet size)))
+        (opens_linked a nac keys secret unlinked sound.tag sound2.tag m s.boot site sited packet size)))
         (call_at s) pa pb begins_same
 
     -- the module left, and the private sections of the others are as before
@@ -163,7 +163,7 @@ module _ (a : Setting) (nac : Mac) (keys : List (List ℕ)) (secret : List ℕ) 
       pub marks : SameMarks L O places ms ns
       pub told : AllMarks (Told su (call_at s) pa) ms
       pub last : (who : Option ℕ) → shown ≡ item.Forged who → ⊥
-      pub outside : SameOutside a.mac nac kind after later
+      pub outside : AlikeOutside a.mac nac kind after later
       pub stopped : after.cur ≡ 0
       pub left : (after ≡ reset s) ⊎ Rested after later ms
 
@@ -243,7 +243,7 @@ module _ (a : Setting) (nac : Mac) (keys : List (List ℕ)) (secret : List ℕ) 
             marks = subst (λ (z : List Mark). SameMarks L O places z fb.rest) (sym marks) (subst (λ (z : List Mark). SameMarks L O places p.marks z) (sym marks2) same.1.marks);
             told = subst (AllMarks (Told su (call_at s) pa)) (ap marks_in broken ∙ sym marks) all_told;
             last = λ who. reset_forged who c fa.shown xs;
-            outside = subst (λ (z : State). SameOutside a.mac nac kind z fb.after) (sym after) (subst (λ (z : State). SameOutside a.mac nac kind (reset s) z) (sym after2)
+            outside = subst (λ (z : State). AlikeOutside a.mac nac kind z fb.after) (sym after) (subst (λ (z : State). AlikeOutside a.mac nac kind (reset s) z) (sym after2)
                 (reset_same a.mac nac kind s mem key us x2 ta.node.placed h.outside.sections h.outside.next h.outside.mem));
             stopped = ap (λ (z : State). z.cur) after;
             left = inl after;

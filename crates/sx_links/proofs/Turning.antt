@@ -27,7 +27,7 @@ use Rattle.sx_calls.proofs.Middle.{Middle}
 use Rattle.sx_machine.proofs.Lengths.{length-bytes_from}
 use Rattle.std.proofs.lemmas.List.{get_or_append_left}
 use Rattle.std.proofs.Math.Seq.{get_or-append_seam}
-use Rattle.sx_links.proofs.Outside.{Kind, is_deployed, InTheOpen, AgreeAt, SameSections, SameOutside}
+use Rattle.sx_links.proofs.Outside.{Kind, is_deployed, Unhidden, AgreeAt, SameSections, AlikeOutside}
 use Rattle.sx_forged.proofs.Tables.{may_like}
 use Rattle.sx_links.proofs.Opened.{agree_fewer, blank_mac, blank_all, same_hides}
 use Rattle.sx_links.proofs.Bystanding.{with_hidden}
@@ -79,7 +79,7 @@ devices_same Linked Opens places (x ∷ ms) (y ∷ ns) ds h = elim h.0 [
 module _ (mac nac : Mac) (kind : Kind) (s : State) (n key : List ℕ) (u : Sections) (exchange : Exchange)
     (placed : Placed s.sections)
     (same : SameSections mac nac (is_deployed kind s.mem) s.sections.live u.live) (next : u.next ≡ s.sections.next)
-    (agree : AgreeAt (InTheOpen (is_deployed kind s.mem) s.sections.live) s.mem n)
+    (agree : AgreeAt (Unhidden (is_deployed kind s.mem) s.sections.live) s.mem n)
     (own other : Section) (lives : Lives s.sections.live own) (hidden : is_deployed kind s.mem own ≡ true) (mates : other ≡ record own { key = other.key }) where
   abbrev hides : Section → Bool
   hides = is_deployed kind s.mem
@@ -92,7 +92,7 @@ module _ (mac nac : Mac) (kind : Kind) (s : State) (n key : List ℕ) (u : Secti
   pub mays : (access : Rattle.sx_rules.specs.declared.access.Access.Access) (at : ℕ) → may u.live own.id access at ≡ may s.sections.live own.id access at
   mays access at = may_like blank_mac blank_mac s.sections.live u.live own.id access at (blank_all mac nac hides s.sections.live u.live same)
 
-  pub readable : (at : ℕ) → may s.sections.live own.id Read at ≡ true → in_private own at ≡ false → InTheOpen hides s.sections.live at
+  pub readable : (at : ℕ) → may s.sections.live own.id Read at ≡ true → in_private own at ≡ false → Unhidden hides s.sections.live at
   readable at may_read out x l h = elim (Rattle.std.proofs.lemmas.Bool.cases_eq own.id x.id) [
     | inl e ↦
         let one : own ≡ x = some_inj own x
@@ -104,7 +104,7 @@ module _ (mac nac : Mac) (kind : Kind) (s : State) (n key : List ℕ) (u : Secti
   -- What a turn leaves in the open.
 
   turn_agree : (su sv : Setup) → su.section ≡ own → su.live ≡ s.sections.live → sv.section ≡ other → sv.live ≡ u.live → (out : ℕ) (pieces : List (List ℕ)) (m o : List ℕ)
-      → KeepsOutside su out pieces s.mem m → KeepsOutside sv out pieces n o → Stand m out pieces → Stand o out pieces → length m ≡ length o → AgreeAt (InTheOpen hides s.sections.live) m o
+      → KeepsOutside su out pieces s.mem m → KeepsOutside sv out pieces n o → Stand m out pieces → Stand o out pieces → length m ≡ length o → AgreeAt (Unhidden hides s.sections.live) m o
   turn_agree su sv es el fs fl out pieces m o ku kv a b size = record {
     size = size;
     same = λ k free. at_place k free (is_piece_address su out pieces k) refl;
@@ -118,7 +118,7 @@ module _ (mac nac : Mac) (kind : Kind) (s : State) (n key : List ℕ) (u : Secti
           (ap₂ (λ (l : List Section) (z : Section). may l z.id Write k) fl sections_same ∙ ap (λ (z : Section). may u.live z.id Write k) es ∙ mays Write k
           ∙ sym (ap₂ (λ (l : List Section) (z : Section). may l z.id Write k) el es))
 
-      at_place : (k : ℕ) → InTheOpen hides s.sections.live k → (c : Bool) → is_piece_address su out pieces k ≡ c → slice_index m k ≡ slice_index o k
+      at_place : (k : ℕ) → Unhidden hides s.sections.live k → (c : Bool) → is_piece_address su out pieces k ≡ c → slice_index m k ≡ slice_index o k
       at_place k free true e =
           let p = and_parts (nat_le out k) (nat_lt k (out + bytes_in pieces) && may su.live su.section.id Write k) e in
           let q = and_parts (nat_lt k (out + bytes_in pieces)) (may su.live su.section.id Write k) p.1 in
@@ -134,11 +134,11 @@ module _ (mac nac : Mac) (kind : Kind) (s : State) (n key : List ℕ) (u : Secti
       → (x : Exited su ra s (record { node = after; marks = ms; event = ea })) → Middle own s after ms
       → (y : Exited sv rb twin (record { node = later; marks = ns; event = eb })) → Middle other twin later ns
       → x.status ≡ y.status → SameLeft Linked Opens places x.progress y.progress → later.last ≡ after.last → later.caller ≡ after.caller
-      → SameOutside mac nac kind after later
+      → AlikeOutside mac nac kind after later
   turn_same Linked Opens places su sv ra rb after later ms ns ea eb es el fs fl x mx y my status h last caller = record {
     rest = remade later.regs after.regs later.devices after.devices later.cur after.cur later.last after.last later.caller after.caller later.boot after.boot
         later.mem later.sections later.key later.exchange regs devs (y.idle ∙ sym x.idle) last caller (my.boot ∙ sym mx.boot);
-    mem = agree_fewer (InTheOpen hides s.sections.live) (InTheOpen (is_deployed kind after.mem) after.sections.live) after.mem later.mem
+    mem = agree_fewer (Unhidden hides s.sections.live) (Unhidden (is_deployed kind after.mem) after.sections.live) after.mem later.mem
         (λ k f z l e. f z (subst (λ (t : Sections). Lives t.live z) (sym mx.sections) l) (sym (status_same z l) ∙ e))
         (turn_agree su sv es el fs fl out x.progress.pieces after.mem later.mem x.outside
         (subst (λ (z : List (List ℕ)). KeepsOutside sv out z n later.mem) pieces y.outside)

@@ -15,9 +15,10 @@ use Rattle.sx_run.specs.Setting.{Setting, Site}
 use Rattle.sx_run.specs.Wire.{low_first, set_key_header}
 use Rattle.sx_run.specs.Deployer.{list_at, key_of, connection_key}
 use Rattle.sx_run.specs.Law.{IsSoundSetting, IsDriven}
-use Rattle.sx_links.specs.Unlinked.{Modules, Unlinked}
-use Rattle.sx_links.specs.Unlinks.{IsMoving, RealizesAlways}
-use Rattle.sx_links.proofs.Moved.{TellsApart, mixed, change, moved, moved_setting, Unlinks}
+use Rattle.sx_links.specs.Unlinked.{Unlinked}
+use Rattle.sx_links.specs.Unlinks.{IsMoving, IsDeployedKey}
+use Rattle.sx_links.specs.Laws.{RealizesAlways}
+use Rattle.sx_links.proofs.Moved.{TellsApart, mixed, change, moved, moved_setting, Moves}
 
 abbrev Bytes : List ℕ → Type 0
 Bytes xs = All (λ b. b < 256) xs
@@ -197,15 +198,12 @@ module _ (move back : List ℕ → List ℕ) (moving : IsMoving move back) (hold
       ∙ ap (xor_bytes (move k)) (sym (at_pad key message h))
 
   -- 6. the clauses
-  unlinked_moved : (others_are : Modules) → TellsApart others_are a holds → Unlinked others_are a (moved_setting move back holds a)
-  unlinked_moved others_are tells = record {
+  unlinked_moved : TellsApart a holds → ((link epoch : ℕ) → IsDeployedKey a (connection_key a link epoch) → ⊥) → Unlinked a (moved_setting move back holds a)
+  unlinked_moved tells apart = record {
     rest = refl;
     count = sym (length-map a.keys move);
     links = λ link epoch kind rest ne.
-        sym (ap (λ (z : List ℕ). nac z (kind ∷ rest)) (link_moved link epoch) ∙ at_other (connection_key a link epoch) rest kind ne (tells.links link epoch));
-    others = λ n boot provider id is kind rest ne.
-        sym (ap (λ (z : List ℕ). nac z (kind ∷ rest)) (at_node n boot provider id)
-        ∙ at_other (module_key a.mac (list_at a.keys n) boot provider id) rest kind ne (tells.others n boot provider id is));
+        sym (ap (λ (z : List ℕ). nac z (kind ∷ rest)) (link_moved link epoch) ∙ at_other (connection_key a link epoch) rest kind ne (tells.others _ (apart link epoch)));
     tags = λ m boot site rest found.
         let id = identity site.text site.layout.pub_from site.layout.pub_to site.layout.priv_from site.layout.priv_to in
         sym (ap (λ (z : List ℕ). nac z (0x54 ∷ rest)) (at_node site.node boot site.provider id) ∙ at_tag (key_of a site boot) rest (tells.sites m boot site found));
@@ -248,10 +246,16 @@ module _ (move back : List ℕ → List ℕ) (moving : IsMoving move back) (hold
     apart = s.apart;
   }
 
-pub unlinks : Unlinks
-unlinks others_are a move back holds sound always moving tells = (
-  sound_moved move back moving holds a sound.tag sound always,
-  unlinked_moved move back moving holds a sound.tag others_are tells,
-  link_moved move back moving holds a sound.tag,
-  λ k stays free kind rest ne. sym (ap (λ (z : List ℕ). moved move back holds a z (kind ∷ rest)) (sym stays) ∙ at_other move back moving holds a sound.tag k rest kind ne free),
-)
+pub moves : Moves
+moves a move back holds sound always moving tells apart = record {
+  sound = sound_moved move back moving holds a sound.tag sound always;
+  unlinked = unlinked_moved move back moving holds a sound.tag tells apart;
+  moved = link_moved move back moving holds a sound.tag;
+  stay = λ k stays none kind rest ne.
+      let free = tells.others k none in
+      sym (ap (λ (z : List ℕ). moved move back holds a z (kind ∷ rest)) (sym stays) ∙ at_other move back moving holds a sound.tag k rest kind ne free);
+  modules = λ n boot provider id none kind rest ne.
+      let key = module_key a.mac (list_at a.keys n) boot provider id in
+      sym (ap (λ (z : List ℕ). moved move back holds a z (kind ∷ rest)) (at_node move back moving holds a sound.tag n boot provider id)
+      ∙ at_other move back moving holds a sound.tag key rest kind ne (tells.others key none));
+}

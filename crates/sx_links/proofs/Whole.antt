@@ -35,7 +35,7 @@ use Rattle.sx_forged.proofs.Reaching.{same_or_not}
 use Rattle.sx_forged.proofs.Opening.{Told}
 use Rattle.sx_forged.proofs.Keyed.{key_shows}
 use Rattle.sx_forged.proofs.Fields.{field_key, field_is}
-use Rattle.sx_links.specs.Unlinked.{Modules, Unlinked}
+use Rattle.sx_links.specs.Unlinked.{Unlinked}
 use Rattle.sx_links.proofs.Bystanding.{with_hidden}
 use Rattle.sx_links.proofs.Twice.{IsMark, After, ends_map}
 use Rattle.sx_links.proofs.Linking.{second, Linked, Opens, state_in, SameStates, SameNode}
@@ -58,8 +58,8 @@ event_no_key (p ∷ ps) e =
     ap (λ (z : ℕ). (length head == 6) && (((z == 1) && (slice_index head 1 == 0)) && (Rattle.std.specs.Prelude.nat_lt (slice_index head 4) 2 && (slice_index head 5 == 0)))) three
     ∙ no_key (length head == 6)
 
-module _ (a : Setting) (nac : Mac) (keys : List (List ℕ)) (secret : List ℕ) (others_are : Modules) (sound : IsSoundSetting a) (sound2 : IsSoundSetting (second a nac keys secret))
-    (unlinked : Unlinked others_are a (second a nac keys secret)) where
+module _ (a : Setting) (nac : Mac) (keys : List (List ℕ)) (secret : List ℕ) (sound : IsSoundSetting a) (sound2 : IsSoundSetting (second a nac keys secret))
+    (unlinked : Unlinked a (second a nac keys secret)) where
   abbrev b : Setting
   b = second a nac keys secret
 
@@ -116,13 +116,13 @@ module _ (a : Setting) (nac : Mac) (keys : List (List ℕ)) (secret : List ℕ) 
     other = mate_lives a.mac nac _ s.sections.live t.sections.live sec h.outside.sections lives
 
     abbrev T : World → World → Type 0
-    T = Turned a nac keys secret others_are sound sound2 unlinked m q site part sited s t.mem t.key t.sections t.exchange beside ta turns sec other.0 lives other.1 at idle entry
+    T = Turned a nac keys secret sound sound2 unlinked m q site part sited s t.mem t.key t.sections t.exchange beside ta turns sec other.0 lives other.1 at idle entry
 
     abbrev Rests : State → State → List Mark → Type 0
-    Rests = Rested a nac keys secret others_are sound sound2 unlinked m q site part sited s t.mem t.key t.sections t.exchange beside ta turns sec other.0 lives other.1 at idle entry
+    Rests = Rested a nac keys secret sound sound2 unlinked m q site part sited s t.mem t.key t.sections t.exchange beside ta turns sec other.0 lives other.1 at idle entry
 
     turn : T w v
-    turn = turned a nac keys secret others_are sound sound2 unlinked m q site part sited s t.mem t.key t.sections t.exchange beside ta turns sec other.0 lives other.1 at idle entry w v here stands
+    turn = turned a nac keys secret sound sound2 unlinked m q site part sited s t.mem t.key t.sections t.exchange beside ta turns sec other.0 lives other.1 at idle entry w v here stands
 
     abbrev P : Mark → Type 0
     P = Told (setup_of a m q sec s) (call_at s) (progress_at (setup_of a m q sec s) s)
@@ -136,7 +136,7 @@ module _ (a : Setting) (nac : Mac) (keys : List (List ℕ)) (secret : List ℕ) 
     event header body told = ap is_set_key_header told.header_is ∙ event_no_key told.packet told.kind
 
     abbrev pl : ℕ → Type 0
-    pl = places a nac keys secret others_are sound sound2 unlinked m q site part sited s t.mem t.key t.sections t.exchange beside ta turns sec other.0 lives other.1 at idle entry
+    pl = places a nac keys secret sound sound2 unlinked m q site part sited s t.mem t.key t.sections t.exchange beside ta turns sec other.0 lives other.1 at idle entry
 
     -- the nodes that it leaves, where no `forged` shows
     left_same : (r : T w v) → NoForged (marks_observed a.app n m s.boot r.ms w.ledger).items → SameNode a nac keys secret n r.after r.later

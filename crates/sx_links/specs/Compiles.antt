@@ -2,12 +2,11 @@
 use Rattle.std.specs.Prelude.{◌≡◌, ℕ, ◌<◌, slice_get, Some, All}
 use Rattle.sx_mean.specs.Application.{PartTree}
 use Rattle.sx_mean.specs.Ends.{ends_of}
-use Rattle.sx_ir.specs.declared.ir.Code.{Code}
 use Rattle.sx_lower.specs.Lowering.{IsLowerable}
-use Rattle.sx_compile.specs.Compiled.{HasSections, IsCompiled, compiled_image}
+use Rattle.sx_compile.specs.Compiled.{HasSections, compiled_image}
 use Rattle.sx_run.specs.Setting.{Setting, Site}
 use Rattle.sx_run.specs.Law.{image_at}
-use Rattle.sx_links.specs.Unlinks.{RealizesAlways}
+use Rattle.sx_links.specs.Laws.{RealizesAlways}
 
 -- the image at the site is what the compiler makes of the module
 pub record IsCompiledAt (a : Setting) (m : ℕ) (q : PartTree) (site : Site) : Type 0 where
@@ -15,8 +14,6 @@ pub record IsCompiledAt (a : Setting) (m : ℕ) (q : PartTree) (site : Site) : T
   pub lowerable : IsLowerable q.tree (ends_of a.app m)
   pub links : All (λ e. e.link < 256) (ends_of a.app m)
   pub sections : HasSections q.tree (ends_of a.app m) site.layout
-  pub code : Code
-  pub compiled : IsCompiled q.tree (ends_of a.app m) code
 
 -- compiled images realize their modules whatever the tag function is
 abbrev pub CompiledAlways : Type 0

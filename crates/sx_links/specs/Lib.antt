@@ -1,10 +1,13 @@
 -- Read LinksUnseen first, over Unlinked, which says what two settings have in common whose
--- connections have keys of their own. Unlinks, Choices and Compiles say that there are such
--- settings, and Found what a guess then is. Accepted says the first from a deployment's text on.
+-- connections have keys of their own. Unlinks says that there are such settings, Found what a guess
+-- then is, and Choices which choices of other keys there are. Laws has the first two of every sound
+-- setting, and Accepted the first from a deployment's text on; Compiles says that a compiler's
+-- images do for the second.
 pub mod Unlinked
 pub mod LinksUnseen
 pub mod Unlinks
-pub mod Choices
-pub mod Compiles
 pub mod Found
+pub mod Choices
+pub mod Laws
+pub mod Compiles
 pub mod Accepted

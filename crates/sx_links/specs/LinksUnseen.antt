@@ -5,7 +5,7 @@ use Rattle.sx_trace.specs.declared.items.Item.{Item}
 use Rattle.sx_rules.specs.declared.access.Access.TheVariants.{Read}
 use Rattle.sx_rules.specs.declared.section.Section.{Section}
 use Rattle.sx_rules.specs.Access.{Lives, in_private, section_of}
-use Rattle.sx_tag.specs.Keys.{identity}
+use Rattle.sx_tag.specs.Keys.{identity, module_key}
 use Rattle.sx_model.specs.Legal.{is_forged}
 use Rattle.sx_machine.specs.Memory.{word, bytes_from}
 use Rattle.sx_machine.specs.State.{State}
@@ -14,15 +14,16 @@ use Rattle.sx_machine.specs.ModuleRows.{own_key}
 use Rattle.sx_machine.specs.Step.{pc_of, own_of}
 use Rattle.sx_image.specs.Image.{public_bytes}
 use Rattle.sx_sched.specs.Lines.{Line, Run}
-use Rattle.sx_run.specs.Setting.{Setting, Site, deployed, module_of}
-use Rattle.sx_run.specs.Law.{IsSoundSetting, LinesInForm}
+use Rattle.sx_run.specs.Setting.{Setting, deployed, module_of}
+use Rattle.sx_run.specs.Deployer.{list_at}
+use Rattle.sx_run.specs.Law.{IsSoundSetting}
 use Rattle.sx_run.specs.State.{World, switched_on}
 use Rattle.sx_run.specs.Run.{run}
 use Rattle.sx_guard.specs.Happening.{Step}
 use Rattle.sx_forged.specs.Tags.{SameTags}
 use Rattle.sx_forged.specs.Bare.{bare_section}
 use Rattle.sx_forged.specs.Moments.{Moment, moment, NoForged, NoneBefore}
-use Rattle.sx_links.specs.Unlinked.{Modules, SameModule, Unlinked}
+use Rattle.sx_links.specs.Unlinked.{Unlinked}
 
 -- the items up to the first `forged`, and with it
 abbrev pub upto_forged : List Item → List Item
@@ -38,10 +39,6 @@ IsWhole _ = Unit {0}
 abbrev pub TurnsWhole : List Line → Type 0
 TurnsWhole [] = Unit {0}
 TurnsWhole (line ∷ lines) = IsWhole line × TurnsWhole lines
-
--- no module's code stands at 0, where `load` puts its one instruction
-abbrev pub SparesZero : Setting → Type 0
-SparesZero a = (m : ℕ) (site : Site) → slice_get a.sites m ≡ Some site → site.layout.pub_from ≢ 0
 
 -- the byte is in no private section of a deployed module of the n-th node
 abbrev pub InTheOpen : Setting → ℕ → State → ℕ → Type 0
@@ -105,6 +102,13 @@ RunKeepsTo a IsKey IsModule lines = (k : ℕ) (now : Moment) → moment a lines 
     → slice_get now.world.nodes n ≡ Some s → module_of a.sites n s (own_of s) ≡ None
     → KeepsTo a IsKey (IsModule n) n s
 
+-- no tag under the key of this module, by node, boot, provider and identity, tells the settings
+-- apart
+abbrev pub SameModule : Setting → Setting → ℕ → ℕ → ℕ → List ℕ → Type 0
+SameModule a b n boot provider identity =
+    SameTags a.mac (module_key a.mac (list_at a.keys n) boot provider identity) b.mac
+    (module_key b.mac (list_at b.keys n) boot provider identity)
+
 -- no step of the run uses a key, or admits a module, under which a tag tells the settings apart
 abbrev pub NothingGuessed : Setting → Setting → List Line → Type 0
 NothingGuessed a b = RunKeepsTo a (λ k. SameTags a.mac k b.mac k) (SameModule a b)
@@ -118,9 +122,8 @@ RunsAlike a b lines =
     (upto_forged y.items ≡ upto_forged x.items)
     × (NoForged x.items → SameWorldOutside a x.world y.world)
 
--- Settings whose connections have keys of their own do so, for every schedule that cuts no turn,
--- unless code of no deployed module guesses.
-abbrev pub LinksUnseen : Type 0
-LinksUnseen = (others_are : Modules) (a b : Setting) (lines : List Line) → IsSoundSetting a
-    → IsSoundSetting b → Unlinked others_are a b → SparesZero a → LinesInForm a lines
-    → TurnsWhole lines → NothingGuessed a b lines → RunsAlike a b lines
+-- So the run of this schedule is like that of each sound setting whose connections have keys of
+-- their own, if no line cuts a turn, and unless code of no deployed module guesses.
+abbrev pub LinksAreUnseen : Setting → List Line → Type 0
+LinksAreUnseen a lines = (b : Setting) → IsSoundSetting b → Unlinked a b → TurnsWhole lines
+    → NothingGuessed a b lines → RunsAlike a b lines

@@ -4,32 +4,32 @@ ghost use Rattle.sx_links.specs.Accepted.{AcceptedUnseen};
 ghost use Rattle.sx_links.specs.Choices.{ChoicesMove};
 ghost use Rattle.sx_links.specs.Compiles.{CompiledAlways};
 ghost use Rattle.sx_links.specs.Found.{KeysFound};
-ghost use Rattle.sx_links.specs.LinksUnseen.{LinksUnseen};
-ghost use Rattle.sx_links.specs.Unlinks.{UnlinksAll};
+ghost use Rattle.sx_links.specs.Laws.{LinksUnseen, UnlinksAll};
 
-/// Two settings whose connections have keys of their own show the same up to the first `forged`,
-/// unless code of no deployed module guesses, for every schedule that cuts no turn.
+/// The run of a schedule that cuts no turn shows the same, up to the first `forged`, as that of
+/// each setting whose connections have keys of their own, unless code of no deployed module
+/// guesses.
 pub fn links_unseen()
     ensures { LinksUnseen }
 {}
 
-/// So do the run of an accepted deployment, from its text on, and any such other.
+/// So does the run of every accepted deployment, from its text on.
 pub fn accepted_unseen()
     ensures { AcceptedUnseen }
 {}
 
-/// There is a setting whose connections have other keys, for every choice of them, wherever no
-/// connection has a deployed module's key.
+/// There is such a setting for every choice of other keys, if no connection has a deployed
+/// module's key.
 pub fn unlinks_all()
     ensures { UnlinksAll }
 {}
 
-/// Between the two, nothing is guessed where no key is found.
+/// Between the two nothing is guessed unless a key is found.
 pub fn keys_found()
     ensures { KeysFound }
 {}
 
-/// Each list of other keys for keys is such a choice.
+/// Each list of keys with other keys in their place is such a choice.
 pub fn choices_move()
     ensures { ChoicesMove }
 {}

@@ -1,0 +1,30 @@
+-- Both of every sound setting.
+use Rattle.std.specs.Prelude.{◌≡◌, ◌≢◌, ℕ, List, slice_get, Some}
+use Rattle.sx_mean.specs.Application.{PartTree}
+use Rattle.sx_mean.specs.Ends.{ends_of}
+use Rattle.sx_tag.specs.Mac.{Mac, IsTag}
+use Rattle.sx_sched.specs.Lines.{Line}
+use Rattle.sx_image.specs.Realizes.{Realizes}
+use Rattle.sx_run.specs.Setting.{Setting, Site}
+use Rattle.sx_run.specs.Law.{IsSoundSetting, LinesInForm, image_at}
+use Rattle.sx_links.specs.LinksUnseen.{LinksAreUnseen}
+use Rattle.sx_links.specs.Unlinks.{HasMoved}
+
+-- no module's code stands at 0, where `load` puts its one instruction
+abbrev pub SparesZero : Setting → Type 0
+SparesZero a = (m : ℕ) (site : Site) → slice_get a.sites m ≡ Some site → site.layout.pub_from ≢ 0
+
+-- The keys of connections are unseen in the run of every schedule.
+abbrev pub LinksUnseen : Type 0
+LinksUnseen = (a : Setting) (lines : List Line) → IsSoundSetting a → SparesZero a
+    → LinesInForm a lines → LinksAreUnseen a lines
+
+-- Each image realizes its module whatever the tag function is. Compiled images do.
+abbrev pub RealizesAlways : Setting → Type 0
+RealizesAlways a = (m : ℕ) (q : PartTree) (site : Site) → slice_get a.app.parts m ≡ Some q
+    → slice_get a.sites m ≡ Some site → (mac : Mac) → IsTag mac
+    → Realizes mac q.tree (ends_of a.app m) (image_at site)
+
+-- Where each image does, there is a setting for every choice of other keys.
+abbrev pub UnlinksAll : Type 0
+UnlinksAll = (a : Setting) → IsSoundSetting a → RealizesAlways a → HasMoved a
