@@ -9,7 +9,8 @@ A definition is reached where its name stands in one that is reached. Its lines 
 the kit's own definitions don't count. Of some definitions a reader believes only that they are functions (FUNCTIONS);
 what stands behind these isn't reached. Two tiers: the core is about runs, for every sound setting and every list of
 lines in form; the rest is what leads there from the text that is read, and to the text that is written. What `forged`
-says (the crate sx_forged, and what is reached through it alone) is counted by itself, and in no other number.
+and keys say (the crates sx_forged and sx_links, and what is reached through them alone) is counted by itself, and in no
+other number; of this, what the keys of connections show has a line of its own.
 """
 
 import re
@@ -30,11 +31,13 @@ CORE = SOURCE + [
 HEADLINE = ["*.Runs.RunSays", "sx_told.Told.command_at"]
 PROGRAM = ["*.Promises.ProgramTold"]
 # What the first `forged` of a run says, and what keys show.
-FORGED_CRATE = "sx_forged"
-FORGED = [f"{FORGED_CRATE}.{law}" for law in (
+FORGED = [f"sx_forged.{law}" for law in (
     "Forgery.ForgedUnmade", "Forgery.ForgedShown", "Logged.LedgerTells",
     "Unseen.KeysUnseen", "Unseen.RunsKeysUnseen", "Unseen.PlayersSeeTheSame", "Named.NamesAgree",
 )]
+# What the keys of connections show.
+LINKS = [f"sx_links.{law}" for law in ("LinksUnseen.LinksAreUnseen", "Unlinks.HasMoved", "Found.KeysFound")]
+OF_FORGED = ("sx_forged", "sx_links")
 # The images are a function of the deployment; which one, the compiler says, and nobody has to believe that.
 FUNCTIONS = {("sx_command_world.Compiled", "compiled_texts")}
 
@@ -204,12 +207,12 @@ class Repository:
                 sys.exit(f"no definition {name}")
             yield from found
 
-    def reached(self, names, without=None):
-        """What these lead to, `without` the definitions of a crate and what only they lead to, if one is given."""
+    def reached(self, names, without=()):
+        """What these lead to, `without` the definitions of these crates and what only they lead to."""
         seen, left = set(), list(self.roots(names))
         while left:
             key = left.pop()
-            if key is not None and key not in seen and key[0].split(".")[0] != without:
+            if key is not None and key not in seen and key[0].split(".")[0] not in without:
                 seen.add(key)
                 left += self.named(key)
         return seen
@@ -238,14 +241,16 @@ def main():
         return repository.show("reached", repository.reached(sys.argv[1:]))
     source = repository.reached(SOURCE)
     core = repository.reached(CORE)
-    headline = repository.reached(CORE + HEADLINE, FORGED_CRATE)
-    program = repository.reached(CORE + HEADLINE + PROGRAM, FORGED_CRATE)
-    forged = repository.reached(CORE + HEADLINE + PROGRAM + FORGED) - program
+    headline = repository.reached(CORE + HEADLINE, OF_FORGED)
+    program = repository.reached(CORE + HEADLINE + PROGRAM, OF_FORGED)
+    forged = repository.reached(CORE + HEADLINE + PROGRAM + FORGED + LINKS) - program
+    links = forged - repository.reached(CORE + HEADLINE + PROGRAM + FORGED, ("sx_links",))
     repository.show("The source: application, model, legal run and items", source)
     repository.show("The core, beside it", core - source)
     repository.show("From the text on", headline - core)
     repository.show("What a reader may take from a trace, and the other commands", program - headline)
-    repository.show("What `forged` says, beside all of these", forged)
+    repository.show("What `forged` says, beside all of these", forged - links)
+    repository.show("What the keys of connections show, beside that", links)
     for key in repository.beside(program | forged):
         print(f"not reached: {key[1]} in {repository.definitions[key].place}")
     tiers = {"core": core, "headline": headline, "program": program, "forged": forged}

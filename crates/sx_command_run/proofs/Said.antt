@@ -14,8 +14,12 @@ use Rattle.sx_command_run.specs.Run.{items_of, run_deployed}
 use Rattle.sx_command_run.specs.Runs.{RunSays, RunsWith, run_part}
 use Rattle.sx_guard.proofs.Performing.{runs_guarded}
 use Rattle.sx_forged.specs.Forgery.{ForgedIsForgery}
+use Rattle.sx_links.specs.LinksUnseen.{LinksAreUnseen}
+use Rattle.sx_links.specs.Unlinks.{HasMoved}
+use Rattle.sx_command_world.specs.Compiled.{compiled_texts}
 use Rattle.sx_command_world.specs.Schedule.{schedule}
-use Rattle.sx_command_run.proofs.Legality.{items_legal, items_forged}
+use Rattle.sx_command_run.proofs.Legality.{items_legal, items_forged, links_unseen}
+use Rattle.sx_command_run.proofs.Moving.{deployed_moved}
 use Rattle.sx_command_run.proofs.Owing.{run_owes}
 
 legal_by : (mac : Mac) (deployment : Option (List ℕ)) (texts : List (List ℕ)) (d : Deployed) → IsTag mac → Deploys deployment d → AreImages mac d texts
@@ -28,11 +32,23 @@ forged_by : (mac : Mac) (deployment : Option (List ℕ)) (texts : List (List ℕ
 forged_by mac None texts d tag deploys images answers = absurd deploys
 forged_by mac (Some text) texts d tag deploys images answers = items_forged mac text d texts tag deploys images answers
 
+links_by : (mac : Mac) (deployment : Option (List ℕ)) (texts : List (List ℕ)) (d : Deployed) → IsTag mac → Deploys deployment d → AreImages mac d texts
+    → (answers : List Answer) → LinksAreUnseen (setting_of mac d texts) (schedule assembled d.names 1 answers).lines
+links_by mac None texts d tag deploys images answers = absurd deploys
+links_by mac (Some text) texts d tag deploys images answers = links_unseen mac text d texts tag deploys images answers
+
+moved_by : (mac : Mac) (deployment : Option (List ℕ)) (texts : List (List ℕ)) (d : Deployed) → IsTag mac → Deploys deployment d → AreImages mac d texts
+    → texts ≡ compiled_texts d → HasMoved (setting_of mac d texts)
+moved_by mac None texts d tag deploys images made = absurd deploys
+moved_by mac (Some text) texts d tag deploys images made = deployed_moved mac text d texts tag deploys images made
+
 -- what holds of images that realize their modules
 runs_with : (mac : Mac) → IsTag mac → (deployment : Option (List ℕ)) (texts : List (List ℕ)) → ((d : Deployed) → Deploys deployment d → AreImages mac d texts) → RunsWith assembled mac deployment texts
 runs_with mac tag deployment texts realize = record {
   legal = λ d deploys schedule. legal_by mac deployment texts d tag deploys (realize d deploys) schedule;
   forged = λ d deploys answers. forged_by mac deployment texts d tag deploys (realize d deploys) answers;
+  links = λ d deploys answers. links_by mac deployment texts d tag deploys (realize d deploys) answers;
+  moved = λ d deploys made. moved_by mac deployment texts d tag deploys (realize d deploys) made;
   guarded = λ d lines. runs_guarded (setting_of mac d texts) lines;
 }
 

@@ -18,12 +18,19 @@ use Rattle.sx_guard.specs.Guarded.{GuardedRun}
 use Rattle.sx_forged.specs.Forgery.{ForgedIsForgery}
 use Rattle.sx_forged.specs.Named.{NamesAgree}
 use Rattle.sx_forged.specs.Unseen.{RunsKeysUnseen}
+use Rattle.sx_links.specs.Found.{KeysFound}
+use Rattle.sx_links.specs.LinksUnseen.{LinksAreUnseen}
+use Rattle.sx_links.specs.Unlinks.{HasMoved}
 use Rattle.sx_command_run.specs.Run.{items_of, run_deployed}
+use Rattle.sx_command_world.specs.Compiled.{compiled_texts}
 use Rattle.sx_command_world.specs.Schedule.{schedule}
 use Rattle.sx_command_world.specs.Statuses.{schedule_status}
 
 -- Whatever the schedule is, the items of its run with these images are legal up to the first that
--- is forged (`legal`); and its run is a script, in which each thing that happens leaves each
+-- is forged (`legal`); at this one a tag was accepted that nobody who holds its key had made
+-- (`forged`). Up to it the keys of connections show in nothing but tags (`links`); and if the
+-- images are the compiler's, which they are (`made` of `DeploysWith`), there are settings with any
+-- other such keys (`moved`). The run is a script, in which each thing that happens leaves each
 -- private section alone (`guarded`).
 pub record RunsWith (assemble : Assembler) (mac : Mac) (deployment : Option (List ℕ))
     (texts : List (List ℕ)) : Type 0 where
@@ -31,6 +38,10 @@ pub record RunsWith (assemble : Assembler) (mac : Mac) (deployment : Option (Lis
       → Legal d.app (before (items_of assemble mac d texts schedule))
   pub forged : (d : Deployed) → Deploys deployment d → (answers : List Answer)
       → ForgedIsForgery (setting_of mac d texts) (schedule assemble d.names 1 answers).lines
+  pub links : (d : Deployed) → Deploys deployment d → (answers : List Answer)
+      → LinksAreUnseen (setting_of mac d texts) (schedule assemble d.names 1 answers).lines
+  pub moved : (d : Deployed) → Deploys deployment d → texts ≡ compiled_texts d
+      → HasMoved (setting_of mac d texts)
   pub guarded : (d : Deployed) (lines : List Line) → GuardedRun (setting_of mac d texts) lines
 
 -- what is `run`'s own behind the head; it is cut short only where memory runs out
@@ -51,7 +62,7 @@ RunSays assemble mac = DeploySays mac (run_part assemble mac)
 -- word that is taken was sent by a handler of the module that the connection comes from, and the
 -- value that is put out is the next that the handler of the module's latest event emits. Of the
 -- keys of nodes and modules a run shows nothing but tags (`keys`), so names in place of them do as
--- well (`named`).
+-- well (`named`). Unless a key is found by code of no deployed module, none is guessed (`found`).
 pub record RunTold (assemble : Assembler) (mac : Mac) (tells to_tell : Bool) (m0 m1 : CommandAt)
     (status : ℕ) : Type 0 where
   pub says : RunSays assemble mac tells to_tell m0 m1 status
@@ -60,3 +71,4 @@ pub record RunTold (assemble : Assembler) (mac : Mac) (tells to_tell : Bool) (m0
       → Legal d.app items → HasCauses d.app items
   pub keys : RunsKeysUnseen
   pub named : NamesAgree
+  pub found : KeysFound

@@ -8,7 +8,7 @@
 //!
 //! With images that realize their modules the items of every schedule are legal in the source up to
 //! the first that is forged; and whatever the schedule, no instruction but a section's own reads or
-//! changes its private bytes (sx_guard).
+//! changes its private bytes (sx_guard). What keys show is said in sx_forged and sx_links.
 #![tactic(auto)]
 
 pub mod laws;

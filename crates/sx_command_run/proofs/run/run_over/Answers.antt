@@ -3,6 +3,7 @@ use Rattle.sx_explain.proofs.Caused.{legal_has_causes}
 use Rattle.sx_deploy.proofs.ValidApp.{app_valid}
 use Rattle.sx_forged.proofs.Naming.{names_agree}
 use Rattle.sx_forged.proofs.Scripts.{runs_keys_unseen}
+use Rattle.sx_links.proofs.Guessing.{keys_found}
 use Rattle.sx_command_run.proofs.Said.{run_says}
 use Rattle.sx_command_run.proofs.run.run_over.Goals as goal
 
@@ -12,5 +13,6 @@ returns g c = record {
   reader = λ d items legal. tells d.app items legal;
   keys = runs_keys_unseen;
   named = names_agree;
+  found = keys_found;
   causes = λ text d read items legal. legal_has_causes d.app items (app_valid text d read) legal;
 }
