@@ -26,7 +26,7 @@ use Rattle.sx_run.proofs.steps.Entry.{at_site, shapes_on}
 use Rattle.sx_calls.specs.Calls.{Callee, IsCallable}
 use Rattle.sx_calls.proofs.Finishing.{Finishes, finishes}
 use Rattle.sx_forged.proofs.Turns.{setup_of, turn_of, NodeTurns}
-use Rattle.sx_forged.proofs.Turning.{has_devices_same}
+use Rattle.sx_run.proofs.steps.Entry.{has_devices_same}
 use Rattle.sx_links.proofs.Leaving.{Remembers, ends_remembering}
 
 -- a module's cost is below the most steps of a `finish`

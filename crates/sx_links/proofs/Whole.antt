@@ -1,7 +1,7 @@
 -- A `finish` from a deployed module's entry, in the worlds of both runs.
 use Rattle.std.proofs.Common.{◌≡◌, ℕ, ◌+◌, ◌*◌, ◌==◌, ◌&&◌, Bool, true, false, inl, inr, ◌⊎◌, List, [], ◌∷◌, ◌++◌, length, slice_index, Some, refl, sym, ◌∙◌, ap, ap₂, subst}
 use Rattle.std.specs.Prelude.{slice_get}
-use Rattle.std.proofs.lemmas.Bool.{and_parts, eqb-true, true≢false}
+use Rattle.std.proofs.lemmas.Bool.{and_parts, eqb-true, true≢false, cases_eq}
 use Rattle.sx_mean.specs.Application.{PartTree}
 use Rattle.sx_trace.specs.declared.items.Item.{Item}
 use Rattle.sx_rules.specs.declared.section.Section.{Section}
@@ -31,7 +31,6 @@ use Rattle.sx_run.proofs.steps.Bystanders.{at_site_same, apart_self}
 use Rattle.sx_calls.specs.Shown.{marks_observed}
 use Rattle.sx_forged.specs.Moments.{NoForged}
 use Rattle.sx_forged.proofs.Turns.{setup_of, NodeTurns}
-use Rattle.sx_forged.proofs.Reaching.{same_or_not}
 use Rattle.sx_forged.proofs.Opening.{Told}
 use Rattle.sx_forged.proofs.Keyed.{key_shows}
 use Rattle.sx_forged.proofs.Fields.{field_key, field_is}
@@ -158,7 +157,7 @@ module _ (a : Setting) (nac : Mac) (keys : List (List ℕ)) (secret : List ℕ) 
         by_state k p place x pk sk l e (inr kept) =
             let old : Lives s.sections.live x = subst (λ (z : Sections). Lives z.live x) kept.sections l in
             let before : is_at_site site.node s.mem x place ≡ true = sym (at_site_same site.node s.mem r.after.mem x place (kept.texts x old)) ∙ e in
-            elim (same_or_not sec.id x.id) [
+            elim (cases_eq sec.id x.id) [
               | inl i ↦
                   let is : sec ≡ x = some_inj sec x (sym (placed_found s.sections sec ta.node.placed lives) ∙ ap (section_of s.sections.live) i ∙ placed_found s.sections x ta.node.placed old) in
                   let number : k ≡ m = one_site site.node s.mem x m k q site place part sited sk (subst (λ (z : Section). is_at_site site.node s.mem z site ≡ true) is at) before in

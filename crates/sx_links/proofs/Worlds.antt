@@ -2,7 +2,7 @@
 use Rattle.std.proofs.Common.{◌≡◌, ℕ, Bool, true, false, inl, inr, List, [], ◌∷◌, ◌++◌, length, Option, Some, None, refl, sym, ◌∙◌, ap, ap₂, subst}
 use Rattle.std.specs.Prelude.{slice_get, slice_set}
 use Rattle.std.specs.List.{list_any}
-use Rattle.std.proofs.lemmas.Bool.{true≢false}
+use Rattle.std.proofs.lemmas.Bool.{true≢false, cases_eq}
 use Rattle.sx_lists.proofs.Lists.{get_same}
 use Rattle.sx_trace.specs.declared.items.Item.{Item}
 use Rattle.sx_tag.specs.Mac.{Mac}
@@ -14,7 +14,6 @@ use Rattle.sx_run.specs.State.{World, Acted}
 use Rattle.sx_run.specs.Acts.{then_, with_node, at_node, new_packet}
 use Rattle.sx_run.proofs.tie.Lists.{get_other}
 use Rattle.sx_forged.proofs.Turns.{AllTurn}
-use Rattle.sx_forged.proofs.Reaching.{same_or_not}
 use Rattle.sx_links.specs.LinksUnseen.{upto_forged}
 use Rattle.sx_links.proofs.Upto.{Clean, clean_left, clean_right, upto_clean, upto_then, upto_over, any_upto}
 use Rattle.sx_links.proofs.Linking.{second, SameNode}
@@ -93,7 +92,7 @@ module _ (a : Setting) (nac : Mac) (keys : List (List ℕ)) (secret : List ℕ) 
   }
     where
       at_each : (k : ℕ) → SameAt k (slice_get (slice_set w.nodes n s2) k) (slice_get (slice_set v.nodes n t2) k)
-      at_each k = elim (same_or_not k n) [
+      at_each k = elim (cases_eq k n) [
         | inl e ↦ subst (λ (z : ℕ). SameAt z (slice_get (slice_set w.nodes n s2) z) (slice_get (slice_set v.nodes n t2) z)) (sym e)
             (subst (λ (o : Option State). SameAt n o (slice_get (slice_set v.nodes n t2) n)) (sym (get_same w.nodes n s2 s here))
             (subst (λ (o : Option State). SameAt n (Some s2) o) (sym (get_same v.nodes n t2 t there)) node))
