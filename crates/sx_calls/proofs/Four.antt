@@ -24,8 +24,8 @@ use Rattle.sx_invoke.specs.Invocation.{invoke}
 use Rattle.sx_image.specs.Image.{private_bytes, public_bytes, progress_at}
 use Rattle.sx_model.specs.Step.{drives}
 use Rattle.sx_run.specs.Setting.{Setting, device_number, is_at_site, windows_at}
-use Rattle.sx_run.specs.Wire.{is_ask, challenge_in, set_key_header}
-use Rattle.sx_run.specs.Deployer.{side_number}
+use Rattle.sx_wire.specs.Headers.{is_ask, challenge_in, set_key_header}
+use Rattle.sx_deployer.specs.Granting.{side_number}
 use Rattle.sx_ledger.specs.Made.{Made, NO_TARGET}
 use Rattle.sx_invoke.specs.Protocol.{all_done, set_key_entry, attest_entry, input_entry, sample_entry}
 use Rattle.sx_run.specs.Ledger.{made_entry, is_made}

@@ -9,7 +9,7 @@ use Rattle.sx_ledger.specs.declared.entry.Maker.TheVariants as maker
 use Rattle.sx_invoke.specs.Marks.{Mark, Wrapped, Unwrapped, Sampled, Actuated}
 use Rattle.sx_mean.specs.Application.{AppTree}
 use Rattle.sx_run.specs.Setting.{device_number}
-use Rattle.sx_run.specs.Wire.{is_ask, is_set_key_header, is_event_header, link_in, epoch_in, last_in, value_in}
+use Rattle.sx_wire.specs.Headers.{is_ask, is_set_key_header, is_event_header, link_in, epoch_in, last_in, value_in}
 use Rattle.sx_ledger.specs.Made.{Made, NO_TARGET}
 use Rattle.sx_run.specs.Ledger.{made_entry, is_made}
 use Rattle.sx_run.specs.Observation.{Observed, is_driver, number_of, unless_made, side_in, has_end, sender_of}

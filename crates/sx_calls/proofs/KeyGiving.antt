@@ -3,7 +3,7 @@ use Rattle.std.proofs.Common.{◌≡◌, Some, refl}
 use Rattle.sx_lang.specs.declared.sides.Side.{Side}
 use Rattle.sx_lang.specs.declared.sides.Side.TheVariants.{From, To}
 use Rattle.sx_invoke.specs.Entries.{side_of}
-use Rattle.sx_run.specs.Deployer.{side_number}
+use Rattle.sx_deployer.specs.Granting.{side_number}
 use Rattle.sx_gives.proofs.Keys.{key_returns}
 use Rattle.sx_calls.specs.FourCalls.{SetKeyReturns}
 

@@ -36,8 +36,8 @@ use Rattle.sx_gives.specs.Gives.{low_input, IsLowFree, InvocationGives, beginnin
 use Rattle.sx_gives.specs.Gives.{low_output, low_call}
 use Rattle.sx_gives.specs.Laws.{opened}
 use Rattle.sx_run.specs.Setting.{Setting}
-use Rattle.sx_run.specs.Wire.{is_ask, challenge_in, set_key_header}
-use Rattle.sx_run.specs.Deployer.{side_number}
+use Rattle.sx_wire.specs.Headers.{is_ask, challenge_in, set_key_header}
+use Rattle.sx_deployer.specs.Granting.{side_number}
 use Rattle.sx_run.specs.Ledger.{made_entry, is_made}
 use Rattle.sx_run.specs.Observation.{sender_of}
 use Rattle.sx_run.specs.State.{World}

@@ -1,14 +1,14 @@
--- What a deployer keeps, when it accepts an answer, and what that changes.
+-- What the code of a deployer keeps, when it accepts an answer, and what that changes: it knows the
+-- modules' ends and no application.
 use Rattle.std.specs.Prelude.{◌≡◌, ℕ, ◌+◌, ◌==◌, ◌&&◌, nat_lt, nat_le, not, Bool, true, false}
 use Rattle.std.specs.Prelude.{if◌then◌else◌, List, [], ◌∷◌, replicate, slice_set, slice_index}
-use Rattle.std.specs.Prelude.{get_or, Option, Some, None, bytes_eq}
+use Rattle.std.specs.Prelude.{get_or, slice_get, Option, Some, None, option_map, unwrap_or}
 use Rattle.std.specs.List.{list_any}
-use Rattle.byteorder.specs.Endian.{little_bytes}
+use Rattle.sx_lang.specs.declared.sides.Side.TheVariants.{From}
 use Rattle.sx_mean.specs.declared.events.End.{End}
 use Rattle.sx_tag.specs.Mac.{Mac}
 use Rattle.sx_tag.specs.Keys.{module_key}
-use Rattle.sx_tag.specs.Wrap.{wrapped}
-use Rattle.sx_wire.specs.Packets.{ask_packet}
+use Rattle.sx_deployer.specs.Granting.{DeployerState, after_ask, is_answer, set_key}
 use Rattle.sx_deployer.specs.declared.deployer.Verdict.{Verdict}
 use Rattle.sx_deployer.specs.declared.deployer.Verdict.TheVariants.{Attested, Denied}
 use Rattle.sx_deployer.specs.declared.target.Target.{Target}
@@ -30,42 +30,32 @@ known t = record {
       t.ends.items;
 }
 
--- the secret and the modules; the number of asks; each module's open ask, and the boot at which it
--- was last attested; and each connection's epoch
+-- the secret, the modules, and what it knows of them; it has room for 32 modules and 64 connections
 pub record Keeping : Type 0 where
   pub secret : List ℕ
   pub targets : List Known
-  pub asks : ℕ
-  pub open_asks : List (Option (List ℕ))
-  pub attested : List (Option ℕ)
-  pub epochs : List ℕ
+  pub state : DeployerState
 
 -- nothing was asked yet
 abbrev pub first : List ℕ → List Known → Keeping
 first secret targets = record {
   secret = secret;
   targets = targets;
-  asks = 0;
-  open_asks = replicate 32 None;
-  attested = replicate 32 None;
-  epochs = replicate 64 0;
+  state = record {
+    asks = 0;
+    open_asks = replicate 32 None;
+    attested = replicate 32 None;
+    epochs = replicate 64 0;
+  };
 }
-
--- the next ask: its challenge is the number of asks before
-abbrev pub next_ask : Keeping → List ℕ
-next_ask d = ask_packet (little_bytes 16 d.asks)
 
 -- the module is asked
 abbrev pub asked : Keeping → ℕ → Keeping
-asked d m = record d { asks = d.asks + 1; open_asks = slice_set d.open_asks m (Some (next_ask d)) }
+asked d m = record d { state = after_ask d.state m }
 
 -- the key of a module at a boot of its node
 abbrev pub key_of : Mac → Known → ℕ → List ℕ
 key_of mac t boot = module_key mac t.node_key boot t.provider t.identity
-
--- the tag that answers an ask at a boot
-abbrev pub expected : Mac → Known → ℕ → List ℕ → List ℕ
-expected mac t boot ask = (wrapped mac (key_of mac t boot) ask []).tag
 
 -- one of the ends is of this connection
 abbrev pub has_link : List End → ℕ → Bool
@@ -117,29 +107,26 @@ target_at d m = get_or d.targets m nobody
 
 -- a module's open ask
 abbrev pub open_ask : Keeping → ℕ → Option (List ℕ)
-open_ask d m = get_or d.open_asks m None
+open_ask d m = get_or d.state.open_asks m None
 
 -- the boot at which a module was last attested
 abbrev pub attested_at : Keeping → ℕ → Option ℕ
-attested_at d m = get_or d.attested m None
-
--- these bytes answer the open ask, if any, at a boot
-abbrev pub is_answer : Mac → Known → ℕ → List ℕ → Option (List ℕ) → Bool
-is_answer mac t boot answer None = false
-is_answer mac t boot answer (Some ask) = bytes_eq answer (expected mac t boot ask)
+attested_at d m = get_or d.state.attested m None
 
 -- the answer is accepted from the module at a boot
 abbrev pub accepts : Mac → Keeping → ℕ → ℕ → List ℕ → Bool
 accepts mac d m boot answer =
-    is_answer mac (target_at d m) boot answer (open_ask d m)
-    && may_attest (target_at d m).ends d.epochs (attested_at d m) boot
+    is_answer mac (key_of mac (target_at d m) boot) answer (open_ask d m)
+    && may_attest (target_at d m).ends d.state.epochs (attested_at d m) boot
 
 -- acceptance closes the ask, and renews the connections of a module that was attested before
 abbrev pub accepted : Keeping → ℕ → ℕ → Keeping
 accepted d m boot = record d {
-  open_asks = slice_set d.open_asks m None;
-  attested = slice_set d.attested m (Some boot);
-  epochs = renewed (target_at d m).ends (attested_at d m) d.epochs;
+  state = record d.state {
+    open_asks = slice_set d.state.open_asks m None;
+    attested = slice_set d.state.attested m (Some boot);
+    epochs = renewed (target_at d m).ends (attested_at d m) d.state.epochs;
+  };
 }
 
 -- the deployer after an answer
@@ -149,3 +136,20 @@ judged mac d m boot answer = if accepts mac d m boot answer then accepted d m bo
 -- what it says to the answer
 abbrev pub verdict : Mac → Keeping → ℕ → ℕ → List ℕ → Verdict
 verdict mac d m boot answer = if accepts mac d m boot answer then Attested else Denied
+
+-- the set-key packet for an end of a module at a boot and in an epoch, where there is the module
+abbrev pub packet_for : Mac → Keeping → ℕ → ℕ → End → ℕ → Option (List ℕ)
+packet_for mac d m boot e epoch =
+    option_map (λ t. set_key mac d.secret (key_of mac t boot) e epoch) (slice_get d.targets m)
+
+-- no end
+abbrev pub no_end : End
+no_end = record { link = 0; side = From; port = 0 }
+
+-- the set-key packet for the n-th end of a module, at the boot at which it was last attested and in
+-- the connection's present epoch
+abbrev pub packet_at : Mac → Keeping → ℕ → ℕ → List ℕ
+packet_at mac d m n =
+    let e = get_or (target_at d m).ends n no_end in
+    set_key mac d.secret (key_of mac (target_at d m) (unwrap_or (attested_at d m) 0)) e
+    (slice_index d.state.epochs e.link)

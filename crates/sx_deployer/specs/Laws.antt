@@ -5,8 +5,8 @@ use Rattle.sx_mean.specs.Application.{AppTree}
 use Rattle.sx_mean.specs.Ends.{ends_of}
 use Rattle.sx_model.specs.Renewal as model
 use Rattle.sx_model.specs.Worked.{lighting}
-use Rattle.sx_deployer.specs.Keeping.{Keeping, may_attest, renewed}
-use Rattle.sx_deployer.specs.Granting.{grants_after}
+use Rattle.sx_deployer.specs.Granting.{DeployerState, grants_after}
+use Rattle.sx_deployer.specs.Keeping.{may_attest, renewed}
 
 -- where the deployer keeps a module's ends in an application, it may attest the module where the
 -- model may, and then raises the epochs that the model raises
@@ -16,16 +16,9 @@ RenewsAsTheModel = (app : AppTree) (m : ℕ) (last : Option ℕ) (boot : ℕ) (e
     × (renewed (ends_of app m) last epochs ≡ model.renewed m app.links last epochs)
 
 -- the lighting application's modules were attested at boot 0, and the lamp then at boot 1
-abbrev pub worked : Keeping
-worked = record {
-  secret = [];
-  targets = [];
-  asks = 4;
-  open_asks = [];
-  attested =
-      Some 0 ∷ Some 0 ∷ Some 1 ∷ [];
-  epochs = 0 ∷ 1 ∷ [];
-}
+abbrev pub worked : DeployerState
+worked =
+    record { asks = 4; open_asks = []; attested = Some 0 ∷ Some 0 ∷ Some 1 ∷ []; epochs = 0 ∷ 1 ∷ [] }
 
 -- its renewal gives keys to its own end and to the logic's, each at its holder's boot
 pub record LampIsRenewed : Type 0 where

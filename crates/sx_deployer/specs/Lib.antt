@@ -1,3 +1,3 @@
-pub mod Keeping
 pub mod Granting
+pub mod Keeping
 pub mod Laws

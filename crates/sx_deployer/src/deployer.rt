@@ -1,9 +1,9 @@
 //! The deployer: its open asks, what it accepted, and the epochs of the connections.
 
 ghost use Rattle.std.specs.Prelude.{◌≡◌, ◌<◌, ◌≤◌, IfOk, IsSome, None, false, length};
-ghost use Rattle.std.specs.Prelude.{map, option_map, slice_get, slice_index};
+ghost use Rattle.std.specs.Prelude.{map, slice_index};
+ghost use Rattle.sx_wire.specs.Headers.{ask_packet};
 ghost use Rattle.sx_deployer.specs.Keeping as spec;
-ghost use Rattle.sx_deployer.specs.Granting as grants;
 
 use crate::keys::{grant, is_answer};
 use crate::renewal::{may_attest, renewed};
@@ -42,11 +42,12 @@ impl Model for Deployer {
     ghost view = { λ d. record {
       secret = d.secret;
       targets = map known d.targets.items;
-      asks =
-          d.asks;
-      open_asks = d.open_asks;
-      attested = d.attested;
-      epochs = d.epochs;
+      state = record {
+        asks = d.asks;
+        open_asks = d.open_asks;
+        attested = d.attested;
+        epochs = d.epochs;
+      };
     } };
 
     ghost invariant = { λ d. (length d.targets.items ≤ 32)
@@ -74,8 +75,8 @@ impl Deployer {
     /// module's open ask.
     pub fn ask<T: Tag>(&mut self, _tag: &T, module: u8) -> [u8; 18]
         requires known { «module» < length self.old.targets }
-        requires few { self.old.asks < 4294967295 }
-        ensures packet { result ≡ spec.next_ask self.old }
+        requires few { self.old.state.asks < 4294967295 }
+        ensures packet { result ≡ ask_packet self.old.state.asks }
         ensures state { self.new ≡ spec.asked self.old «module» }
     {
         let packet = sx_wire::write_ask(&u128::from(self.asks).to_le_bytes());
@@ -94,7 +95,7 @@ impl Deployer {
         ensures verdict { result ≡ spec.verdict T.mac self.old «module» boot mac.now }
         ensures state { self.new ≡ spec.judged T.mac self.old «module» boot mac.now }
         ensures targets { self.new.targets ≡ self.old.targets }
-        ensures asks { self.new.asks ≡ self.old.asks }
+        ensures asks { self.new.state.asks ≡ self.old.state.asks }
     {
         let index = usize::from(module);
         let last = self.attested[index];
@@ -111,12 +112,13 @@ impl Deployer {
     }
 
     /// The set-key packet for an end of a module, by its index, at the boot at which the module was
-    /// last attested and in the connection's present epoch.
+    /// last attested and in the connection's present epoch: for a program that gives keys module by
+    /// module. A run, which gives those of other boots too, takes `packet`.
     pub fn set_key<T: Tag>(&self, tag: &T, module: u8, end: u8) -> [u8; 38]
         requires known { «module» < length self.now.targets }
         requires attested { IsSome (spec.attested_at self.now «module») }
         requires has_end { end < length (spec.target_at self.now «module»).ends }
-        ensures { result ≡ grants.packet_at T.mac self.now «module» end }
+        ensures { result ≡ spec.packet_at T.mac self.now «module» end }
     {
         let target = &self.targets[usize::from(module)];
         let end = target.ends[usize::from(end)];
@@ -126,7 +128,7 @@ impl Deployer {
 
     /// The epoch of a connection: 0 of one that no module has.
     pub fn epoch(&self, link: u8) -> u8
-        ensures epoch { result ≡ slice_index self.now.epochs link }
+        ensures epoch { result ≡ slice_index self.now.state.epochs link }
         ensures first { spec.is_held self.now.targets link ≡ false → result ≡ 0 }
     {
         self.epochs.get(usize::from(link)).copied().unwrap_or(0)
@@ -158,8 +160,7 @@ impl Deployer {
         end: End,
         epoch: u8,
     ) -> Option<[u8; 38]>
-        ensures { result ≡ option_map (λ t. grants.set_key T.mac self.now.secret t boot «end» epoch)
-            (slice_get self.now.targets holder) }
+        ensures { result ≡ spec.packet_for T.mac self.now holder boot «end» epoch }
     {
         match self.targets.get(usize::from(holder)) {
             Some(target) => Some(grant(tag, &self.secret, target, boot, end, epoch)),

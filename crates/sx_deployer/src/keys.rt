@@ -1,6 +1,7 @@
 //! The keys of modules and connections.
 
-ghost use Rattle.std.specs.Prelude.{◌≡◌};
+ghost use Rattle.std.specs.Prelude.{◌≡◌, ◌+◌, ◌*◌, []};
+ghost use Rattle.sx_tag.specs.Wrap.{wrapped};
 ghost use Rattle.sx_deployer.specs.Keeping as spec;
 ghost use Rattle.sx_deployer.specs.Granting as grants;
 
@@ -23,7 +24,8 @@ fn key_of<T: Tag>(tag: &T, target: &Target, boot: u32) -> [u8; 16]
 }
 
 fn expected<T: Tag>(tag: &T, target: &Target, boot: u32, ask: &[u8; 18]) -> [u8; 16]
-    ensures { result ≡ spec.expected T.mac (spec.known target.now) boot ask.now }
+    ensures { result ≡ (wrapped T.mac (spec.key_of T.mac (spec.known target.now) boot) ask.now
+        []).tag }
 {
     let mut cipher = [0; 32];
     sx_tag::wrap(tag, &key_of(tag, target, boot), ask, &[], &mut cipher)
@@ -37,7 +39,8 @@ pub fn is_answer<T: Tag>(
     mac: &[u8],
     ask: Option<[u8; 18]>,
 ) -> bool
-    ensures { result ≡ spec.is_answer T.mac (spec.known target.now) boot mac.now ask }
+    ensures { result ≡ grants.is_answer T.mac (spec.key_of T.mac (spec.known target.now) boot)
+        mac.now ask }
 {
     match ask {
         None => false,
@@ -54,10 +57,18 @@ fn side_number(side: Side) -> u16
     }
 }
 
-fn connection_key<T: Tag>(tag: &T, secret: &[u8; 16], link: u16) -> [u8; 16]
-    ensures { result ≡ grants.connection_key T.mac secret.now link }
+/// A connection and an epoch in one word.
+fn field(link: u8, epoch: u8) -> u16
+    ensures { result ≡ link + 256 * epoch }
 {
-    sx_tag::kdf(tag, secret, &link.to_le_bytes())
+    u16::from(link) + 256 * u16::from(epoch)
+}
+
+/// The key of a connection in an epoch.
+pub fn connection_key<T: Tag>(tag: &T, secret: &[u8; 16], link: u8, epoch: u8) -> [u8; 16]
+    ensures { result ≡ grants.connection_key T.mac secret.now link epoch }
+{
+    sx_tag::kdf(tag, secret, &field(link, epoch).to_le_bytes())
 }
 
 /// The set-key packet for an end of a module at a boot, with the connection's key of an epoch.
@@ -69,10 +80,11 @@ pub fn grant<T: Tag>(
     end: End,
     epoch: u8,
 ) -> [u8; 38]
-    ensures { result ≡ grants.set_key T.mac secret.now (spec.known target.now) boot end epoch }
+    ensures { result ≡ grants.set_key T.mac secret.now
+        (spec.key_of T.mac (spec.known target.now) boot) «end» epoch }
 {
     let mut packet = SetKeyPacket {
-        link: u16::from(end.link) + 256 * u16::from(epoch),
+        link: field(end.link, epoch),
         end: side_number(end.side),
         cipher: [0; 16],
         mac: [0; 16],
@@ -84,7 +96,7 @@ pub fn grant<T: Tag>(
         tag,
         &key,
         &bytes[..6],
-        &connection_key(tag, secret, packet.link),
+        &connection_key(tag, secret, end.link, epoch),
         &mut cipher,
     );
     packet.cipher.copy_from_slice(&cipher[..16]);

@@ -5,12 +5,14 @@
 //! again; its connections are then renewed, each with the key of the next epoch. Contracts see a
 //! deployer as a record of what it keeps, and name what each call makes of it.
 //!
-//! `specs/Keeping.antt` has what a deployer keeps, when it accepts an answer and what follows, and
-//! `specs/Granting.antt` the keys and the set-key packets. By a law in `laws` the
-//! deployer renews as the source model does.
+//! `specs/Granting.antt` has the deployer of an application, as whole runs have it: what it knows,
+//! asks, answers, keys and grants. `specs/Keeping.antt` has what the code keeps, which knows modules
+//! by their ends alone, when it accepts an answer and what follows. By a law in `laws` it renews as
+//! the source model does.
 #![tactic(auto)]
 
 pub use deployer::{Deployer, Verdict};
+pub use keys::connection_key;
 pub use target::Target;
 
 mod deployer;

@@ -27,7 +27,7 @@ use Rattle.sx_image.specs.Image.{call_at, progress_at}
 use Rattle.sx_image.specs.Realizes.{Underway, Aborted, Exited}
 use Rattle.sx_run.specs.Setting.{Setting, Site, is_at_site, deployed, module_of}
 use Rattle.sx_run.specs.Ledger.{header_of, body_of}
-use Rattle.sx_run.specs.Wire.{is_ask, is_set_key_header, is_event_header, begins}
+use Rattle.sx_wire.specs.Headers.{is_ask, is_set_key_header, is_event_header, begins}
 use Rattle.sx_run.specs.Deployer.{list_at, key_of, connection_key}
 use Rattle.sx_run.specs.Law.{IsSoundSetting}
 use Rattle.sx_run.proofs.tie.Lists.{some_inj, get_within, get_some}
@@ -58,7 +58,7 @@ crypt_none mac key ad body gives e = by body (stream mac key ad) (gives key (0x5
 
 pub key_long : (set : Setting) (link epoch : ℕ) → GivesTags set.mac → length (connection_key set link epoch) ≡ 16
 unfolding kdf
-key_long set link epoch gives = length_take 16 _ (let g = gives set.secret (0x4B ∷ Rattle.sx_run.specs.Wire.low_first 2 (link + 256 * epoch)) in omega (arith, g))
+key_long set link epoch gives = length_take 16 _ (let g = gives set.secret (0x4B ∷ Rattle.byteorder.specs.Endian.little_bytes 2 (link + 256 * epoch)) in omega (arith, g))
 
 -- Where a test holds.
 

@@ -15,7 +15,8 @@ use Rattle.sx_tag.specs.Keys.{kdf}
 use Rattle.sx_tag.specs.Wrap.{wrapped, unwrapped}
 use Rattle.sx_machine.specs.Memory.{word}
 use Rattle.sx_run.specs.Setting.{Setting}
-use Rattle.sx_run.specs.Wire.{low_first, link_in, epoch_in}
+use Rattle.byteorder.specs.Endian.{little_bytes}
+use Rattle.sx_wire.specs.Headers.{link_in, epoch_in}
 use Rattle.sx_invoke.specs.Setup.{Setup, Call}
 use Rattle.sx_invoke.specs.Marks as mark
 use Rattle.sx_invoke.specs.Marks.{Mark}
@@ -35,7 +36,7 @@ use Rattle.sx_forged.proofs.Opening.{AllMarks}
 
 -- the key of a connection field
 abbrev pub field_key : Setting → ℕ → List ℕ
-field_key set field = kdf set.mac set.secret (low_first 2 field)
+field_key set field = kdf set.mac set.secret (little_bytes 2 field)
 
 abbrev pub KeyedEnd : Setting → End → EndState → Type 0
 KeyedEnd set e x = x.is_open ≡ true → (x.key ≡ field_key set x.field) × (link_of x.field ≡ e.link)

@@ -31,7 +31,7 @@ use Rattle.sx_image.specs.Image.{call_at, progress_at}
 use Rattle.sx_sched.specs.Lines.{Line}
 use Rattle.sx_run.specs.Setting.{Setting, module_of}
 use Rattle.sx_run.specs.Ledger.{Made, NO_TARGET, made_entry, is_made, header_of, body_of}
-use Rattle.sx_run.specs.Wire.{is_ask, challenge_in, is_set_key_header, is_event_header, link_in, epoch_in}
+use Rattle.sx_wire.specs.Headers.{is_ask, challenge_in, is_set_key_header, is_event_header, link_in, epoch_in}
 use Rattle.sx_run.specs.Deployer.{connection_key}
 use Rattle.sx_run.specs.Observation.{Observed, with_items, event_seen, has_wrapped, touch_items, sender_of, has_end}
 use Rattle.sx_run.specs.State.{World}

@@ -16,8 +16,10 @@ use Rattle.sx_model.specs.Renewal.{may_attest}
 use Rattle.sx_mean.specs.Application.{AppTree}
 use Rattle.sx_run.specs.Setting.{Setting, Site, device_number}
 use Rattle.sx_run.specs.Ledger.{Made, NO_TARGET, made_entry, is_made, header_of, body_of}
-use Rattle.sx_run.specs.Wire.{is_ask, is_set_key_header, is_event_header, link_in, epoch_in, last_in, value_in, challenge_in}
-use Rattle.sx_run.specs.Deployer.{Grant, key_of, expected, accepts, after_acceptance, grants_after}
+use Rattle.sx_wire.specs.Headers.{is_ask, is_set_key_header, is_event_header, link_in, epoch_in, last_in, value_in, challenge_in}
+use Rattle.sx_deployer.specs.Granting.{Grant, grants_after}
+use Rattle.sx_run.specs.Deployer.{key_of, accepts, after_acceptance}
+use Rattle.sx_run.proofs.acts.Asking.{expected}
 use Rattle.sx_run.specs.Observation.{Observed, is_driver, number_of, read_item, write_item, touch_items, has_wrapped, unless_made, side_in, has_end, sender_of, has_unwrapped, event_seen}
 use Rattle.sx_run.specs.State.{World}
 use Rattle.sx_run.specs.Acts.{with_deployer, key_given, keys_given, attested, attested_at, after_denial, after_verdict, after_answer, open_ask}

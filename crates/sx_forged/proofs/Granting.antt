@@ -11,7 +11,9 @@ use Rattle.sx_model.specs.Renewal.{may_attest}
 use Rattle.sx_run.specs.Setting.{Setting, Site}
 use Rattle.sx_ledger.specs.Made.{Made, NO_TARGET}
 use Rattle.sx_run.specs.Ledger.{made_entry, is_made}
-use Rattle.sx_run.specs.Deployer.{DeployerState, Grant, key_of, expected, accepts, after_acceptance, connection_key, grant_header, set_key, set_key_entry, grants_after}
+use Rattle.sx_deployer.specs.Granting.{DeployerState, Grant, grants_after}
+use Rattle.sx_run.specs.Deployer.{key_of, accepts, after_acceptance, connection_key, grant_header, set_key, set_key_entry}
+use Rattle.sx_run.proofs.acts.Asking.{expected}
 use Rattle.sx_run.specs.State.{World, Acted}
 use Rattle.sx_run.specs.Observation.{unless_made}
 use Rattle.sx_run.specs.Acts.{only, then_, new_packet, with_deployer, key_given, keys_given, attested, after_denial, open_ask, attested_at, after_verdict, after_answer}

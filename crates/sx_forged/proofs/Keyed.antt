@@ -40,7 +40,7 @@ use Rattle.sx_image.specs.Image.{call_at, progress_at, private_bytes, public_byt
 use Rattle.sx_image.specs.Realizes.{Underway, Aborted, Exited}
 use Rattle.sx_run.specs.Setting.{Setting, Site, is_at_site, deployed, module_of}
 use Rattle.sx_run.specs.Ledger.{Made, NO_TARGET, made_entry, is_made, header_of, body_of}
-use Rattle.sx_run.specs.Wire.{is_set_key_header, link_in, epoch_in, last_in, is_event_header, value_in}
+use Rattle.sx_wire.specs.Headers.{is_set_key_header, link_in, epoch_in, last_in, is_event_header, value_in}
 use Rattle.sx_run.specs.Observation.{has_end, is_end, side_in, has_unwrapped, event_seen, touch_items, unless_made, sender_of}
 use Rattle.sx_run.specs.State.{World}
 use Rattle.sx_run.specs.Acts.{after_step}

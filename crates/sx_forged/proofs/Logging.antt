@@ -13,8 +13,9 @@ use Rattle.sx_machine.specs.Step.{own_of, step}
 use Rattle.sx_machine.specs.Acts.{irq, take as take_from}
 use Rattle.sx_run.specs.Setting.{Setting, Site, module_of}
 use Rattle.sx_run.specs.Ledger.{Made, NO_TARGET, made_entry, is_made, header_of, body_of}
-use Rattle.sx_run.specs.Wire.{is_ask, is_event_header, challenge_in, link_in}
-use Rattle.sx_run.specs.Deployer.{Grant, set_key_entry, grants_after, after_acceptance, accepts}
+use Rattle.sx_wire.specs.Headers.{is_ask, is_event_header, challenge_in, link_in}
+use Rattle.sx_deployer.specs.Granting.{Grant, grants_after}
+use Rattle.sx_run.specs.Deployer.{set_key_entry, after_acceptance, accepts}
 use Rattle.sx_run.specs.Observation.{Observed, has_wrapped, event_seen, sender_of}
 use Rattle.sx_run.specs.State.{World, Acted, switched_on}
 use Rattle.sx_run.specs.Acts.{at_node, after_step, with_deployer, key_given, keys_given, attested, attested_at, after_take, after_interrupt, after_verdict, after_answer, after_denial, open_ask}

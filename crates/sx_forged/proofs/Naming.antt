@@ -4,7 +4,7 @@ use Rattle.std.specs.Int.{w16, w32, to_le_bytes}
 use Rattle.std.proofs.lemmas.Bool.{ne_eqb, eq-eqb}
 use Rattle.sx_tag.specs.Mac.{Mac}
 use Rattle.sx_tag.specs.Keys.{kdf, boot_key, section_key, module_key}
-use Rattle.sx_run.specs.Wire.{low_first}
+use Rattle.byteorder.specs.Endian.{little_bytes}
 use Rattle.sx_run.specs.Deployer.{list_at}
 use Rattle.sx_forged.specs.Named.{code, looked, named, names, NamesAgree}
 
@@ -60,5 +60,5 @@ names_agree table set secret has = record {
       ∙ tag_named table set.mac l (code (to_le_bytes w32 boot)) (code (to_le_bytes w16 provider)) (code identity) kind rest is ne
       ∙ has n boot provider identity (kind ∷ rest));
   held = λ k e kind rest ne. tag_held table set.mac k (kind ∷ rest) e;
-  links = λ link epoch. ap (take 16) (tag_held table set.mac set.secret (0x4B ∷ low_first 2 (link + 256 * epoch)) secret);
+  links = λ link epoch. ap (take 16) (tag_held table set.mac set.secret (0x4B ∷ little_bytes 2 (link + 256 * epoch)) secret);
 }

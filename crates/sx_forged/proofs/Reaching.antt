@@ -17,7 +17,8 @@ use Rattle.sx_machine.specs.Acting as act
 use Rattle.sx_machine.proofs.Keys.{power_on_has_keys}
 use Rattle.sx_run.specs.Setting.{Setting, Site, windows_at}
 use Rattle.sx_run.specs.State.{World, Acted, nodes_from, switched_on}
-use Rattle.sx_run.specs.Deployer.{Grant, list_at, grants_after, after_acceptance}
+use Rattle.sx_deployer.specs.Granting.{Grant, grants_after}
+use Rattle.sx_run.specs.Deployer.{list_at, after_acceptance}
 use Rattle.sx_run.specs.Acts.{at_node, with_deployer, key_given, keys_given, attested, attested_at, after_take, after_interrupt, after_verdict, after_answer, after_denial, open_ask}
 use Rattle.sx_run.specs.Run.{place_at, sense_at, give, protect_registers, call_registers, FINISH_STEPS}
 use Rattle.sx_run.specs.Law.{IsSoundSetting, LineInForm, LinesInForm, devices_of}

@@ -13,7 +13,7 @@ use Rattle.sx_bus.specs.declared.devices.Window.{Window}
 use Rattle.sx_tag.specs.Wrap.{wrapped, unwrapped}
 use Rattle.sx_machine.specs.Memory.{word}
 use Rattle.sx_run.specs.Setting.{Setting}
-use Rattle.sx_run.specs.Wire.{is_ask, is_event_header, link_in}
+use Rattle.sx_wire.specs.Headers.{is_ask, is_event_header, link_in}
 use Rattle.sx_invoke.specs.Setup.{Setup, Call}
 use Rattle.sx_invoke.specs.Marks as mark
 use Rattle.sx_invoke.specs.Marks.{Mark}

@@ -14,7 +14,7 @@ use Rattle.sx_sched.specs.Lines.{Line}
 use Rattle.sx_run.specs.Setting.{Setting, Site}
 use Rattle.sx_run.specs.Ledger.{Made, NO_TARGET, made_entry, is_made}
 use Rattle.sx_run.specs.Deployer.{key_of, connection_key}
-use Rattle.sx_run.specs.Wire.{is_set_key_header, is_event_header, link_in, epoch_in}
+use Rattle.sx_wire.specs.Headers.{is_set_key_header, is_event_header, link_in, epoch_in}
 use Rattle.sx_run.specs.Law.{IsSoundSetting, LinesInForm}
 use Rattle.sx_run.specs.Run.{run}
 use Rattle.sx_run.specs.State.{World, switched_on}
@@ -58,7 +58,7 @@ pub data CallsFor (set : Setting) (w : World) : Option ℕ → List ℕ → KeyN
   Takes : (m : ℕ) (header : List ℕ) → is_event_header header ≡ true
       → has_end set.app m (link_in header) To ≡ true
       → CallsFor set w (Some m) header (OfLink (link_in header) (epoch_in header))
-  Answers : (m boot : ℕ) (ask : List ℕ) → open_ask (slice_get w.deployer.open_asks m) ≡ Some ask
+  Answers : (m boot : ℕ) (ask : List ℕ) → joined (slice_get w.deployer.open_asks m) ≡ Some ask
       → CallsFor set w None ask (OfModule m boot)
 
 -- the tag stands in the memory of a node, outside all private sections, or it is a packet

@@ -8,8 +8,9 @@ use Rattle.sx_machine.specs.Step.{own_of, step}
 use Rattle.sx_sched.specs.Lines.{Line}
 use Rattle.sx_run.specs.Setting.{Setting, module_of}
 use Rattle.sx_run.specs.Ledger.{Made, NO_TARGET, made_entry, is_made, header_of, body_of}
-use Rattle.sx_run.specs.Deployer.{Grant, set_key_entry}
-use Rattle.sx_run.specs.Wire.{is_ask, is_event_header, link_in}
+use Rattle.sx_deployer.specs.Granting.{Grant}
+use Rattle.sx_run.specs.Deployer.{set_key_entry}
+use Rattle.sx_wire.specs.Headers.{is_ask, is_event_header, link_in}
 use Rattle.sx_run.specs.Law.{IsSoundSetting, LinesInForm}
 use Rattle.sx_run.specs.Observation.{sender_of}
 use Rattle.sx_guard.specs.Happening.{Step, done}

@@ -26,7 +26,8 @@ use Rattle.sx_run.specs.Setting.{Site, Setting, module_of}
 use Rattle.sx_ledger.specs.declared.entry.Maker.TheVariants as maker
 use Rattle.sx_run.specs.Ledger.{made_entry, is_made}
 use Rattle.sx_ledger.specs.Made.{Made, NO_TARGET}
-use Rattle.sx_run.specs.Deployer.{Grant, accepts, after_acceptance, grants_after}
+use Rattle.sx_deployer.specs.Granting.{Grant, grants_after}
+use Rattle.sx_run.specs.Deployer.{accepts, after_acceptance}
 use Rattle.sx_run.specs.Observation.{Observed, observed, unless_made}
 use Rattle.sx_run.specs.State.{World, Acted}
 use Rattle.sx_run.specs.Acts.{only, then_, at_node, after_step, refused_item, or_refused, done_on}

@@ -9,7 +9,9 @@ use Rattle.sx_tag.specs.Wrap.{crypt, wrap_tag}
 use Rattle.sx_model.specs.Renewal.{may_attest}
 use Rattle.sx_run.specs.Setting.{Setting, Site}
 use Rattle.sx_run.specs.Ledger.{NO_TARGET, made_entry, is_made}
-use Rattle.sx_run.specs.Deployer.{DeployerState, Grant, grant_header, set_key, set_key_entry, key_of, connection_key, expected, accepts, after_acceptance, grants_after, side_number}
+use Rattle.sx_deployer.specs.Granting.{DeployerState, Grant, grants_after, side_number}
+use Rattle.sx_run.specs.Deployer.{grant_header, set_key, set_key_entry, key_of, connection_key, accepts, after_acceptance}
+use Rattle.sx_run.proofs.acts.Asking.{expected}
 use Rattle.sx_run.specs.State.{World, Acted}
 use Rattle.sx_run.specs.Observation.{unless_made}
 use Rattle.sx_run.specs.Acts.{only, then_, with_deployer, ask, key_given, keys_given, attested, attested_at, open_ask, after_denial, after_verdict, after_answer}

@@ -14,8 +14,9 @@ use Rattle.sx_invoke.specs.Marks as mark
 use Rattle.sx_invoke.specs.Marks.{Mark}
 use Rattle.sx_run.specs.Setting.{Setting}
 use Rattle.sx_run.specs.Ledger.{Made, NO_TARGET, made_entry, same_maker, same_entry, is_made}
-use Rattle.sx_run.specs.Deployer.{Grant, grant_header, set_key_entry, connection_key, side_number}
-use Rattle.sx_run.specs.Wire.{is_ask, challenge_in, is_set_key_header, is_event_header, link_in, epoch_in, last_in, value_in}
+use Rattle.sx_deployer.specs.Granting.{Grant, side_number}
+use Rattle.sx_run.specs.Deployer.{grant_header, set_key_entry, connection_key}
+use Rattle.sx_wire.specs.Headers.{is_ask, challenge_in, is_set_key_header, is_event_header, link_in, epoch_in, last_in, value_in}
 use Rattle.sx_run.specs.Observation.{Observed, with_items, has_wrapped, has_unwrapped, has_end, side_in, sender_of, unless_made}
 use Rattle.sx_calls.specs.Shown.{mark_observed, marks_observed}
 use Rattle.sx_forged.specs.Moments.{IsAmong, NoForged}

@@ -14,7 +14,7 @@ use Rattle.sx_invoke.specs.ModuleState.{ModuleState, state_of}
 use Rattle.sx_invoke.specs.Entries.{header_in}
 use Rattle.sx_image.specs.Image.{private_bytes}
 use Rattle.sx_run.specs.Setting.{Setting, Site, is_at_site}
-use Rattle.sx_run.specs.Wire.{set_key_header}
+use Rattle.sx_wire.specs.Headers.{set_key_header}
 use Rattle.sx_run.specs.Deployer.{key_of, connection_key}
 use Rattle.sx_forged.specs.Tags.{SameTags, rekeyed}
 use Rattle.sx_forged.proofs.Fields.{field_key}

@@ -12,7 +12,8 @@ use Rattle.sx_tag.specs.Mac.{Mac, IsTag, GivesTags}
 use Rattle.sx_tag.specs.Keys.{kdf, boot_key, section_key, module_key, identity}
 use Rattle.sx_tag.specs.Wrap.{xor_bytes, crypt}
 use Rattle.sx_run.specs.Setting.{Setting, Site}
-use Rattle.sx_run.specs.Wire.{low_first, set_key_header}
+use Rattle.byteorder.specs.Endian.{little_bytes}
+use Rattle.sx_wire.specs.Headers.{set_key_header}
 use Rattle.sx_run.specs.Deployer.{list_at, key_of, connection_key}
 use Rattle.sx_run.specs.Law.{IsSoundSetting, IsDriven}
 use Rattle.sx_links.specs.Unlinked.{Unlinked}
@@ -145,13 +146,13 @@ module _ (move back : List ℕ → List ℕ) (moving : IsMoving move back) (hold
       ap (λ (z : List ℕ). module_key nac z boot provider id) (list_moved a.keys n) ∙ module_moved (list_at a.keys n) boot provider id
 
   link_moved : (link epoch : ℕ) → connection_key (moved_setting move back holds a) link epoch ≡ move (connection_key a link epoch)
-  link_moved link epoch = kdf_moved a.secret (low_first 2 (link + 256 * epoch))
+  link_moved link epoch = kdf_moved a.secret (little_bytes 2 (link + 256 * epoch))
 
   -- 4. the tag function is lawful
   change_bytes : (link epoch : ℕ) → Bytes (change move a link epoch)
   change_bytes link epoch =
       let k = connection_key a link epoch in
-      let all = kdf_bytes a.secret (low_first 2 (link + 256 * epoch)) in
+      let all = kdf_bytes a.secret (little_bytes 2 (link + 256 * epoch)) in
       xor_all k (move k) all (moving.bytes k all)
 
   derived_width : (t : List ℕ) → length t ≡ 32 → length (move (take 16 t) ++ drop 16 t) ≡ 32
@@ -192,7 +193,7 @@ module _ (move back : List ℕ → List ℕ) (moving : IsMoving move back) (hold
   unfolding crypt
   packets key link epoch side h =
       let k = connection_key a link epoch in
-      let long = kdf_length a.secret (low_first 2 (link + 256 * epoch)) in
+      let long = kdf_length a.secret (little_bytes 2 (link + 256 * epoch)) in
       let message = 6 ∷ 1 ∷ 0 ∷ link ∷ epoch ∷ side ∷ 0 ∷ 0 ∷ [] in
       pads_back k (move k) (a.mac key (0x53 ∷ message)) (sym (moving.width k)) (omega (arith, long, lawful.width key (0x53 ∷ message)))
       ∙ ap (xor_bytes (move k)) (sym (at_pad key message h))

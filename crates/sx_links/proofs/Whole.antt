@@ -19,8 +19,9 @@ use Rattle.sx_invoke.specs.Marks.{Mark}
 use Rattle.sx_invoke.specs.Entries.{is_kind, header_in}
 use Rattle.sx_image.specs.Image.{call_at, progress_at}
 use Rattle.sx_run.specs.Setting.{Setting, Site, is_at_site}
-use Rattle.sx_run.specs.Deployer.{grant_header, side_number}
-use Rattle.sx_run.specs.Wire.{is_set_key_header, link_in, epoch_in}
+use Rattle.sx_deployer.specs.Granting.{side_number}
+use Rattle.sx_run.specs.Deployer.{grant_header}
+use Rattle.sx_wire.specs.Headers.{is_set_key_header, link_in, epoch_in}
 use Rattle.sx_run.specs.Observation.{has_end, side_in}
 use Rattle.sx_run.specs.State.{World, Acted}
 use Rattle.sx_run.specs.Run.{finish}

@@ -2,7 +2,7 @@
 use Rattle.std.specs.Prelude.{◌≡◌, ℕ, List, ◌∷◌, length, slice_get, Some}
 use Rattle.sx_tag.specs.Wrap.{crypt}
 use Rattle.sx_run.specs.Setting.{Setting, Site}
-use Rattle.sx_run.specs.Wire.{set_key_header}
+use Rattle.sx_wire.specs.Headers.{set_key_header}
 use Rattle.sx_run.specs.Deployer.{key_of, connection_key}
 use Rattle.sx_forged.specs.Tags.{SameTags, rekeyed}
 

@@ -13,9 +13,11 @@ use Rattle.sx_machine.specs.Step.{Shown, own_of, step}
 use Rattle.sx_machine.specs.Acts.{set}
 use Rattle.sx_run.specs.Setting.{Site, Setting, module_of}
 use Rattle.sx_run.specs.Ledger.{Made, NO_TARGET, made_entry, is_made}
-use Rattle.sx_run.specs.Deployer.{DeployerState, Grant, after_ask, accepts, after_acceptance}
-use Rattle.sx_run.specs.Deployer.{set_key, set_key_entry, grants_after}
-use Rattle.sx_run.specs.Wire.{ask_packet}
+use Rattle.sx_deployer.specs.Granting.{DeployerState, Grant, after_ask}
+use Rattle.sx_run.specs.Deployer.{accepts, after_acceptance}
+use Rattle.sx_deployer.specs.Granting.{grants_after}
+use Rattle.sx_run.specs.Deployer.{set_key, set_key_entry}
+use Rattle.sx_wire.specs.Headers.{ask_packet}
 use Rattle.sx_run.specs.State.{World, Acted}
 use Rattle.sx_run.specs.Observation.{observed, unless_made}
 

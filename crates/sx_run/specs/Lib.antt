@@ -1,5 +1,4 @@
 pub mod Setting
-pub mod Wire
 pub mod Ledger
 pub mod Deployer
 pub mod State

@@ -23,8 +23,8 @@ use Rattle.sx_mean.specs.Application.{AppTree}
 use Rattle.sx_mean.specs.Ends.{ends_of, same_side}
 use Rattle.sx_model.specs.Step.{drives, device_of}
 use Rattle.sx_run.specs.Setting.{Setting, module_of, device_number}
-use Rattle.sx_run.specs.Wire.{is_ask, is_set_key_header, is_event_header, challenge_in, link_in}
-use Rattle.sx_run.specs.Wire.{epoch_in, last_in, value_in}
+use Rattle.sx_wire.specs.Headers.{is_ask, is_set_key_header, is_event_header, challenge_in, link_in}
+use Rattle.sx_wire.specs.Headers.{epoch_in, last_in, value_in}
 use Rattle.sx_run.specs.Ledger.{Made, NO_TARGET, made_entry, is_made, header_of, body_of}
 
 -- items, and the ledger after them

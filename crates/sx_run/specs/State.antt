@@ -6,7 +6,7 @@ use Rattle.sx_run.specs.Ledger.{Made}
 use Rattle.sx_bus.specs.Devices.{powered_on}
 use Rattle.sx_machine.specs.State.{State, power_on}
 use Rattle.sx_run.specs.Setting.{Setting, windows_at}
-use Rattle.sx_run.specs.Deployer.{DeployerState}
+use Rattle.sx_deployer.specs.Granting.{DeployerState}
 
 -- where a run stands: its nodes, packets, deployer and ledger, and how many lines and steps there
 -- were

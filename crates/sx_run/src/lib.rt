@@ -8,10 +8,11 @@
 //! schedule.
 //!
 //! `specs/Setting.antt` has what a run is given, `State.antt` a world, `Acts.antt` the acts that
-//! lines are made of, `Observation.antt` the items of a step, `Ledger.antt` and `Wire.antt` who
-//! made which header, `Deployer.antt` the deployer, `Law.antt` the theorem with its premises,
-//! `Accepted.antt` the setting of an accepted deployment, and `AcceptedLaw.antt` the theorem from an
-//! accepted text on.
+//! lines are made of, `Observation.antt` the items of a step, `Ledger.antt` who made which header,
+//! `Deployer.antt` the keys of a setting and the answers to an ask, `Law.antt` the theorem with its
+//! premises, `Accepted.antt` the setting of an accepted deployment, and `AcceptedLaw.antt` the
+//! theorem from an accepted text on. The headers of packets are `sx_wire/specs/Headers.antt`, what
+//! the deployer knows and which keys it gives `sx_deployer/specs/Granting.antt`.
 //!
 //! In `proofs/` read `tie/Tied.antt` first: the tie of a world and the source's state is the
 //! invariant, which each act keeps or else shows an item that is forged.

@@ -9,7 +9,9 @@ use Rattle.sx_mean.specs.Ends.{ends_of}
 use Rattle.sx_trace.specs.declared.items.Item.TheVariants as item
 use Rattle.sx_tag.specs.Mac.{IsTag}
 use Rattle.sx_run.specs.Setting.{Site, Setting}
-use Rattle.sx_run.specs.Deployer.{Grant, accepts, after_acceptance, expected, grant, grants_after, grants_of, set_key, set_key_entry}
+use Rattle.sx_deployer.specs.Granting.{Grant, grant, grants_after, grants_of}
+use Rattle.sx_run.specs.Deployer.{accepts, after_acceptance, set_key, set_key_entry}
+use Rattle.sx_run.proofs.acts.Asking.{expected}
 use Rattle.sx_run.specs.Ledger.{Made}
 use Rattle.sx_run.specs.Observation.{unless_made}
 use Rattle.sx_run.specs.State.{World, Acted}

@@ -14,8 +14,10 @@ use Rattle.sx_machine.specs.State.{State}
 use Rattle.sx_invoke.specs.ModuleState.{ModuleState}
 use Rattle.sx_sched.specs.Lines.{Ask, Give, Call, Take, Answer}
 use Rattle.sx_run.specs.Setting.{Site, Setting}
-use Rattle.sx_run.specs.Wire.{ask_packet, is_ask, challenge_in}
-use Rattle.sx_run.specs.Deployer.{Grant, DeployerState, after_acceptance, after_ask, expected, set_key, set_key_entry}
+use Rattle.sx_wire.specs.Headers.{ask_packet, is_ask, challenge_in}
+use Rattle.sx_deployer.specs.Granting.{Grant, DeployerState, after_ask}
+use Rattle.sx_run.specs.Deployer.{after_acceptance, set_key, set_key_entry}
+use Rattle.sx_run.proofs.acts.Asking.{expected}
 use Rattle.sx_run.specs.Ledger.{NO_TARGET, made_entry}
 use Rattle.sx_run.specs.State.{World, Acted}
 use Rattle.sx_run.specs.Acts.{then_, with_node, new_packet}
@@ -23,7 +25,7 @@ use Rattle.sx_run.specs.Run.{after_line, call, line_counted, run}
 use Rattle.sx_run.specs.Law.{IsSoundSetting}
 use Rattle.sx_run.proofs.tie.Lists.{get_end}
 use Rattle.sx_lists.proofs.Lists.{get_same}
-use Rattle.sx_run.proofs.acts.Asking.{low_number}
+use Rattle.sx_wire.proofs.Numbers.{low_number}
 use Rattle.sx_run.proofs.tie.Entries.{made_in}
 use Rattle.sx_honest.specs.Course.{packet_items}
 use Rattle.sx_calls.specs.FourCalls.{CallDoes}

@@ -27,8 +27,9 @@ use Rattle.sx_invoke.specs.Setup.{Call as Asked}
 use Rattle.sx_invoke.specs.Entries.{end_found}
 use Rattle.sx_sched.specs.Lines.{Give, Call}
 use Rattle.sx_run.specs.Setting.{Site, Setting}
-use Rattle.sx_run.specs.Wire.{set_key_header}
-use Rattle.sx_run.specs.Deployer.{connection_key, set_key, set_key_entry, side_number}
+use Rattle.sx_wire.specs.Headers.{set_key_header}
+use Rattle.sx_deployer.specs.Granting.{side_number}
+use Rattle.sx_run.specs.Deployer.{connection_key, set_key, set_key_entry}
 use Rattle.sx_run.specs.Ledger.{made_entry, is_made}
 use Rattle.sx_run.specs.State.{World, Acted}
 use Rattle.sx_run.specs.Acts.{only, then_, with_node}

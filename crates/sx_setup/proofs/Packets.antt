@@ -1,6 +1,7 @@
 -- The lengths and bytes of packets.
-use Rattle.std.proofs.Common.{◌≡◌, ℕ, zero, suc, ◌+◌, ◌*◌, ◌/◌, ◌<◌, ◌≤◌, List, [], ◌∷◌, ◌++◌, length, length-append, take, min, ◌∙◌, ap, arith}
+use Rattle.std.proofs.Common.{◌≡◌, ℕ, zero, suc, ◌+◌, ◌*◌, ◌/◌, ◌%◌, ◌^◌, ◌<◌, ◌≤◌, List, [], ◌∷◌, ◌++◌, length, length-append, take, min, ◌∙◌, ap, arith}
 use Rattle.std.specs.Prelude.{All}
+use Rattle.std.specs.Int.{byte_at, bytes_low_first}
 use Rattle.std.proofs.lemmas.List.{length-take}
 use Rattle.std.proofs.lemmas.Nat.{xor_of_8}
 use Rattle.sx_lang.specs.declared.sides.Side.{Side}
@@ -10,8 +11,10 @@ use Rattle.sx_tag.specs.Keys.{kdf}
 use Rattle.sx_tag.specs.Wrap.{crypt, stream, wrap_tag, wrapped, xor_bytes}
 use Rattle.sx_tag.proofs.UnwrapsWrapped.{length-xor_bytes}
 use Rattle.sx_run.specs.Setting.{Site, Setting}
-use Rattle.sx_run.specs.Wire.{ask_packet, low_first}
-use Rattle.sx_run.specs.Deployer.{Grant, connection_key, grant_header, set_key, side_number}
+use Rattle.byteorder.specs.Endian.{little_bytes}
+use Rattle.sx_wire.specs.Headers.{ask_packet}
+use Rattle.sx_deployer.specs.Granting.{Grant, side_number}
+use Rattle.sx_run.specs.Deployer.{connection_key, grant_header, set_key}
 
 abbrev pub AreBytes : List ℕ → Type 0
 AreBytes [] = Unit {0}
@@ -76,7 +79,7 @@ module _ (set : Setting) (tag : IsTag set.mac) (site : Site) (g : Grant) where
   key = connection_key set g.«end».link g.epoch
 
   key_length : length key ≡ 16
-  key_length = kdf_length set.mac tag set.secret (low_first 2 (g.«end».link + 256 * g.epoch))
+  key_length = kdf_length set.mac tag set.secret (little_bytes 2 (g.«end».link + 256 * g.epoch))
 
   pub set_key_length : length (set_key set site g) ≡ 38
   set_key_length =
@@ -100,12 +103,19 @@ module _ (set : Setting) (tag : IsTag set.mac) (site : Site) (g : Grant) where
       let w = wrapped set.mac k h key in
       let head : AreBytes h = (omega arith, (omega arith, (lt, (le, (side_small g.«end».side, (omega arith, tt)))))) in
       both_bytes h (w.cipher ++ w.tag) head (both_bytes w.cipher w.tag
-      (cipher_bytes set.mac tag k h key (kdf_bytes set.mac tag set.secret (low_first 2 (g.«end».link + 256 * g.epoch)))) (tag_bytes set.mac tag k h key))
+      (cipher_bytes set.mac tag k h key (kdf_bytes set.mac tag set.secret (little_bytes 2 (g.«end».link + 256 * g.epoch)))) (tag_bytes set.mac tag k h key))
 
 -- an ask
-low_bytes : (n v : ℕ) → AreBytes (low_first n v)
-low_bytes zero v = tt
-low_bytes (suc n) v = (omega arith, low_bytes n (v / 256))
+is_byte : (v : ℕ) → v % 256 < 256
+is_byte v = omega arith
+
+byte_small : (j v : ℕ) → byte_at j v < 256
+byte_small zero v = is_byte v
+byte_small (suc j) v = is_byte (v / 256 ^ suc j)
+
+low_bytes : (n j v : ℕ) → AreBytes (bytes_low_first j n v)
+low_bytes zero j v = tt
+low_bytes (suc n) j v = (byte_small j v, low_bytes n (suc j) v)
 
 pub ask_bytes : (a : ℕ) → AreBytes (ask_packet a)
-ask_bytes a = (omega arith, (omega arith, low_bytes 16 a))
+ask_bytes a = (omega arith, (omega arith, low_bytes 16 0 a))

@@ -19,8 +19,10 @@ use Rattle.sx_machine.proofs.Apart.{lives_push}
 use Rattle.sx_invoke.specs.ModuleState.{initial_state}
 use Rattle.sx_sched.specs.Lines.{Line, Load}
 use Rattle.sx_run.specs.Setting.{Site, Setting, windows_at}
-use Rattle.sx_run.specs.Wire.{ask_packet}
-use Rattle.sx_run.specs.Deployer.{Grant, after_acceptance, after_ask, expected, grants_of, key_of, set_key, set_key_entry}
+use Rattle.sx_wire.specs.Headers.{ask_packet}
+use Rattle.sx_deployer.specs.Granting.{Grant, after_ask, grants_of}
+use Rattle.sx_run.specs.Deployer.{after_acceptance, key_of, set_key, set_key_entry}
+use Rattle.sx_run.proofs.acts.Asking.{expected}
 use Rattle.sx_run.specs.Ledger.{Made, is_made}
 use Rattle.sx_run.specs.State.{World, Acted}
 use Rattle.sx_run.specs.Acts.{only, then_, with_node}

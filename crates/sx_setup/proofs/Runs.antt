@@ -6,7 +6,7 @@ use Rattle.sx_trace.specs.declared.items.Item.{Item}
 use Rattle.sx_machine.specs.State.{State}
 use Rattle.sx_sched.specs.Lines.{Line}
 use Rattle.sx_run.specs.Setting.{Setting}
-use Rattle.sx_run.specs.Deployer.{DeployerState}
+use Rattle.sx_deployer.specs.Granting.{DeployerState}
 use Rattle.sx_run.specs.Ledger.{Made}
 use Rattle.sx_run.specs.State.{World, Acted}
 use Rattle.sx_run.specs.Acts.{then_}

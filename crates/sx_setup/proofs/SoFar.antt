@@ -22,7 +22,8 @@ use Rattle.sx_machine.proofs.Frame.{all_pass}
 use Rattle.sx_image.specs.Image.{private_bytes, public_bytes}
 use Rattle.sx_invoke.specs.ModuleState.{state_of}
 use Rattle.sx_run.specs.Setting.{Site, Setting, windows_at}
-use Rattle.sx_run.specs.Deployer.{DeployerState, grants_of, key_of, list_at}
+use Rattle.sx_deployer.specs.Granting.{DeployerState, grants_of}
+use Rattle.sx_run.specs.Deployer.{key_of, list_at}
 use Rattle.sx_run.specs.State.{World}
 use Rattle.sx_run.specs.Law.{AreApartLayouts, IsSoundSetting, IsDeployedModule, devices_of}
 use Rattle.sx_run.proofs.steps.Entry.{shapes_on}
@@ -314,7 +315,7 @@ module _ (set : Setting) (sound : IsSoundSetting set) (room : HasRoom set) (befo
         asks = ap (λ (d : DeployerState). d.asks) z.moves.deployer ∙ ap (λ (i : ℕ). i + 1) far.asks ∙ one_on k;
         open_asks =
             ap (λ (d : DeployerState). d.open_asks) z.moves.deployer
-            ∙ set-set w.deployer.open_asks k (Some (Rattle.sx_run.specs.Wire.ask_packet w.deployer.asks)) None
+            ∙ set-set w.deployer.open_asks k (Some (Rattle.sx_wire.specs.Headers.ask_packet w.deployer.asks)) None
             ∙ set_same w.deployer.open_asks k None asked ∙ far.open_asks;
         attested =
             ap (λ (d : DeployerState). d.attested) z.moves.deployer ∙ ap (λ (x : List (Option ℕ)). slice_set x k (Some 0)) far.attested
@@ -330,8 +331,8 @@ module _ (set : Setting) (sound : IsSoundSetting set) (room : HasRoom set) (befo
           let gs = grants_of w.deployer.epochs k 0 (ends_of set.app k) in
           let f = Rattle.sx_run.specs.Deployer.set_key set site in
           let a = ap (λ (x : List (List ℕ)). length x) z.moves.packets in
-          let b = length-append w.packets (Rattle.sx_run.specs.Wire.ask_packet w.deployer.asks ∷ Rattle.sx_run.specs.Deployer.expected set site 0
-          (Rattle.sx_run.specs.Wire.ask_packet w.deployer.asks) ∷ map f gs) in
+          let b = length-append w.packets (Rattle.sx_wire.specs.Headers.ask_packet w.deployer.asks ∷ Rattle.sx_run.proofs.acts.Asking.expected set site 0
+          (Rattle.sx_wire.specs.Headers.ask_packet w.deployer.asks) ∷ map f gs) in
           let c = length-map gs f in
           let d = own_few w.deployer.epochs k 0 (ends_of set.app k) in
           omega (arith, a, b, c, d)

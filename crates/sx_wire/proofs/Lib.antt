@@ -1,4 +1,5 @@
 pub mod Fields
+pub mod Numbers
 pub mod Parts
 pub mod Spelled
 pub mod Words

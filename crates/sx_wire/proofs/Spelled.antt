@@ -3,7 +3,8 @@ use Rattle.std.proofs.Common.{◌≡◌, ℕ, ◌/◌, ◌%◌, ◌<◌, List, �
 use Rattle.std.proofs.Math.Seq.{take-append_seam, drop-append_seam}
 use Rattle.sx_wire.specs.declared.packets.EventPacket.{EventPacket}
 use Rattle.sx_wire.specs.declared.packets.SetKeyPacket.{SetKeyPacket}
-use Rattle.sx_wire.specs.Packets.{header}
+use Rattle.byteorder.specs.Endian.{little_bytes}
+use Rattle.sx_wire.specs.Headers.{header}
 use Rattle.sx_wire.specs.Laws.{EventSpelledOnce, SetKeySpelledOnce, AskSpelledOnce}
 
 -- a word is known from its two bytes
@@ -27,7 +28,7 @@ record Same (a b c d : ℕ) (xs ys us vs : List ℕ) : Type 0 where
   mac : ys ≡ vs
 
 same : (kind a b c d : ℕ) (xs ys us vs : List ℕ) → a < 65536 → b < 65536 → c < 65536 → d < 65536 → length xs ≡ length us
-    → header kind a b ++ xs ++ ys ≡ header kind c d ++ us ++ vs → Same a b c d xs ys us vs
+    → header kind (little_bytes 2 a) (little_bytes 2 b) ++ xs ++ ys ≡ header kind (little_bytes 2 c) (little_bytes 2 d) ++ us ++ vs → Same a b c d xs ys us vs
 same kind a b c d xs ys us vs ha hb hc hd e h =
     let rest : xs ++ ys ≡ us ++ vs = ap (drop 6) h in
     record {

@@ -2,7 +2,8 @@
 use Rattle.std.specs.Prelude.{◌≡◌, ℕ, ◌<◌, List, length}
 use Rattle.sx_wire.specs.declared.packets.EventPacket.{EventPacket}
 use Rattle.sx_wire.specs.declared.packets.SetKeyPacket.{SetKeyPacket}
-use Rattle.sx_wire.specs.Packets.{event_packet, set_key_packet, ask_packet}
+use Rattle.sx_wire.specs.Headers.{ask_of}
+use Rattle.sx_wire.specs.Packets.{event_packet, set_key_packet}
 
 -- the fields are words and the byte strings have their widths, as the types of a packet say
 pub record IsEvent (p : EventPacket) : Type 0 where
@@ -30,4 +31,4 @@ SetKeySpelledOnce =
 
 -- two challenges with the same ask packet are equal
 abbrev pub AskSpelledOnce : Type 0
-AskSpelledOnce = (a b : List ℕ) → ask_packet a ≡ ask_packet b → a ≡ b
+AskSpelledOnce = (a b : List ℕ) → ask_of a ≡ ask_of b → a ≡ b

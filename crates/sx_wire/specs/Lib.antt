@@ -1,2 +1,3 @@
+pub mod Headers
 pub mod Packets
 pub mod Laws

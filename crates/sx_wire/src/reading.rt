@@ -1,11 +1,12 @@
-//! From bytes to packets.
+//! From bytes to packets, for a program that sees the packets of a run and takes them apart: a run
+//! itself has them as bytes.
 
 ghost use Rattle.std.specs.Prelude.{◌≡◌, ◌↔◌, IfSome, IsSome, IsTrue};
-ghost use Rattle.sx_wire.specs.Packets.{ask_packet, event_packet, is_ask, is_event, is_set_key};
-ghost use Rattle.sx_wire.specs.Packets.{set_key_packet};
+ghost use Rattle.sx_wire.specs.Headers.{ask_of, is_ask};
+ghost use Rattle.sx_wire.specs.Packets.{event_packet, is_event, is_set_key, set_key_packet};
 
+use crate::headers::{EVENT, SET_KEY, begins, is_ask};
 use crate::packets::{EventPacket, SetKeyPacket};
-use crate::writing::{ASK, EVENT, SET_KEY};
 use byteorder::{ByteOrder, LittleEndian};
 
 /// The event packet of these bytes; `None` exactly where there aren't 24 or the first two aren't 03
@@ -14,7 +15,7 @@ pub fn read_event(bytes: &[u8]) -> Option<EventPacket>
     ensures packet { IfSome result (λ p. event_packet p ≡ bytes.now) }
     ensures some { IsSome result ↔ IsTrue (is_event bytes.now) }
 {
-    if bytes.len() != 24 || LittleEndian::read_u16(bytes) != EVENT {
+    if bytes.len() != 24 || !begins(EVENT, bytes) {
         return None;
     }
     let mut p = EventPacket {
@@ -34,7 +35,7 @@ pub fn read_set_key(bytes: &[u8]) -> Option<SetKeyPacket>
     ensures packet { IfSome result (λ p. set_key_packet p ≡ bytes.now) }
     ensures some { IsSome result ↔ IsTrue (is_set_key bytes.now) }
 {
-    if bytes.len() != 38 || LittleEndian::read_u16(bytes) != SET_KEY {
+    if bytes.len() != 38 || !begins(SET_KEY, bytes) {
         return None;
     }
     let mut p = SetKeyPacket {
@@ -51,10 +52,10 @@ pub fn read_set_key(bytes: &[u8]) -> Option<SetKeyPacket>
 /// The challenge of an ask packet; `None` exactly where there aren't 18 bytes or the first two
 /// aren't 02 00.
 pub fn read_ask(bytes: &[u8]) -> Option<[u8; 16]>
-    ensures packet { IfSome result (λ challenge. ask_packet challenge ≡ bytes.now) }
+    ensures packet { IfSome result (λ challenge. ask_of challenge ≡ bytes.now) }
     ensures some { IsSome result ↔ IsTrue (is_ask bytes.now) }
 {
-    if bytes.len() != 18 || LittleEndian::read_u16(bytes) != ASK {
+    if !is_ask(bytes) {
         return None;
     }
     let mut challenge = [0; 16];

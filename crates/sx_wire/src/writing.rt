@@ -1,32 +1,26 @@
 //! From packets to bytes.
 
 ghost use Rattle.std.specs.Prelude.{◌≡◌};
-ghost use Rattle.sx_wire.specs.Packets.{ask_packet, event_packet, header, set_key_packet};
+ghost use Rattle.byteorder.specs.Endian.{little_bytes};
+ghost use Rattle.sx_wire.specs.Headers.{ask_of, header};
+ghost use Rattle.sx_wire.specs.Packets.{event_packet, set_key_packet};
 
+use crate::headers::{ASK, EVENT, SET_KEY};
 use crate::packets::{EventPacket, SetKeyPacket};
 use byteorder::{ByteOrder, LittleEndian};
 
-/// The first word of a set-key packet.
-pub(crate) const SET_KEY: u16 = 1;
-
-/// The first word of an ask.
-pub(crate) const ASK: u16 = 2;
-
-/// The first word of an event.
-pub(crate) const EVENT: u16 = 3;
-
-// The three words before what is encrypted.
-fn header(kind: u16, link: u16, last: u16) -> [u8; 6]
-    ensures { result ≡ header kind link last }
+// The six bytes before what is encrypted.
+fn header(kind: u8, link: u16, last: u16) -> [u8; 6]
+    ensures { result ≡ header kind (little_bytes 2 link) (little_bytes 2 last) }
 {
-    let mut bytes = [0; 6];
-    LittleEndian::write_u16(&mut bytes, kind);
+    let mut bytes = [kind, 0, 0, 0, 0, 0];
     LittleEndian::write_u16(&mut bytes[2..], link);
     LittleEndian::write_u16(&mut bytes[4..], last);
     bytes
 }
 
-/// The 24 bytes of an event packet.
+/// The 24 bytes of an event packet, for a program that makes events outside a module: in a run the
+/// modules make them.
 pub fn write_event(p: &EventPacket) -> [u8; 24]
     ensures { result ≡ event_packet p.now }
 {
@@ -50,10 +44,10 @@ pub fn write_set_key(p: &SetKeyPacket) -> [u8; 38]
 
 /// The 18 bytes of an ask packet.
 pub fn write_ask(challenge: &[u8; 16]) -> [u8; 18]
-    ensures { result ≡ ask_packet challenge.now }
+    ensures { result ≡ ask_of challenge.now }
 {
     let mut bytes = [0; 18];
-    LittleEndian::write_u16(&mut bytes, ASK);
+    bytes[0] = ASK;
     bytes[2..].copy_from_slice(challenge);
     bytes
 }

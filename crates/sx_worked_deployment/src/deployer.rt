@@ -31,7 +31,7 @@ fn target(alloc: Global) -> Result<Target, AllocError> {
 }
 
 fn deployer(alloc: Global) -> Result<Deployer, AllocError>
-    ensures { IfOk result (λ d. (length d.targets ≡ 1) × (d.asks ≡ 0)) }
+    ensures { IfOk result (λ d. (length d.targets ≡ 1) × (d.state.asks ≡ 0)) }
 {
     let mut targets = Vec::new(alloc);
     targets.push(target(alloc)?)?;
@@ -42,7 +42,7 @@ fn deployer(alloc: Global) -> Result<Deployer, AllocError>
 
 fn judges(rt: &impl Abort, d: &mut Deployer)
     requires one { length d.old.targets ≡ 1 }
-    requires new { d.old.asks ≡ 0 }
+    requires new { d.old.state.asks ≡ 0 }
 {
     assert!(rt; d.answer(&Weak, 0, 0, &[0x48; 16]) == Verdict::Denied);
     let ask = d.ask(&Weak, 0);
@@ -61,7 +61,7 @@ fn an_answer_is_judged(rt: HostRuntime) -> Result<(), AllocError> {
 
 fn renews(rt: &impl Abort, d: &mut Deployer)
     requires one { length d.old.targets ≡ 1 }
-    requires new { d.old.asks ≡ 0 }
+    requires new { d.old.state.asks ≡ 0 }
 {
     d.ask(&Weak, 0);
     d.answer(&Weak, 0, 0, &[0x48; 16]);

@@ -1,5 +1,4 @@
 -- What the program's deployer keeps, and the packets and grants that it gives.
-pub mod Numbers
 pub mod SameKeys
 pub mod Sent
 pub mod SameGrants

@@ -14,7 +14,7 @@ use Rattle.sx_deployer.specs.Keeping.{Keeping, open_ask, attested_at, accepts, j
 use Rattle.sx_run.specs.Setting.{Setting}
 use Rattle.sx_run.specs.Ledger.{made_entry, is_made}
 use Rattle.sx_ledger.specs.Made.{NO_TARGET}
-use Rattle.sx_run.specs.Deployer.{Grant, grant, grants_of, grants_after}
+use Rattle.sx_deployer.specs.Granting.{Grant, grant, grants_of, grants_after}
 use Rattle.sx_run.specs.State.{World, Acted}
 use Rattle.sx_run.specs.Observation.{unless_made}
 use Rattle.sx_run.specs.Acts.{then_, keys_given}
@@ -42,9 +42,9 @@ own_from epochs m boot n (l ∷ ls) = own_at epochs m boot n l ++ own_from epoch
 abbrev pub across_at : Keeping → ℕ → ℕ → ℕ → Link → Option Grant
 across_at d parts m n l =
     if l.from == l.to then None
-    else if l.from == m then grant_if_any d.epochs l.to
+    else if l.from == m then grant_if_any d.state.epochs l.to
     (record { link = n; side = To; port = l.input }) (boot_in d parts l.to)
-    else if l.to == m then grant_if_any d.epochs l.from
+    else if l.to == m then grant_if_any d.state.epochs l.from
     (record { link = n; side = From; port = l.output }) (boot_in d parts l.from)
     else None
 
@@ -56,9 +56,9 @@ across_from d parts m n (l ∷ ls) =
 
 -- after the answer of a module that was last attested at a boot, if any
 abbrev pub granted : Keeping → ℕ → List Link → ℕ → ℕ → Option ℕ → List Grant
-granted d parts links m boot None = own_from d.epochs m boot 0 links
+granted d parts links m boot None = own_from d.state.epochs m boot 0 links
 granted d parts links m boot (Some last) =
-    own_from d.epochs m boot 0 links ++ across_from d parts m 0 links
+    own_from d.state.epochs m boot 0 links ++ across_from d parts m 0 links
 
 -- the open ask that a packet, if there is one, answers
 abbrev pub accepted_ask : Mac → Keeping → ℕ → ℕ → Option (List ℕ) → Option (List ℕ)

@@ -13,7 +13,8 @@ use Rattle.sx_deployer.specs.Keeping.{Keeping, Known}
 use Rattle.sx_run.specs.Setting.{Site, Setting}
 use Rattle.sx_run.specs.Ledger.{is_made}
 use Rattle.sx_ledger.specs.Made.{Made}
-use Rattle.sx_run.specs.Deployer.{DeployerState, list_at}
+use Rattle.sx_deployer.specs.Granting.{DeployerState}
+use Rattle.sx_run.specs.Deployer.{list_at}
 use Rattle.sx_run.specs.Observation.{Observed}
 use Rattle.sx_run.specs.State.{World, Acted}
 
@@ -63,27 +64,30 @@ abbrev pub ObservesFront : List Entry → List Item → List Item → (List Made
 ObservesFront old before after due =
     (ledger : List Made) → Records old ledger → AddsFront before after (due ledger).items
 
--- the modules from the m-th on, as the deployer knows them
+-- the m-th module, at a site, as the deployer knows it
+abbrev pub known_as : Setting → ℕ → Site → Known
+known_as set m site = record {
+  node_key = list_at set.keys site.node;
+  provider = site.provider;
+  identity = identity site.text site.layout.pub_from site.layout.pub_to site.layout.priv_from
+      site.layout.priv_to;
+  ends = ends_of set.app m;
+}
+
+-- the modules from the m-th on
 abbrev pub targets_from : Setting → ℕ → List Site → List Known
 targets_from set m [] = []
-targets_from set m (site ∷ sites) =
-    record {
-      node_key = list_at set.keys site.node;
-      provider = site.provider;
-      identity = identity site.text site.layout.pub_from site.layout.pub_to site.layout.priv_from
-          site.layout.priv_to;
-      ends = ends_of set.app m;
-    } ∷ targets_from set (m + 1) sites
+targets_from set m (site ∷ sites) = known_as set m site ∷ targets_from set (m + 1) sites
 
 -- the deployer keeps the secret and the modules of the setting; it has room for 32 modules and 64
 -- connections, of which the first are those of the application
 pub record IsKept (set : Setting) (k : Keeping) (d : DeployerState) : Type 0 where
   pub secret : k.secret ≡ set.secret
   pub targets : k.targets ≡ targets_from set 0 set.sites
-  pub asks : k.asks ≡ d.asks
-  pub open_asks : take (length set.app.parts) k.open_asks ≡ d.open_asks
-  pub attested : take (length set.app.parts) k.attested ≡ d.attested
-  pub epochs : take (length set.app.links) k.epochs ≡ d.epochs
+  pub asks : k.state.asks ≡ d.asks
+  pub open_asks : take (length set.app.parts) k.state.open_asks ≡ d.open_asks
+  pub attested : take (length set.app.parts) k.state.attested ≡ d.attested
+  pub epochs : take (length set.app.links) k.state.epochs ≡ d.epochs
 
 -- how many resets each node has had
 abbrev pub boots_of : List State → List ℕ

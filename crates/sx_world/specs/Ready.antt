@@ -15,7 +15,7 @@ pub record IsReady (d : Deployed) (sites : List Site) (k : Running) : Type 0 whe
       → shapes s.devices ≡ windows_at n d.app.devices d.places
   pub steps : k.steps + 1000000 ≤ 18446744073709551615
   pub packets : length k.packets ≤ 4294967000
-  pub asks : k.deployer.asks < 4294967295
+  pub asks : k.deployer.state.asks < 4294967295
   pub targets : length k.deployer.targets ≡ length d.app.parts
   pub as_many : length sites ≡ length d.app.parts
   pub at_nodes : (m : ℕ) (site : Site) → slice_get sites m ≡ Some site → site.node < length k.nodes

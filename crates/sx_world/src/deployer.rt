@@ -8,7 +8,6 @@ ghost use Rattle.sx_world.specs.InMemory.{setting_at};
 ghost use Rattle.sx_run.specs.Setting.{Setting, Site};
 
 use crate::grants::granted;
-use crate::headers::challenge_in;
 use crate::network::add_packet;
 use crate::recording::{NO_TARGET, add, add_unless_made, is_made};
 use crate::running::Running;
@@ -19,6 +18,7 @@ use sx_deployer::{Deployer, Verdict};
 use sx_ledger::Maker;
 use sx_tag::Tag;
 use sx_trace::items::Item;
+use sx_wire::challenge_in;
 
 /// The open ask that a packet answers, as a module's answer at a boot of its node. Where it answers
 /// none, the deployer is as before.
@@ -50,7 +50,7 @@ impl<B: Copied, T: Tag> Running<B, T> {
     /// The deployer asks a module.
     pub(crate) fn ask(&mut self, m: u8, items: &mut Vec<Item>) -> Result<(), AllocError>
         requires known { m < length self.old.deployer.targets }
-        requires asks { self.old.deployer.asks < 4294967295 }
+        requires asks { self.old.deployer.state.asks < 4294967295 }
         requires packets { length self.old.packets < 4294967295 }
         ensures does { (set : Setting) → DoesAct set result self.old self.new items.old.items
             items.new.items (λ w. ask w m) }

@@ -3,7 +3,7 @@
 ghost use Rattle.std.specs.Prelude.{◌≡◌, ◌+◌, ◌<◌, ◌≤◌, ◌++◌, length, IfOk, OnOk};
 ghost use Rattle.std.specs.Option.{option_to_list};
 ghost use Rattle.sx_mean.specs.Ends as ends;
-ghost use Rattle.sx_run.specs.Deployer.{grant, grants_of};
+ghost use Rattle.sx_deployer.specs.Granting.{grant, grants_of};
 ghost use Rattle.sx_world.specs.Granted.{across_at, across_from, boot_in, grant_if_any, granted};
 ghost use Rattle.sx_world.specs.Granted.{own_at, own_from};
 
@@ -25,7 +25,7 @@ pub(crate) struct Grant {
 }
 
 impl Model for Grant {
-    ghost use Rattle.sx_run.specs.Deployer.{Grant as Given};
+    ghost use Rattle.sx_deployer.specs.Granting.{Grant as Given};
 
     ghost Value = { Given };
 
@@ -34,7 +34,7 @@ impl Model for Grant {
 
 /// For an end of a module at a boot, in the connection's present epoch.
 fn grant_for(deployer: &Deployer, holder: u8, boot: u32, end: End) -> Grant
-    ensures { result ≡ grant deployer.now.epochs holder boot «end» }
+    ensures { result ≡ grant deployer.now.state.epochs holder boot «end» }
 {
     Grant {
         holder,
@@ -83,7 +83,7 @@ fn add_end(
     grants: &mut Vec<Grant>,
 ) -> Result<(), AllocError>
     ensures { OnOk result (grants.new.items ≡ grants.old.items
-        ++ grants_of deployer.now.epochs m boot (option_to_list «end»)) }
+        ++ grants_of deployer.now.state.epochs m boot (option_to_list «end»)) }
 {
     match end {
         Some(end) => {
@@ -104,7 +104,7 @@ fn add_ends(
     grants: &mut Vec<Grant>,
 ) -> Result<(), AllocError>
     ensures { OnOk result (grants.new.items ≡ grants.old.items
-        ++ own_at deployer.now.epochs m boot n link.now) }
+        ++ own_at deployer.now.state.epochs m boot n link.now) }
 {
     add_end(deployer, m, boot, sending(n, m, link), grants)?;
     add_end(deployer, m, boot, receiving(n, m, link), grants)
@@ -120,7 +120,7 @@ fn add_own(
 ) -> Result<(), AllocError>
     requires { length links.now ≤ 256 }
     ensures { OnOk result (grants.new.items ≡ grants.old.items
-        ++ own_from deployer.now.epochs m boot 0 links.now) }
+        ++ own_from deployer.now.state.epochs m boot 0 links.now) }
 {
     for n in 0..links.len() {
         add_ends(deployer, m, boot, n as u8, &links[n], grants)?;
@@ -143,7 +143,7 @@ fn attested(deployer: &Deployer, parts: usize, k: u8) -> Option<u32>
 /// The grant for an end of a module, where that was attested.
 fn grant_to(deployer: &Deployer, parts: usize, k: u8, end: End) -> Option<Grant>
     requires { parts ≤ length deployer.now.targets }
-    ensures { result ≡ grant_if_any deployer.now.epochs k «end» (boot_in deployer.now parts k) }
+    ensures { result ≡ grant_if_any deployer.now.state.epochs k «end» (boot_in deployer.now parts k) }
 {
     match attested(deployer, parts, k) {
         Some(boot) => Some(grant_for(deployer, k, boot, end)),

@@ -1,8 +1,6 @@
 //! Connection keys are given: a set-key packet for each grant, and its entry of the ledger.
 
 ghost use Rattle.std.specs.Prelude.{◌≡◌, ◌+◌, ◌<◌, ◌≤◌, List, length, slice_get, OnOk};
-ghost use Rattle.sx_deployer.specs.Granting as granting;
-ghost use Rattle.sx_wire.specs.Packets.{field};
 ghost use Rattle.sx_run.specs.Acts.{key_given, keys_given};
 ghost use Rattle.sx_world.specs.Held.{DoesAct};
 ghost use Rattle.sx_world.specs.InMemory.{setting_at};
@@ -15,17 +13,10 @@ use crate::running::Running;
 use std::alloc::AllocError;
 use sx_bus::Copied;
 use sx_deploy::deployment::Deployment;
+use sx_deployer::connection_key;
 use sx_ledger::Maker;
-use sx_tag::{Tag, kdf};
+use sx_tag::Tag;
 use sx_trace::items::Item;
-
-/// The key of a connection in an epoch.
-fn connection_key<T: Tag>(tag: &T, secret: &[u8; 16], link: u8, epoch: u8) -> [u8; 16]
-    ensures { result ≡ granting.connection_key T.mac secret.now (field link epoch) }
-{
-    let field = u16::from(link) + 256 * u16::from(epoch);
-    kdf(tag, secret, &field.to_le_bytes())
-}
 
 impl<B: Copied, T: Tag> Running<B, T> {
     /// The set-key packet of a grant, and its entry.

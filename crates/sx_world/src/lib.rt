@@ -18,7 +18,6 @@ mod copying;
 mod deployer;
 mod devices;
 mod grants;
-mod headers;
 mod keys;
 mod lines;
 mod loading;

@@ -8,6 +8,7 @@ ghost use Rattle.sx_world.specs.Held.{DoesAct};
 ghost use Rattle.sx_run.specs.Run.{give};
 ghost use Rattle.sx_run.specs.Setting.{Setting};
 
+use crate::network::add_packet;
 use crate::nodes::{add_answer, put_node, refused_item};
 use crate::recording::add;
 use crate::running::Running;
@@ -53,16 +54,7 @@ impl<B: Copied, T: Tag> Running<B, T> {
             items.new.items
             (λ w. new_packet w bytes.now) }
     {
-        let number = self.packets.len() as u32;
-        let packet = bytes.to_vec(self.alloc)?;
-        self.packets.push(packet)?;
-        add(
-            items,
-            Item::Packet {
-                number,
-                len: bytes.len() as u16,
-            },
-        )
+        add_packet(self.alloc, &mut self.packets, bytes, items)
     }
 
     /// Bytes of a node's memory become a new packet.

@@ -11,18 +11,17 @@ ghost use Rattle.sx_world.specs.Held.{AddsFront, Records, Observes, ObservesFron
 ghost use Rattle.sx_run.specs.Ledger.{body_of, header_of, is_made};
 ghost use Rattle.sx_run.specs.Observation.{has_end, has_unwrapped, has_wrapped, sender_of};
 ghost use Rattle.sx_run.specs.Observation.{side_in, unless_made};
-ghost use Rattle.sx_run.specs.Wire.{epoch_in, last_in, link_in, value_in};
+ghost use Rattle.sx_wire.specs.Headers.{epoch_in, last_in, link_in, value_in};
 
-use crate::headers::{
-    challenge_in, epoch_in, is_ask, is_event_header, is_set_key_header, last_in, link_in, side_in,
-    value_in,
-};
 use std::alloc::AllocError;
 use sx_lang::sides::Side;
 use sx_ledger::{Entry, Ledger, Maker};
 use sx_mean::apps::{App, Link};
 use sx_node::Exchange;
 use sx_trace::items::Item;
+use sx_wire::{
+    challenge_in, epoch_in, is_ask, is_event_header, is_set_key_header, last_in, link_in, value_in,
+};
 
 /// The target of an entry that is no set-key packet.
 pub(crate) const NO_TARGET: u8 = 255;
@@ -84,6 +83,18 @@ pub(crate) fn record(
         → Records ledger.new (list ++ made maker target boot header.now body.now ∷ [])) }
 {
     ledger.made(Entry::new(maker, target, boot, header, body))
+}
+
+/// The side of a set-key packet's header.
+fn side_in(header: &[u8]) -> Side
+    requires { length header.now ≡ 6 }
+    ensures { result ≡ side_in header.now }
+{
+    if last_in(header) == 0 {
+        Side::From
+    } else {
+        Side::To
+    }
 }
 
 /// A deployed module wrapped the header and the body: it vouches for itself, or it makes an event.

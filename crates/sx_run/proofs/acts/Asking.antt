@@ -1,5 +1,5 @@
 -- What the deployer does keeps a run tied: asks, answers, and the keys that it gives.
-use Rattle.std.proofs.Common.{◌≡◌, ◌≢◌, ℕ, zero, suc, ◌+◌, ◌*◌, ◌%◌, ◌/◌, ◌^◌, ◌<◌, ◌≤◌, ◌⊎◌, inl}
+use Rattle.std.proofs.Common.{◌≡◌, ◌≢◌, ℕ, suc, ◌+◌, ◌*◌, ◌<◌, ◌≤◌, ◌⊎◌, inl}
 use Rattle.std.proofs.Common.{inr, ◌==◌, Bool, true, false, if◌then◌else◌, List, [], ◌∷◌, ◌++◌}
 use Rattle.std.proofs.Common.{length, Option, Some, None, refl, sym, ◌∙◌, ap, subst, arith}
 use Rattle.std.specs.Prelude.{slice_get, slice_set, slice_index, is_some}
@@ -19,10 +19,13 @@ use Rattle.sx_mean.specs.declared.apps.Link.{Link}
 use Rattle.sx_invoke.specs.ModuleState.{link_of, epoch_of}
 use Rattle.sx_model.specs.Step.{is_vouched, step}
 use Rattle.sx_model.specs.Renewal.{may_attest, boot_of, renewed}
+use Rattle.sx_tag.specs.Wrap.{wrapped}
 use Rattle.sx_run.specs.Setting.{Site, Setting}
-use Rattle.sx_run.specs.Wire.{low_first, number_in, ask_packet, challenge_in, is_ask}
+use Rattle.sx_wire.specs.Headers.{ask_packet, challenge_in, is_ask}
+use Rattle.sx_wire.proofs.Numbers.{low_number}
 use Rattle.sx_run.specs.Ledger.{Made, NO_TARGET, made_entry, is_made}
-use Rattle.sx_run.specs.Deployer.{DeployerState, Grant, after_ask, accepts, after_acceptance, grants_of, grant_to, grant_beyond, grants_beyond, grants_after, set_key, set_key_entry}
+use Rattle.sx_deployer.specs.Granting.{DeployerState, Grant, after_ask, grants_of, grant_to, grant_beyond, grants_beyond, grants_after}
+use Rattle.sx_run.specs.Deployer.{key_of, accepts, after_acceptance, set_key, set_key_entry}
 use Rattle.sx_run.specs.State.{World, Acted}
 use Rattle.sx_run.specs.Observation.{unless_made}
 use Rattle.sx_run.specs.Acts.{then_, new_packet, with_deployer, ask, key_given, keys_given, attested, after_denial, open_ask, attested_at, after_verdict, after_answer}
@@ -34,13 +37,11 @@ use Rattle.sx_run.proofs.tie.Verdicts.{Going, judge, Fares, fares_then}
 use Rattle.sx_run.proofs.tie.Tied.{KnownKey, Known, HasEnd, asked_as, DeployerTied, IsTimely, HasSent, IsSane, ModuleTied, Absent, Rests, Runs, Tied}
 use Rattle.sx_lists.proofs.Lists.{get_same}
 
--- a challenge's bytes tell it
-pub low_number : (n v : ℕ) → v < 256 ^ n → number_in (low_first n v) ≡ v
-low_number zero v h = omega (arith, h)
-low_number (suc n) v h =
-    let small : v / 256 < 256 ^ n = omega (arith, h) in
-    ap (λ k. v % 256 + 256 * k) (low_number n (v / 256) small) ∙ omega arith
+-- the tag that answers an ask at a boot
+abbrev pub expected : Setting → Site → ℕ → List ℕ → List ℕ
+expected set site boot ask = (wrapped set.mac (key_of set site boot) ask []).tag
 
+-- a challenge's bytes tell it
 challenge_of : (a : ℕ) → a < 65536 → challenge_in (ask_packet a) ≡ a
 challenge_of a h = low_number 16 a (omega (arith, h))
 

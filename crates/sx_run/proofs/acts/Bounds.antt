@@ -36,7 +36,8 @@ use Rattle.sx_machine.proofs.Boots.{boots_count, step_quiet}
 use Rattle.sx_machine.proofs.Stays.{acted_is_node, acted_shapes}
 use Rattle.sx_run.specs.Setting.{Site, Setting, windows_at}
 use Rattle.sx_run.specs.Ledger.{Made}
-use Rattle.sx_run.specs.Deployer.{DeployerState, accepts, Grant, after_acceptance, after_ask, grants_of, grant_to, grant_beyond, grants_beyond, grants_after}
+use Rattle.sx_deployer.specs.Granting.{DeployerState, Grant, after_ask, grants_of, grant_to, grant_beyond, grants_beyond, grants_after}
+use Rattle.sx_run.specs.Deployer.{accepts, after_acceptance}
 use Rattle.sx_run.specs.State.{World, Acted, switched_on}
 use Rattle.sx_run.specs.Acts.{only, then_, with_node, at_node, after_step, done_on, with_deployer}
 use Rattle.sx_run.specs.Acts.{new_packet, after_take, after_interrupt, ask, key_given, keys_given}

@@ -11,7 +11,8 @@ use Rattle.sx_machine.specs.State.{State}
 use Rattle.sx_machine.specs.Step.{step}
 use Rattle.sx_machine.specs.Acts.{put as put_at, set as set_register, take as take_from, sense as sense_on, irq as interrupt}
 use Rattle.sx_run.specs.Setting.{Site, Setting}
-use Rattle.sx_run.specs.Deployer.{accepts, Grant, after_acceptance, grants_after}
+use Rattle.sx_deployer.specs.Granting.{Grant, grants_after}
+use Rattle.sx_run.specs.Deployer.{accepts, after_acceptance}
 use Rattle.sx_run.specs.State.{World, Acted}
 use Rattle.sx_run.specs.Acts.{only, then_, at_node, after_step, done_on, with_deployer, after_take}
 use Rattle.sx_run.specs.Acts.{after_interrupt, key_given, keys_given, attested, after_denial}

@@ -26,7 +26,7 @@ use Rattle.sx_model.specs.Reaction.{flow_of, after_event}
 use Rattle.sx_model.specs.Step.{idle, changed_views, is_word, kind_is, waits, is_vouched, step}
 use Rattle.sx_model.specs.Renewal.{takes, opens, is_below, may_open}
 use Rattle.sx_run.specs.Setting.{device_number}
-use Rattle.sx_run.specs.Wire.{begins, is_ask, is_set_key_header, is_event_header, challenge_in, link_in, epoch_in, last_in, value_in}
+use Rattle.sx_wire.specs.Headers.{begins, is_ask, is_set_key_header, is_event_header, challenge_in, link_in, epoch_in, last_in, value_in}
 use Rattle.sx_run.specs.Ledger.{Made, NO_TARGET, made_entry, is_made}
 use Rattle.sx_run.specs.Observation.{Observed, is_driver, read_item, write_item, side_in, has_end, sender_of, unless_made, has_wrapped, has_unwrapped}
 use Rattle.sx_run.proofs.tie.Lists.{get_some, some_inj}

@@ -20,7 +20,7 @@ use Rattle.sx_model.specs.State.{Reading, Present, Standing, Model}
 use Rattle.sx_model.specs.Step.{step, reset_at, absent_at, stale_at, is_vouched}
 use Rattle.sx_machine.proofs.Devices.{stale_shapes}
 use Rattle.sx_run.specs.Setting.{Site, Setting, device_number, devices_at, windows_at}
-use Rattle.sx_run.specs.Wire.{challenge_in}
+use Rattle.sx_wire.specs.Headers.{challenge_in}
 use Rattle.sx_run.specs.Ledger.{Made, is_made}
 use Rattle.sx_run.specs.State.{World}
 use Rattle.sx_run.specs.Acts.{with_node}

@@ -35,7 +35,7 @@ use Rattle.sx_model.specs.State.{Reading, Present, Standing, Model}
 use Rattle.sx_machine.proofs.Apart.{lives_without}
 use Rattle.sx_machine.proofs.Devices.{position_is}
 use Rattle.sx_run.specs.Setting.{Site, Setting, module_of, deployed, is_at_site}
-use Rattle.sx_run.specs.Wire.{challenge_in}
+use Rattle.sx_wire.specs.Headers.{challenge_in}
 use Rattle.sx_run.specs.Ledger.{Made}
 use Rattle.sx_run.specs.State.{World}
 use Rattle.sx_run.specs.Observation.{Observed, observed, event_seen, touch_items}

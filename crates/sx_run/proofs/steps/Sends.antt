@@ -23,7 +23,7 @@ use Rattle.sx_mean.specs.Ends.{ends_of}
 use Rattle.sx_model.specs.State.{EndView}
 use Rattle.sx_model.specs.Reaction.{Flow, MOST_SENT, field_at, field_of, sent_over, is_from, sends, sent_to, all_done}
 use Rattle.sx_run.specs.Setting.{device_number}
-use Rattle.sx_run.specs.Wire.{last_in, value_in}
+use Rattle.sx_wire.specs.Headers.{last_in, value_in}
 use Rattle.sx_run.specs.Observation.{sender_of}
 use Rattle.sx_run.proofs.tie.Lists.{get_other, get_end, get_before}
 use Rattle.sx_run.proofs.tie.Ends.{has_link, EndOf, epoch_open, epoch_closed}

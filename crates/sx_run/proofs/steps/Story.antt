@@ -32,7 +32,7 @@ use Rattle.sx_invoke.specs.Invocation.{returns_inside, is_sensor_driver, is_no_e
 use Rattle.sx_mean.specs.Ends.{ends_of}
 use Rattle.sx_model.specs.State.{EndView}
 use Rattle.sx_model.specs.Reaction.{Flow, flow_of}
-use Rattle.sx_run.specs.Wire.{begins, is_ask, is_set_key_header, value_in}
+use Rattle.sx_wire.specs.Headers.{begins, is_ask, is_set_key_header, value_in}
 use Rattle.sx_run.specs.Observation.{side_in}
 use Rattle.sx_run.proofs.tie.Ends.{renumbered, takes_at, found_at}
 use Rattle.sx_run.proofs.tie.Tied.{SameEnds, Settles, idle_with, Reacts, OwnSensor, Begun, Refuses, Breaks, Opens, Vouches, Takes, Samples, shapes}

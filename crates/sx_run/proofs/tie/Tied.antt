@@ -33,9 +33,9 @@ use Rattle.sx_model.specs.Reaction.{flow_of, after_event}
 use Rattle.sx_model.specs.Step.{is_vouched, kind_is}
 use Rattle.sx_model.specs.Renewal.{boot_of}
 use Rattle.sx_run.specs.Setting.{Site, Setting, is_at_site, device_number, windows_at}
-use Rattle.sx_run.specs.Wire.{ask_packet, set_key_header, is_ask, is_set_key_header, is_event_header, challenge_in, link_in, epoch_in, last_in, value_in}
+use Rattle.sx_wire.specs.Headers.{ask_packet, set_key_header, is_ask, is_set_key_header, is_event_header, challenge_in, link_in, epoch_in, last_in, value_in}
 use Rattle.sx_run.specs.Ledger.{Made, is_made}
-use Rattle.sx_run.specs.Deployer.{side_number}
+use Rattle.sx_deployer.specs.Granting.{side_number}
 use Rattle.sx_run.specs.State.{World}
 use Rattle.sx_run.specs.Observation.{side_in, sender_of}
 

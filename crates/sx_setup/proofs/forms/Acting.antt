@@ -13,7 +13,9 @@ use Rattle.sx_invoke.specs.ModuleState.{EndState, ModuleState, end_of, with_end}
 use Rattle.sx_invoke.specs.Entries.{end_found}
 use Rattle.sx_sched.specs.Lines.{Line, Give, Call, Take, Answer}
 use Rattle.sx_run.specs.Setting.{Site, Setting}
-use Rattle.sx_run.specs.Deployer.{Grant, after_acceptance, connection_key, expected, grants_of, set_key, set_key_entry}
+use Rattle.sx_deployer.specs.Granting.{Grant, grants_of}
+use Rattle.sx_run.specs.Deployer.{after_acceptance, connection_key, set_key, set_key_entry}
+use Rattle.sx_run.proofs.acts.Asking.{expected}
 use Rattle.sx_run.specs.Ledger.{NO_TARGET, made_entry, is_made}
 use Rattle.sx_run.specs.State.{World}
 use Rattle.sx_run.specs.Acts.{with_node, new_packet}

@@ -11,8 +11,10 @@ use Rattle.sx_machine.specs.State.{State}
 use Rattle.sx_invoke.specs.ModuleState.{ModuleState, initial_ends}
 use Rattle.sx_sched.specs.Lines.{Line, Ask, Give, Call, Take, Answer}
 use Rattle.sx_run.specs.Setting.{Site, Setting}
-use Rattle.sx_run.specs.Wire.{ask_packet}
-use Rattle.sx_run.specs.Deployer.{DeployerState, Grant, after_acceptance, after_ask, expected, set_key, set_key_entry}
+use Rattle.sx_wire.specs.Headers.{ask_packet}
+use Rattle.sx_deployer.specs.Granting.{DeployerState, Grant, after_ask}
+use Rattle.sx_run.specs.Deployer.{after_acceptance, set_key, set_key_entry}
+use Rattle.sx_run.proofs.acts.Asking.{expected}
 use Rattle.sx_run.specs.Ledger.{Made, NO_TARGET, made_entry, is_made}
 use Rattle.sx_run.specs.State.{World}
 use Rattle.sx_run.specs.Law.{IsSoundSetting}
@@ -50,7 +52,7 @@ vouched_entry m a = made_entry (maker.Module m) NO_TARGET 0 (ask_packet a) []
 
 -- the grants for ends of the m-th module in these epochs, at boot 0
 abbrev pub grants_at : List ℕ → ℕ → List End → List Grant
-grants_at epochs m es = Rattle.sx_run.specs.Deployer.grants_of epochs m 0 es
+grants_at epochs m es = Rattle.sx_deployer.specs.Granting.grants_of epochs m 0 es
 
 -- A module that was never attested is asked, answers, and is attested at boot 0.
 abbrev pub ModuleAttested : Type 0

@@ -12,8 +12,10 @@ use Rattle.sx_machine.specs.NodeLaws.{shapes}
 use Rattle.sx_image.specs.Image.{private_bytes, public_bytes}
 use Rattle.sx_invoke.specs.ModuleState.{ModuleState}
 use Rattle.sx_run.specs.Setting.{Site, Setting, windows_at}
-use Rattle.sx_run.specs.Wire.{ask_packet}
-use Rattle.sx_run.specs.Deployer.{after_acceptance, after_ask, expected, key_of, set_key, set_key_entry}
+use Rattle.sx_wire.specs.Headers.{ask_packet}
+use Rattle.sx_deployer.specs.Granting.{after_ask}
+use Rattle.sx_run.specs.Deployer.{after_acceptance, key_of, set_key, set_key_entry}
+use Rattle.sx_run.proofs.acts.Asking.{expected}
 use Rattle.sx_run.specs.State.{World}
 use Rattle.sx_run.specs.Law.{IsSoundSetting}
 use Rattle.sx_honest.specs.Course.{part_items}

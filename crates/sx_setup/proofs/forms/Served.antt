@@ -12,7 +12,8 @@ use Rattle.sx_invoke.specs.ModuleState.{ModuleState, state_of}
 use Rattle.sx_image.specs.Image.{StandsProtected, private_bytes, public_bytes}
 use Rattle.sx_sched.specs.Lines.{Line}
 use Rattle.sx_run.specs.Setting.{Site, Setting, windows_at}
-use Rattle.sx_run.specs.Deployer.{DeployerState, key_of}
+use Rattle.sx_deployer.specs.Granting.{DeployerState}
+use Rattle.sx_run.specs.Deployer.{key_of}
 use Rattle.sx_run.specs.Ledger.{Made}
 use Rattle.sx_run.specs.State.{World}
 use Rattle.sx_run.specs.Run.{run}

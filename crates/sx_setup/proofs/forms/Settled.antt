@@ -18,7 +18,8 @@ use Rattle.sx_invoke.specs.Acts.{event_header}
 use Rattle.sx_invoke.specs.Windows.{two}
 use Rattle.sx_image.specs.Image.{private_bytes, public_bytes}
 use Rattle.sx_run.specs.Setting.{Site, Setting, windows_at}
-use Rattle.sx_run.specs.Deployer.{DeployerState, key_of, list_at, connection_key}
+use Rattle.sx_deployer.specs.Granting.{DeployerState}
+use Rattle.sx_run.specs.Deployer.{key_of, list_at, connection_key}
 use Rattle.sx_run.specs.Ledger.{NO_TARGET, made_entry, is_made}
 use Rattle.sx_run.specs.Observation.{sender_of}
 use Rattle.sx_run.specs.State.{World, switched_on}

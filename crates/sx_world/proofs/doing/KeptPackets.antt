@@ -1,5 +1,5 @@
 -- Packets that are kept, and what is given of them.
-use Rattle.std.proofs.Common.{◌≡◌, ℕ, suc, ◌<◌, ◌≤◌, List, [], ◌∷◌, ◌++◌, length, map, get_or, Vec, Global, Some, None, Result, Ok, Err, OnOk, refl, sym, subst, ap, ◌∙◌}
+use Rattle.std.proofs.Common.{◌≡◌, ℕ, ◌<◌, ◌≤◌, List, [], ◌∷◌, ◌++◌, length, map, get_or, Vec, Global, Some, None, Result, Ok, Err, OnOk, refl, sym, subst, ap, ◌∙◌}
 use Rattle.std.specs.Prelude.{slice_get}
 use Rattle.std.proofs.lemmas.Option.{slice_get-map, slice_get-get_or, slice_get_past, get_or_from_slice_get}
 use Rattle.std.specs.Option.{option_map}
@@ -14,6 +14,7 @@ use Rattle.sx_run.specs.Run.{give, put_on}
 use Rattle.sx_run.specs.State.{World, Acted}
 use Rattle.sx_world.specs.Held.{Running, Shows, Did, DoesAct}
 use Rattle.sx_world.proofs.doing.Composed.{does_same}
+use Rattle.sx_world.proofs.showing.Fronts.{front_same}
 
 -- the bytes of a packet in memory
 abbrev pub bytes_in : Vec ℕ Global → List ℕ
@@ -48,30 +49,21 @@ give_none (Ok x) old before after n at k found e = λ set w h.
 give_none (Err x) old before after n at k found e = tt
 
 -- a new packet is kept
-pub packet_did : {T E : Type 0} (r : Result T E) (old view : Running) (packets : List (List ℕ)) (before after : List Item) (bytes : List ℕ) (number : ℕ) → view ≡ old
-    → packets ≡ old.packets ++ bytes ∷ [] → number ≡ length old.packets → OnOk r (after ≡ before ++ Packet number (length bytes) ∷ [])
-    → OnOk r ((set : Setting) → Did set old (with_packets view packets) before after (λ w. new_packet w bytes))
-packet_did (Ok x) old view packets before after bytes number v e count added = λ set w h. (
-  subst (λ (k : Running). Shows set (with_packets k packets) (new_packet w bytes).world) (sym v)
-      (record {
-        nodes = h.nodes;
-        packets = e ∙ ap (λ ps. ps ++ bytes ∷ []) h.packets;
-        deployer = h.deployer;
-        ledger = h.ledger;
-        steps = h.steps;
-        placed = h.placed;
-      }),
+pub packet_does : {T E : Type 0} (set : Setting) (r : Result T E) (old : Running) (packets : List (List ℕ)) (before after : List Item) (bytes : List ℕ) (number : ℕ)
+    → number ≡ length old.packets → OnOk r (packets ≡ old.packets ++ bytes ∷ []) → OnOk r (after ≡ before ++ Packet number (length bytes) ∷ []) → OnErr r (after ≡ before)
+    → DoesAct set r old (with_packets old packets) before after (λ w. new_packet w bytes)
+packet_does set (Ok x) old packets before after bytes number count e added none = λ w h. (
+  record {
+    nodes = h.nodes;
+    packets = e ∙ ap (λ ps. ps ++ bytes ∷ []) h.packets;
+    deployer = h.deployer;
+    ledger = h.ledger;
+    steps = h.steps;
+    placed = h.placed;
+  },
   added ∙ ap (λ k. before ++ Packet k (length bytes) ∷ []) (count ∙ ap length h.packets),
 )
-packet_did (Err x) old view packets before after bytes number v e count added = tt
-
-pub map_push : (xs : List (Vec ℕ Global)) (p : Vec ℕ Global) → map bytes_in (xs ++ p ∷ []) ≡ map bytes_in xs ++ p.items ∷ []
-map_push [] p = refl
-map_push (x ∷ xs) p = ap (λ r. x.items ∷ r) (map_push xs p)
-
-pub map_long : (xs : List (Vec ℕ Global)) → length xs ≡ length (map bytes_in xs)
-map_long [] = refl
-map_long (x ∷ xs) = ap suc (map_long xs)
+packet_does set (Err x) old packets before after bytes number count e added none = λ w h. front_same after before _ none
 
 -- bytes that were taken are a new packet
 pub took_does : {T E : Type 0} (set : Setting) (r : Result T E) (old new : Running) (before after : List Item) (n at len : ℕ) (bytes : List ℕ) (s : State)

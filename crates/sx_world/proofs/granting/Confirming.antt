@@ -14,7 +14,8 @@ use Rattle.sx_deployer.specs.Keeping as keeping
 use Rattle.sx_run.specs.Setting.{Site, Setting}
 use Rattle.sx_run.specs.Ledger.{made_entry, is_made}
 use Rattle.sx_ledger.specs.Made.{Made, NO_TARGET}
-use Rattle.sx_run.specs.Deployer.{Grant, accepts, after_acceptance, grants_after}
+use Rattle.sx_deployer.specs.Granting.{Grant, grants_after, is_answer}
+use Rattle.sx_run.specs.Deployer.{accepts, after_acceptance}
 use Rattle.sx_run.specs.State.{World, Acted}
 use Rattle.sx_run.specs.Observation.{unless_made}
 use Rattle.sx_run.specs.Acts.{keys_given, with_deployer, attested, attested_at, open_ask, after_denial, after_verdict, after_answer}
@@ -157,8 +158,8 @@ unanswered set old k m boot n lt kj aa w h = by_packet (slice_get old.packets n)
     by_verdict : (answer : List ℕ) → slice_get old.packets n ≡ Some answer → (b : Bool) → keeping.accepts set.mac old.deployer m boot answer ≡ b
         → k ≡ (if b then keeping.accepted old.deployer m boot else old.deployer) → (if b then keeping.open_ask old.deployer m else None) ≡ None → Due
     by_verdict answer e true acc kj aa =
-        absurd (true≢false (sym acc ∙ ap (λ a. keeping.is_answer set.mac (keeping.target_at old.deployer m) boot answer a
-        && keeping.may_attest (keeping.target_at old.deployer m).ends old.deployer.epochs (keeping.attested_at old.deployer m) boot) aa))
+        absurd (true≢false (sym acc ∙ ap (λ a. is_answer set.mac (keeping.key_of set.mac (keeping.target_at old.deployer m) boot) answer a
+        && keeping.may_attest (keeping.target_at old.deployer m).ends old.deployer.state.epochs (keeping.attested_at old.deployer m) boot) aa))
     by_verdict answer e false acc kj aa =
         (kept kj, ap (λ p. after_answer set w m boot (slice_get set.sites m) p) (packet_of set old w n (Some answer) h e) ∙ by_site answer acc (slice_get set.sites m) refl)
 

@@ -1,95 +1,63 @@
 -- Connection keys that are given: the packet and the entry of each grant.
-use Rattle.std.proofs.Common.{◌≡◌, ℕ, ◌+◌, ◌*◌, ◌<◌, List, [], ◌∷◌, ◌++◌, length, take, drop}
+use Rattle.std.proofs.Common.{◌≡◌, ℕ, ◌+◌, ◌<◌, List, [], ◌∷◌, ◌++◌, length, take, drop}
 use Rattle.std.proofs.Common.{drop-cons, add-one, get_or, IsErr, Option, Some, None, option_map}
 use Rattle.std.proofs.Common.{Result, Ok, Err, OnOk, OnErr, refl, sym, subst, ap, ◌∙◌, arith}
 use Rattle.std.specs.Prelude.{slice_get}
 use Rattle.std.proofs.lemmas.List.{append-nil}
 use Rattle.std.proofs.lemmas.Option.{same_Some}
-use Rattle.sx_lang.specs.declared.sides.Side.{Side}
-use Rattle.sx_lang.specs.declared.sides.Side.TheVariants.{From, To}
 use Rattle.sx_trace.specs.declared.items.Item.{Item}
 use Rattle.sx_trace.specs.declared.items.Item.TheVariants.{Packet}
 use Rattle.sx_ledger.specs.declared.entry.Entry.{Entry}
 use Rattle.sx_ledger.specs.declared.entry.Maker.TheVariants as maker
 use Rattle.sx_ledger.specs.Made.{Made}
 use Rattle.sx_ledger.specs.Entries.{made}
-use Rattle.sx_tag.specs.Keys.{kdf}
-use Rattle.sx_tag.specs.Wrap.{wrapped}
-use Rattle.sx_wire.specs.Packets.{field}
-use Rattle.sx_wire.specs.Packets as wire
-use Rattle.sx_wire.proofs.Fields.{set_key_header_bytes}
-use Rattle.sx_deployer.specs.Keeping.{Keeping}
+use Rattle.sx_deployer.specs.Granting.{DeployerState, Grant}
 use Rattle.sx_deployer.specs.Granting as granting
+use Rattle.sx_deployer.specs.Keeping.{Keeping, Known, packet_for}
+use Rattle.sx_deployer.specs.Keeping as keeping
 use Rattle.sx_run.specs.Setting.{Site, Setting}
-use Rattle.sx_run.specs.Deployer.{DeployerState, Grant, key_of, side_number, connection_key, grant_header, set_key, set_key_entry}
+use Rattle.sx_run.specs.Deployer.{connection_key, grant_header, set_key, set_key_entry}
 use Rattle.sx_run.specs.State.{World, Acted}
 use Rattle.sx_run.specs.Acts.{then_, with_deployer, key_given, keys_given}
-use Rattle.sx_world.specs.Held.{Running, IsKept, Records, AddsFront, Shows, Did, Wanted, DoesAct}
+use Rattle.sx_world.specs.Held.{Running, IsKept, known_as, Records, AddsFront, Shows, Did, Wanted, DoesAct}
 use Rattle.sx_world.proofs.showing.Fronts.{front_more, front_same, Comes, comes_on, comes_all, comes_front}
-use Rattle.sx_world.proofs.granting.SameKeys.{low_bytes, known_as, known_site, unknown_site}
+use Rattle.sx_world.proofs.granting.SameKeys.{known_site, unknown_site}
 use Rattle.sx_world.proofs.granting.Sent.{sent, deployer_shown, packet_shown, packet_item}
 
-same_side : (s : Side) → granting.side_number s ≡ side_number s
-same_side From = refl
-same_side To = refl
-
-small_side : (s : Side) → side_number s < 256
-small_side From = omega arith
-small_side To = omega arith
-
-same_header : (g : Grant) → g.«end».link < 256 → g.epoch < 256
-    → wire.set_key_header (field g.«end».link g.epoch) (granting.side_number g.«end».side) ≡ grant_header g
-same_header g hl he =
-    ap (λ n. wire.set_key_header (field g.«end».link g.epoch) n) (same_side g.«end».side)
-    ∙ set_key_header_bytes g.«end».link g.epoch (side_number g.«end».side) hl he (small_side g.«end».side)
-
-same_key : (set : Setting) (link epoch : ℕ) → granting.connection_key set.mac set.secret (field link epoch) ≡ connection_key set link epoch
-same_key set link epoch = ap (λ p. kdf set.mac set.secret p) (sym (low_bytes 2 (link + 256 * epoch)))
-
--- the set-key packet that the program's deployer makes
-pub same_set_key : (set : Setting) (k : Keeping) (d : DeployerState) (m : ℕ) (site : Site) (g : Grant) → IsKept set k d → g.«end».link < 256 → g.epoch < 256
-    → granting.set_key set.mac k.secret (known_as set m site) g.boot g.«end» g.epoch ≡ set_key set site g
-same_set_key set k d m site g h hl he =
-    let packet : List ℕ → List ℕ → List ℕ = λ header body.
-    header ++ (wrapped set.mac (key_of set site g.boot) header body).cipher ++ (wrapped set.mac (key_of set site g.boot) header body).tag in
-    let link = field g.«end».link g.epoch in
-    let header = wire.set_key_header link (granting.side_number g.«end».side) in
-    ap (λ (s : List ℕ). packet header (granting.connection_key set.mac s link)) h.secret
-    ∙ ap (λ (x : List ℕ). packet x (granting.connection_key set.mac set.secret link)) (same_header g hl he)
-    ∙ ap (λ (x : List ℕ). packet (grant_header g) x) (same_key set g.«end».link g.epoch)
+-- a grant's packet for a module as the deployer knows it
+abbrev packet_to : Setting → Grant → List ℕ → Known → List ℕ
+packet_to set g secret t = granting.set_key set.mac secret (keeping.key_of set.mac t g.boot) g.«end» g.epoch
 
 -- the packet of a grant, where there is the holder
-same_answer : (set : Setting) (k : Keeping) (d : DeployerState) (g : Grant) (o : Option Site) → IsKept set k d → g.«end».link < 256 → g.epoch < 256 → slice_get set.sites g.holder ≡ o
-    → option_map (λ t. granting.set_key set.mac k.secret t g.boot g.«end» g.epoch) (slice_get k.targets g.holder) ≡ option_map (λ site. set_key set site g) o
-same_answer set k d g None h hl he e =
-    ap (option_map (λ t. granting.set_key set.mac k.secret t g.boot g.«end» g.epoch)) (unknown_site set k d g.holder h e)
-same_answer set k d g (Some site) h hl he e =
-    ap (option_map (λ t. granting.set_key set.mac k.secret t g.boot g.«end» g.epoch)) (known_site set k d g.holder site h e)
-    ∙ ap (λ (p : List ℕ). Some p) (same_set_key set k d g.holder site g h hl he)
+same_answer : (set : Setting) (k : Keeping) (d : DeployerState) (g : Grant) (o : Option Site) → IsKept set k d → slice_get set.sites g.holder ≡ o
+    → packet_for set.mac k g.holder g.boot g.«end» g.epoch ≡ option_map (λ site. set_key set site g) o
+same_answer set k d g None h e = ap (option_map (packet_to set g k.secret)) (unknown_site set k d g.holder h e)
+same_answer set k d g (Some site) h e =
+    ap (option_map (packet_to set g k.secret)) (known_site set k d g.holder site h e)
+    ∙ ap (λ (s : List ℕ). Some (packet_to set g s (known_as set g.holder site))) h.secret
 
 -- a key was given
 pub given_some : {X E : Type 0} (set : Setting) (r : Result X E) (old : Running) (entries : List Entry) (packets : List (List ℕ)) (before after : List Item) (g : Grant)
-    (count : ℕ) (packet key : List ℕ) → g.«end».link < 256 → g.epoch < 256
-    → Some packet ≡ option_map (λ t. granting.set_key set.mac old.deployer.secret t g.boot g.«end» g.epoch) (slice_get old.deployer.targets g.holder)
-    → key ≡ granting.connection_key set.mac set.secret (field g.«end».link g.epoch)
+    (count : ℕ) (packet key : List ℕ)
+    → Some packet ≡ packet_for set.mac old.deployer g.holder g.boot g.«end» g.epoch → key ≡ connection_key set g.«end».link g.epoch
     → ((list : List Made) → Records old.ledger list → Records entries (list ++ made maker.Deployer g.holder g.boot (take 6 packet) key ∷ []))
     → count ≡ length old.packets
     → OnOk r (packets ≡ old.packets ++ packet ∷ []) → OnOk r (after ≡ before ++ Packet count (length packet) ∷ []) → OnErr r (after ≡ before)
     → DoesAct set r old (sent old packets old.deployer entries) before after (λ w. key_given set w g (slice_get set.sites g.holder))
-given_some set (Err e) old entries packets before after g count packet key hl he made_by key_is records n more added none = λ w h. front_same after before _ none
-given_some set (Ok x) old entries packets before after g count packet key hl he made_by key_is records n more added none = λ w h. did w h (slice_get set.sites g.holder) refl
+given_some set (Err e) old entries packets before after g count packet key made_by key_is records n more added none = λ w h. front_same after before _ none
+given_some set (Ok x) old entries packets before after g count packet key made_by key_is records n more added none = λ w h. did w h (slice_get set.sites g.holder) refl
   where
     did : (w : World) → Shows set old w → (o : Option Site) → slice_get set.sites g.holder ≡ o
         → Shows set (sent old packets old.deployer entries) (key_given set w g o).world × (after ≡ before ++ (key_given set w g o).items)
-    did w h None e = absurd (no_packet (made_by ∙ same_answer set old.deployer w.deployer g None h.deployer hl he e))
+    did w h None e = absurd (no_packet (made_by ∙ same_answer set old.deployer w.deployer g None h.deployer e))
       where
         no_packet : ◌≡◌ {A = Option (List ℕ)} (Some packet) None → ⊥
         no_packet e = cc
     did w h (Some site) e =
-        let same : packet ≡ set_key set site g = same_Some packet (set_key set site g) (made_by ∙ same_answer set old.deployer w.deployer g (Some site) h.deployer hl he e) in
+        let same : packet ≡ set_key set site g = same_Some packet (set_key set site g) (made_by ∙ same_answer set old.deployer w.deployer g (Some site) h.deployer e) in
         let entry : made maker.Deployer g.holder g.boot (take 6 packet) key ≡ set_key_entry set g =
         ap (λ (p : List ℕ). made maker.Deployer g.holder g.boot (take 6 p) key) same
-        ∙ ap (λ (p : List ℕ). made maker.Deployer g.holder g.boot (grant_header g) p) (key_is ∙ same_key set g.«end».link g.epoch) in
+        ∙ ap (λ (p : List ℕ). made maker.Deployer g.holder g.boot (grant_header g) p) key_is in
         let ledger = w.ledger ++ set_key_entry set g ∷ [] in
         let kept : Records entries ledger = subst (λ (m : Made). Records entries (w.ledger ++ m ∷ [])) entry (records w.ledger h.ledger) in (
           packet_shown set (sent old old.packets old.deployer entries) (with_deployer w w.deployer ledger) packets packet (set_key set site g)
@@ -99,7 +67,7 @@ given_some set (Ok x) old entries packets before after g count packet key hl he 
 
 -- no such holder
 pub given_none : (set : Setting) (old : Running) (before : List Item) (g : Grant)
-    → None ≡ option_map (λ t. granting.set_key set.mac old.deployer.secret t g.boot g.«end» g.epoch) (slice_get old.deployer.targets g.holder)
+    → None ≡ packet_for set.mac old.deployer g.holder g.boot g.«end» g.epoch
     → Did set old old before before (λ w. key_given set w g (slice_get set.sites g.holder))
 given_none set old before g made_by = λ w h. did w h (slice_get set.sites g.holder) refl
   where
@@ -107,8 +75,7 @@ given_none set old before g made_by = λ w h. did w h (slice_get set.sites g.hol
         → Shows set old (key_given set w g o).world × (before ≡ before ++ (key_given set w g o).items)
     did w h None e = (h, sym (append-nil before))
     did w h (Some site) e =
-        absurd (no_packet (made_by ∙ ap (option_map (λ t. granting.set_key set.mac old.deployer.secret t g.boot g.«end» g.epoch))
-        (known_site set old.deployer w.deployer g.holder site h.deployer e)))
+        absurd (no_packet (made_by ∙ same_answer set old.deployer w.deployer g (Some site) h.deployer e))
       where
         no_packet : {p : List ℕ} → ◌≡◌ {A = Option (List ℕ)} None (Some p) → ⊥
         no_packet e = cc

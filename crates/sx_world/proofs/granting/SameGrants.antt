@@ -14,7 +14,7 @@ use Rattle.sx_mean.specs.declared.events.End.{End}
 use Rattle.sx_mean.specs.Ends.{sending, receiving, ends_after}
 use Rattle.sx_deployer.specs.Keeping.{Keeping}
 use Rattle.sx_run.specs.Setting.{Setting}
-use Rattle.sx_run.specs.Deployer.{DeployerState, Grant, grant, grants_of, grant_to, grant_beyond, grants_beyond, grants_after}
+use Rattle.sx_deployer.specs.Granting.{DeployerState, Grant, grant, grants_of, grant_to, grant_beyond, grants_beyond, grants_after}
 use Rattle.sx_run.specs.Acts.{attested_at}
 use Rattle.sx_world.specs.Granted.{boot_in, grant_if_any, own_at, own_from, across_at, across_from, granted}
 use Rattle.sx_world.specs.Held.{IsKept}
@@ -72,12 +72,12 @@ to_same L es j e (Some None) h = refl
 to_same L es j e (Some (Some boot)) h = ap (λ (g : Grant). g ∷ []) (same_grant L es j boot e h)
 
 beyond_to : (k : Keeping) (P L : ℕ) (j : ℕ) (e : End) → e.link < L
-    → option_to_list (grant_if_any k.epochs j e (boot_in k P j)) ≡ grant_to (take L k.epochs) j (slice_get (take P k.attested) j) e
+    → option_to_list (grant_if_any k.state.epochs j e (boot_in k P j)) ≡ grant_to (take L k.state.epochs) j (slice_get (take P k.state.attested) j) e
 beyond_to k P L j e h =
-    ap (λ o. option_to_list (grant_if_any k.epochs j e o)) (boot_same P k.attested j (nat_lt j P) refl)
-    ∙ to_same L k.epochs j e (slice_get (take P k.attested) j) h
+    ap (λ o. option_to_list (grant_if_any k.state.epochs j e o)) (boot_same P k.state.attested j (nat_lt j P) refl)
+    ∙ to_same L k.state.epochs j e (slice_get (take P k.state.attested) j) h
 
-across_one : (k : Keeping) (d : DeployerState) (P L m n : ℕ) (l : Link) → d.epochs ≡ take L k.epochs → d.attested ≡ take P k.attested → n < L
+across_one : (k : Keeping) (d : DeployerState) (P L m n : ℕ) (l : Link) → d.epochs ≡ take L k.state.epochs → d.attested ≡ take P k.state.attested → n < L
     → option_to_list (across_at k P m n l) ≡ grant_beyond d m n l
 across_one k d P L m n l ee ea h = by_ends (l.from == l.to) (l.from == m) (l.to == m)
   where
@@ -87,20 +87,20 @@ across_one k d P L m n l ee ea h = by_ends (l.from == l.to) (l.from == m) (l.to 
     from_end : End
     from_end = record { link = n; side = From; port = l.output }
 
-    held : (j : ℕ) (e : End) → e.link < L → option_to_list (grant_if_any k.epochs j e (boot_in k P j)) ≡ grant_to d.epochs j (slice_get d.attested j) e
+    held : (j : ℕ) (e : End) → e.link < L → option_to_list (grant_if_any k.state.epochs j e (boot_in k P j)) ≡ grant_to d.epochs j (slice_get d.attested j) e
     held j e lt =
-        beyond_to k P L j e lt ∙ ap (λ (es : List ℕ). grant_to es j (slice_get (take P k.attested) j) e) (sym ee)
+        beyond_to k P L j e lt ∙ ap (λ (es : List ℕ). grant_to es j (slice_get (take P k.state.attested) j) e) (sym ee)
         ∙ ap (λ (xs : List (Option ℕ)). grant_to d.epochs j (slice_get xs j) e) (sym ea)
 
     by_ends : (a b c : Bool)
-        → option_to_list (if a then None else if b then grant_if_any k.epochs l.to to_end (boot_in k P l.to) else if c then grant_if_any k.epochs l.from from_end (boot_in k P l.from) else None)
+        → option_to_list (if a then None else if b then grant_if_any k.state.epochs l.to to_end (boot_in k P l.to) else if c then grant_if_any k.state.epochs l.from from_end (boot_in k P l.from) else None)
         ≡ (if a then [] else if b then grant_to d.epochs l.to (slice_get d.attested l.to) to_end else if c then grant_to d.epochs l.from (slice_get d.attested l.from) from_end else [])
     by_ends true b c = refl
     by_ends false true c = held l.to to_end h
     by_ends false false true = held l.from from_end h
     by_ends false false false = refl
 
-across_same : (k : Keeping) (d : DeployerState) (P L m : ℕ) (n : ℕ) (ls : List Link) → d.epochs ≡ take L k.epochs → d.attested ≡ take P k.attested → n + length ls ≤ L
+across_same : (k : Keeping) (d : DeployerState) (P L m : ℕ) (n : ℕ) (ls : List Link) → d.epochs ≡ take L k.state.epochs → d.attested ≡ take P k.state.attested → n + length ls ≤ L
     → across_from k P m n ls ≡ grants_beyond d m n ls
 across_same k d P L m n [] ee ea h = refl
 across_same k d P L m n (l ∷ ls) ee ea h =
@@ -115,8 +115,8 @@ same_grants set k d m boot last h = by_last last
     L : ℕ
     L = length set.app.links
 
-    own : own_from k.epochs m boot 0 set.app.links ≡ grants_of d.epochs m boot (ends_after 0 m set.app.links)
-    own = own_same set.app.links 0 L k.epochs m boot (omega arith) ∙ ap (λ (es : List ℕ). grants_of es m boot (ends_after 0 m set.app.links)) h.epochs
+    own : own_from k.state.epochs m boot 0 set.app.links ≡ grants_of d.epochs m boot (ends_after 0 m set.app.links)
+    own = own_same set.app.links 0 L k.state.epochs m boot (omega arith) ∙ ap (λ (es : List ℕ). grants_of es m boot (ends_after 0 m set.app.links)) h.epochs
 
     by_last : (last : Option ℕ) → granted k (length set.app.parts) set.app.links m boot last ≡ grants_after set.app d m boot last
     by_last None = own
@@ -154,9 +154,9 @@ few_across k P m n (l ∷ ls) =
 
 -- at most three for each connection
 pub few_grants : (k : Keeping) (P m boot : ℕ) (ls : List Link) (last : Option ℕ) → length (granted k P ls m boot last) ≤ 3 * length ls
-few_grants k P m boot ls None = let a = few_own ls 0 k.epochs m boot in omega (arith, a)
+few_grants k P m boot ls None = let a = few_own ls 0 k.state.epochs m boot in omega (arith, a)
 few_grants k P m boot ls (Some b) =
-    let a = few_own ls 0 k.epochs m boot in
+    let a = few_own ls 0 k.state.epochs m boot in
     let c = few_across k P m 0 ls in
-    let t = length-append (own_from k.epochs m boot 0 ls) (across_from k P m 0 ls) in
+    let t = length-append (own_from k.state.epochs m boot 0 ls) (across_from k P m 0 ls) in
     omega (arith, a, c, t)

@@ -1,41 +1,21 @@
--- What the program's deployer keeps says what a run knows of it: numbers as bytes, keys, asks and their answers.
-use Rattle.std.proofs.Common.{◌≡◌, ℕ, zero, suc, ◌+◌, ◌/◌, ◌%◌, ◌^◌, ◌<◌, ◌&&◌, ◌||◌, nat_le}
+-- What the program's deployer keeps says what a run knows of it: modules, asks and their answers.
+use Rattle.std.proofs.Common.{◌≡◌, ℕ, zero, suc, ◌+◌, ◌<◌, ◌&&◌, ◌||◌, nat_le}
 use Rattle.std.proofs.Common.{nat_lt, not, if◌then◌else◌, List, [], ◌∷◌, length, take, get_or}
 use Rattle.std.proofs.Common.{Option, Some, None, refl, sym, ap, ◌∙◌, arith}
 use Rattle.std.specs.Prelude.{slice_get, slice_set}
-use Rattle.std.specs.Int.{byte_at, bytes_low_first}
-use Rattle.std.proofs.Math.Nat.{div-one, div-div-eq-div-mul, pow-suc}
-use Rattle.byteorder.specs.Endian.{little_bytes}
 use Rattle.sx_mean.specs.declared.apps.Link.{Link}
 use Rattle.sx_mean.specs.Ends.{ends_of}
 use Rattle.sx_model.specs.Renewal as model
 use Rattle.sx_deployer.specs.Keeping.{Known, Keeping, nobody}
 use Rattle.sx_deployer.specs.Keeping as keeping
 use Rattle.sx_deployer.proofs.RenewsAsTheModel.{renews_as_the_model}
-use Rattle.sx_tag.specs.Keys.{identity}
 use Rattle.sx_run.specs.Setting.{Site, Setting}
-use Rattle.sx_run.specs.Wire.{low_first, ask_packet, challenge_in}
-use Rattle.sx_run.specs.Deployer.{DeployerState, list_at, after_ask, after_acceptance, accepts}
+use Rattle.sx_wire.specs.Headers.{ask_packet, challenge_in}
+use Rattle.sx_wire.proofs.Numbers.{low_number}
+use Rattle.sx_deployer.specs.Granting.{DeployerState, after_ask, is_answer}
+use Rattle.sx_run.specs.Deployer.{key_of, after_acceptance, accepts}
 use Rattle.sx_run.specs.Acts.{open_ask, attested_at}
-use Rattle.sx_world.specs.Held.{IsKept, targets_from}
-use Rattle.sx_run.proofs.acts.Asking.{low_number}
-
-byte : (j v : ℕ) → v / 256 ^ j % 256 ≡ byte_at j v
-byte zero v = ap (λ n. n % 256) (div-one v)
-byte (suc j) v = refl
-
-shift : (j v : ℕ) → v / 256 ^ j / 256 ≡ v / 256 ^ suc j
-shift j v = div-div-eq-div-mul v (256 ^ j) 256 ∙ ap (λ (p : ℕ). v / p) (sym (pow-suc 256 j))
-
-low_from : (n j v : ℕ) → low_first n (v / 256 ^ j) ≡ bytes_low_first j n v
-low_from zero j v = refl
-low_from (suc n) j v =
-    ap (λ b. b ∷ low_first n (v / 256 ^ j / 256)) (byte j v)
-    ∙ ap (λ (r : List ℕ). byte_at j v ∷ r) (ap (λ k. low_first n k) (shift j v) ∙ low_from n (suc j) v)
-
--- a number's bytes, the low one first
-pub low_bytes : (n v : ℕ) → low_first n v ≡ little_bytes n v
-low_bytes n v = ap (λ k. low_first n k) (sym (div-one v)) ∙ low_from n 0 v
+use Rattle.sx_world.specs.Held.{IsKept, known_as, targets_from}
 
 pub take_set : {A : Type 0} → (n : ℕ) (xs : List A) (i : ℕ) (v : A) → take n (slice_set xs i v) ≡ slice_set (take n xs) i v
 take_set zero xs i v = refl
@@ -58,21 +38,12 @@ boots_taken (suc n) (x ∷ xs) (suc i) h = boots_taken n xs i (omega (arith, h))
 -- a module's open ask
 pub same_ask : (set : Setting) (k : Keeping) (d : DeployerState) (m : ℕ) → IsKept set k d → m < length set.app.parts
     → open_ask (slice_get d.open_asks m) ≡ keeping.open_ask k m
-same_ask set k d m h lt = ap (λ xs. open_ask (slice_get xs m)) (sym h.open_asks) ∙ asks_taken (length set.app.parts) k.open_asks m lt
+same_ask set k d m h lt = ap (λ xs. open_ask (slice_get xs m)) (sym h.open_asks) ∙ asks_taken (length set.app.parts) k.state.open_asks m lt
 
 -- the boot at which a module was last attested
 pub same_boot : (set : Setting) (k : Keeping) (d : DeployerState) (m : ℕ) → IsKept set k d → m < length set.app.parts
     → attested_at (slice_get d.attested m) ≡ keeping.attested_at k m
-same_boot set k d m h lt = ap (λ xs. attested_at (slice_get xs m)) (sym h.attested) ∙ boots_taken (length set.app.parts) k.attested m lt
-
--- the site as the deployer knows it, the i-th of the application
-abbrev pub known_as : Setting → ℕ → Site → Known
-known_as set i site = record {
-  node_key = list_at set.keys site.node;
-  provider = site.provider;
-  identity = identity site.text site.layout.pub_from site.layout.pub_to site.layout.priv_from site.layout.priv_to;
-  ends = ends_of set.app i;
-}
+same_boot set k d m h lt = ap (λ xs. attested_at (slice_get xs m)) (sym h.attested) ∙ boots_taken (length set.app.parts) k.state.attested m lt
 
 pub known_at : (set : Setting) (sites : List Site) (i m : ℕ) (site : Site) → slice_get sites m ≡ Some site → slice_get (targets_from set i sites) m ≡ Some (known_as set (i + m) site)
 known_at set [] i m site e = absurd cc
@@ -104,10 +75,6 @@ pub known_target : (set : Setting) (k : Keeping) (d : DeployerState) (m : ℕ) (
     → keeping.target_at k m ≡ known_as set m site
 known_target set k d m site h e = got k.targets m (known_as set m site) (known_site set k d m site h e)
 
--- the ask's packet
-pub same_packet : (set : Setting) (k : Keeping) (d : DeployerState) → IsKept set k d → keeping.next_ask k ≡ ask_packet d.asks
-same_packet set k d h = ap (λ n. keeping.next_ask (record k { asks = n })) h.asks ∙ ap (λ (s : List ℕ). 2 ∷ 0 ∷ s) (sym (low_bytes 16 d.asks))
-
 -- an ask's challenge
 pub challenge_same : (a : ℕ) → a < 4294967295 → challenge_in (ask_packet a) ≡ a
 challenge_same a h = low_number 16 a (omega (arith, h))
@@ -118,9 +85,9 @@ asked_kept set k d m h = record {
   secret = h.secret;
   targets = h.targets;
   asks = ap (λ n. n + 1) h.asks;
-  open_asks = take_set (length set.app.parts) k.open_asks m (Some (keeping.next_ask k))
-      ∙ ap (λ xs. slice_set xs m (Some (keeping.next_ask k))) h.open_asks
-      ∙ ap (λ p. slice_set d.open_asks m (Some p)) (same_packet set k d h);
+  open_asks = take_set (length set.app.parts) k.state.open_asks m (Some (ask_packet k.state.asks))
+      ∙ ap (λ xs. slice_set xs m (Some (ask_packet k.state.asks))) h.open_asks
+      ∙ ap (λ n. slice_set d.open_asks m (Some (ask_packet n))) h.asks;
   attested = h.attested;
   epochs = h.epochs;
 }
@@ -151,11 +118,11 @@ accepted_kept set k d m boot site last h e same = record {
   secret = h.secret;
   targets = h.targets;
   asks = h.asks;
-  open_asks = take_set (length set.app.parts) k.open_asks m None ∙ ap (λ xs. slice_set xs m None) h.open_asks;
-  attested = take_set (length set.app.parts) k.attested m (Some boot) ∙ ap (λ xs. slice_set xs m (Some boot)) h.attested;
-  epochs = ap (λ (t : Known). take (length set.app.links) (keeping.renewed t.ends (keeping.attested_at k m) k.epochs)) (known_target set k d m site h e)
-      ∙ ap (λ (es : List ℕ). take (length set.app.links) es) (renews_as_the_model set.app m (keeping.attested_at k m) boot k.epochs).1
-      ∙ renewed_taken m set.app.links (keeping.attested_at k m) k.epochs
+  open_asks = take_set (length set.app.parts) k.state.open_asks m None ∙ ap (λ xs. slice_set xs m None) h.open_asks;
+  attested = take_set (length set.app.parts) k.state.attested m (Some boot) ∙ ap (λ xs. slice_set xs m (Some boot)) h.attested;
+  epochs = ap (λ (t : Known). take (length set.app.links) (keeping.renewed t.ends (keeping.attested_at k m) k.state.epochs)) (known_target set k d m site h e)
+      ∙ ap (λ (es : List ℕ). take (length set.app.links) es) (renews_as_the_model set.app m (keeping.attested_at k m) boot k.state.epochs).1
+      ∙ renewed_taken m set.app.links (keeping.attested_at k m) k.state.epochs
       ∙ ap (λ (es : List ℕ). model.renewed m set.app.links (keeping.attested_at k m) es) h.epochs
       ∙ ap (λ o. model.renewed m set.app.links o d.epochs) (sym same);
 }
@@ -165,16 +132,11 @@ pub same_accepts : (set : Setting) (k : Keeping) (d : DeployerState) (m boot : �
     → slice_get set.sites m ≡ Some site → ask ≡ keeping.open_ask k m → last ≡ keeping.attested_at k m
     → accepts set site d m boot answer ask last ≡ keeping.accepts set.mac k m boot answer
 same_accepts set k d m boot answer site ask last h e asks boots =
-    by_ask ask last
-    ∙ ap (λ o. keeping.is_answer set.mac (known_as set m site) boot answer o && keeping.may_attest (ends_of set.app m) k.epochs last boot) asks
-    ∙ ap (λ o. keeping.is_answer set.mac (known_as set m site) boot answer (keeping.open_ask k m) && keeping.may_attest (ends_of set.app m) k.epochs o boot) boots
-    ∙ sym (ap (λ (t : Known). keeping.is_answer set.mac t boot answer (keeping.open_ask k m) && keeping.may_attest t.ends k.epochs (keeping.attested_at k m) boot) (known_target set k d m site h e))
-  where
-    by_ask : (ask : Option (List ℕ)) (last : Option ℕ)
-        → accepts set site d m boot answer ask last ≡ (keeping.is_answer set.mac (known_as set m site) boot answer ask && keeping.may_attest (ends_of set.app m) k.epochs last boot)
-    by_ask None last = refl
-    by_ask (Some a) last =
-        ap (λ t. keeping.is_answer set.mac (known_as set m site) boot answer (Some a) && t)
-        (ap (λ (es : List ℕ). model.may_attest m set.app.links es last boot) (sym h.epochs)
-        ∙ may_taken m set.app.links k.epochs last boot
-        ∙ sym (renews_as_the_model set.app m last boot k.epochs).0)
+    ap (λ t. is_answer set.mac (key_of set site boot) answer ask && t)
+    (ap (λ (es : List ℕ). model.may_attest m set.app.links es last boot) (sym h.epochs)
+    ∙ may_taken m set.app.links k.state.epochs last boot
+    ∙ sym (renews_as_the_model set.app m last boot k.state.epochs).0)
+    ∙ ap (λ o. is_answer set.mac (key_of set site boot) answer o && keeping.may_attest (ends_of set.app m) k.state.epochs last boot) asks
+    ∙ ap (λ o. is_answer set.mac (key_of set site boot) answer (keeping.open_ask k m) && keeping.may_attest (ends_of set.app m) k.state.epochs o boot) boots
+    ∙ sym (ap (λ (t : Known). is_answer set.mac (keeping.key_of set.mac t boot) answer (keeping.open_ask k m)
+    && keeping.may_attest t.ends k.state.epochs (keeping.attested_at k m) boot) (known_target set k d m site h e))

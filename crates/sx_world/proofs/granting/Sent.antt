@@ -8,12 +8,12 @@ use Rattle.sx_ledger.specs.Made.{Made}
 use Rattle.sx_deployer.specs.Keeping.{Keeping}
 use Rattle.sx_deployer.specs.Keeping as keeping
 use Rattle.sx_run.specs.Setting.{Setting}
-use Rattle.sx_run.specs.Wire.{ask_packet, challenge_in}
-use Rattle.sx_run.specs.Deployer.{DeployerState, after_ask}
+use Rattle.sx_wire.specs.Headers.{ask_packet, challenge_in}
+use Rattle.sx_deployer.specs.Granting.{DeployerState, after_ask}
 use Rattle.sx_run.specs.State.{World}
 use Rattle.sx_run.specs.Acts.{ask, with_deployer, new_packet}
 use Rattle.sx_world.specs.Held.{Running, IsKept, Records, Shows, DoesAct}
-use Rattle.sx_world.proofs.granting.SameKeys.{same_packet, asked_kept, challenge_same}
+use Rattle.sx_world.proofs.granting.SameKeys.{asked_kept, challenge_same}
 
 -- what is kept, with other packets, another deployer and another ledger
 abbrev pub sent : Running → List (List ℕ) → Keeping → List Entry → Running
@@ -52,14 +52,14 @@ packet_item old w count bytes sent_bytes e n same =
 
 -- the deployer asked a module
 pub ask_does : {X E : Type 0} (set : Setting) (r : Result X E) (old : Running) (k : Keeping) (before mid after : List Item) (m count challenge : ℕ) (bytes : List ℕ) (packets : List (List ℕ))
-    → old.deployer.asks < 4294967295 → k ≡ keeping.asked old.deployer m → bytes ≡ keeping.next_ask old.deployer
+    → old.deployer.state.asks < 4294967295 → k ≡ keeping.asked old.deployer m → bytes ≡ ask_packet old.deployer.state.asks
     → challenge ≡ challenge_in bytes → mid ≡ before ++ Ask m challenge ∷ [] → count ≡ length old.packets
     → OnOk r (packets ≡ old.packets ++ bytes ∷ []) → OnOk r (after ≡ mid ++ Packet count (length bytes) ∷ []) → OnErr r (after ≡ mid)
     → DoesAct set r old (sent old packets k old.ledger) before after (λ w. ask w m)
 ask_does set r old k before mid after m count challenge bytes packets small kept b said began n = go r
   where
     same : (w : World) → Shows set old w → bytes ≡ ask_packet w.deployer.asks
-    same w h = b ∙ same_packet set old.deployer w.deployer h.deployer
+    same w h = b ∙ ap ask_packet h.deployer.asks
 
     front : (w : World) → Shows set old w → mid ≡ before ++ Ask m w.deployer.asks ∷ []
     front w h =

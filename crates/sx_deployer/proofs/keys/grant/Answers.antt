@@ -1,19 +1,18 @@
-use Rattle.std.proofs.Common.{◌≡◌, ◌+◌, ◌*◌, ℕ, List, rules, arith, ap, ◌∙◌, take}
+use Rattle.std.proofs.Common.{List, ℕ, rules, arith, ap, take}
 use Rattle.sx_deployer.specs.Keeping.{known, key_of}
 use Rattle.sx_deployer.specs.Granting.{connection_key, side_number}
-use Rattle.sx_deployer.proofs.Granted.{granted}
+use Rattle.sx_deployer.proofs.Granted.{granted, small_side}
 use Rattle.sx_deployer.proofs.keys.grant.Goals as goal
 
 pub returns : goal.returns
 returns g c =
     let mac = g.T.Tag.mac in
-    let link : c.from.result + 256 * c.from-2.result ≡ c.args.«end».link + 256 * c.args.epoch = omega (arith, c.from.ensures, c.from-2.ensures) in
+    let e = c.args.«end» in
     rw c.write_set_key.ensures
-    (granted mac (c.from.result + 256 * c.from-2.result) c.side_number.result (c.args.«end».link + 256 * c.args.epoch) (side_number c.args.«end».side)
+    (granted mac c.field.result c.side_number.result e.link c.args.epoch (side_number e.side)
     c.key_of-key.result (key_of mac (known c.args.target.now) c.args.boot) c.connection_key.result
-    (connection_key mac c.args.secret.now (c.args.«end».link + 256 * c.args.epoch)) (take 6 c.write_set_key-bytes.result)
+    (connection_key mac c.args.secret.now e.link c.args.epoch) (take 6 c.write_set_key-bytes.result)
     c.copy_from_slice.new.self c.wrap-packet.new.cipher c.wrap-packet.result
-    link c.side_number.ensures c.key_of-key.ensures
-    (c.connection_key.ensures ∙ ap (λ l. connection_key mac c.args.secret.now l) link)
+    c.field.ensures c.side_number.ensures (omega arith) (omega arith) (small_side e.side) c.key_of-key.ensures c.connection_key.ensures
     (ap (λ (s : List ℕ). take 6 s) c.write_set_key-bytes.ensures)
     c.wrap-packet.ensures.tag c.wrap-packet.ensures.cipher (search rules) (search rules) c.copy_from_slice.ensures.after)

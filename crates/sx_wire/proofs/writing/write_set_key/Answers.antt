@@ -1,9 +1,10 @@
 use Rattle.std.proofs.Common.{rules, replicate, refl}
-use Rattle.sx_wire.specs.Packets.{header}
+use Rattle.byteorder.specs.Endian.{little_bytes}
+use Rattle.sx_wire.specs.Headers.{header}
 use Rattle.sx_wire.proofs.Parts.{put_parts}
 use Rattle.sx_wire.proofs.writing.write_set_key.Goals as goal
 
 pub returns : goal.returns
 returns c =
     rw (c.copy_from_slice.ensures.after, c.header.ensures, c.copy_from_slice-2.ensures.after, c.copy_from_slice-3.ensures.after)
-    (put_parts 16 16 (header 1 c.args.p.now.link c.args.p.now.«end») (replicate 32 0) c.args.p.now.cipher c.args.p.now.mac refl (search rules) (search rules))
+    (put_parts 16 16 (header 1 (little_bytes 2 c.args.p.now.link) (little_bytes 2 c.args.p.now.«end»)) (replicate 32 0) c.args.p.now.cipher c.args.p.now.mac refl (search rules) (search rules))

@@ -4,4 +4,4 @@ use Rattle.sx_world.proofs.grants.add_own.Given as goal
 
 abbrev pub invariant-loop-n : goal.invariant-loop-n
 invariant-loop-n l =
-    l.grants.items ++ own_from l.deployer.epochs l.m l.boot l.n (drop l.n l.links) ≡ l.fn.grants.items ++ own_from l.deployer.epochs l.m l.boot 0 l.links
+    l.grants.items ++ own_from l.deployer.state.epochs l.m l.boot l.n (drop l.n l.links) ≡ l.fn.grants.items ++ own_from l.deployer.state.epochs l.m l.boot 0 l.links

@@ -2,7 +2,7 @@ use Rattle.std.proofs.Common.{◌*◌, ◌≤◌, List, length, arith, sym, subs
 use Rattle.std.proofs.lemmas.List.{length-map}
 use Rattle.sx_deploy.specs.SeenDeployment.{deployed_as}
 use Rattle.sx_mean.specs.View.{part_as}
-use Rattle.sx_run.specs.Deployer.{Grant}
+use Rattle.sx_deployer.specs.Granting.{Grant}
 use Rattle.sx_world.specs.Granted.{confirmed, granted}
 use Rattle.sx_world.specs.Held.{Running, Records}
 use Rattle.sx_run.specs.Accepted.{setting}

@@ -3,7 +3,7 @@ use Rattle.std.specs.Prelude.{slice_get}
 use Rattle.std.proofs.lemmas.List.{length-map}
 use Rattle.sx_deploy.specs.SeenDeployment.{deployed_as}
 use Rattle.sx_run.specs.Acts.{key_given}
-use Rattle.sx_run.specs.Deployer.{Grant}
+use Rattle.sx_deployer.specs.Granting.{Grant}
 use Rattle.sx_world.specs.Held.{Running, DoesAct, Did}
 use Rattle.sx_run.specs.Accepted.{setting}
 use Rattle.sx_run.specs.Setting.{Site}
@@ -21,7 +21,7 @@ returns-in_ok-record-in-Some-clause-does g c =
     (subst (λ (o : Running). (sites : List Site) → DoesAct (setting g.T.Tag.mac (deployed_as c.args.deployment.now) sites) c.add_packet.result o new
     c.args.items.now.items c.add_packet.new.items.items (λ w. key_given (setting g.T.Tag.mac (deployed_as c.args.deployment.now) sites) w given (slice_get sites given.holder))) c.self.view_is
     (λ sites. given_some (setting g.T.Tag.mac (deployed_as c.args.deployment.now) sites) c.add_packet.result _ c.record.new.ledger packets c.args.items.now.items c.add_packet.new.items.items given
-    _ c.in-Some.packet c.connection_key-key.result (search rules) (search rules) (sym c.in-Some.is ∙ c.packet.ensures) c.connection_key-key.ensures c.in_ok-record-in-Some.ensures
+    _ c.in-Some.packet c.connection_key-key.result (sym c.in-Some.is ∙ c.packet.ensures) c.connection_key-key.ensures c.in_ok-record-in-Some.ensures
     (sym (length-map c.self.inside.packets.items (λ p. p.items))) c.add_packet.ensures.packet c.add_packet.ensures.ok c.add_packet.ensures.err))
 
 pub returns-in-None-clause-does : goal.returns-in-None-clause-does

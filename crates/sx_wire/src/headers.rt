@@ -1,39 +1,47 @@
-//! The fields of headers and bodies.
+//! The kinds of packets, and the fields of headers and bodies.
 
 ghost use Rattle.std.specs.Prelude.{◌≡◌, ◌+◌, ◌*◌, ◌≤◌, length, slice_index};
-ghost use Rattle.sx_run.specs.Wire.{begins, challenge_in, epoch_in, is_ask, is_event_header};
-ghost use Rattle.sx_run.specs.Wire.{is_set_key_header, last_in, link_in, value_in};
-ghost use Rattle.sx_run.specs.Observation.{side_in};
+ghost use Rattle.sx_wire.specs.Headers.{begins, challenge_in, epoch_in, is_ask, is_event_header};
+ghost use Rattle.sx_wire.specs.Headers.{is_set_key_header, last_in, link_in, value_in};
 
 use byteorder::{ByteOrder, LittleEndian};
-use sx_lang::sides::Side;
 
-fn begins(kind: u8, header: &[u8]) -> bool
-    requires { 2 ≤ length header.now }
-    ensures { result ≡ begins kind header.now }
+/// The first byte of a set-key packet.
+pub(crate) const SET_KEY: u8 = 1;
+
+/// The first byte of an ask.
+pub(crate) const ASK: u8 = 2;
+
+/// The first byte of an event.
+pub(crate) const EVENT: u8 = 3;
+
+/// Whether the first two bytes are those of this kind.
+pub(crate) fn begins(kind: u8, bytes: &[u8]) -> bool
+    requires { 2 ≤ length bytes.now }
+    ensures { result ≡ begins kind bytes.now }
 {
-    header[0] == kind && header[1] == 0
+    bytes[0] == kind && bytes[1] == 0
 }
 
 /// Whether the header is that of an ask.
-pub(crate) fn is_ask(header: &[u8]) -> bool
+pub fn is_ask(header: &[u8]) -> bool
     ensures { result ≡ is_ask header.now }
 {
-    header.len() == 18 && begins(2, header)
+    header.len() == 18 && begins(ASK, header)
 }
 
 /// Whether the header is that of a set-key packet, for one of the two sides.
-pub(crate) fn is_set_key_header(header: &[u8]) -> bool
+pub fn is_set_key_header(header: &[u8]) -> bool
     ensures { result ≡ is_set_key_header header.now }
 {
-    header.len() == 6 && begins(1, header) && header[4] < 2 && header[5] == 0
+    header.len() == 6 && begins(SET_KEY, header) && header[4] < 2 && header[5] == 0
 }
 
 /// Whether the header is that of an event.
-pub(crate) fn is_event_header(header: &[u8]) -> bool
+pub fn is_event_header(header: &[u8]) -> bool
     ensures { result ≡ is_event_header header.now }
 {
-    header.len() == 6 && begins(3, header)
+    header.len() == 6 && begins(EVENT, header)
 }
 
 fn word_at(bytes: &[u8], at: usize) -> u16
@@ -44,7 +52,7 @@ fn word_at(bytes: &[u8], at: usize) -> u16
 }
 
 /// The challenge of an ask's header.
-pub(crate) fn challenge_in(header: &[u8]) -> u128
+pub fn challenge_in(header: &[u8]) -> u128
     requires { length header.now ≡ 18 }
     ensures { result ≡ challenge_in header.now }
 {
@@ -52,7 +60,7 @@ pub(crate) fn challenge_in(header: &[u8]) -> u128
 }
 
 /// The connection of a header of six bytes.
-pub(crate) fn link_in(header: &[u8]) -> u8
+pub fn link_in(header: &[u8]) -> u8
     requires { length header.now ≡ 6 }
     ensures { result ≡ link_in header.now }
 {
@@ -60,7 +68,7 @@ pub(crate) fn link_in(header: &[u8]) -> u8
 }
 
 /// The epoch of a header of six bytes.
-pub(crate) fn epoch_in(header: &[u8]) -> u8
+pub fn epoch_in(header: &[u8]) -> u8
     requires { length header.now ≡ 6 }
     ensures { result ≡ epoch_in header.now }
 {
@@ -68,27 +76,15 @@ pub(crate) fn epoch_in(header: &[u8]) -> u8
 }
 
 /// The last word of a header of six bytes: the side, or the number of an event.
-pub(crate) fn last_in(header: &[u8]) -> u16
+pub fn last_in(header: &[u8]) -> u16
     requires { length header.now ≡ 6 }
     ensures { result ≡ last_in header.now }
 {
     word_at(header, 4)
 }
 
-/// The side of a set-key packet's header.
-pub(crate) fn side_in(header: &[u8]) -> Side
-    requires { length header.now ≡ 6 }
-    ensures { result ≡ side_in header.now }
-{
-    if last_in(header) == 0 {
-        Side::From
-    } else {
-        Side::To
-    }
-}
-
 /// The word of an event's body, of which a byte that isn't there is 0.
-pub(crate) fn value_in(body: &[u8]) -> u16
+pub fn value_in(body: &[u8]) -> u16
     ensures { result ≡ value_in body.now }
 {
     let low = body.first().copied().unwrap_or(0);
