@@ -1,4 +1,5 @@
 pub mod Agreement
+pub mod Bare
 pub mod Bits
 pub mod Codes
 mod Examples

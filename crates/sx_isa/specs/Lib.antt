@@ -5,3 +5,5 @@ pub mod Reading
 pub mod Extending
 pub mod Memory
 pub mod Standing
+pub mod Assembly
+pub mod Shaped

@@ -6,7 +6,7 @@ use Rattle.sx_isa.specs.declared.instruction.Instr.{Instr}
 use Rattle.sx_isa.specs.declared.instruction.Instr.TheVariants.{Reti}
 use Rattle.sx_isa.specs.Spelling.{spelling}
 use Rattle.sx_isa.specs.Standing.{words_of}
-use Rattle.sx_tmpl.specs.Shaped.{are_shaped, is_shaped}
+use Rattle.sx_isa.specs.Shaped.{are_shaped, is_shaped}
 use Rattle.sx_tmpl.specs.Text.{bytes_of}
 use Rattle.sx_tmpl.proofs.Texts.TextBytes.{bytes_append}
 

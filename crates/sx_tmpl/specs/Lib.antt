@@ -1,6 +1,4 @@
-pub mod Shaped
 pub mod Scratch
-pub mod Assembly
 pub mod Running
 pub mod Shows
 pub mod Template

@@ -13,11 +13,11 @@ use Rattle.sx_ir.specs.declared.ir.IrOp.TheVariants as op
 use Rattle.sx_ir.specs.declared.ir.Ir.{Ir}
 use Rattle.sx_ir.specs.declared.ir.Ir.TheVariants as ir
 use Rattle.sx_tmpl.specs.Scratch as scratch
-use Rattle.sx_tmpl.specs.Assembly.{sp, sr, r4, r5, r6, r7, r8, r9, r10, r11, r12, r13, r14, r15}
-use Rattle.sx_tmpl.specs.Assembly.{#◌, ##◌, &◌, ◌⟨◌⟩}
-use Rattle.sx_tmpl.specs.Assembly.{indirect, increment, mov, mov_b, add, sub, cmp, bis, xor, and}
-use Rattle.sx_tmpl.specs.Assembly.{push, call, pop, ret, br, clr, tst, inc, incd, dec, rla, ahead}
-use Rattle.sx_tmpl.specs.Assembly.{back, jnz, jz, jnc, jc, jmp, wrap, unwrap}
+use Rattle.sx_isa.specs.Assembly.{sp, sr, r4, r5, r6, r7, r8, r9, r10, r11, r12, r13, r14, r15}
+use Rattle.sx_isa.specs.Assembly.{#◌, ##◌, &◌, ◌⟨◌⟩}
+use Rattle.sx_isa.specs.Assembly.{indirect, increment, mov, mov_b, add, sub, cmp, bis, xor, and}
+use Rattle.sx_isa.specs.Assembly.{push, call, pop, ret, br, clr, tst, inc, incd, dec, rla, ahead}
+use Rattle.sx_isa.specs.Assembly.{back, jnz, jz, jnc, jc, jmp, wrap, unwrap}
 
 -- the addresses of places, of the ends' packet routines, of handlers' parts, the place of the exit,
 -- and the address of the routine that opens a slot

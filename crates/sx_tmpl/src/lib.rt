@@ -9,7 +9,6 @@
 //! `specs/Running.antt`, a module in mid-run.
 #![tactic(auto)]
 
-mod assembly;
 mod put;
 mod routines;
 mod scratch;

@@ -3,7 +3,7 @@
 ghost use Rattle.std.specs.Prelude.{◌≡◌, true, ◌∷◌, [], OnOk};
 ghost use Rattle.sx_isa.specs.Spelling.{spelling};
 ghost use Rattle.sx_isa.specs.Standing.{words_of};
-ghost use Rattle.sx_tmpl.specs.Shaped.{are_shaped, is_shaped};
+ghost use Rattle.sx_isa.specs.Shaped.{are_shaped, is_shaped};
 ghost use Rattle.sx_tmpl.specs.Text.{PutsWords};
 
 use std::alloc::AllocError as OutOfMemory;
@@ -48,3 +48,15 @@ pub fn put_instructions(text: &mut Vec<u8>, instructions: &[Instr]) -> Result<()
     }
     Ok(())
 }
+
+/// Appends the words of these instructions, each ended by `;`.
+macro_rules! put {
+    ($text:expr; $($name:ident $($operand:expr),*;)*) => {
+        crate::put::put_instructions(
+            $text,
+            &[$(sx_isa::instruction!($name $($operand),*)),*],
+        )
+    };
+}
+
+pub(crate) use put;

@@ -6,7 +6,7 @@ ghost use Rattle.sx_mean.specs.Working.{stack_to};
 ghost use Rattle.sx_tmpl.specs.Template.{entry_words, leave_words, routine_words, slot_words};
 ghost use Rattle.sx_tmpl.specs.Text.{PutsWords};
 
-use crate::assembly::{R4, R5, R6, R7, R8, R9, R10, R11, R12, R13, R14, R15, SP, SR, put};
+use crate::put::put;
 use crate::scratch::{
     BODY, CALLER, CALLER_SP, CIPHER, CONNECTION, COPIED_CONNECTION, HEADER, KIND, NUMBER,
     OUT_WINDOW, TAG, VALUE,
@@ -14,6 +14,7 @@ use crate::scratch::{
 use std::alloc::AllocError as OutOfMemory;
 use sx_invoke::protocol::{EVENT_KIND, EVENT_SIZE, LAST_NUMBER};
 use sx_isa::Operand::{Absolute, Const, Immediate, Increment, Indexed};
+use sx_isa::assembly::{R4, R5, R6, R7, R8, R9, R10, R11, R12, R13, R14, R15, SP, SR};
 use sx_mean::offsets::{
     PIECES, PLAIN, STACK_TO, end_at, end_key_at, end_number_at, end_open_at, saved_at,
 };

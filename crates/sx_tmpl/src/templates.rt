@@ -10,13 +10,13 @@ ghost use Rattle.sx_tmpl.specs.Template.{multiply_words, opening_words, operator
 ghost use Rattle.sx_tmpl.specs.Template.{sealing_words, store_at_words, template};
 ghost use Rattle.sx_tmpl.specs.Text.{addresses, part_place, PutsWords};
 
-use crate::assembly::{POPPED, R9, R10, R11, R12, R13, R14, R15, SP, TOP, put};
-use crate::put::put_words;
+use crate::put::{put, put_words};
 use crate::scratch::{CALLER, IN_WINDOW, OUT_WINDOW, RETURN};
 use crate::table::{EXIT, PACKET_ROUTINE, SLOT_ROUTINE, Table};
 use std::alloc::AllocError as OutOfMemory;
 use sx_ir::{Code, Ir, IrOp};
 use sx_isa::Operand::{Absolute, Const, Immediate, Increment, Indexed, Indirect};
+use sx_isa::assembly::{POPPED, R9, R10, R11, R12, R13, R14, R15, SP, TOP};
 use sx_mean::offsets::{PIECES, end_at, saved_at};
 use sx_rules::Layout;
 

@@ -4,7 +4,7 @@ use Rattle.sx_tmpl.specs.Template.{operator_words, subtraction}
 use Rattle.sx_ir.specs.declared.ir.IrOp.TheVariants as op
 use Rattle.sx_isa.specs.Spelling.{spelling}
 use Rattle.sx_machine.specs.Step.{is_module_word}
-use Rattle.sx_tmpl.specs.Assembly.{#◌, ◌⟨◌⟩, and, bis, clr, incd, increment, indirect, mov, r12, sp, sub, tst, xor}
+use Rattle.sx_isa.specs.Assembly.{#◌, ◌⟨◌⟩, and, bis, clr, incd, increment, indirect, mov, r12, sp, sub, tst, xor}
 use Rattle.sx_tmpl.proofs.Running.Instructions.{step}
 use Rattle.std.proofs.Common.{◌≡◌, ℕ, ◌+◌, ◌-◌, ◌%◌, ◌<◌, inl, inr, false, not, List, [], ◌∷◌, length, refl, sym, ◌∙◌, ap, subst, arith}
 use Rattle.sx_isa.specs.declared.instruction.Operand.TheVariants.{Indexed, Increment}

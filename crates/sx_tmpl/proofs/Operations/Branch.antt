@@ -1,12 +1,12 @@
 -- Operations whose template branches.
 use Rattle.sx_tmpl.specs.Template.{comparison}
-use Rattle.sx_tmpl.specs.Shaped.{is_shaped}
+use Rattle.sx_isa.specs.Shaped.{is_shaped}
 use Rattle.sx_machine.specs.Step.{is_module_word}
 use Rattle.sx_isa.specs.Spelling.{spelling}
 use Rattle.sx_isa.specs.Instructions.{first_word}
 use Rattle.sx_isa.specs.Standing.{words_of}
-use Rattle.sx_tmpl.specs.Assembly as asm
-use Rattle.sx_tmpl.specs.Assembly.{##◌, #◌, ◌⟨◌⟩, ahead, br, clr, cmp, jc, jnz, mov, pc, pop, r12, sp, tst}
+use Rattle.sx_isa.specs.Assembly as asm
+use Rattle.sx_isa.specs.Assembly.{##◌, #◌, ◌⟨◌⟩, ahead, br, clr, cmp, jc, jnz, mov, pc, pop, r12, sp, tst}
 use Rattle.sx_tmpl.proofs.Running.Instructions.{step}
 use Rattle.std.proofs.Common.{◌≡◌, ℕ, suc, ◌+◌, ◌-◌, ◌*◌, ◌%◌, ◌<◌, ◌≤◌, inl, inr, Bool, true, false, not, List, [], ◌∷◌, length, refl, sym, ◌∙◌, ap, subst, arith}
 use Rattle.sx_isa.specs.declared.instruction.Op2.TheVariants as op2

@@ -1,6 +1,6 @@
 -- A copy from a window outside into the private section, which the first refused byte ends.
-use Rattle.sx_tmpl.specs.Assembly as asm
-use Rattle.sx_tmpl.specs.Assembly.{##◌, #◌, &◌, back, dec, inc, increment, jnz, mov, mov_b, r12, r13, r15, ◌⟨◌⟩}
+use Rattle.sx_isa.specs.Assembly as asm
+use Rattle.sx_isa.specs.Assembly.{##◌, #◌, &◌, back, dec, inc, increment, jnz, mov, mov_b, r12, r13, r15, ◌⟨◌⟩}
 use Rattle.sx_tmpl.proofs.Running.Instructions.{step}
 use Rattle.sx_tmpl.proofs.Running.Loading.{loads}
 use Rattle.sx_tmpl.specs.Template as templates

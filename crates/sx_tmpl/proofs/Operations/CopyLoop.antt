@@ -1,7 +1,7 @@
 -- A copy of private bytes to a window outside, which the first refused byte ends.
 use Rattle.std.proofs.Common.{◌≡◌, ◌≢◌, ℕ, zero, suc, ◌+◌, ◌*◌, ◌%◌, ◌<◌, ◌≤◌, inl, inr, List, [], ◌∷◌, length, Option, Some, None, refl, sym, ◌∙◌, ap, subst, arith, slice_index}
-use Rattle.sx_tmpl.specs.Assembly as asm
-use Rattle.sx_tmpl.specs.Assembly.{dec, inc, increment, jnz, mov_b, r12, r13, r15, ◌⟨◌⟩}
+use Rattle.sx_isa.specs.Assembly as asm
+use Rattle.sx_isa.specs.Assembly.{dec, inc, increment, jnz, mov_b, r12, r13, r15, ◌⟨◌⟩}
 use Rattle.sx_isa.specs.Spelling.{spelling}
 use Rattle.sx_isa.specs.declared.instruction.Op2.TheVariants as op2
 use Rattle.sx_rules.specs.declared.access.Violation.{Violation}

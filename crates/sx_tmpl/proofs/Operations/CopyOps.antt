@@ -1,5 +1,5 @@
 -- The copies as operations.
-use Rattle.sx_tmpl.specs.Assembly.{##◌, &◌, add, pop, r12, r13, r15}
+use Rattle.sx_isa.specs.Assembly.{##◌, &◌, add, pop, r12, r13, r15}
 use Rattle.sx_tmpl.proofs.Running.Instructions.{step}
 use Rattle.sx_tmpl.proofs.Running.Loading.{loads}
 use Rattle.sx_tmpl.specs.Template as templates

@@ -1,7 +1,7 @@
 -- The device's word: a write to an actuator and a read of a sensor, each with its mark.
 use Rattle.sx_isa.specs.Instructions.{first_word}
 use Rattle.sx_isa.specs.Standing.{words_of}
-use Rattle.sx_tmpl.specs.Assembly.{&◌, pop, push}
+use Rattle.sx_isa.specs.Assembly.{&◌, pop, push}
 use Rattle.std.proofs.Common.{◌≡◌, ℕ, zero, suc, ◌+◌, ◌-◌, ◌*◌, ◌%◌, ◌<◌, ◌≤◌, true, false, cond, List, [], ◌∷◌, ◌++◌, length, Some, refl, sym, ◌∙◌, ap, subst, arith}
 use Rattle.sx_reach.specs.Reach.{Here, Next, Goes}
 use Rattle.sx_isa.specs.declared.instruction.Operand.TheVariants.{Increment, Absolute}

@@ -1,6 +1,6 @@
 -- The entry: from any registers to the first configuration.
 use Rattle.sx_isa.specs.Instructions.{first_word}
-use Rattle.sx_tmpl.specs.Assembly.{##◌, &◌, mov, r12, r13, r14, r15, sp}
+use Rattle.sx_isa.specs.Assembly.{##◌, &◌, mov, r12, r13, r14, r15, sp}
 use Rattle.sx_tmpl.proofs.Running.Instructions.{reads_of, step}
 use Rattle.sx_tmpl.specs.Template.{entry_words}
 use Rattle.std.proofs.Common.{◌≡◌, ◌≢◌, ℕ, suc, ◌+◌, ◌-◌, ◌*◌, ◌%◌, ◌<◌, ◌≤◌, inl, inr, true, false, cond, List, [], length, None, refl, sym, ◌∙◌, ap, arith, slice_index}

@@ -1,6 +1,6 @@
 -- The return to the caller.
 use Rattle.sx_isa.specs.Instructions.{first_word}
-use Rattle.sx_tmpl.specs.Assembly.{#◌, &◌, br, clr, mov, pop, r12, r13, sp, sr}
+use Rattle.sx_isa.specs.Assembly.{#◌, &◌, br, clr, mov, pop, r12, r13, sp, sr}
 use Rattle.sx_tmpl.proofs.Running.Instructions.{reads_of, step}
 use Rattle.sx_tmpl.proofs.Running.Loading.{loads}
 use Rattle.sx_tmpl.specs.Template.{leave_words}

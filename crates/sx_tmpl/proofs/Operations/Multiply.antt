@@ -1,5 +1,5 @@
 -- The product, by a loop of sixteen turns.
-use Rattle.sx_tmpl.specs.Assembly.{##◌, #◌, add, ahead, back, dec, jnc, jnz, pop, push, r12, r13, r14, r15, rla}
+use Rattle.sx_isa.specs.Assembly.{##◌, #◌, add, ahead, back, dec, jnc, jnz, pop, push, r12, r13, r14, r15, rla}
 use Rattle.sx_tmpl.specs.Template.{multiply_words}
 use Rattle.sx_tmpl.proofs.Running.Loading.{loads}
 use Rattle.sx_tmpl.proofs.Running.Instructions.{step}

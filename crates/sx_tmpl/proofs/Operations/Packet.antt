@@ -1,6 +1,6 @@
 -- The routine of an end's packet.
-use Rattle.sx_tmpl.specs.Assembly as asm
-use Rattle.sx_tmpl.specs.Assembly.{##◌, #◌, &◌, ◌⟨◌⟩, add, ahead, cmp, inc, jz, mov, pc, r10, r11, r12, r13, r14, r15, r9, rla, sp, tst}
+use Rattle.sx_isa.specs.Assembly as asm
+use Rattle.sx_isa.specs.Assembly.{##◌, #◌, &◌, ◌⟨◌⟩, add, ahead, cmp, inc, jz, mov, pc, r10, r11, r12, r13, r14, r15, r9, rla, sp, tst}
 use Rattle.sx_tmpl.proofs.Running.Instructions.{step}
 use Rattle.sx_tmpl.proofs.Running.Loading.{loads}
 use Rattle.sx_tmpl.specs.Template.{routine_words}

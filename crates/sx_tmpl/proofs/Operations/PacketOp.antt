@@ -1,6 +1,6 @@
 -- The operation that makes an end's packet: a call of its routine.
 use Rattle.sx_isa.specs.Standing.{words_of}
-use Rattle.sx_tmpl.specs.Assembly.{##◌, call}
+use Rattle.sx_isa.specs.Assembly.{##◌, call}
 use Rattle.sx_tmpl.proofs.Running.Instructions.{step}
 use Rattle.sx_tmpl.specs.Template.{routine_words}
 use Rattle.std.proofs.Common.{◌≡◌, ℕ, suc, ◌+◌, ◌-◌, ◌*◌, ◌%◌, ◌<◌, ◌≤◌, inl, inr, Bool, true, false, not, cond, nat_le, nat_lt, List, [], ◌∷◌, ◌++◌, length, refl, sym, ◌∙◌, ap, subst, arith}

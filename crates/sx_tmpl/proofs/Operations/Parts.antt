@@ -1,7 +1,7 @@
 -- Handlers' parts: the place to return to lies in a word that only templates use.
 use Rattle.sx_tmpl.specs.Template.{handler_words}
 use Rattle.sx_isa.specs.Standing.{words_of}
-use Rattle.sx_tmpl.specs.Assembly.{##◌, &◌, br, clr, mov}
+use Rattle.sx_isa.specs.Assembly.{##◌, &◌, br, clr, mov}
 use Rattle.sx_tmpl.proofs.Running.Instructions.{step}
 use Rattle.std.proofs.Common.{◌≡◌, ℕ, ◌+◌, ◌-◌, ◌%◌, ◌≤◌, inl, List, [], ◌∷◌, length, Some, None, refl, arith}
 use Rattle.sx_rules.specs.declared.access.Violation.{Violation}

@@ -2,7 +2,7 @@
 use Rattle.sx_tmpl.specs.Template.{operator_words}
 use Rattle.sx_ir.specs.declared.ir.IrOp.TheVariants as op
 use Rattle.sx_isa.specs.Standing.{words_of}
-use Rattle.sx_tmpl.specs.Assembly.{##◌, &◌, ◌⟨◌⟩, add, increment, pop, push, sp}
+use Rattle.sx_isa.specs.Assembly.{##◌, &◌, ◌⟨◌⟩, add, increment, pop, push, sp}
 use Rattle.sx_tmpl.proofs.Running.Instructions.{step}
 use Rattle.std.proofs.Common.{◌≡◌, ℕ, ◌+◌, ◌-◌, ◌*◌, ◌%◌, ◌<◌, ◌≤◌, List, [], ◌∷◌, length, refl, subst, arith}
 use Rattle.sx_reach.specs.Reach.{Here}

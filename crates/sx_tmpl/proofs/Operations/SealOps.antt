@@ -1,5 +1,5 @@
 -- Wrap and unwrap as operations.
-use Rattle.sx_tmpl.specs.Assembly.{##◌, clr, push, r15, r9}
+use Rattle.sx_isa.specs.Assembly.{##◌, clr, push, r15, r9}
 use Rattle.sx_tmpl.proofs.Running.Loading.{loads}
 use Rattle.sx_tmpl.proofs.Running.Instructions.{step}
 use Rattle.std.proofs.Common.{◌≡◌, ℕ, zero, suc, ◌+◌, ◌-◌, ◌*◌, ◌%◌, ◌<◌, ◌≤◌, ◌⊎◌, inl, inr, List, [], ◌∷◌, ◌++◌, length, Option, Some, None, refl, sym, ◌∙◌, ap, subst, arith, slice_index, take}

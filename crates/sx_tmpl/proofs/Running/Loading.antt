@@ -19,7 +19,7 @@ use Rattle.sx_machine.specs.Step.{is_module_word}
 use Rattle.sx_invoke.specs.Marks.{Mark}
 use Rattle.sx_image.specs.Watched.{Watched}
 use Rattle.sx_tmpl.specs.Running.{Data, Fixed, Regs, Safe, regs16, running}
-use Rattle.sx_tmpl.specs.Shaped.{is_shaped}
+use Rattle.sx_isa.specs.Shaped.{is_shaped}
 use Rattle.sx_tmpl.proofs.Running.Flags.{flags_stay}
 use Rattle.sx_tmpl.proofs.Running.Instructions.{step}
 use Rattle.sx_tmpl.proofs.Running.MidRun.{Runs, Stands}

@@ -1,6 +1,6 @@
 use Rattle.std.proofs.Common.{◌≡◌, ◌++◌, true, drop}
 use Rattle.sx_isa.specs.Standing.{words_of}
-use Rattle.sx_tmpl.specs.Shaped.{are_shaped}
+use Rattle.sx_isa.specs.Shaped.{are_shaped}
 use Rattle.sx_tmpl.specs.Text.{bytes_of}
 use Rattle.sx_tmpl.proofs.put.put_instructions.Given as goal
 
