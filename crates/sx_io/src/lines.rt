@@ -1,10 +1,10 @@
 //! The lines of a source, one after another.
 
 ghost use Rattle.std.specs.Prelude.{◌≡◌, ℕ, ◌-◌, ◌<◌, ◌≤◌, [], List, ◌++◌, length, take, drop};
-ghost use Rattle.std.specs.Prelude.{Contains, IsTrue, false};
+ghost use Rattle.std.specs.Prelude.{Contains, IfSome, IsTrue, None, false};
 ghost use Rattle.sx_io.specs.Reading.{newline, longest, IsPlain};
 ghost use Rattle.sx_io.specs.Streams.{SourceAt, NoReadFault, OneReadFault, OneEnd};
-ghost use Rattle.sx_io.specs.Next.{Next, TakesLine};
+ghost use Rattle.sx_io.specs.Next.{GivesHeld, Next, TakesLine, Took};
 ghost use Rattle.sx_io.specs.Parts.{Moves, TurnAnswers, TurnFaults, AskedInTurn};
 ghost use Rattle.sx_io.specs.Passing.{IsBegun, IsWithin, PassedHeld, PassedPart};
 ghost use Rattle.sx_io.specs.Passing.{PassedTurn, Passes, TakesPassed, as_read, as_turn};
@@ -289,6 +289,41 @@ impl Lines {
         let (part, used) = move_chunk(into, filled, &self.held[self.from..self.to]);
         self.from += used;
         part
+    }
+
+    /// The next line, where all of it is held: its text stands at the start of `into`, as after
+    /// `next`. It reads nothing. `None` says that `next` would read, or give its last answer again.
+    pub fn next_held(&mut self, into: &mut [u8; LONGEST]) -> Option<usize>
+        ensures { GivesHeld self.old self.new into.new result }
+    {
+        match self.state() {
+            ReaderState::Open => self.held_line(into),
+            ReaderState::AtEnd => None,
+            ReaderState::TooLong => None,
+            ReaderState::Failed => None,
+        }
+    }
+
+    /// The line that is held whole, where no last answer was given.
+    fn held_line(&mut self, into: &mut [u8]) -> Option<usize>
+        requires open { self.old.state ≡ ReaderState.Open }
+        requires few { length self.old.held ≤ longest }
+        requires room { length into.old ≡ longest }
+        ensures state { self.new.state ≡ self.old.state }
+        ensures took { IfSome result (λ n. Took longest self.old.held (LineRead.Text n) into.new
+            self.new) }
+        ensures none { result ≡ None → self.new ≡ self.old }
+        ensures plain { result ≡ None → IsPlain self.old.held }
+    {
+        let (part, used) = move_chunk(into, 0, &self.held[self.from..self.to]);
+        match part {
+            Part::Whole(count) => {
+                self.from += used;
+                Some(count)
+            }
+            Part::More(_) => None,
+            Part::TooLong => None,
+        }
     }
 
     /// Passes the next line: its length, and its first bytes in `front`. It answers what `next`
