@@ -2,10 +2,9 @@
 use Rattle.std.proofs.Common.{◌≡◌, ℕ, ◌+◌, Bool, true, false, List, [], ◌∷◌, ◌++◌, length, refl, subst, Result, Ok, Err}
 use Rattle.std.specs.Prelude.{◌≢◌}
 use Rattle.sx_io.specs.Streams.{SinkAt}
-use Rattle.sx_told.specs.Told.{out_of_memory}
+use Rattle.sx_told.specs.Told.{CommandEnds, Output, behind}
 use Rattle.sx_told.specs.declared.turned.Turned.{Turned}
 use Rattle.sx_told.specs.declared.turned.Turned.TheVariants.{On, Stop}
-use Rattle.sx_told.proofs.Laws.{ends-out-of-memory, prefix-none}
 use Rattle.sx_trace.specs.declared.items.Item.{Item}
 use Rattle.sx_mean.specs.Application.{AppTree}
 use Rattle.sx_explain.specs.declared.judge.Judged.{Judged}
@@ -22,20 +21,21 @@ taken_on items item verdict.Fine h = refl
 taken_on items item verdict.Forged h = refl
 taken_on items item verdict.Unjudged h = refl
 
-pub judges : {to_tell : Bool} {k0 k1 : SinkAt} {new : Seen} {turned : Turned} (app : AppTree) (items : List Item) (item : Item) (number : ℕ) (j : Judged) → number ≡ length items + 1
-    → j ≡ judged app items item → Follows app (items_after items item j) new → TellsItem to_tell k0 k1 number j turned → (turned ≡ On → j ≢ verdict.Illegal)
-    → JudgesItem to_tell k0 k1 app items item new turned
-judges {to_tell} {k0} {k1} {new} {turned} app items item number j counted is follows tells on = record {
+pub judges : {to_tell : Bool} {k0 k1 : SinkAt} {kept left : List ℕ} {new : Seen} {turned : Turned} (app : AppTree) (items : List Item) (item : Item) (number : ℕ) (j : Judged)
+    → number ≡ length items + 1 → j ≡ judged app items item → Follows app (items_after items item j) new → TellsItem to_tell k0 k1 kept left number j turned
+    → (turned ≡ On → j ≢ verdict.Illegal) → JudgesItem to_tell k0 k1 kept left app items item new turned
+judges {to_tell} {k0} {k1} {kept} {left} {new} {turned} app items item number j counted is follows tells on = record {
   does =
-      let P : ℕ → Type 0 = λ n. TellsItem to_tell k0 k1 n (judged app items item) turned in
-      let Q : Judged → Type 0 = λ j. TellsItem to_tell k0 k1 number j turned in
+      let P : ℕ → Type 0 = λ n. TellsItem to_tell k0 k1 kept left n (judged app items item) turned in
+      let Q : Judged → Type 0 = λ j. TellsItem to_tell k0 k1 kept left number j turned in
       subst P counted (subst Q is tells);
   follows = λ goes. (let P : List Item → Type 0 = λ xs. Follows app xs new in subst P (taken_on items item j (on goes)) follows);
 }
 
-pub judges_none : {to_tell : Bool} {k : SinkAt} {new : Seen} (app : AppTree) (items : List Item) (item : Item) → JudgesItem to_tell k k app items item new (Stop out_of_memory)
-judges_none {to_tell} {k} app items item = record {
-  does = λ left more. ends-out-of-memory to_tell k k (told_item (length items + 1) (judged app items item) (left more)) (λ t. prefix-none k.written k.written _ refl) refl;
+pub judges_none : {to_tell : Bool} {k0 k1 : SinkAt} {kept left : List ℕ} {new : Seen} {status : ℕ} (app : AppTree) (items : List Item) (item : Item)
+    → ((o : Output) → CommandEnds to_tell k0 k1 status (behind kept o)) → JudgesItem to_tell k0 k1 kept left app items item new (Stop status)
+judges_none {to_tell} {k0} {k1} {kept} {left} {new} {status} app items item ends = record {
+  does = λ o. ends (told_item (length items + 1) (judged app items item) o);
   follows = λ on. absurd (cc on);
 }
 

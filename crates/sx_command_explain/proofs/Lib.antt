@@ -4,6 +4,7 @@ pub mod Found
 pub mod Fronts
 pub mod Heads
 pub mod Judged
+pub mod Keeping
 pub mod Owing
 pub mod Promised
 pub mod Starting

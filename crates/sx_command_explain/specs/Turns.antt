@@ -1,14 +1,19 @@
 -- What a call makes of one line. Nobody has to believe this file: it is for contracts of functions
 -- that aren't public.
 use Rattle.std.specs.Prelude.{◌≡◌, ℕ, ◌+◌, ◌==◌, ◌&&◌, nat_le, Bool, if◌then◌else◌, List, [], ◌∷◌}
-use Rattle.std.specs.Prelude.{◌++◌, codes, length, take}
+use Rattle.std.specs.Prelude.{◌++◌, ◌⊎◌, codes, length, take, IsTrue, Some, Result, Ok, Err}
 use Rattle.std.specs.Str.{bytes_eq}
+use Rattle.sx_io.specs.Counts.{next_count}
+use Rattle.sx_io.specs.Prefixes.{AppendsPrefix}
 use Rattle.sx_io.specs.Streams.{SinkAt}
-use Rattle.sx_io.specs.Reading.{Answer}
-use Rattle.sx_told.specs.Told.{Output}
-use Rattle.sx_told.specs.Parts.{DoesPart}
+use Rattle.sx_io.specs.Reading.{longest}
+use Rattle.sx_io.specs.Next.{Ahead, GivesHeld, Next}
+use Rattle.sx_io.specs.declared.lines.LineRead.{LineRead}
+use Rattle.sx_io.specs.declared.lines.LineRead.TheVariants.{Text}
+use Rattle.sx_io.specs.declared.outside.Failed.{Failed}
+use Rattle.sx_told.specs.Told.{CommandAt, CommandEnds, Output, behind}
 use Rattle.sx_told.specs.declared.turned.Turned.{Turned}
-use Rattle.sx_told.specs.declared.turned.Turned.TheVariants.{On}
+use Rattle.sx_told.specs.declared.turned.Turned.TheVariants.{On, Stop}
 use Rattle.sx_trace.specs.declared.items.Item.{Item}
 use Rattle.sx_mean.specs.Application.{AppTree}
 use Rattle.sx_explain.specs.Followed.{Follows, Seen}
@@ -27,19 +32,54 @@ front_line number front count =
     && (nat_le 6 count && bytes_eq (take 6 front) (codes "image ")) then image.Image
     else image.Other
 
--- what was said of an item was written, and what follows it is left
-abbrev pub TellsItem : Bool → SinkAt → SinkAt → ℕ → Judged → Turned → Type 0
-TellsItem to_tell k0 k1 number said turned = (left : List Answer → Output)
-    → DoesPart to_tell k0 k1 (λ more. told_item number said (left more)) turned left
+-- a text was written whole
+pub record Wrote (to_tell : Bool) (k0 k1 : SinkAt) (text : List ℕ) : Type 0 where
+  pub wrote : IsTrue to_tell → k1.written ≡ k0.written ++ text
+  pub no_fault : k1.faults ≡ k0.faults
 
--- An item was judged after the items before it, and what is said of it was written.
-pub record JudgesItem (to_tell : Bool) (k0 k1 : SinkAt) (app : AppTree) (items : List Item)
-    (item : Item) (new : Seen) (turned : Turned) : Type 0 where
-  pub does : TellsItem to_tell k0 k1 (length items + 1) (judged app items item) turned
+-- one write failed, after a prefix of a text
+pub record StopsIn (to_tell : Bool) (k0 k1 : SinkAt) (text : List ℕ) : Type 0 where
+  pub prefix : IsTrue to_tell → AppendsPrefix k0.written k1.written text
+  pub fault : k1.faults ≡ next_count k0.faults
+
+-- the one or the other, by the answer
+abbrev pub Puts : Bool → SinkAt → SinkAt → List ℕ → Result (Unit {0}) Failed → Type 0
+Puts to_tell k0 k1 text (Ok done) = Wrote to_tell k0 k1 text
+Puts to_tell k0 k1 text (Err failed) = StopsIn to_tell k0 k1 text
+
+-- the line was held
+abbrev pub WasHeld : Ahead → Ahead → List ℕ → LineRead → Type 0
+WasHeld old new into (Text n) = GivesHeld old new into (Some n)
+WasHeld old new into _ = ⊥
+
+-- The next line was held, and nothing was written or read; or all that was kept was written, and
+-- then the line was asked for.
+abbrev pub ComesNext : Bool → Bool → CommandAt → CommandAt → List ℕ → List ℕ → Ahead → Ahead
+    → List ℕ → Result LineRead Failed → Type 0
+ComesNext tells to_tell m0 m1 kept left old new into (Ok answer) =
+    ((m1 ≡ m0) × (left ≡ kept) × WasHeld old new into answer)
+    ⊎ (Wrote to_tell m0.sink m1.sink kept × (left ≡ [])
+    × Next longest tells m0.source m1.source old new into answer)
+ComesNext tells to_tell m0 m1 kept left old new into (Err failed) =
+    StopsIn to_tell m0.sink m1.sink kept × (m1.source ≡ m0.source)
+
+-- What was said of an item is kept behind what was kept before, and nothing was written; or the
+-- command ended.
+abbrev pub TellsItem : Bool → SinkAt → SinkAt → List ℕ → List ℕ → ℕ → Judged → Turned → Type 0
+TellsItem to_tell k0 k1 kept left number said On =
+    (k1 ≡ k0) × ((o : Output) → behind left o ≡ behind kept (told_item number said o))
+TellsItem to_tell k0 k1 kept left number said (Stop status) =
+    (o : Output) → CommandEnds to_tell k0 k1 status (behind kept (told_item number said o))
+
+-- An item was judged after the items before it, and what is said of it was kept.
+pub record JudgesItem (to_tell : Bool) (k0 k1 : SinkAt) (kept left : List ℕ) (app : AppTree)
+    (items : List Item) (item : Item) (new : Seen) (turned : Turned) : Type 0 where
+  pub does : TellsItem to_tell k0 k1 kept left (length items + 1) (judged app items item) turned
   pub follows : turned ≡ On → Follows app (items ++ item ∷ []) new
 
 -- whatever items came before
-abbrev pub JudgesFrom : Bool → SinkAt → SinkAt → AppTree → Seen → Seen → ℕ → Item → Turned → Type 0
-JudgesFrom to_tell k0 k1 app old new number item turned =
+abbrev pub JudgesFrom : Bool → SinkAt → SinkAt → List ℕ → List ℕ → AppTree → Seen → Seen → ℕ
+    → Item → Turned → Type 0
+JudgesFrom to_tell k0 k1 kept left app old new number item turned =
     (items : List Item) → Follows app items old → number ≡ length items + 1
-    → JudgesItem to_tell k0 k1 app items item new turned
+    → JudgesItem to_tell k0 k1 kept left app items item new turned

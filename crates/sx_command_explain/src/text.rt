@@ -1,26 +1,51 @@
-//! The lines that `explain` writes. None of them takes memory.
+//! The lines that `explain` writes. What is said of items is kept, to be written together. None of
+//! this takes memory.
 
-ghost use Rattle.std.specs.Prelude.{◌≡◌, ◌≢◌, ◌+◌, ◌≤◌, ◌++◌, decimal, length, List, Some};
-ghost use Rattle.sx_told.specs.Told.{CommandEnds, Output, out_of_memory};
+ghost use Rattle.std.specs.Prelude.{◌≡◌, ◌≢◌, ◌+◌, ◌≤◌, ◌++◌, decimal, length, List, Some, true};
+ghost use Rattle.sx_told.specs.Told.{CommandEnds, Output, behind, out_of_memory, write_failed};
 ghost use Rattle.sx_trace.specs.declared.items.Item.{Item as Listed};
 ghost use Rattle.sx_mean.specs.Application.{AppTree};
 ghost use Rattle.sx_explain.specs.Followed.{Follows};
 ghost use Rattle.sx_command_explain.specs.Explain.{because_line, broken_output, forged_line};
 ghost use Rattle.sx_command_explain.specs.Explain.{illegal_output, legal_text};
-ghost use Rattle.sx_command_explain.specs.Turns.{TellsItem};
+ghost use Rattle.sx_command_explain.specs.Turns.{Puts, TellsItem};
 
+use arrayvec::ArrayVec;
 use itoa::Buffer;
 use sx_command::fault::finish_fault;
 use sx_command::text::{Text, put};
 use sx_explain::judge::{Judge, Judged};
-use sx_io::Sink;
-use sx_told::{Turned, finish, put_text};
+use sx_io::{Failed, Sink, put_all};
+use sx_told::{OUT_OF_MEMORY, Turned, WRITE_FAILED, finish};
 
 /// The exit status for a line that breaks a rule.
 const BROKEN: u8 = 3;
 
 /// The exit status for an item that the source doesn't allow.
 const ILLEGAL: u8 = 8;
+
+/// The most bytes that are kept.
+const MOST: usize = 4096;
+
+/// The most bytes that are said of an item.
+const LONGEST_LINE: usize = 96;
+
+/// Lines that are kept, to be written together.
+pub(crate) type Kept = ArrayVec<u8, MOST>;
+
+/// Whether there is room for what is said of one more item.
+pub(crate) fn has_room(kept: &Kept) -> bool
+    ensures { result ≡ true → length kept.now.items + 96 ≤ 4096 }
+{
+    kept.len() <= MOST - LONGEST_LINE
+}
+
+/// Writes all that is kept.
+pub(crate) fn put_kept<K: Sink>(output: &mut K, kept: &Kept) -> Result<(), Failed>
+    ensures { Puts K.tells (K.at output.old) (K.at output.new) kept.now.items result }
+{
+    put_all(output, kept.as_slice())
+}
 
 /// Appends a number of at most 20 digits.
 fn put_number(text: &mut Text, number: u64)
@@ -34,7 +59,8 @@ fn put_number(text: &mut Text, number: u64)
 
 /// Which item caused an item.
 fn because_text(number: u32, cause: u64) -> Text
-    ensures { result.items ≡ because_line number cause }
+    ensures text { result.items ≡ because_line number cause }
+    ensures short { length result.items ≤ 96 }
 {
     let mut text = Text::new();
     put(&mut text, b"because ");
@@ -84,15 +110,60 @@ fn last_text(judge: &Judge) -> Text
     text
 }
 
-/// Writes what is said of an item, and stops where it is illegal.
-pub(crate) fn put_said<K: Sink>(output: &mut K, number: u32, said: Judged) -> Turned
-    ensures does { TellsItem K.tells (K.at output.old) (K.at output.new) number said result }
+/// Keeps which item caused an item, which there is room for.
+fn keep_because(kept: &mut Kept, number: u32, cause: u64)
+    requires { length kept.old.items + 96 ≤ 4096 }
+    ensures { kept.new.items ≡ kept.old.items ++ because_line number cause }
+{
+    put(kept, because_text(number, cause).as_slice());
+}
+
+/// Writes all that is kept, and ends the command with this text and status, as `finish` does.
+fn finish_kept<K: Sink>(output: &mut K, kept: &Kept, text: &[u8], status: u8) -> u8
+    requires { status ≡ write_failed → ⊥ }
+    ensures ends { CommandEnds K.tells (K.at output.old) (K.at output.new) result
+        (behind kept.now.items (record { text = text.now; status = status })) }
+    ensures status { (result ≡ write_failed → ⊥) → result ≡ status }
+{
+    match put_kept(output, kept) {
+        Ok(()) => finish(output, text, status),
+        Err(_) => WRITE_FAILED,
+    }
+}
+
+/// Writes all that is kept, where memory ran out.
+pub(crate) fn finish_wanted<K: Sink>(output: &mut K, kept: &Kept) -> u8
+    ensures { (o : Output) → CommandEnds K.tells (K.at output.old) (K.at output.new) result
+        (behind kept.now.items o) }
+{
+    match put_kept(output, kept) {
+        Ok(()) => OUT_OF_MEMORY,
+        Err(_) => WRITE_FAILED,
+    }
+}
+
+/// Keeps what is said of an item; where it is illegal, writes that and stops.
+pub(crate) fn keep_said<K: Sink>(
+    output: &mut K,
+    kept: &mut Kept,
+    number: u32,
+    said: Judged,
+) -> Turned
+    requires room { length kept.old.items + 96 ≤ 4096 }
+    ensures does { TellsItem K.tells (K.at output.old) (K.at output.new) kept.old.items
+        kept.new.items number said result }
     ensures legal { result ≡ Turned.On → said ≢ Judged.Illegal }
     ensures memory { result ≢ Turned.Stop out_of_memory }
 {
     match said {
-        Judged::Because(cause) => put_text(output, because_text(number, cause).as_slice()),
-        Judged::Illegal => Turned::Stop(finish(output, illegal_text(number).as_slice(), ILLEGAL)),
+        Judged::Because(cause) => {
+            keep_because(kept, number, cause);
+            Turned::On
+        }
+        Judged::Illegal => {
+            let text = illegal_text(number);
+            Turned::Stop(finish_kept(output, kept, text.as_slice(), ILLEGAL))
+        }
         Judged::Fine => Turned::On,
         Judged::Forged => Turned::On,
         Judged::Unjudged => Turned::On,
@@ -115,4 +186,15 @@ pub(crate) fn break_off<K: Sink>(output: &mut K, rule: u8, number: u32) -> u8
     ensures memory { result ≢ out_of_memory }
 {
     finish_fault(output, b"fault trace E", rule, number, BROKEN)
+}
+
+/// Writes all that is kept, and which rule the line of this number breaks.
+pub(crate) fn break_kept<K: Sink>(output: &mut K, kept: &Kept, rule: u8, number: u32) -> u8
+    ensures { CommandEnds K.tells (K.at output.old) (K.at output.new) result
+        (behind kept.now.items (broken_output rule number)) }
+{
+    match put_kept(output, kept) {
+        Ok(()) => break_off(output, rule, number),
+        Err(_) => WRITE_FAILED,
+    }
 }

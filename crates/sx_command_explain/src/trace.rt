@@ -1,7 +1,9 @@
-//! The lines of a trace. Each is judged, and what is said of it is written, before the next is
-//! read.
+//! The lines of a trace. Each is judged, and what is said of it is written before more of the input
+//! is read.
 
-ghost use Rattle.std.specs.Prelude.{◌≡◌, ◌+◌, ◌<◌, ◌||◌, [], IsTrue, List, false, is_some, true};
+ghost use Rattle.std.specs.Prelude.{◌≡◌, ◌+◌, ◌<◌, ◌≤◌, ◌||◌, [], IsTrue, List, OnOk, length};
+ghost use Rattle.std.specs.Prelude.{IfSome, None, Some, true, false, is_some};
+ghost use Rattle.sx_io.specs.Next.{GivesHeld};
 ghost use Rattle.sx_told.specs.Told.{command_at, out_of_memory};
 ghost use Rattle.sx_told.specs.Parts.{Rest};
 ghost use Rattle.sx_trace.specs.declared.items.Item.{Item as Listed};
@@ -13,35 +15,81 @@ ghost use Rattle.sx_explain.specs.Followed.{Follows};
 ghost use Rattle.sx_command_explain.specs.Explain.{explain_from, stop_output};
 ghost use Rattle.sx_command_explain.specs.Meant.{AreMeanings, Meanings};
 ghost use Rattle.sx_command_explain.specs.Trace.{stop_behind, trace_lines};
-ghost use Rattle.sx_command_explain.specs.Turns.{JudgesFrom};
+ghost use Rattle.sx_command_explain.specs.Turns.{ComesNext, JudgesFrom};
 
 use crate::lines::{NO_ITEM, TraceLine, judge_line, rule_behind};
-use crate::text::{break_off, finish_legal, put_said};
+use crate::text::{
+    Kept, break_kept, break_off, finish_legal, finish_wanted, has_room, keep_said, put_kept,
+};
 use std::alloc::Global;
 use sx_deploy::deployment::Deployment;
 use sx_explain::judge::Judge;
-use sx_io::{LineRead, Lines, Sink, Source};
+use sx_io::{Failed, LineRead, Lines, Sink, Source};
 use sx_mean::apps::App;
-use sx_told::{OUT_OF_MEMORY, READ_FAILED, Turned, finish};
+use sx_told::{OUT_OF_MEMORY, READ_FAILED, Turned, WRITE_FAILED, finish};
 use sx_trace::items::Item;
 
 /// The rule that a trace ends with its last line.
 const NO_END: u8 = 3;
 
-/// Judges an item with this number, and writes what is said of it. Memory runs out only where no
+/// The next line of a trace, where it is held and there is room for what is said of it.
+fn next_held(lines: &mut Lines, kept: &Kept, into: &mut [u8; 4096]) -> Option<usize>
+    ensures held { IfSome result (λ n. GivesHeld lines.old lines.new into.new (Some n)) }
+    ensures room { IfSome result (λ n. length kept.now.items + 96 ≤ 4096) }
+    ensures none { result ≡ None → lines.new ≡ lines.old }
+{
+    if !has_room(kept) {
+        return None;
+    }
+    lines.next_held(into)
+}
+
+/// The next line of a trace. All that is kept is written before the source is asked for it, so
+/// nothing is kept while the source waits.
+fn next_line<S: Source, K: Sink>(
+    lines: &mut Lines,
+    input: &mut S,
+    output: &mut K,
+    kept: &mut Kept,
+    into: &mut [u8; 4096],
+) -> Result<LineRead, Failed>
+    ensures comes { ComesNext S.tells K.tells (command_at (S.at input.old) (K.at output.old))
+        (command_at (S.at input.new) (K.at output.new)) kept.old.items kept.new.items lines.old
+        lines.new into.new result }
+    ensures room { OnOk result (length kept.new.items + 96 ≤ 4096) }
+{
+    match next_held(lines, kept, into) {
+        Some(count) => Ok(LineRead::Text(count)),
+        None => {
+            put_kept(output, kept)?;
+            kept.clear();
+            Ok(lines.next(input, into))
+        }
+    }
+}
+
+/// Judges an item with this number, and keeps what is said of it. Memory runs out only where no
 /// item was forged before, and the item may take memory or comes next after an event.
-fn turn<K: Sink>(output: &mut K, judge: &mut Judge, app: &App, item: &Item, number: u32) -> Turned
+fn turn<K: Sink>(
+    output: &mut K,
+    kept: &mut Kept,
+    judge: &mut Judge,
+    app: &App,
+    item: &Item,
+    number: u32,
+) -> Turned
     requires valid { is_valid (app_as app.now) ≡ true }
     requires few { judge.old.taken < 4000000 }
-    ensures judges { JudgesFrom K.tells (K.at output.old) (K.at output.new) (app_as app.now)
-        judge.old judge.new number item.now result }
+    requires room { length kept.old.items + 96 ≤ 4096 }
+    ensures judges { JudgesFrom K.tells (K.at output.old) (K.at output.new) kept.old.items
+        kept.new.items (app_as app.now) judge.old judge.new number item.now result }
     ensures memory { result ≡ Turned.Stop out_of_memory → judge.old.has_forged ≡ false }
     ensures wants { result ≡ Turned.Stop out_of_memory
         → (may_take_memory item.now || is_some judge.old.behind) ≡ true }
 {
     match judge.item(app, item) {
-        Ok(said) => put_said(output, number, said),
-        Err(_) => Turned::Stop(OUT_OF_MEMORY),
+        Ok(said) => keep_said(output, kept, number, said),
+        Err(_) => Turned::Stop(finish_wanted(output, kept)),
     }
 }
 
@@ -89,19 +137,22 @@ fn explain_lines<S: Source, K: Sink>(
         (explain_from (app_as plan.now.app) (means.item plan.now.names) []) }
 {
     let mut into = [0; 4096];
+    let mut kept = Kept::new();
     let mut number: u32 = 1;
     'lines: loop {
-        match lines.next(input, &mut into) {
-            LineRead::End => return break_off(output, NO_END, number),
-            LineRead::TooLong => return break_off(output, NO_ITEM, number),
-            LineRead::Failed => return finish(output, b"fault read\n", READ_FAILED),
-            LineRead::Text(n) => match judge_line(&plan.names, &into[..n], number) {
-                Err(rule) => return break_off(output, rule, number),
-                Ok(TraceLine::Last) => {
-                    return explain_end(lines, input, output, plan, judge, number + 1);
-                }
+        match next_line(lines, input, output, &mut kept, &mut into) {
+            Err(_) => return WRITE_FAILED,
+            Ok(LineRead::End) => return break_off(output, NO_END, number),
+            Ok(LineRead::TooLong) => return break_off(output, NO_ITEM, number),
+            Ok(LineRead::Failed) => return finish(output, b"fault read\n", READ_FAILED),
+            Ok(LineRead::Text(n)) => match judge_line(&plan.names, &into[..n], number) {
+                Err(rule) => return break_kept(output, &kept, rule, number),
+                Ok(TraceLine::Last) => match put_kept(output, &kept) {
+                    Err(_) => return WRITE_FAILED,
+                    Ok(()) => return explain_end(lines, input, output, plan, judge, number + 1),
+                },
                 Ok(TraceLine::Item(item)) => {
-                    match turn(output, judge, &plan.app, &item, number) {
+                    match turn(output, &mut kept, judge, &plan.app, &item, number) {
                         Turned::On => number += 1,
                         Turned::Stop(status) => return status,
                     }

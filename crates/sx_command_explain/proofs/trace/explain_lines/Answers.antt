@@ -1,15 +1,20 @@
-use Rattle.std.proofs.Common.{◌≡◌, ◌∙◌, ◌+◌, ◌∷◌, ◌++◌, ◌≤◌, [], ℕ, length, take, arith, ap, refl, sym, Result, Err, Ok}
+use Rattle.std.proofs.Common.{◌≡◌, ◌∙◌, ◌+◌, ◌∷◌, ◌++◌, ◌≤◌, [], ℕ, inl, inr, take, arith, ap, refl, sym, subst, List, Result, Err, Ok}
 use Rattle.std.specs.Prelude.{OnOk}
-use Rattle.sx_io.specs.Reading.{Line}
-use Rattle.sx_told.specs.Told.{read_line}
-use Rattle.sx_told.specs.declared.turned.Turned.TheVariants.{On, Stop}
-use Rattle.sx_told.proofs.Laws.{begun-line, begun-put, begun-same, does-same, ends-same, told-stop, told-end, told-too-long, told-failed}
+use Rattle.sx_io.specs.Reading.{Answer, Line}
+use Rattle.sx_io.specs.declared.lines.LineRead.{LineRead}
+use Rattle.sx_io.specs.declared.lines.LineRead.TheVariants as read
+use Rattle.sx_io.specs.declared.outside.Failed.{Failed}
+use Rattle.sx_io.specs.Streams.{SinkAt, SourceAt}
+use Rattle.sx_told.specs.Told.{Output, Told, behind, command_at, read_line, write_failed}
+use Rattle.sx_told.specs.Parts.{Notes}
+use Rattle.sx_told.proofs.Laws.{ends-same, told-end, told-too-long, told-failed}
 use Rattle.std.proofs.lemmas.List.{length-append}
 use Rattle.sx_mean.specs.View.{app_as}
 use Rattle.sx_explain.proofs.Following.{few_taken}
-use Rattle.sx_explain.specs.Judging.{judged}
-use Rattle.sx_command_explain.specs.Explain.{broken_output, explain_from, stop_output, told_item}
+use Rattle.sx_command_explain.specs.Explain.{broken_output, explain_from, stop_output}
 use Rattle.sx_command_explain.specs.Trace.{judged_line, line_of, stop_behind}
+use Rattle.sx_command_explain.specs.Turns.{ComesNext}
+use Rattle.sx_command_explain.proofs.Keeping.{Waits, waits_asked, waits_failed, waits_more, waits_new, waits_stop, waits_text, waits_written}
 use Rattle.sx_command_explain.proofs.Written.{said_broken, said_end, said_item, said_last, said_long, said_unread}
 use Rattle.sx_command_explain.proofs.trace.explain_lines.Goals as goal
 
@@ -17,55 +22,135 @@ few_of : {X E : Type 0} → (r : Result X E) (x : X) (n : ℕ) → r ≡ Ok x �
 few_of (Ok y) x n e h = h
 few_of (Err y) x n e h = absurd (cc e)
 
+on_ok : {X E : Type 0} (P : Type 0) (r : Result X E) (x : X) → r ≡ Ok x → OnOk r P → P
+on_ok P (Ok y) x e p = p
+on_ok P (Err y) x e p = absurd (cc e)
+
 pub lines-init : goal.lines-init
 lines-init g c =
-    record { between = record { few = omega arith; items = []; follows = c.requires.follows; counted = refl; begun = λ means is limit m0 defined aside noted b. b } }
-
-pub returns-in-End : goal.returns-in-End
-returns-in-End g c = λ means is limit m0 defined aside noted b.
-    let st = c.lines.invariant.between in
-    let f = explain_from (app_as c.args.plan.now.app) (means.item c.args.plan.now.names) st.items in
-    told-end {f = f} (said_unread _ _ st.items []) (st.begun means is limit m0 defined aside noted b) c.in-End.ensures.next
-    (ends-same _ _ _ _ _ _ (said_end _ _ st.items [] ∙ ap (broken_output 3) (sym st.counted)) c.break_off.ensures.ends)
-
-pub returns-in-TooLong : goal.returns-in-TooLong
-returns-in-TooLong g c = λ means is limit m0 defined aside noted b.
-    let st = c.lines.invariant.between in
-    let f = explain_from (app_as c.args.plan.now.app) (means.item c.args.plan.now.names) st.items in
-    told-too-long {f = f} (said_unread _ _ st.items []) (st.begun means is limit m0 defined aside noted b) c.in-TooLong.ensures.next
-    (ends-same _ _ _ _ _ _ (said_long _ _ st.items [] ∙ ap (broken_output 2) (sym st.counted)) c.break_off-in-TooLong.ensures.ends)
-
-pub returns-in-Failed : goal.returns-in-Failed
-unfolding read_line
-returns-in-Failed g c = λ means is limit m0 defined aside noted b.
-    let st = c.lines.invariant.between in
-    let f = explain_from (app_as c.args.plan.now.app) (means.item c.args.plan.now.names) st.items in
-    told-failed {f = f} (said_unread _ _ st.items []) (st.begun means is limit m0 defined aside noted b) c.in-Failed.ensures.next
-    (ends-same _ _ _ _ _ _ (said_unread _ _ st.items []) c.finish.ensures.ends)
+    record {
+      between = record {
+        few = omega arith;
+        items = [];
+        follows = c.requires.follows;
+        counted = refl;
+        waits = λ means is limit m0 defined aside noted b. subst (λ (t : List ℕ). Waits g.S.Source.tells g.K.Sink.tells limit m0
+            (command_at (g.S.Source.at c.args.input.now) (g.K.Sink.at c.args.output.now)) c.args.lines.now defined t
+            (explain_from (app_as c.args.plan.now.app) (means.item c.args.plan.now.names) []) (Notes aside noted)) (sym c.new-kept.ensures) (waits_new b);
+      };
+    }
 
 pub returns-in-Err : goal.returns-in-Err
 returns-in-Err g c = λ means is limit m0 defined aside noted b.
     let st = c.lines.invariant.between in
     let f = explain_from (app_as c.args.plan.now.app) (means.item c.args.plan.now.names) st.items in
-    let text = take c.in-Text.n c.next.new.into in
-    let line = c.in-Err.ensures.line means is in
-    told-stop (begun-line f (said_unread _ _ st.items []) (st.begun means is limit m0 defined aside noted b) c.in-Text.ensures.next)
-    (λ more. ends-same _ _ _ _ _ _
-    (said_broken _ _ st.items text c.in-Err.rule more (ap (λ (n : ℕ). judged_line n (line_of (means.item c.args.plan.now.names) text)) (sym st.counted) ∙ sym line)
-    ∙ ap (broken_output c.in-Err.rule) (sym st.counted)) c.break_off-in-Err.ensures.ends)
+    let e = c.in-Err.ensures.comes in
+    subst (λ (s : SourceAt). Told g.S.Source.tells g.K.Sink.tells limit m0 (command_at s (g.K.Sink.at c.next_line.new.output)) write_failed defined (Notes aside noted)) (sym e.1)
+    (waits_failed f (st.waits means is limit m0 defined aside noted b) e.0)
 
-pub returns-in-Ok-Last : goal.returns-in-Ok-Last
-returns-in-Ok-Last g c = λ means is limit m0 defined aside noted b.
+pub returns-in-Ok-End : goal.returns-in-Ok-End
+returns-in-Ok-End g c = λ means is limit m0 defined aside noted b.
     let st = c.lines.invariant.between in
+    let f = explain_from (app_as c.args.plan.now.app) (means.item c.args.plan.now.names) st.items in
+    let R : Result LineRead Failed → Type 0 = λ r. ComesNext g.S.Source.tells g.K.Sink.tells (command_at (g.S.Source.at c.lines.input) (g.K.Sink.at c.lines.output))
+    (command_at (g.S.Source.at c.next_line.new.input) (g.K.Sink.at c.next_line.new.output)) c.lines.kept.items c.next_line.new.kept.items c.lines.lines c.next_line.new.lines c.next_line.new.into r in
+    let comes : R (Ok read.End) = subst R (c.in-Ok-End.is ∙ ap Ok c.in-Ok-End.field-0-is) c.next_line.ensures.comes in
+    elim comes [
+      | inl held ↦ absurd held.2
+      | inr reads ↦
+          let now = waits_asked f read.End (said_unread _ _ st.items []) (st.waits means is limit m0 defined aside noted b) reads in
+          told-end {f = f} (said_unread _ _ st.items []) now.0 now.1
+          (ends-same _ _ _ _ _ _ (said_end _ _ st.items [] ∙ ap (broken_output 3) (sym st.counted)) c.break_off.ensures.ends)
+    ]
+
+pub returns-in-Ok-TooLong : goal.returns-in-Ok-TooLong
+returns-in-Ok-TooLong g c = λ means is limit m0 defined aside noted b.
+    let st = c.lines.invariant.between in
+    let f = explain_from (app_as c.args.plan.now.app) (means.item c.args.plan.now.names) st.items in
+    let R : Result LineRead Failed → Type 0 = λ r. ComesNext g.S.Source.tells g.K.Sink.tells (command_at (g.S.Source.at c.lines.input) (g.K.Sink.at c.lines.output))
+    (command_at (g.S.Source.at c.next_line.new.input) (g.K.Sink.at c.next_line.new.output)) c.lines.kept.items c.next_line.new.kept.items c.lines.lines c.next_line.new.lines c.next_line.new.into r in
+    let comes : R (Ok read.TooLong) = subst R (c.in-Ok-TooLong.is ∙ ap Ok c.in-Ok-TooLong.field-0-is) c.next_line.ensures.comes in
+    elim comes [
+      | inl held ↦ absurd held.2
+      | inr reads ↦
+          let now = waits_asked f read.TooLong (said_unread _ _ st.items []) (st.waits means is limit m0 defined aside noted b) reads in
+          told-too-long {f = f} (said_unread _ _ st.items []) now.0 now.1
+          (ends-same _ _ _ _ _ _ (said_long _ _ st.items [] ∙ ap (broken_output 2) (sym st.counted)) c.break_off-in-Ok-TooLong.ensures.ends)
+    ]
+
+pub returns-in-Ok-Failed : goal.returns-in-Ok-Failed
+unfolding read_line
+returns-in-Ok-Failed g c = λ means is limit m0 defined aside noted b.
+    let st = c.lines.invariant.between in
+    let f = explain_from (app_as c.args.plan.now.app) (means.item c.args.plan.now.names) st.items in
+    let R : Result LineRead Failed → Type 0 = λ r. ComesNext g.S.Source.tells g.K.Sink.tells (command_at (g.S.Source.at c.lines.input) (g.K.Sink.at c.lines.output))
+    (command_at (g.S.Source.at c.next_line.new.input) (g.K.Sink.at c.next_line.new.output)) c.lines.kept.items c.next_line.new.kept.items c.lines.lines c.next_line.new.lines c.next_line.new.into r in
+    let comes : R (Ok read.Failed) = subst R (c.in-Ok-Failed.is ∙ ap Ok c.in-Ok-Failed.field-0-is) c.next_line.ensures.comes in
+    elim comes [
+      | inl held ↦ absurd held.2
+      | inr reads ↦
+          let now = waits_asked f read.Failed (said_unread _ _ st.items []) (st.waits means is limit m0 defined aside noted b) reads in
+          told-failed {f = f} (said_unread _ _ st.items []) now.0 now.1
+          (ends-same _ _ _ _ _ _ (said_unread _ _ st.items []) c.finish.ensures.ends)
+    ]
+
+pub returns-in-Err-judge_line : goal.returns-in-Err-judge_line
+returns-in-Err-judge_line g c = λ means is limit m0 defined aside noted b.
+    let st = c.lines.invariant.between in
+    let app = app_as c.args.plan.now.app in
     let item = means.item c.args.plan.now.names in
-    let f = explain_from (app_as c.args.plan.now.app) item st.items in
-    let text = take c.in-Text.n c.next.new.into in
+    let f = explain_from app item st.items in
+    let text = take c.in-Ok-Text.n c.next_line.new.into in
     let line = c.judge_line.ensures.line means is in
+    let here : List Answer → Output = λ more. f (Line text ∷ more) in
+    let R : Result LineRead Failed → Type 0 = λ r. ComesNext g.S.Source.tells g.K.Sink.tells (command_at (g.S.Source.at c.lines.input) (g.K.Sink.at c.lines.output))
+    (command_at (g.S.Source.at c.next_line.new.input) (g.K.Sink.at c.next_line.new.output)) c.lines.kept.items c.next_line.new.kept.items c.lines.lines c.next_line.new.lines c.next_line.new.into r in
+    let comes : R (Ok (read.Text c.in-Ok-Text.n)) = subst R (c.in-Ok-Text.is ∙ ap Ok c.in-Ok-Text.field-0-is) c.next_line.ensures.comes in
+    let now = waits_text (g.S.Source.at c.next_line.new.input) (g.K.Sink.at c.next_line.new.output) c.next_line.new.lines c.next_line.new.kept.items
+    c.next_line.new.into c.in-Ok-Text.n f (said_unread _ _ st.items []) (st.waits means is limit m0 defined aside noted b) comes in
+    let rule = c.in-Err-judge_line.rule in
+    let kept : List ℕ = c.next_line.new.kept.items in
+    waits_stop here now (λ more. ends-same _ _ _ _ _ _ (ap (behind kept)
+    (said_broken _ _ st.items text rule more (ap (λ (n : ℕ). judged_line n (line_of item text)) (sym st.counted) ∙ sym line ∙ c.in-Err-judge_line.is) ∙ ap (broken_output rule) (sym st.counted)))
+    c.break_kept.ensures)
+
+pub returns-in-Err-put_kept : goal.returns-in-Err-put_kept
+returns-in-Err-put_kept g c = λ means is limit m0 defined aside noted b.
+    let st = c.lines.invariant.between in
+    let app = app_as c.args.plan.now.app in
+    let item = means.item c.args.plan.now.names in
+    let f = explain_from app item st.items in
+    let text = take c.in-Ok-Text.n c.next_line.new.into in
+    let line = c.judge_line.ensures.line means is in
+    let here : List Answer → Output = λ more. f (Line text ∷ more) in
+    let R : Result LineRead Failed → Type 0 = λ r. ComesNext g.S.Source.tells g.K.Sink.tells (command_at (g.S.Source.at c.lines.input) (g.K.Sink.at c.lines.output))
+    (command_at (g.S.Source.at c.next_line.new.input) (g.K.Sink.at c.next_line.new.output)) c.lines.kept.items c.next_line.new.kept.items c.lines.lines c.next_line.new.lines c.next_line.new.into r in
+    let comes : R (Ok (read.Text c.in-Ok-Text.n)) = subst R (c.in-Ok-Text.is ∙ ap Ok c.in-Ok-Text.field-0-is) c.next_line.ensures.comes in
+    let now = waits_text (g.S.Source.at c.next_line.new.input) (g.K.Sink.at c.next_line.new.output) c.next_line.new.lines c.next_line.new.kept.items
+    c.next_line.new.into c.in-Ok-Text.n f (said_unread _ _ st.items []) (st.waits means is limit m0 defined aside noted b) comes in
+    waits_failed here now c.in-Err-put_kept.ensures
+
+pub returns-in-Ok : goal.returns-in-Ok
+returns-in-Ok g c = λ means is limit m0 defined aside noted b.
+    let st = c.lines.invariant.between in
+    let app = app_as c.args.plan.now.app in
+    let item = means.item c.args.plan.now.names in
+    let f = explain_from app item st.items in
+    let text = take c.in-Ok-Text.n c.next_line.new.into in
+    let line = c.judge_line.ensures.line means is in
+    let here : List Answer → Output = λ more. f (Line text ∷ more) in
+    let R : Result LineRead Failed → Type 0 = λ r. ComesNext g.S.Source.tells g.K.Sink.tells (command_at (g.S.Source.at c.lines.input) (g.K.Sink.at c.lines.output))
+    (command_at (g.S.Source.at c.next_line.new.input) (g.K.Sink.at c.next_line.new.output)) c.lines.kept.items c.next_line.new.kept.items c.lines.lines c.next_line.new.lines c.next_line.new.into r in
+    let comes : R (Ok (read.Text c.in-Ok-Text.n)) = subst R (c.in-Ok-Text.is ∙ ap Ok c.in-Ok-Text.field-0-is) c.next_line.ensures.comes in
+    let now = waits_text (g.S.Source.at c.next_line.new.input) (g.K.Sink.at c.next_line.new.output) c.next_line.new.lines c.next_line.new.kept.items
+    c.next_line.new.into c.in-Ok-Text.n f (said_unread _ _ st.items []) (st.waits means is limit m0 defined aside noted b) comes in
+    let last : List Answer → Output = λ more. stop_output st.items (stop_behind item (c.lines.number + 1) more) in
+    let said : (more : List Answer) → here more ≡ last more = λ more.
+    said_last _ item st.items text more (ap (λ (n : ℕ). judged_line n (line_of item text)) (sym st.counted) ∙ sym line ∙ (c.in-Ok-Last.is ∙ ap Ok c.in-Ok-Last.field-0-is))
+    ∙ ap (λ (n : ℕ). stop_output st.items (stop_behind item (n + 1) more)) (sym st.counted) in
+    let kept : List ℕ = c.next_line.new.kept.items in
     c.explain_end.ensures means st.items is st.follows limit m0 defined aside noted
-    (begun-same (λ more. stop_output st.items (stop_behind item (c.lines.number + 1) more))
-    (λ more. said_last _ item st.items text more (ap (λ (n : ℕ). judged_line n (line_of item text)) (sym st.counted) ∙ sym line ∙ (c.in-Ok-Last.is ∙ ap Ok c.in-Ok-Last.field-0-is))
-    ∙ ap (λ (n : ℕ). stop_output st.items (stop_behind item (n + 1) more)) (sym st.counted))
-    (begun-line f (said_unread _ _ st.items []) (st.begun means is limit m0 defined aside noted b) c.in-Text.ensures.next))
+    (waits_written last refl (waits_more here last (λ more. ap (behind kept) (sym (said more))) now) c.in-Ok.ensures)
 
 pub turn-requires-clause-few : goal.turn-requires-clause-few
 turn-requires-clause-few g c =
@@ -76,21 +161,29 @@ turn-requires-clause-few g c =
     let few = few_of c.judge_line.result _ c.lines.number (c.in-Ok-Item.is ∙ ap Ok c.in-Ok-Item.field-0-is) c.judge_line.ensures.few in
     omega (arith, t, f, n, few)
 
+pub turn-requires-clause-room : goal.turn-requires-clause-room
+turn-requires-clause-room g c = on_ok _ c.next_line.result _ (c.in-Ok-Text.is ∙ ap Ok c.in-Ok-Text.field-0-is) c.next_line.ensures.room
+
 pub returns-in-Stop : goal.returns-in-Stop
 returns-in-Stop g c = λ means is limit m0 defined aside noted b.
     let st = c.lines.invariant.between in
     let app = app_as c.args.plan.now.app in
     let item = means.item c.args.plan.now.names in
     let f = explain_from app item st.items in
-    let text = take c.in-Text.n c.next.new.into in
+    let text = take c.in-Ok-Text.n c.next_line.new.into in
     let line = c.judge_line.ensures.line means is in
+    let here : List Answer → Output = λ more. f (Line text ∷ more) in
+    let R : Result LineRead Failed → Type 0 = λ r. ComesNext g.S.Source.tells g.K.Sink.tells (command_at (g.S.Source.at c.lines.input) (g.K.Sink.at c.lines.output))
+    (command_at (g.S.Source.at c.next_line.new.input) (g.K.Sink.at c.next_line.new.output)) c.lines.kept.items c.next_line.new.kept.items c.lines.lines c.next_line.new.lines c.next_line.new.into r in
+    let comes : R (Ok (read.Text c.in-Ok-Text.n)) = subst R (c.in-Ok-Text.is ∙ ap Ok c.in-Ok-Text.field-0-is) c.next_line.ensures.comes in
+    let now = waits_text (g.S.Source.at c.next_line.new.input) (g.K.Sink.at c.next_line.new.output) c.next_line.new.lines c.next_line.new.kept.items
+    c.next_line.new.into c.in-Ok-Text.n f (said_unread _ _ st.items []) (st.waits means is limit m0 defined aside noted b) comes in
     let i = c.in-Ok-Item.item in
     let j = c.in-Stop.ensures.judges st.items st.follows st.counted in
-    told-stop (begun-line f (said_unread _ _ st.items []) (st.begun means is limit m0 defined aside noted b) c.in-Text.ensures.next)
-    (does-same g.K.Sink.tells (g.K.Sink.at c.lines.output) (g.K.Sink.at c.turn.new.output) (λ more. explain_from app item st.items (Line text ∷ more))
-    (λ more. told_item (length st.items + 1) (judged app st.items i) (explain_from app item (st.items ++ i ∷ []) more)) (explain_from app item (st.items ++ i ∷ [])) (Stop c.in-Stop.status)
-    (λ more. said_item app item st.items text i more (ap (λ (n : ℕ). judged_line n (line_of item text)) (sym st.counted) ∙ sym line ∙ (c.in-Ok-Item.is ∙ ap Ok c.in-Ok-Item.field-0-is)))
-    (j.does (explain_from app item (st.items ++ i ∷ []))))
+    let kept : List ℕ = c.next_line.new.kept.items in
+    waits_stop here now (λ more. ends-same _ _ _ _ _ _ (ap (behind kept)
+    (said_item app item st.items text i more (ap (λ (n : ℕ). judged_line n (line_of item text)) (sym st.counted) ∙ sym line ∙ (c.in-Ok-Item.is ∙ ap Ok c.in-Ok-Item.field-0-is))))
+    (j.does (explain_from app item (st.items ++ i ∷ []) more)))
 
 pub lines-preserved : goal.lines-preserved
 lines-preserved g c =
@@ -104,15 +197,24 @@ lines-preserved g c =
         items = st.items ++ i ∷ [];
         follows = j.follows refl;
         counted = (let l = length-append st.items (i ∷ []) in let n = st.counted in omega (arith, l, n));
-        begun = λ means is limit m0 defined aside noted b.
+        waits = λ means is limit m0 defined aside noted b.
             let item = means.item c.args.plan.now.names in
-            let text = take c.in-Text.n c.next.new.into in
+            let f = explain_from app item st.items in
+            let text = take c.in-Ok-Text.n c.next_line.new.into in
             let line = c.judge_line.ensures.line means is in
-            begun-put (λ more. explain_from app item st.items (Line text ∷ more)) (explain_from app item (st.items ++ i ∷ []))
-            (begun-line (explain_from app item st.items) (said_unread _ _ st.items []) (st.begun means is limit m0 defined aside noted b) c.in-Text.ensures.next)
-            (does-same g.K.Sink.tells (g.K.Sink.at c.lines.output) (g.K.Sink.at c.turn.new.output) (λ more. explain_from app item st.items (Line text ∷ more))
-            (λ more. told_item (length st.items + 1) (judged app st.items i) (explain_from app item (st.items ++ i ∷ []) more)) (explain_from app item (st.items ++ i ∷ [])) On
-            (λ more. said_item app item st.items text i more (ap (λ (n : ℕ). judged_line n (line_of item text)) (sym st.counted) ∙ sym line ∙ (c.in-Ok-Item.is ∙ ap Ok c.in-Ok-Item.field-0-is)))
-            (j.does (explain_from app item (st.items ++ i ∷ []))));
+            let here : List Answer → Output = λ more. f (Line text ∷ more) in
+            let R : Result LineRead Failed → Type 0 = λ r. ComesNext g.S.Source.tells g.K.Sink.tells (command_at (g.S.Source.at c.lines.input) (g.K.Sink.at c.lines.output))
+            (command_at (g.S.Source.at c.next_line.new.input) (g.K.Sink.at c.next_line.new.output)) c.lines.kept.items c.next_line.new.kept.items c.lines.lines c.next_line.new.lines c.next_line.new.into r in
+            let comes : R (Ok (read.Text c.in-Ok-Text.n)) = subst R (c.in-Ok-Text.is ∙ ap Ok c.in-Ok-Text.field-0-is) c.next_line.ensures.comes in
+            let now = waits_text (g.S.Source.at c.next_line.new.input) (g.K.Sink.at c.next_line.new.output) c.next_line.new.lines c.next_line.new.kept.items
+            c.next_line.new.into c.in-Ok-Text.n f (said_unread _ _ st.items []) (st.waits means is limit m0 defined aside noted b) comes in
+            let next : List Answer → Output = explain_from app item (st.items ++ i ∷ []) in
+            let kept : List ℕ = c.next_line.new.kept.items in
+            let said : (more : List Answer) → behind c.turn.new.kept.items (next more) ≡ behind kept (here more) = λ more. j.does.1 (next more)
+            ∙ ap (behind kept) (sym (said_item app item st.items text i more (ap (λ (n : ℕ). judged_line n (line_of item text)) (sym st.counted) ∙ sym line
+            ∙ (c.in-Ok-Item.is ∙ ap Ok c.in-Ok-Item.field-0-is)))) in
+            let at : SinkAt → Type 0 = λ k. Waits g.S.Source.tells g.K.Sink.tells limit m0 (command_at (g.S.Source.at c.next_line.new.input) k) c.next_line.new.lines defined
+            c.turn.new.kept.items next (Notes aside noted) in
+            subst at (sym j.does.0) (waits_more here next said now);
       };
     }
