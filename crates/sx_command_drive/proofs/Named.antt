@@ -15,8 +15,8 @@ use Rattle.sx_run.proofs.tie.Lists.{get_within}
 use Rattle.sx_world.specs.Whole.{next}
 use Rattle.sx_drive.specs.declared.said.Said.{Said as Told}
 use Rattle.sx_drive.specs.Honest.{Driven, Honest, MOST_LINES, Reading, Said, SaidItem, callee_at, each, honest_run, left_out, performed, reads, setup, start}
-use Rattle.sx_drive.specs.Driving.{Does, Follows, GoesOn, IsDrivenSensor, Kept, SaysFront, reading, said_of}
-use Rattle.sx_command_drive.specs.Parts.{AreNamed, IsNamed, IsNamedSaid}
+use Rattle.sx_drive.specs.Driving.{Does, Follows, GoesOn, IsDrivenSensor, Kept, SaysFront, reading, all_said, said_of}
+use Rattle.sx_command_drive.specs.Parts.{AreNamed, IsNamed}
 use Rattle.sx_command_drive.proofs.Quiet.{AreReadings, readings_by}
 use Rattle.sx_command_drive.proofs.Ways.{AreThere, IsThere, Ways, reads_by, setup_by}
 
@@ -28,12 +28,16 @@ pub named_front : (names : NameLists) (xs ys : List Said) → AreNamed names (xs
 named_front names [] ys a = tt
 named_front names (x ∷ xs) ys a = (a.0, named_front names xs ys a.1)
 
+named_rest : (names : NameLists) (xs ys : List Said) → AreNamed names (xs ++ ys) → AreNamed names ys
+named_rest names [] ys a = a
+named_rest names (x ∷ xs) ys a = named_rest names xs ys a.1
+
 -- one of those that were said
-pub named_at : (names : NameLists) (xs : List Told) (i : ℕ) (x : Told) → AreNamed names (map said_of xs) → slice_get xs i ≡ Some x → IsNamedSaid names (said_of x)
+pub named_at : (names : NameLists) (xs : List Told) (i : ℕ) (x : Told) → AreNamed names (all_said xs) → slice_get xs i ≡ Some x → AreNamed names (said_of x)
 named_at names [] i x a e = absurd (cc e)
 named_at names (y ∷ xs) zero x a e =
-    let same : y ≡ x = cc in let P : Told → Type 0 = λ z. IsNamedSaid names (said_of z) in subst P same a.0
-named_at names (y ∷ xs) (suc i) x a e = named_at names xs i x a.1 e
+    let same : y ≡ x = cc in let P : Told → Type 0 = λ z. AreNamed names (said_of z) in subst P same (named_front names (said_of y) (all_said xs) a)
+named_at names (y ∷ xs) (suc i) x a e = named_at names xs i x (named_rest names (said_of y) (all_said xs) a) e
 
 items_named : (names : NameLists) (items : List Item) → AreNamed names (map SaidItem items)
 items_named names [] = tt
@@ -88,14 +92,14 @@ reading_named mac d kept set h device value sound driven few f =
 
 -- what a call said can be written, where all that is due can
 pub does_named : {X E : Type 0} (mac : Mac) (d : Deployment) (r : Result X E) (old new : Kept) (before after : List Told) (act : Setting → Honest → Driven)
-    → Does mac d r old new before after act → (g : GoesOn mac d old) → before ≡ [] → AreNamed d.names (act g.set g.honest).said → AreNamed d.names (map said_of after)
+    → Does mac d r old new before after act → (g : GoesOn mac d old) → before ≡ [] → AreNamed d.names (act g.set g.honest).said → AreNamed d.names (all_said after)
 does_named mac d (Ok x) old new before after act does g none named =
     let P : List Said → Type 0 = λ said. AreNamed d.names said in
-    subst P (sym ((does g.set g.honest g.follows).1 ∙ ap (λ (xs : List Told). map said_of xs ++ (act g.set g.honest).said) none)) named
+    subst P (sym ((does g.set g.honest g.follows).1 ∙ ap (λ (xs : List Told). all_said xs ++ (act g.set g.honest).said) none)) named
 does_named mac d (Err e) old new before after act does g none named =
-    let front : SaysFront (map said_of before) (map said_of after) (act g.set g.honest).said = does g.set g.honest g.follows in
+    let front : SaysFront (all_said before) (all_said after) (act g.set g.honest).said = (does g.set g.honest g.follows).0 in
     let P : List Said → Type 0 = λ said. AreNamed d.names said in
-    subst P (sym (front.added ∙ ap (λ (xs : List Told). map said_of xs ++ front.front) none)) (named_front d.names front.front front.rest (subst P (sym front.prefix) named))
+    subst P (sym (front.added ∙ ap (λ (xs : List Told). all_said xs ++ front.front) none)) (named_front d.names front.front front.rest (subst P (sym front.prefix) named))
 
 -- so can the lines of a whole run
 pub named_run : (d : Deployed) (set : Setting) (rs : List Reading) → AreThere d.names set → AreReadings d rs → AreNamed d.names (honest_run set rs).said

@@ -1,5 +1,5 @@
 -- From what a part of the run says to what is written of it.
-use Rattle.std.proofs.Common.{◌≡◌, ◌∙◌, ℕ, Bool, true, false, List, [], ◌++◌, map, Result, Ok, Err, refl, sym, ap}
+use Rattle.std.proofs.Common.{◌≡◌, ◌∙◌, ℕ, Bool, true, false, List, [], ◌++◌, Result, Ok, Err, refl, sym, subst, ap}
 use Rattle.std.specs.Prelude.{IfOk, IsErr, IsTrue, OnOk, if◌then◌else◌}
 use Rattle.sx_io.specs.Streams.{SinkAt}
 use Rattle.sx_io.specs.Reading.{Answer}
@@ -16,7 +16,7 @@ use Rattle.sx_drive.specs.declared.said.Said.{Said as Told}
 use Rattle.sx_drive.specs.declared.said.Drove.{Drove}
 use Rattle.sx_drive.specs.declared.said.Drove.TheVariants.{Done, Long}
 use Rattle.sx_drive.specs.Honest.{Driven, Honest, Said}
-use Rattle.sx_drive.specs.Driving.{Does, Follows, Kept, drove_of, said_of}
+use Rattle.sx_drive.specs.Driving.{Does, Follows, GoesOn, Kept, LosesNothing, drove_of, all_said}
 use Rattle.sx_command_drive.specs.Drive.{long_output, said_text}
 use Rattle.sx_command_drive.specs.Parts.{EndsPart, SaysAll, TellsPart, part_output}
 use Rattle.sx_command_drive.proofs.Telling.{prefix_said, said_front}
@@ -47,13 +47,23 @@ done_follows mac d (Err e) old new before after act does is done set h f = absur
 -- all that the part says was said, or memory ran out
 pub does_say : {E : Type 0} (mac : Mac) (d : Deployment) (r : Result Drove E) (old new : Kept) (before after : List Told) (act : Setting → Honest → Driven)
     → Does mac d r old new before after act → IfOk r (λ drove. drove ≡ drove_of new.long) → before ≡ [] → (set : Setting) (h : Honest) → Follows mac d old set h
-    → SaysAll (map said_of after) r (act set h)
+    → SaysAll (all_said after) r (act set h)
 does_say mac d (Ok drove) old new before after act does is none set h f =
-    let x = does set h f in (x.1 ∙ ap (λ (xs : List Told). map said_of xs ++ (act set h).said) none, is ∙ ap drove_of x.0.long)
+    let x = does set h f in (x.1 ∙ ap (λ (xs : List Told). all_said xs ++ (act set h).said) none, is ∙ ap drove_of x.0.long)
 does_say mac d (Err e) old new before after act does is none set h f =
-    let x = does set h f in
-    let front : map said_of after ≡ x.front = x.added ∙ ap (λ (xs : List Told). map said_of xs ++ x.front) none in
+    let x = (does set h f).0 in
+    let front : all_said after ≡ x.front = x.added ∙ ap (λ (xs : List Told). all_said xs ++ x.front) none in
     (x.rest, ap (λ (xs : List Said). xs ++ x.rest) front ∙ x.prefix)
+
+-- what was performed was said, all of it
+pub does_lossless : {E : Type 0} (mac : Mac) (d : Deployment) (r : Result Drove E) (old new : Kept) (before after : List Told) (act : Setting → Honest → Driven)
+    → Does mac d r old new before after act → GoesOn mac d old → before ≡ [] → LosesNothing old.world new.world [] (all_said after)
+does_lossless mac d (Ok drove) old new before after act does going none =
+    let P : List Told → Type 0 = λ xs. LosesNothing old.world new.world (all_said xs) (all_said after) in
+    subst P none (does going.set going.honest going.follows).2
+does_lossless mac d (Err e) old new before after act does going none =
+    let P : List Told → Type 0 = λ xs. LosesNothing old.world new.world (all_said xs) (all_said after) in
+    subst P none (does going.set going.honest going.follows).1
 
 -- what holds where a call was done holds where it was done to its end
 pub on_done : {E : Type 0} (P : Type 0) (r : Result Drove E) → OnOk r P → r ≡ Ok Done → P

@@ -1,7 +1,7 @@
 //! The lines of readings. Each is judged, and what its reading shows is written, before the next is
 //! read.
 
-ghost use Rattle.std.specs.Prelude.{◌≡◌, ◌≢◌, ◌+◌, ◌≤◌, false, IsTrue, map};
+ghost use Rattle.std.specs.Prelude.{◌≡◌, ◌≢◌, ◌+◌, ◌≤◌, [], false, IsTrue};
 ghost use Rattle.sx_told.specs.Told.{CommandEnds, command_at, out_of_memory};
 ghost use Rattle.sx_told.specs.Parts.{Rest};
 ghost use Rattle.sx_head.specs.Head.{head_lines};
@@ -9,7 +9,7 @@ ghost use Rattle.sx_trace.specs.ValidNames.{are_valid};
 ghost use Rattle.sx_deploy.specs.Law.{IsSoundDeployment};
 ghost use Rattle.sx_deploy.specs.SeenDeployment.{deployed_as};
 ghost use Rattle.sx_run.specs.Setting.{Setting};
-ghost use Rattle.sx_drive.specs.Driving.{Follows, GoesOn, said_of};
+ghost use Rattle.sx_drive.specs.Driving.{Follows, GoesOn, LosesNothing, all_said};
 ghost use Rattle.sx_drive.specs.Honest.{Honest as Driving, start};
 ghost use Rattle.sx_command_drive.specs.Drive.{drive_readings, reading_fault, steps_text};
 ghost use Rattle.sx_command_drive.specs.Parts.{drive_from, MayRunOut, TellsSaid, TurnsFrom};
@@ -82,7 +82,9 @@ fn turn<K: Sink, B: Copied, T: Tag>(
     ensures certain { result ≡ Turned.Stop out_of_memory
         → MayRunOut (judged_reading (deployed_as deployment.now) number text.now) }
     ensures made { TellsSaid K.tells (K.at output.old) (K.at output.new) deployment.now.names
-        (map said_of said.new.items) result }
+        (all_said said.new.items) result }
+    ensures lossless { LosesNothing honest.old.world honest.new.world []
+        (all_said said.new.items) }
     ensures few { result ≡ Turned.On → number ≤ 65536 }
 {
     said.clear();

@@ -1,11 +1,11 @@
 //! Parts of an honest run: each is done, and then all that it says is written.
 
-ghost use Rattle.std.specs.Prelude.{◌≡◌, ◌<◌, [], false, IsErr, IsTrue, Ok, map};
+ghost use Rattle.std.specs.Prelude.{◌≡◌, ◌<◌, [], false, IsErr, IsTrue, Ok};
 ghost use Rattle.sx_told.specs.Told.{out_of_memory};
 ghost use Rattle.sx_trace.specs.ValidNames.{are_valid};
 ghost use Rattle.sx_deploy.specs.Law.{IsSoundDeployment};
 ghost use Rattle.sx_deploy.specs.SeenDeployment.{deployed_as};
-ghost use Rattle.sx_drive.specs.Driving.{GoesOn, IsDrivenSensor, reading, said_of};
+ghost use Rattle.sx_drive.specs.Driving.{GoesOn, IsDrivenSensor, LosesNothing, all_said, reading};
 ghost use Rattle.sx_drive.specs.Honest.{Driven, setup};
 ghost use Rattle.sx_command_drive.specs.Parts.{AreNamed, EndsPart, PlaysPart, SaysAll, TellsPart};
 ghost use Rattle.sx_command_drive.specs.Parts.{TellsSaid};
@@ -46,12 +46,12 @@ fn tell<K: Sink>(
     drove: Result<Drove, AllocError>,
 ) -> Turned
     requires names { IsTrue (are_valid names.now) }
-    requires named { AreNamed names.now (map said_of said.now) }
-    ensures tells { (a : Driven) → SaysAll (map said_of said.now) drove a
+    requires named { AreNamed names.now (all_said said.now) }
+    ensures tells { (a : Driven) → SaysAll (all_said said.now) drove a
         → TellsPart K.tells (K.at output.old) (K.at output.new) names.now a result }
     ensures on { result ≡ Turned.On → drove ≡ Ok Drove.Done }
     ensures made { TellsSaid K.tells (K.at output.old) (K.at output.new) names.now
-        (map said_of said.now) result }
+        (all_said said.now) result }
 {
     match put_said(output, names, said) {
         Turned::On => end_part(output, drove),
@@ -76,7 +76,9 @@ pub(crate) fn set_up<K: Sink, B: Copied, T: Tag>(
     ensures goes_on { result ≡ Turned.On → GoesOn T.mac deployment.now honest.new }
     ensures memory { result ≡ Turned.On → honest.new.wanted ≡ false }
     ensures made { TellsSaid K.tells (K.at output.old) (K.at output.new) deployment.now.names
-        (map said_of said.new.items) result }
+        (all_said said.new.items) result }
+    ensures lossless { LosesNothing honest.old.world honest.new.world []
+        (all_said said.new.items) }
 {
     let drove = honest.setup(deployment, said);
     tell(output, &deployment.names, said, drove)
@@ -103,7 +105,9 @@ pub(crate) fn read<K: Sink, B: Copied, T: Tag>(
     ensures goes_on { result ≡ Turned.On → GoesOn T.mac deployment.now honest.new }
     ensures memory { result ≡ Turned.On → honest.new.wanted ≡ false }
     ensures made { TellsSaid K.tells (K.at output.old) (K.at output.new) deployment.now.names
-        (map said_of said.new.items) result }
+        (all_said said.new.items) result }
+    ensures lossless { LosesNothing honest.old.world honest.new.world []
+        (all_said said.new.items) }
 {
     let drove = honest.reading(deployment, device, value, said);
     tell(output, &deployment.names, said, drove)

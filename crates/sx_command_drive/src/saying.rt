@@ -1,17 +1,18 @@
 //! The lines that an honest run says: those of its schedule, and the items that they show.
 
-ghost use Rattle.std.specs.Prelude.{◌≡◌, ◌≢◌, ◌+◌, ◌≤◌, [], ◌++◌, IsTrue, List, OnOk, length, map};
+ghost use Rattle.std.specs.Prelude.{◌≡◌, ◌≢◌, ◌+◌, ◌≤◌, [], ◌++◌, IsTrue, List, OnOk, length};
 ghost use Rattle.sx_io.specs.Reading.{Answer};
 ghost use Rattle.sx_told.specs.Told.{Output, behind, out_of_memory};
 ghost use Rattle.sx_told.specs.Parts.{DoesPart};
 ghost use Rattle.sx_trace.specs.ValidNames.{are_valid};
 ghost use Rattle.sx_sched.specs.InForm.{IsLine, IsWritten};
 ghost use Rattle.sx_sched.specs.Seen.{line_of};
-ghost use Rattle.sx_drive.specs.Driving.{said_of};
-ghost use Rattle.sx_drive.specs.Honest.{SaidItem, SaidLine};
+ghost use Rattle.sx_drive.specs.Driving.{all_said, said_of};
+ghost use Rattle.sx_drive.specs.Honest.{SaidLine};
 ghost use Rattle.sx_command_run.specs.Batch.{Writes};
+ghost use Rattle.sx_command_run.specs.Run.{item_line, items_text};
 ghost use Rattle.sx_command_drive.specs.Drive.{said_line, said_text};
-ghost use Rattle.sx_command_drive.specs.Parts.{AreNamed, IsNamed, IsNamedSaid};
+ghost use Rattle.sx_command_drive.specs.Parts.{AreNamed, IsNamed};
 
 use arrayvec::ArrayVec;
 use sx_command::text::put;
@@ -81,28 +82,15 @@ fn push_line(batch: &mut Batch, names: &Names, line: &Line)
 }
 
 /// Appends an item's line, which there is room for.
-#[tactic(auto, unfolding(crate::specs::Drive::said_line))]
+#[tactic(auto, unfolding(sx_command_run::specs::Run::item_line))]
 fn push_item(batch: &mut Batch, names: &Names, item: &Item)
     requires { length batch.old.items + 131 ≤ 512 }
-    ensures { batch.new.items ≡ batch.old.items ++ said_line names.now (SaidItem item.now) }
+    ensures { batch.new.items ≡ batch.old.items ++ item_line names.now item.now }
 {
     let mut into = [0; 128];
     let count = write_item(names, item, &mut into);
     put(batch, &into[..count]);
     put(batch, b"\n");
-}
-
-/// Appends what was said, which there is room for.
-fn push_said(batch: &mut Batch, names: &Names, said: &Said)
-    requires names { IsTrue (are_valid names.now) }
-    requires named { IsNamedSaid names.now (said_of said.now) }
-    requires room { length batch.old.items + 131 ≤ 512 }
-    ensures { batch.new.items ≡ batch.old.items ++ said_line names.now (said_of said.now) }
-{
-    match said {
-        Said::Line(line) => push_line(batch, names, line),
-        Said::Item(item) => push_item(batch, names, item),
-    }
 }
 
 /// Writes a batch that a further line might not fit in.
@@ -119,7 +107,56 @@ fn make_room<K: Sink>(output: &mut K, batch: &mut Batch) -> Result<(), Failed>
     Ok(())
 }
 
-/// Appends what was said to a batch, which may be written before.
+/// Appends a line of the schedule to a batch, which may be written before.
+fn add_line<K: Sink>(
+    output: &mut K,
+    batch: &mut Batch,
+    names: &Names,
+    line: &Line,
+) -> Result<(), Failed>
+    requires names { IsTrue (are_valid names.now) }
+    requires named { IsNamed names.now (line_of line.now) }
+    ensures { Writes K.tells (K.at output.old) (K.at output.new)
+        (batch.old.items ++ said_line names.now (SaidLine (line_of line.now))) batch.new.items
+        result }
+{
+    make_room(output, batch)?;
+    push_line(batch, names, line);
+    Ok(())
+}
+
+/// Appends an item to a batch, which may be written before.
+fn add_item<K: Sink>(
+    output: &mut K,
+    batch: &mut Batch,
+    names: &Names,
+    item: &Item,
+) -> Result<(), Failed>
+    ensures { Writes K.tells (K.at output.old) (K.at output.new)
+        (batch.old.items ++ item_line names.now item.now) batch.new.items result }
+{
+    make_room(output, batch)?;
+    push_item(batch, names, item);
+    Ok(())
+}
+
+/// Appends items to a batch, which may be written before each.
+fn add_items<K: Sink>(
+    output: &mut K,
+    batch: &mut Batch,
+    names: &Names,
+    items: &[Item],
+) -> Result<(), Failed>
+    ensures { Writes K.tells (K.at output.old) (K.at output.new)
+        (batch.old.items ++ items_text names.now items.now) batch.new.items result }
+{
+    for item in items {
+        add_item(output, batch, names, item)?;
+    }
+    Ok(())
+}
+
+/// Appends a line with its items to a batch, which may be written before each.
 fn add_said<K: Sink>(
     output: &mut K,
     batch: &mut Batch,
@@ -127,21 +164,20 @@ fn add_said<K: Sink>(
     said: &Said,
 ) -> Result<(), Failed>
     requires names { IsTrue (are_valid names.now) }
-    requires named { IsNamedSaid names.now (said_of said.now) }
+    requires named { AreNamed names.now (said_of said.now) }
     ensures { Writes K.tells (K.at output.old) (K.at output.new)
-        (batch.old.items ++ said_line names.now (said_of said.now)) batch.new.items result }
+        (batch.old.items ++ said_text names.now (said_of said.now)) batch.new.items result }
 {
-    make_room(output, batch)?;
-    push_said(batch, names, said);
-    Ok(())
+    add_line(output, batch, names, &said.line)?;
+    add_items(output, batch, names, &said.items)
 }
 
 /// Writes all that was said, several lines together.
 fn put_lines<K: Sink>(output: &mut K, names: &Names, said: &[Said]) -> Result<(), Failed>
     requires names { IsTrue (are_valid names.now) }
-    requires named { AreNamed names.now (map said_of said.now) }
+    requires named { AreNamed names.now (all_said said.now) }
     ensures { Writes K.tells (K.at output.old) (K.at output.new)
-        (said_text names.now (map said_of said.now)) [] result }
+        (said_text names.now (all_said said.now)) [] result }
 {
     let mut batch = Batch::new();
     for one in said {
@@ -153,12 +189,12 @@ fn put_lines<K: Sink>(output: &mut K, names: &Names, said: &[Said]) -> Result<()
 /// Writes all that was said, or stops with `WRITE_FAILED`. It takes no memory.
 pub(crate) fn put_said<K: Sink>(output: &mut K, names: &Names, said: &[Said]) -> Turned
     requires names { IsTrue (are_valid names.now) }
-    requires named { AreNamed names.now (map said_of said.now) }
+    requires named { AreNamed names.now (all_said said.now) }
     ensures does { (left : List Answer → Output) → DoesPart K.tells (K.at output.old)
-        (K.at output.new) (λ more. behind (said_text names.now (map said_of said.now)) (left more))
+        (K.at output.new) (λ more. behind (said_text names.now (all_said said.now)) (left more))
         result left }
     ensures whole { result ≡ Turned.On → IsTrue K.tells → (K.at output.new).written
-        ≡ (K.at output.old).written ++ said_text names.now (map said_of said.now) }
+        ≡ (K.at output.old).written ++ said_text names.now (all_said said.now) }
     ensures memory { result ≢ Turned.Stop out_of_memory }
 {
     match put_lines(output, names, said) {

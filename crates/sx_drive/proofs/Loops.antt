@@ -8,7 +8,7 @@ use Rattle.sx_run.specs.Setting.{Setting}
 use Rattle.sx_drive.specs.declared.said.Said.{Said as Told}
 use Rattle.sx_drive.specs.Honest.{Honest, Driven, MOST_LINES, still, then_, each, made_by, takes_one, takes, collects, if_there, callee_at, sets_up}
 use Rattle.sx_drive.specs.Honest.{sets_up_from, setup, with_waiting, delivers, oldest, settles}
-use Rattle.sx_drive.specs.Driving.{Kept, Follows, GoesOn, Did, Wanted, waits}
+use Rattle.sx_drive.specs.Driving.{Kept, Follows, GoesOn, LosesNothing, Did, Wanted, all_said, waits}
 use Rattle.sx_drive.proofs.Remains.{Part, Remains, remains_start, remains_on, remains_wanted, remains_none}
 
 -- the same is left, said otherwise
@@ -24,6 +24,7 @@ remains_as mac d whole left other old now before came remains same = λ set h f.
       added = a.added;
       ends = ap (λ (x : Driven). x.honest) (sym e) ∙ a.ends;
       says = ap (λ (x : Driven). a.said ++ x.said) (sym e) ∙ a.says;
+      lossless = a.lossless;
     }
 
 -- the same for each of a list
@@ -50,11 +51,11 @@ each_on mac d act xs i k old now new before came after lt remains did =
     remains_on mac d (each_all act xs) (each_from act i xs) (λ set. act set (get_or xs i k)) (each_from act (i + 1) xs) old now new before came after remains
     (λ set h f. each_next (act set) xs i k h lt) did
 
-pub each_wanted : (mac : Mac) (d : Deployment) (act : Setting → ℕ → Honest → Driven) (xs : List ℕ) (i k : ℕ) (old now : Kept) (before came after : List Told)
-    → i < length xs → Remains mac d (each_all act xs) (each_from act i xs) old now before came → Wanted mac d now came after (λ set. act set (get_or xs i k))
-    → Wanted mac d old before after (each_all act xs)
-each_wanted mac d act xs i k old now before came after lt remains wanted =
-    remains_wanted mac d (each_all act xs) (each_from act i xs) (λ set. act set (get_or xs i k)) (each_from act (i + 1) xs) old now before came after remains
+pub each_wanted : (mac : Mac) (d : Deployment) (act : Setting → ℕ → Honest → Driven) (xs : List ℕ) (i k : ℕ) (old now new : Kept) (before came after : List Told)
+    → i < length xs → Remains mac d (each_all act xs) (each_from act i xs) old now before came → Wanted mac d now new came after (λ set. act set (get_or xs i k))
+    → Wanted mac d old new before after (each_all act xs)
+each_wanted mac d act xs i k old now new before came after lt remains wanted =
+    remains_wanted mac d (each_all act xs) (each_from act i xs) (λ set. act set (get_or xs i k)) (each_from act (i + 1) xs) old now new before came after remains
     (λ set h f. each_next (act set) xs i k h lt) wanted
 
 pub each_done : (mac : Mac) (d : Deployment) (act : Setting → ℕ → Honest → Driven) (xs : List ℕ) (i : ℕ) (old now : Kept) (before came : List Told)
@@ -96,11 +97,11 @@ takes_on mac d n count i old now new before came after lt remains did =
     remains_on mac d (collects_at n) (takes_from n count i) (λ set. takes_one set n i) (takes_from n count (i + 1)) old now new before came after remains
     (λ set h f. takes_next n count i set h lt) did
 
-pub takes_wanted : (mac : Mac) (d : Deployment) (n count i : ℕ) (old now : Kept) (before came after : List Told)
-    → i < count → Remains mac d (collects_at n) (takes_from n count i) old now before came → Wanted mac d now came after (λ set. takes_one set n i)
-    → Wanted mac d old before after (collects_at n)
-takes_wanted mac d n count i old now before came after lt remains wanted =
-    remains_wanted mac d (collects_at n) (takes_from n count i) (λ set. takes_one set n i) (takes_from n count (i + 1)) old now before came after remains
+pub takes_wanted : (mac : Mac) (d : Deployment) (n count i : ℕ) (old now new : Kept) (before came after : List Told)
+    → i < count → Remains mac d (collects_at n) (takes_from n count i) old now before came → Wanted mac d now new came after (λ set. takes_one set n i)
+    → Wanted mac d old new before after (collects_at n)
+takes_wanted mac d n count i old now new before came after lt remains wanted =
+    remains_wanted mac d (collects_at n) (takes_from n count i) (λ set. takes_one set n i) (takes_from n count (i + 1)) old now new before came after remains
     (λ set h f. takes_next n count i set h lt) wanted
 
 pub takes_done : (mac : Mac) (d : Deployment) (n count i : ℕ) (old now : Kept) (before came : List Told)
@@ -138,11 +139,11 @@ set_up_on mac d count m old now new before came after lt remains did =
     remains_on mac d setup (set_up_rest count m) (set_up_part m) (set_up_rest count (m + 1)) old now new before came after remains
     (λ set h f. set_up_next count m set h lt) did
 
-pub set_up_wanted : (mac : Mac) (d : Deployment) (count m : ℕ) (old now : Kept) (before came after : List Told)
-    → m < count → Remains mac d setup (set_up_rest count m) old now before came → Wanted mac d now came after (set_up_part m)
-    → Wanted mac d old before after setup
-set_up_wanted mac d count m old now before came after lt remains wanted =
-    remains_wanted mac d setup (set_up_rest count m) (set_up_part m) (set_up_rest count (m + 1)) old now before came after remains
+pub set_up_wanted : (mac : Mac) (d : Deployment) (count m : ℕ) (old now new : Kept) (before came after : List Told)
+    → m < count → Remains mac d setup (set_up_rest count m) old now before came → Wanted mac d now new came after (set_up_part m)
+    → Wanted mac d old new before after setup
+set_up_wanted mac d count m old now new before came after lt remains wanted =
+    remains_wanted mac d setup (set_up_rest count m) (set_up_part m) (set_up_rest count (m + 1)) old now new before came after remains
     (λ set h f. set_up_next count m set h lt) wanted
 
 pub set_up_done : (mac : Mac) (d : Deployment) (count m : ℕ) (old now : Kept) (before came : List Told)
@@ -174,7 +175,7 @@ settle_first mac d old before =
 -- the oldest packet is no longer one of those that wait
 popped : (mac : Mac) (d : Deployment) (now : Kept) (ks : List ℕ) (set : Setting) (h : Honest) → Follows mac d now set h
     → Follows mac d (waits now ks) set (with_waiting h ks)
-popped mac d now ks set h f = record { setting = f.setting; world = f.world; waiting = refl; shown = f.shown; long = f.long; room = f.room }
+popped mac d now ks set h f = record { setting = f.setting; world = f.world; waiting = refl; shown = f.shown; long = f.long; room = f.room; memory = f.memory }
 
 pub goes_popped : (mac : Mac) (d : Deployment) (now new : Kept) (ks : List ℕ) → new ≡ waits now ks → GoesOn mac d now → GoesOn mac d new
 goes_popped mac d now new ks is goes = subst (λ (k : Kept). GoesOn mac d k) (sym is) (record {
@@ -201,6 +202,7 @@ settle_next mac d i k old now new before came lt first is remains = λ set h f.
       added = a.added;
       ends = ap (λ (x : Driven). x.honest) (sym e) ∙ a.ends;
       says = ap (λ (x : Driven). a.said ++ x.said) (sym e) ∙ a.says;
+      lossless = subst (λ (k : Kept). LosesNothing old.world k.world (all_said before) (all_said came)) (sym here) a.lossless;
     }
 
 pub settle_on : (mac : Mac) (d : Deployment) (i k : ℕ) (old now mid new : Kept) (before came after : List Told)
@@ -210,11 +212,11 @@ settle_on mac d i k old now mid new before came after lt first is remains did =
     remains_on mac d settle_all (deliver_rest k i) (λ set. delivers set k) (settle_rest (i + 1)) old mid new before came after
     (settle_next mac d i k old now mid before came lt first is remains) (λ set h f. refl) did
 
-pub settle_wanted : (mac : Mac) (d : Deployment) (i k : ℕ) (old now mid : Kept) (before came after : List Told)
+pub settle_wanted : (mac : Mac) (d : Deployment) (i k : ℕ) (old now mid new : Kept) (before came after : List Told)
     → i < MOST_LINES → now.waiting ≡ k ∷ mid.waiting → mid ≡ waits now (drop 1 now.waiting) → Remains mac d settle_all (settle_rest i) old now before came
-    → Wanted mac d mid came after (λ set. delivers set k) → Wanted mac d old before after settle_all
-settle_wanted mac d i k old now mid before came after lt first is remains wanted =
-    remains_wanted mac d settle_all (deliver_rest k i) (λ set. delivers set k) (settle_rest (i + 1)) old mid before came after
+    → Wanted mac d mid new came after (λ set. delivers set k) → Wanted mac d old new before after settle_all
+settle_wanted mac d i k old now mid new before came after lt first is remains wanted =
+    remains_wanted mac d settle_all (deliver_rest k i) (λ set. delivers set k) (settle_rest (i + 1)) old mid new before came after
     (settle_next mac d i k old now mid before came lt first is remains) (λ set h f. refl) wanted
 
 -- none waits

@@ -1,5 +1,5 @@
 -- Parts of an honest run that are done one after the other, or where a module was found.
-use Rattle.std.proofs.Common.{◌≡◌, ℕ, ◌++◌, List, [], map, Option, Some, None, Result, Ok, Err, IsErr, OnOk, refl, sym, subst, ap, ◌∙◌}
+use Rattle.std.proofs.Common.{◌≡◌, ℕ, ◌++◌, List, [], Option, Some, None, Result, Ok, Err, IsErr, OnOk, inl, refl, sym, subst, ap, ◌∙◌}
 use Rattle.std.specs.Prelude.{slice_get, option_and_then}
 use Rattle.std.proofs.lemmas.List.{append-nil}
 use Rattle.sx_tag.specs.Mac.{Mac}
@@ -9,7 +9,7 @@ use Rattle.sx_deploy.specs.declared.deployment.Deployment.{Deployment}
 use Rattle.sx_run.specs.Setting.{Setting}
 use Rattle.sx_drive.specs.declared.said.Said.{Said as Told}
 use Rattle.sx_drive.specs.Honest.{Callee, Honest, Driven, then_, each, packets_of, if_there, receiver_of, queues}
-use Rattle.sx_drive.specs.Driving.{Kept, Follows, GoesOn, SaysFront, Did, Wanted, Does, said_of, queued}
+use Rattle.sx_drive.specs.Driving.{Kept, Follows, GoesOn, SaysFront, LosesNothing, Did, Wanted, Does, all_said, queued}
 use Rattle.sx_drive.proofs.Remains.{Part, remains_start, remains_on, remains_wanted, remains_last, does_err}
 
 -- a part that was done, and then what follows
@@ -23,19 +23,21 @@ then_does mac d r old mid new before among after a b first next =
 
 -- a part in which memory ran out
 pub first_err : {X E : Type 0} (mac : Mac) (d : Deployment) (r : Result X E) (old new : Kept) (before after : List Told) (a b : Part)
-    → IsErr r → Wanted mac d old before after a → Does mac d r old new before after (λ set h. then_ (a set h) (b set))
+    → IsErr r → Wanted mac d old new before after a → Does mac d r old new before after (λ set h. then_ (a set h) (b set))
 first_err mac d r old new before after a b is wanted =
     let whole : Part = λ set h. then_ (a set h) (b set) in
     does_err mac d r old new before after whole is
-    (remains_wanted mac d whole whole a b old old before before after (remains_start mac d whole old before) (λ set h f. refl) wanted)
+    (remains_wanted mac d whole whole a b old old new before before after (remains_start mac d whole old before) (λ set h f. refl) wanted)
 
 -- the same part, said otherwise
 pub does_same : {X E : Type 0} (mac : Mac) (d : Deployment) (r : Result X E) (old new : Kept) (before after : List Told) (act other : Part)
     → ((set : Setting) (h : Honest) → Follows mac d old set h → act set h ≡ other set h) → Does mac d r old new before after act → Does mac d r old new before after other
 does_same mac d (Ok x) old new before after act other same does = λ set h f.
-    subst (λ (a : Driven). Follows mac d new set a.honest × (map said_of after ≡ map said_of before ++ a.said)) (same set h f) (does set h f)
+    subst (λ (a : Driven). Follows mac d new set a.honest × (all_said after ≡ all_said before ++ a.said) × LosesNothing old.world new.world (all_said before) (all_said after))
+    (same set h f) (does set h f)
 does_same mac d (Err e) old new before after act other same does = λ set h f.
-    subst (λ (a : Driven). SaysFront (map said_of before) (map said_of after) a.said) (same set h f) (does set h f)
+    subst (λ (a : Driven). SaysFront (all_said before) (all_said after) a.said × LosesNothing old.world new.world (all_said before) (all_said after))
+    (same set h f) (does set h f)
 
 -- what is found in the deployment is found in a setting that the run follows
 pub found_there : (mac : Mac) (d : Deployment) (old : Kept) (find : AppTree → Option Callee) (o : Option Callee) → o ≡ find (deployed_as d).app
@@ -65,18 +67,18 @@ pub none_did : (mac : Mac) (d : Deployment) (old : Kept) (before : List Told) (f
     → ((set : Setting) (h : Honest) → Follows mac d old set h → None ≡ find set h)
     → Did mac d old old before before (λ set h. if_there (act set) (find set h) h)
 none_did mac d old before find act is = λ set h f.
-    subst (λ (a : Driven). Follows mac d old set a.honest × (map said_of before ≡ map said_of before ++ a.said))
-    (ap (λ o. if_there (act set) o h) (is set h f)) (f, sym (append-nil (map said_of before)))
+    subst (λ (a : Driven). Follows mac d old set a.honest × (all_said before ≡ all_said before ++ a.said) × LosesNothing old.world old.world (all_said before) (all_said before))
+    (ap (λ o. if_there (act set) o h) (is set h f)) (f, sym (append-nil (all_said before)), inl (refl, refl))
 
 -- nothing was said, since memory had run out
-pub says_nothing : (mac : Mac) (d : Deployment) (old : Kept) (before : List Told) (act : Part) → Wanted mac d old before before act
+pub says_nothing : (mac : Mac) (d : Deployment) (old : Kept) (before : List Told) (act : Part) → Wanted mac d old old before before act
 says_nothing mac d old before act = λ set h f.
-    record { front = []; rest = (act set h).said; added = sym (append-nil (map said_of before)); prefix = refl }
+    (record { front = []; rest = (act set h).said; added = sym (append-nil (all_said before)); prefix = refl }, inl (refl, refl))
 
 -- the packets that were shown wait: nothing is said
 pub queue_does : {X E : Type 0} (mac : Mac) (d : Deployment) (r : Result X E) (old new : Kept) (before : List Told)
-    → OnOk r (new ≡ queued old) → Does mac d r old new before before (λ set. queues)
-queue_does mac d (Ok x) old new before is = λ set h f. (
+    → OnOk r (new ≡ queued old) → new.world ≡ old.world → Does mac d r old new before before (λ set. queues)
+queue_does mac d (Ok x) old new before is world = λ set h f. (
   subst (λ (k : Kept). Follows mac d k set (queues h).honest) (sym is) (record {
     setting = f.setting;
     world = f.world;
@@ -84,10 +86,13 @@ queue_does mac d (Ok x) old new before is = λ set h f. (
     shown = f.shown;
     long = f.long;
     room = f.room;
+    memory = f.memory;
   }),
-  sym (append-nil (map said_of before)),
+  sym (append-nil (all_said before)),
+  inl (world, refl),
 )
-queue_does mac d (Err e) old new before is = λ set h f. record { front = []; rest = []; added = sym (append-nil (map said_of before)); prefix = refl }
+queue_does mac d (Err e) old new before is world = λ set h f.
+    (record { front = []; rest = []; added = sym (append-nil (all_said before)); prefix = refl }, inl (world, refl))
 
 pub queue_goes : {X E : Type 0} (mac : Mac) (d : Deployment) (r : Result X E) (old new : Kept) → GoesOn mac d old → OnOk r (new ≡ queued old) → OnOk r (GoesOn mac d new)
 queue_goes mac d (Ok x) old new goes is =
@@ -102,6 +107,7 @@ queue_goes mac d (Ok x) old new goes is =
         shown = f.shown;
         long = f.long;
         room = f.room;
+        memory = f.memory;
       };
       sound = goes.sound;
     })

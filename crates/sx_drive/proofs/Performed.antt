@@ -1,8 +1,9 @@
 -- A line that the program's world performed, and what was said of it.
-use Rattle.std.proofs.Common.{◌≡◌, ◌≢◌, ℕ, ◌+◌, ◌<◌, ◌≤◌, ◌==◌, ◌||◌, Bool, true, false, if◌then◌else◌, ◌++◌, List, [], ◌∷◌, length, map, Result, Ok, Err, OnOk}
+use Rattle.std.proofs.Common.{◌≡◌, ◌≢◌, ℕ, ◌+◌, ◌<◌, ◌≤◌, ◌==◌, ◌||◌, Bool, true, false, if◌then◌else◌, ◌++◌, List, [], ◌∷◌, length, map, Result, Ok, Err, OnOk, inl, inr}
 use Rattle.std.proofs.Common.{OnErr, refl, sym, subst, ap, ◌∙◌, arith}
 use Rattle.std.proofs.lemmas.Bool.Decides.{nat_tests}
-use Rattle.std.proofs.lemmas.List.{append_assoc, append-nil, map-append}
+use Rattle.std.proofs.lemmas.Grind.{flat_map-append}
+use Rattle.std.proofs.lemmas.List.{append-nil, map-append}
 use Rattle.sx_tag.specs.Mac.{Mac}
 use Rattle.sx_trace.specs.declared.items.Item.{Item}
 use Rattle.sx_sched.specs.Lines.{Line}
@@ -18,8 +19,8 @@ use Rattle.sx_world.specs.Whole.{next}
 use Rattle.sx_world.specs.InMemory.{setting_at, world_setting}
 use Rattle.sx_run.specs.Law.{IsSoundSetting}
 use Rattle.sx_drive.specs.declared.said.Said.{Said as Told}
-use Rattle.sx_drive.specs.Honest.{SaidLine, SaidItem, Honest, Driven, MOST_LINES, left_out, performed, says}
-use Rattle.sx_drive.specs.Driving.{Kept, Follows, GoesOn, SaysFront, Did, Wanted, Does, said_of, is_full, left}
+use Rattle.sx_drive.specs.Honest.{SaidLine, SaidItem, Honest, Driven, MOST_LINES, Said, left_out, performed, says}
+use Rattle.sx_drive.specs.Driving.{Kept, Follows, GoesOn, LosesNothing, SaysLast, Did, Wanted, Does, all_said, said_of, is_full, left}
 use Rattle.sx_drive.proofs.Remains.{Part, still_goes}
 use Rattle.sx_drive.proofs.Parts.{does_same}
 
@@ -83,26 +84,35 @@ front_there mac d r line old new shown acted front set h f =
     subst (λ (s : Setting). IsFront shown (next s h.world line).items) (sym f.setting)
     (act_front r (world_setting mac d old.world) line old.world new shown acted front h.world (subst (λ (s : Setting). Stands s old.world h.world) f.setting f.world))
 
--- memory ran out before the line was said
-pub line_wanted : (mac : Mac) (d : Deployment) (line : Line) (old : Kept) (before after : List Told) → after ≡ before → Wanted mac d old before after (line_part line)
-line_wanted mac d line old before after same = λ set h f.
-    record { front = []; rest = (line_part line set h).said; added = ap (λ xs. map said_of xs) same ∙ sym (append-nil (map said_of before)); prefix = refl }
+-- the line is the last one that was said, with all that it gave
+pub says_last : (left : Held) (before after : List Told) (line : Line) (shown : List Item)
+    → all_said after ≡ all_said before ++ SaidLine line ∷ map SaidItem shown → left.made ≡ length shown → SaysLast left (all_said after)
+says_last left before after line shown told made =
+    record { earlier = all_said before; line = line; items = shown; parts = told; whole = sym made }
 
--- memory ran out while its items were said
-pub tell_wanted : {X E : Type 0} (mac : Mac) (d : Deployment) (r : Result X E) (line : Line) (old : Kept) (new : Held) (shown : List Item) (before among after : List Told)
-    → OnOk r (Acts (world_setting mac d old.world) line old.world new [] shown) → OnErr r (ActsInPart (world_setting mac d old.world) line old.world [] shown)
-    → map said_of among ≡ map said_of before ++ SaidLine line ∷ [] → SaysFront (map said_of among) (map said_of after) (map SaidItem shown)
-    → Wanted mac d old before after (line_part line)
-tell_wanted mac d r line old new shown before among after acted front said told = λ set h f.
-    let i = front_there mac d r line old new shown acted front set h f in
-    let due = (next set h.world line).items in
-    let more = map SaidItem i.0 in record {
-      front = SaidLine line ∷ told.front;
-      rest = told.rest ++ more;
-      added = told.added ∙ ap (λ xs. xs ++ told.front) said ∙ append_assoc (map said_of before) (SaidLine line ∷ []) told.front;
-      prefix = ap (λ xs. SaidLine line ∷ xs) (sym (append_assoc told.front told.rest more) ∙ ap (λ xs. xs ++ more) told.prefix
-          ∙ sym (map-append SaidItem shown i.0) ∙ ap (λ xs. map SaidItem xs) i.1);
-    }
+-- memory ran out before the line was performed
+pub line_wanted : (mac : Mac) (d : Deployment) (line : Line) (old : Kept) (before after : List Told) → after ≡ before → Wanted mac d old old before after (line_part line)
+line_wanted mac d line old before after same = λ set h f. (
+  record { front = []; rest = (line_part line set h).said; added = ap (λ xs. all_said xs) same ∙ sym (append-nil (all_said before)); prefix = refl },
+  inl (refl, ap (λ xs. all_said xs) same),
+)
+
+-- memory ran out when all that it gave was said
+pub copy_wanted : {X E : Type 0} (mac : Mac) (d : Deployment) (r : Result X E) (line : Line) (old mid new : Kept) (before after : List Told)
+    → OnOk r (Acts (world_setting mac d old.world) line old.world mid.world [] mid.shown) → OnErr r (ActsInPart (world_setting mac d old.world) line old.world [] mid.shown)
+    → (old.world.wanted ≡ false → mid.world.made ≡ length mid.shown) → new.world ≡ mid.world
+    → all_said after ≡ all_said before ++ SaidLine line ∷ map SaidItem mid.shown → Wanted mac d old new before after (line_part line)
+copy_wanted mac d r line old mid new before after acted front made same told = λ set h f.
+    let shown = mid.shown in
+    let i = front_there mac d r line old mid.world shown acted front set h f in (
+      record {
+        front = SaidLine line ∷ map SaidItem shown;
+        rest = map SaidItem i.0;
+        added = told;
+        prefix = ap (λ xs. SaidLine line ∷ xs) (sym (map-append SaidItem shown i.0) ∙ ap (λ xs. map SaidItem xs) i.1);
+      },
+      inr (subst (λ (w : Held). SaysLast w (all_said after)) (sym same) (says_last mid.world before after line shown told (made f.memory))),
+    )
 
 -- all of it was said; the act went well, or memory ran out in it
 pub line_does : {X E : Type 0} (mac : Mac) (d : Deployment) (r : Result X E) (line : Line) (old new : Kept) (before after : List Told)
@@ -110,9 +120,10 @@ pub line_does : {X E : Type 0} (mac : Mac) (d : Deployment) (r : Result X E) (li
     → OnErr r (ActsInPart (world_setting mac d old.world) line old.world [] new.shown)
     → OnOk r (new.world.lines ≡ old.world.lines + 1) → old.world.lines < 65536
     → new.world.sites ≡ old.world.sites → new.waiting ≡ old.waiting → new.long ≡ false
-    → map said_of after ≡ map said_of before ++ SaidLine line ∷ map SaidItem new.shown
+    → OnOk r (new.world.wanted ≡ false) → (old.world.wanted ≡ false → new.world.made ≡ length new.shown)
+    → all_said after ≡ all_said before ++ SaidLine line ∷ map SaidItem new.shown
     → Does mac d r old new before after (line_part line)
-line_does mac d (Ok x) line old new before after acted front counts few sites waiting long told = λ set h f.
+line_does mac d (Ok x) line old new before after acted front counts few sites waiting long memory made told = λ set h f.
     let due = next set h.world line in
     let a : Stands set new.world due.world × (new.shown ≡ due.items) =
     subst (λ (s : Setting). Stands s new.world (next s h.world line).world × (new.shown ≡ (next s h.world line).items)) (sym f.setting)
@@ -126,25 +137,36 @@ line_does mac d (Ok x) line old new before after acted front counts few sites wa
         shown = a.1;
         long = long;
         room = room;
+        memory = memory;
       },
-      told ∙ ap (λ items. map said_of before ++ SaidLine line ∷ map SaidItem items) a.1,
+      told ∙ ap (λ items. all_said before ++ SaidLine line ∷ map SaidItem items) a.1,
+      inr (says_last new.world before after line new.shown told (made f.memory)),
     )
-line_does mac d (Err e) line old new before after acted front counts few sites waiting long told = λ set h f.
+line_does mac d (Err e) line old new before after acted front counts few sites waiting long memory made told = λ set h f.
     let i = part_there mac d line old new.shown front set h f in
-    let shown = new.shown in record {
-      front = SaidLine line ∷ map SaidItem shown;
-      rest = map SaidItem i.0;
-      added = told;
-      prefix = ap (λ xs. SaidLine line ∷ xs) (sym (map-append SaidItem shown i.0) ∙ ap (λ xs. map SaidItem xs) i.1);
-    }
+    let shown = new.shown in (
+      record {
+        front = SaidLine line ∷ map SaidItem shown;
+        rest = map SaidItem i.0;
+        added = told;
+        prefix = ap (λ xs. SaidLine line ∷ xs) (sym (map-append SaidItem shown i.0) ∙ ap (λ xs. map SaidItem xs) i.1);
+      },
+      inr (says_last new.world before after line shown told (made f.memory)),
+    )
 
--- what was said with a line
-pub pushed : (x : Told) (before after : List Told) → after ≡ before ++ x ∷ [] → map said_of after ≡ map said_of before ++ said_of x ∷ []
-pushed x before after e = ap (λ xs. map said_of xs) e ∙ map-append said_of before (x ∷ [])
+-- one more was said
+pub pushed : (x : Told) (before after : List Told) → after ≡ before ++ x ∷ [] → all_said after ≡ all_said before ++ said_of x
+pushed x before after e =
+    ap all_said e ∙ flat_map-append said_of before (x ∷ []) ∙ ap (λ (xs : List Said). all_said before ++ xs) (append-nil (said_of x))
 
-pub line_told : (line : Line) (before among after : List Told) (shown : List Item) → map said_of among ≡ map said_of before ++ SaidLine line ∷ []
-    → map said_of after ≡ map said_of among ++ map SaidItem shown → map said_of after ≡ map said_of before ++ SaidLine line ∷ map SaidItem shown
-line_told line before among after shown e f = f ∙ ap (λ xs. xs ++ map SaidItem shown) e ∙ append_assoc (map said_of before) (SaidLine line ∷ []) (map SaidItem shown)
+pub said_then : (before among after : List Told) (line : Line) (shown : List Item) → among ≡ before
+    → all_said after ≡ all_said among ++ SaidLine line ∷ map SaidItem shown → all_said after ≡ all_said before ++ SaidLine line ∷ map SaidItem shown
+said_then before among after line shown same told = told ∙ ap (λ (xs : List Told). all_said xs ++ SaidLine line ∷ map SaidItem shown) same
+
+-- the same where it was kept again
+pub kept_does : {X E : Type 0} (mac : Mac) (d : Deployment) (r : Result X E) (line : Line) (old mid new : Kept) (before after : List Told) → new ≡ mid
+    → Does mac d r old mid before after (line_part line) → Does mac d r old new before after (line_part line)
+kept_does mac d r line old mid new before after same does = subst (λ (k : Kept). Does mac d r old k before after (line_part line)) (sym same) does
 
 -- whether a schedule has room
 
@@ -182,10 +204,11 @@ pub full_did : (mac : Mac) (d : Deployment) (line : Line) (old new : Kept) (befo
 full_did mac d line old new before full is = λ set h f.
     let e : (h.long || (h.world.lines == MOST_LINES)) ≡ true = sym (full_there mac d old set h f) ∙ full in
     let here : left_out h ≡ says set line h = ap (λ (b : Bool). if b then left_out h else line_part line set h) (sym e) in
-    subst (λ (a : Driven). Follows mac d new set a.honest × (map said_of before ≡ map said_of before ++ a.said)) here (
+    subst (λ (a : Driven). Follows mac d new set a.honest × (all_said before ≡ all_said before ++ a.said) × LosesNothing old.world new.world (all_said before) (all_said before)) here (
       subst (λ (k : Kept). Follows mac d k set (left_out h).honest) (sym is)
-          (record { setting = f.setting; world = f.world; waiting = f.waiting; shown = refl; long = refl; room = f.room }),
-      sym (append-nil (map said_of before)),
+          (record { setting = f.setting; world = f.world; waiting = f.waiting; shown = refl; long = refl; room = f.room; memory = f.memory }),
+      sym (append-nil (all_said before)),
+      inl (ap (λ (k : Kept). k.world) is, refl),
     )
 
 -- another is performed

@@ -1,11 +1,9 @@
 -- What the items of a line say of its packets.
-use Rattle.std.proofs.Common.{◌≡◌, ℕ, ◌++◌, List, ◌∷◌, map, take, drop, Option, Some, None, Result, Ok, Err, OnErr, refl, sym, ap, ◌∙◌}
-use Rattle.std.proofs.lemmas.List.{map-append, take-append-drop}
+use Rattle.std.proofs.Common.{◌≡◌, ℕ, List, ◌∷◌, Option, Some, None, refl}
 use Rattle.sx_trace.specs.declared.items.Item.{Item}
 use Rattle.sx_trace.specs.declared.items.Item.TheVariants as item
-use Rattle.sx_drive.specs.declared.said.Said.{Said as Told}
-use Rattle.sx_drive.specs.Honest.{SaidItem, packets_of, made_by}
-use Rattle.sx_drive.specs.Driving.{SaysFront, said_of, packet_in, pieces_in}
+use Rattle.sx_drive.specs.Honest.{packets_of, made_by}
+use Rattle.sx_drive.specs.Driving.{packet_in, pieces_in}
 
 -- a packet, if any, before others
 abbrev pub packet_and : Option ℕ → List ℕ → List ℕ
@@ -58,15 +56,3 @@ made_next (item.Forged a) items = refl
 made_next (item.Busy a) items = refl
 made_next (item.Skip a) items = refl
 made_next (item.Budget a) items = refl
-
--- where memory ran out, so many items were said
-pub told_front : {X E : Type 0} (r : Result X E) (before after : List Told) (items : List Item) (i : ℕ)
-    → map said_of after ≡ map said_of before ++ map SaidItem (take i items)
-    → OnErr r (SaysFront (map said_of before) (map said_of after) (map SaidItem items))
-told_front (Ok x) before after items i added = tt
-told_front (Err e) before after items i added = record {
-  front = map SaidItem (take i items);
-  rest = map SaidItem (drop i items);
-  added = added;
-  prefix = sym (map-append SaidItem (take i items) (drop i items)) ∙ ap (λ xs. map SaidItem xs) (take-append-drop i items);
-}

@@ -1,6 +1,6 @@
 -- What the program keeps of an honest run, and what a call makes of it.
-use Rattle.std.specs.Prelude.{◌≡◌, ℕ, ◌<◌, ◌≤◌, ◌==◌, ◌||◌, Bool, false, true, List, [], ◌++◌}
-use Rattle.std.specs.Prelude.{length, map, min, slice_get, Option, Some, None, IsSome}
+use Rattle.std.specs.Prelude.{◌≡◌, ◌⊎◌, ℕ, ◌<◌, ◌≤◌, ◌==◌, ◌||◌, Bool, false, true, List, [], ◌∷◌}
+use Rattle.std.specs.Prelude.{◌++◌, flat_map, length, map, min, slice_get, Option, Some, None, IsSome}
 use Rattle.std.specs.Prelude.{Result, Ok, Err}
 use Rattle.std.specs.List.{position_from}
 use Rattle.sx_tag.specs.Mac.{Mac}
@@ -8,6 +8,7 @@ use Rattle.sx_mean.specs.Application.{PartTree}
 use Rattle.sx_mean.specs.Validity.{same_device}
 use Rattle.sx_trace.specs.declared.items.Item.{Item}
 use Rattle.sx_trace.specs.declared.items.Item.TheVariants.{Packet, Done}
+use Rattle.sx_sched.specs.Lines.{Line}
 use Rattle.sx_sched.specs.Seen.{line_of}
 use Rattle.sx_deploy.specs.declared.deployment.Deployment.{Deployment}
 use Rattle.sx_deploy.specs.Deployment.{Deployed}
@@ -17,7 +18,6 @@ use Rattle.sx_world.specs.Held.{Held}
 use Rattle.sx_world.specs.InMemory.{world_setting}
 use Rattle.sx_world.specs.Standing.{Stands}
 use Rattle.sx_drive.specs.declared.said.Said.{Said as Told}
-use Rattle.sx_drive.specs.declared.said.Said.TheVariants as told
 use Rattle.sx_drive.specs.declared.callee.Callee.{Callee as CodeCallee}
 use Rattle.sx_drive.specs.declared.said.Drove.{Drove}
 use Rattle.sx_drive.specs.declared.said.Drove.TheVariants as drove
@@ -25,9 +25,12 @@ use Rattle.sx_drive.specs.Honest.{Said, SaidLine, SaidItem, Callee, Honest, Driv
 use Rattle.sx_drive.specs.Honest.{reads, driver_of, packets_of}
 
 -- what a value of the code says
-abbrev pub said_of : Told → Said
-said_of (told.Line line) = SaidLine (line_of line)
-said_of (told.Item i) = SaidItem i
+abbrev pub said_of : Told → List Said
+said_of x = SaidLine (line_of x.line) ∷ map SaidItem x.items.items
+
+-- what values of the code say, in order
+abbrev pub all_said : List Told → List Said
+all_said said = flat_map said_of said
 
 -- the program's world, the packets that wait, what the last line showed, whether a line was left
 -- out, and whether memory ran out
@@ -72,7 +75,8 @@ left k = record {
   wanted = k.wanted;
 }
 
--- With the images of this setting it stands where an honest run does.
+-- With the images of this setting it stands where an honest run does, and its world hasn't run out
+-- of memory.
 pub record Follows (mac : Mac) (deployment : Deployment) (kept : Kept) (set : Setting)
     (h : Honest) : Type 0 where
   pub setting : set ≡ world_setting mac deployment kept.world
@@ -81,6 +85,7 @@ pub record Follows (mac : Mac) (deployment : Deployment) (kept : Kept) (set : Se
   pub shown : kept.shown ≡ h.shown
   pub long : kept.long ≡ h.long
   pub room : h.world.lines ≤ MOST_LINES
+  pub memory : kept.world.wanted ≡ false
 
 -- It stands where some honest run does, with images that realize their modules.
 pub record GoesOn (mac : Mac) (deployment : Deployment) (kept : Kept) : Type 0 where
@@ -96,26 +101,40 @@ pub record SaysFront (before after due : List Said) : Type 0 where
   pub added : after ≡ before ++ front
   pub prefix : front ++ rest ≡ due
 
+-- The line that was said last is there with as many items as the world's last act gave.
+pub record SaysLast (left : Held) (said : List Said) : Type 0 where
+  pub earlier : List Said
+  pub line : Line
+  pub items : List Item
+  pub parts : said ≡ earlier ++ SaidLine line ∷ map SaidItem items
+  pub whole : length items ≡ left.made
+
+-- No line was performed, and nothing was said; or all that the last one gave was said.
+abbrev pub LosesNothing : Held → Held → List Said → List Said → Type 0
+LosesNothing old new before after = ((new ≡ old) × (after ≡ before)) ⊎ SaysLast new after
+
 -- It stood where an honest run does, and stands where this leads, and all that this says was said.
 abbrev pub Did : Mac → Deployment → Kept → Kept → List Told → List Told
     → (Setting → Honest → Driven) → Type 0
 Did mac deployment old new before after act =
     (set : Setting) (h : Honest) → Follows mac deployment old set h
     → Follows mac deployment new set (act set h).honest
-    × (map said_of after ≡ map said_of before ++ (act set h).said)
+    × (all_said after ≡ all_said before ++ (act set h).said)
+    × LosesNothing old.world new.world (all_said before) (all_said after)
 
--- Memory ran out: a part of what this says was said.
-abbrev pub Wanted : Mac → Deployment → Kept → List Told → List Told
+-- Memory ran out: a part of what this says was said, and with it all that was performed.
+abbrev pub Wanted : Mac → Deployment → Kept → Kept → List Told → List Told
     → (Setting → Honest → Driven) → Type 0
-Wanted mac deployment old before after act =
+Wanted mac deployment old new before after act =
     (set : Setting) (h : Honest) → Follows mac deployment old set h
-    → SaysFront (map said_of before) (map said_of after) (act set h).said
+    → SaysFront (all_said before) (all_said after) (act set h).said
+    × LosesNothing old.world new.world (all_said before) (all_said after)
 
 -- a call did this, or ran out of memory
 abbrev pub Does : {X E : Type 0} → Mac → Deployment → Result X E → Kept → Kept → List Told
     → List Told → (Setting → Honest → Driven) → Type 0
 Does mac deployment (Ok x) old new before after act = Did mac deployment old new before after act
-Does mac deployment (Err e) old new before after act = Wanted mac deployment old before after act
+Does mac deployment (Err e) old new before after act = Wanted mac deployment old new before after act
 
 -- how far a run came
 abbrev pub drove_of : Bool → Drove

@@ -176,6 +176,7 @@ impl<B: Copied, T: Tag> Honest<B, T> {
     /// Packets that were shown wait behind the others.
     fn queue(&mut self) -> Result<(), AllocError>
         ensures ok { OnOk result (self.new ≡ queued self.old) }
+        ensures world { self.new.world ≡ self.old.world }
         ensures wanted { self.new.wanted ≡ self.old.wanted }
     {
         add_waiting(&self.shown, &mut self.waiting)

@@ -90,7 +90,7 @@ impl<B: Copied, T: Tag> Honest<B, T> {
 
     /// Sets all modules up, and appends the lines of this with what they showed. `Long` says that
     /// a schedule has no room for all of them. After memory ran out a prefix of what was due was
-    /// appended, and no call does anything more.
+    /// appended, with all that the lines that were performed gave, and no call does anything more.
     pub fn setup(
         &mut self,
         deployment: &Deployment,
@@ -121,8 +121,8 @@ impl<B: Copied, T: Tag> Honest<B, T> {
 
     /// Gives a sensor a value, calls its driver, and delivers packets until none waits; appends the
     /// lines of this with what they showed. `Long` says that a schedule has no room for all of
-    /// them. After memory ran out a prefix of what was due was appended, and no call does anything
-    /// more.
+    /// them. After memory ran out a prefix of what was due was appended, with all that the lines
+    /// that were performed gave, and no call does anything more.
     pub fn reading(
         &mut self,
         deployment: &Deployment,

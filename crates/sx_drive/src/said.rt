@@ -3,13 +3,13 @@
 use sx_sched::lines::Line;
 use sx_trace::items::Item;
 
-/// A line of the honest schedule, or an item that the line showed.
+/// A line of the honest schedule, and what it showed.
 #[derive(Drop)]
-pub enum Said {
-    /// A line of the schedule.
-    Line(Line),
-    /// An item that the last line showed.
-    Item(Item),
+pub struct Said {
+    /// The line.
+    pub line: Line,
+    /// The items that it showed, in order.
+    pub items: Vec<Item>,
 }
 
 /// How far a part of an honest run came.

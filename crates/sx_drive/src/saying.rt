@@ -1,6 +1,7 @@
 //! A line of an honest run is performed, and what it showed is told.
 
-ghost use Rattle.std.specs.Prelude.{◌≡◌, ◌<◌, ◌+◌, ◌++◌, [], false, map, OnErr, OnOk};
+ghost use Rattle.std.specs.Prelude.{◌≡◌, ◌<◌, ◌+◌, ◌++◌, ◌∷◌, [], false, length, map, OnErr, OnOk};
+ghost use Rattle.std.specs.Prelude.{vec_capacity, vec_len};
 ghost use Rattle.sx_deploy.specs.Law.{IsSoundDeployment};
 ghost use Rattle.sx_deploy.specs.SeenDeployment.{deployed_as};
 ghost use Rattle.sx_sched.specs.InForm.{IsLine};
@@ -8,33 +9,20 @@ ghost use Rattle.sx_sched.specs.Seen.{line_of};
 ghost use Rattle.sx_world.specs.Continued.{Acts, ActsInPart};
 ghost use Rattle.sx_world.specs.Whole.{next};
 ghost use Rattle.sx_world.specs.InMemory.{world_setting};
-ghost use Rattle.sx_drive.specs.Honest.{SaidItem, performed, says};
-ghost use Rattle.sx_drive.specs.Driving.{Does, GoesOn, SaysFront, is_full, left, said_of};
+ghost use Rattle.sx_drive.specs.Honest.{SaidItem, SaidLine, performed, says};
+ghost use Rattle.sx_drive.specs.Driving.{Does, GoesOn, all_said, is_full, left};
 
 use crate::honest::Honest;
 use crate::said::Said;
 use std::alloc::AllocError;
+use std::mem;
 use sx_bus::Copied;
 use sx_deploy::deployment::Deployment;
 use sx_sched::lines::Line;
 use sx_tag::Tag;
-use sx_trace::items::Item;
 
 /// A schedule has room for this many lines.
 pub(crate) const MOST_LINES: u32 = 65_536;
-
-/// Appends what a line showed.
-fn tell(items: &[Item], said: &mut Vec<Said>) -> Result<(), AllocError>
-    ensures ok { OnOk result (map said_of said.new.items
-        ≡ map said_of said.old.items ++ map SaidItem items.now) }
-    ensures front { OnErr result (SaysFront (map said_of said.old.items)
-        (map said_of said.new.items) (map SaidItem items.now)) }
-{
-    for item in items {
-        said.push(Said::Item(*item))?;
-    }
-    Ok(())
-}
 
 impl<B: Copied, T: Tag> Honest<B, T> {
     /// Whether a line was left out, or a schedule has no room for one more.
@@ -67,22 +55,32 @@ impl<B: Copied, T: Tag> Honest<B, T> {
         ensures waiting { self.new.waiting ≡ self.old.waiting }
         ensures long { self.new.long ≡ self.old.long }
         ensures wanted { self.new.wanted ≡ self.old.wanted }
+        ensures goes_on { OnOk result (self.new.world.wanted ≡ false) }
+        ensures made { self.old.world.wanted ≡ false
+            → self.new.world.made ≡ length self.new.shown }
     {
         self.shown.clear();
         self.world.act(deployment, line, &mut self.shown)
     }
 
-    /// Appends what the last line showed.
-    fn tell_shown(&self, said: &mut Vec<Said>) -> Result<(), AllocError>
-        ensures ok { OnOk result (map said_of said.new.items
-            ≡ map said_of said.old.items ++ map SaidItem self.now.shown) }
-        ensures front { OnErr result (SaysFront (map said_of said.old.items)
-            (map said_of said.new.items) (map SaidItem self.now.shown)) }
+    /// Appends a line with what it showed. That is kept, too, as a copy: where there is no memory
+    /// for this, all was appended.
+    fn tell(&mut self, line: Line, said: &mut Vec<Said>) -> Result<(), AllocError>
+        requires { vec_len said.old < vec_capacity said.old }
+        ensures said { all_said said.new.items ≡ all_said said.old.items
+            ++ SaidLine (line_of line) ∷ map SaidItem self.old.shown }
+        ensures ok { OnOk result (self.new ≡ self.old) }
+        ensures world { self.new.world ≡ self.old.world }
+        ensures wanted { self.new.wanted ≡ self.old.wanted }
     {
-        tell(&self.shown, said)
+        let items = mem::replace(&mut self.shown, Vec::new(self.alloc));
+        let copied = self.shown.extend_from_slice(&items);
+        said.push(Said { line, items })?;
+        copied
     }
 
-    /// Performs a line, and appends it with what it showed.
+    /// Performs a line, and appends it with what it showed. Room for it is there before it is
+    /// performed, so where memory runs out in its act, all that this gave is appended.
     fn perform(
         &mut self,
         deployment: &Deployment,
@@ -97,9 +95,9 @@ impl<B: Copied, T: Tag> Honest<B, T> {
             said.new.items (λ set h. performed (line_of line) h (next set h.world (line_of line))) }
         ensures wanted { self.new.wanted ≡ self.old.wanted }
     {
+        said.reserve(1)?;
         let acted = self.act(deployment, &line);
-        said.push(Said::Line(line))?;
-        self.tell_shown(said)?;
+        self.tell(line, said)?;
         acted
     }
 

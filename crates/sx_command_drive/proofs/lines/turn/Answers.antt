@@ -1,8 +1,8 @@
-use Rattle.std.proofs.Common.{◌≡◌, ◌∙◌, ◌+◌, ℕ, [], ap, refl, subst, sym, Result, Ok, Err}
+use Rattle.std.proofs.Common.{◌≡◌, ◌∙◌, ◌+◌, ℕ, [], ap, inl, refl, subst, sym, Result, Ok, Err}
 use Rattle.std.proofs.lemmas.List.{append-nil}
 use Rattle.sx_told.proofs.Laws.{does-same, ends-same}
 use Rattle.sx_deploy.specs.SeenDeployment.{deployed_as}
-use Rattle.sx_drive.specs.Driving.{reading}
+use Rattle.sx_drive.specs.Driving.{all_said, reading}
 use Rattle.sx_command_drive.specs.declared.readings.ReadingLine.{ReadingLine}
 use Rattle.sx_command_drive.specs.declared.readings.ReadingLine.TheVariants as says
 use Rattle.sx_command_drive.specs.Parts.{MayRunOut, drive_from}
@@ -64,3 +64,9 @@ returns-in-Ok-Reading-clause-certain g c = λ six.
     let judged : judged_reading d c.args.number c.args.text.now ≡ Ok (says.Reading c.in-Ok-Reading.device c.in-Ok-Reading.value) =
     sym c.judge_reading.ensures.reading ∙ c.in-Ok-Reading.is ∙ ap Ok c.in-Ok-Reading.field-0-is in
     subst P (sym judged) tt
+
+pub returns-in-Ok-Blank-clause-lossless : goal.returns-in-Ok-Blank-clause-lossless
+returns-in-Ok-Blank-clause-lossless g c = inl (refl, ap all_said c.clear.ensures.items)
+
+pub returns-in-Err-clause-lossless : goal.returns-in-Err-clause-lossless
+returns-in-Err-clause-lossless g c = inl (refl, ap all_said c.clear.ensures.items)

@@ -1,10 +1,10 @@
-use Rattle.std.proofs.Common.{map, subst, sym, List}
+use Rattle.std.proofs.Common.{subst, sym, List}
 use Rattle.sx_drive.specs.declared.said.Said.{Said as Told}
-use Rattle.sx_drive.specs.Driving.{GoesOn, said_of}
+use Rattle.sx_drive.specs.Driving.{GoesOn, all_said}
 use Rattle.sx_drive.specs.Honest.{setup}
 use Rattle.sx_command_drive.specs.Parts.{AreNamed, SaysAll, TellsSaid}
 use Rattle.sx_command_drive.proofs.Named.{does_named, setup_named}
-use Rattle.sx_command_drive.proofs.Playing.{does_say, done_follows, on_done}
+use Rattle.sx_command_drive.proofs.Playing.{does_lossless, does_say, done_follows, on_done}
 use Rattle.sx_command_drive.proofs.parts.set_up.Goals as goal
 
 pub tell-requires-clause-named : goal.tell-requires-clause-named
@@ -12,7 +12,7 @@ tell-requires-clause-named g c =
     let mac = g.T.Tag.mac in
     let d = c.args.deployment.now in
     let going = c.requires.going in
-    let P : List Told → Type 0 = λ xs. AreNamed d.names (map said_of xs) in
+    let P : List Told → Type 0 = λ xs. AreNamed d.names (all_said xs) in
     subst P (sym c.deref.ensures.value)
     (does_named mac d c.setup-drove.result c.args.honest.now c.setup-drove.new.self c.args.said.now.items c.setup-drove.new.said.items setup c.setup-drove.ensures.does going
     c.requires.none (setup_named mac d c.args.honest.now going.set going.honest c.requires.sound going.follows))
@@ -22,7 +22,7 @@ returns-clause-plays g c = λ set h f.
     let mac = g.T.Tag.mac in
     let d = c.args.deployment.now in
     let e = c.setup-drove.ensures in
-    let P : List Told → Type 0 = λ xs. SaysAll (map said_of xs) c.setup-drove.result (setup set h) in (
+    let P : List Told → Type 0 = λ xs. SaysAll (all_said xs) c.setup-drove.result (setup set h) in (
       c.tell.ensures.tells (setup set h)
           (subst P (sym c.deref.ensures.value)
           (does_say mac d c.setup-drove.result c.args.honest.now c.setup-drove.new.self c.args.said.now.items c.setup-drove.new.said.items setup e.does e.drove c.requires.none set h f)),
@@ -40,5 +40,10 @@ returns-clause-memory g c = λ on. on_done _ c.setup-drove.result c.setup-drove.
 pub returns-clause-made : goal.returns-clause-made
 returns-clause-made g c =
     let d = c.args.deployment.now in
-    let P : List Told → Type 0 = λ xs. TellsSaid g.K.Sink.tells (g.K.Sink.at c.args.output.now) (g.K.Sink.at c.tell.new.output) d.names (map said_of xs) c.tell.result in
+    let P : List Told → Type 0 = λ xs. TellsSaid g.K.Sink.tells (g.K.Sink.at c.args.output.now) (g.K.Sink.at c.tell.new.output) d.names (all_said xs) c.tell.result in
     subst P c.deref.ensures.value c.tell.ensures.made
+
+pub returns-clause-lossless : goal.returns-clause-lossless
+returns-clause-lossless g c =
+    does_lossless g.T.Tag.mac c.args.deployment.now c.setup-drove.result c.args.honest.now c.setup-drove.new.self c.args.said.now.items c.setup-drove.new.said.items setup
+    c.setup-drove.ensures.does c.requires.going c.requires.none

@@ -1,4 +1,4 @@
-use Rattle.std.proofs.Common.{List, [], OnOk, OnErr, sym, subst}
+use Rattle.std.proofs.Common.{◌∙◌, List, [], OnOk, OnErr, ap, sym, subst}
 use Rattle.sx_trace.specs.declared.items.Item.{Item}
 use Rattle.sx_sched.specs.Seen.{line_of}
 use Rattle.sx_run.specs.Law.{IsSoundSetting}
@@ -30,3 +30,6 @@ returns-clause-front g c =
     (subst (λ (xs : List Item). OnErr c.act.result (ActsInPart (world_setting g.T.Tag.mac c.args.deployment.now c.self.inside.world)
     (line_of c.args.line.now) c.self.inside.world xs c.act.new.items.items))
     c.clear.ensures.items c.act.ensures.front)
+
+pub returns-clause-made : goal.returns-clause-made
+returns-clause-made g c = λ well. c.act.ensures.made (ap (λ (k : Kept). k.world.wanted) c.self.view_is ∙ well)

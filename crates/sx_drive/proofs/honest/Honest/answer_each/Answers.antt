@@ -10,7 +10,7 @@ returns-in_err-say-clause-does g c =
     let x : Callee = callee_of c.args.callee in
     does_err g.T.Tag.mac c.args.deployment.now c.from_residual.result c.args.self.now c.say.new.self c.args.said.now.items c.say.new.said.items
     (each_all (λ set. answers set x) c.args.packets.now) c.from_residual.ensures.0
-    (each_wanted g.T.Tag.mac c.args.deployment.now (λ set. answers set x) c.args.packets.now c.loop-packet.packet-index 0 c.args.self.now c.loop-packet.self
+    (each_wanted g.T.Tag.mac c.args.deployment.now (λ set. answers set x) c.args.packets.now c.loop-packet.packet-index 0 c.args.self.now c.loop-packet.self c.say.new.self
     c.args.said.now.items c.loop-packet.said.items c.say.new.said.items
     (omega (arith, c.loop-packet-test.true, c.loop-packet.auto.packet-index-end)) c.loop-packet.invariant.remains c.in_err-say.ensures.does)
 

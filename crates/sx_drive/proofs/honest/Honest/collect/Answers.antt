@@ -8,7 +8,7 @@ pub returns-in_err-take_one-clause-does : goal.returns-in_err-take_one-clause-do
 returns-in_err-take_one-clause-does g c =
     does_err g.T.Tag.mac c.args.deployment.now c.from_residual.result c.args.self.now c.take_one.new.self c.args.said.now.items c.take_one.new.said.items
     (collects_at c.args.node) c.from_residual.ensures.0
-    (takes_wanted g.T.Tag.mac c.args.deployment.now c.args.node (made_by c.args.self.now.shown) c.loop-place.place c.args.self.now c.loop-place.self
+    (takes_wanted g.T.Tag.mac c.args.deployment.now c.args.node (made_by c.args.self.now.shown) c.loop-place.place c.args.self.now c.loop-place.self c.take_one.new.self
     c.args.said.now.items c.loop-place.said.items c.take_one.new.said.items
     (lower c.loop-place.place c.made-place-end.result (made_by c.args.self.now.shown) c.loop-place-test.true c.made-place-end.ensures.made)
     c.loop-place.invariant.remains c.in_err-take_one.ensures.does)

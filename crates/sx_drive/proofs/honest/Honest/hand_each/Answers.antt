@@ -11,7 +11,7 @@ returns-in_err-hand-clause-does g c =
     does_err g.T.Tag.mac c.args.deployment.now c.from_residual.result c.args.self.now c.hand.new.self c.args.said.now.items c.hand.new.said.items
     (each_all (λ set. hands set c.args.entry x) c.args.packets.now) c.from_residual.ensures.0
     (each_wanted g.T.Tag.mac c.args.deployment.now (λ set. hands set c.args.entry x) c.args.packets.now c.loop-packet.packet-index 0 c.args.self.now
-    c.loop-packet.self c.args.said.now.items c.loop-packet.said.items c.hand.new.said.items
+    c.loop-packet.self c.hand.new.self c.args.said.now.items c.loop-packet.said.items c.hand.new.said.items
     (omega (arith, c.loop-packet-test.true, c.loop-packet.auto.packet-index-end)) c.loop-packet.invariant.remains c.in_err-hand.ensures.does)
 
 pub loop-packet-preserved : goal.loop-packet-preserved

@@ -7,7 +7,7 @@ use Rattle.sx_drive.proofs.honest.Honest.set_up_all.Goals as goal
 pub returns-in_err-set_up_at-clause-does : goal.returns-in_err-set_up_at-clause-does
 returns-in_err-set_up_at-clause-does g c =
     does_err g.T.Tag.mac c.args.deployment.now c.from_residual.result c.args.self.now c.set_up_at.new.self c.args.said.now.items c.set_up_at.new.said.items setup c.from_residual.ensures.0
-    (set_up_wanted g.T.Tag.mac c.args.deployment.now (length c.args.deployment.now.app.parts.items) c.loop-m.m c.args.self.now c.loop-m.self
+    (set_up_wanted g.T.Tag.mac c.args.deployment.now (length c.args.deployment.now.app.parts.items) c.loop-m.m c.args.self.now c.loop-m.self c.set_up_at.new.self
     c.args.said.now.items c.loop-m.said.items c.set_up_at.new.said.items
     (lower c.loop-m.m c.modules-m-end.result (length c.args.deployment.now.app.parts.items) c.loop-m-test.true c.modules-m-end.ensures) c.loop-m.invariant.remains c.in_err-set_up_at.ensures.does)
 

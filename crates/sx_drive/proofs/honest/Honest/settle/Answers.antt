@@ -12,7 +12,7 @@ deliver-requires-clause-going g c =
 pub returns-in_err-deliver-in-Some-clause-does : goal.returns-in_err-deliver-in-Some-clause-does
 returns-in_err-deliver-in-Some-clause-does g c =
     does_err g.T.Tag.mac c.args.deployment.now c.from_residual.result c.args.self.now c.deliver.new.self c.args.said.now.items c.deliver.new.said.items settle_all c.from_residual.ensures.0
-    (settle_wanted g.T.Tag.mac c.args.deployment.now c.loop-turn._turn c.in-Some.packet c.args.self.now c.loop-turn.self c.next_waiting.new.self
+    (settle_wanted g.T.Tag.mac c.args.deployment.now c.loop-turn._turn c.in-Some.packet c.args.self.now c.loop-turn.self c.next_waiting.new.self c.deliver.new.self
     c.args.said.now.items c.loop-turn.said.items c.deliver.new.said.items
     (below_most c.loop-turn._turn c.loop-turn-test.true) c.in-Some.ensures.packets c.in-Some.ensures.rest c.loop-turn.invariant.remains c.in_err-deliver-in-Some.ensures.does)
 

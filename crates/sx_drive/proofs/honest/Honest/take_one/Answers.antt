@@ -13,7 +13,7 @@ pub returns-clause-does : goal.returns-clause-does
 returns-clause-does g c =
     then_does g.T.Tag.mac c.args.deployment.now c.queue.result c.args.self.now c.say.new.self c.queue.new.self c.args.said.now.items c.say.new.said.items c.say.new.said.items
     (λ set. says set (Take c.args.node (OUT_WINDOW + 24 * c.args.place) 24)) (λ set. queues) c.in_ok-say.ensures.does
-    (queue_does g.T.Tag.mac c.args.deployment.now c.queue.result c.say.new.self c.queue.new.self c.say.new.said.items c.queue.ensures.ok)
+    (queue_does g.T.Tag.mac c.args.deployment.now c.queue.result c.say.new.self c.queue.new.self c.say.new.said.items c.queue.ensures.ok c.queue.ensures.world)
 
 pub returns-clause-goes_on : goal.returns-clause-goes_on
 returns-clause-goes_on g c = queue_goes g.T.Tag.mac c.args.deployment.now c.queue.result c.say.new.self c.queue.new.self c.in_ok-say.ensures.goes_on c.queue.ensures.ok

@@ -1,0 +1,11 @@
+use Rattle.std.specs.Prelude.{◌++◌, drop}
+use Rattle.sx_command_run.specs.Batch.{WritesUpTo}
+use Rattle.sx_command_run.specs.Run.{items_text}
+use Rattle.sx_command_drive.proofs.saying.add_items.Given as goal
+
+-- All was written but the batch and the items that are left.
+abbrev pub invariant-loop-item : goal.invariant-loop-item
+invariant-loop-item g l = record {
+  writes : WritesUpTo g.K.Sink.tells (g.K.Sink.at l.fn.output) (g.K.Sink.at l.output) (l.fn.batch.items ++ items_text l.fn.names l.items)
+      (l.batch.items ++ items_text l.fn.names (drop l.item-index l.items));
+}
