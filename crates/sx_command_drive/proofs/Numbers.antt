@@ -16,6 +16,7 @@ use Rattle.sx_honest.specs.Plain.{MOST_DELIVERIES, Sampling, Waiting, acts_send,
 use Rattle.sx_honest.specs.Course.{Course, IsSampling, course_start, delivered, parts_packets, sensed, settled, setup_packets}
 use Rattle.sx_honest.proofs.AsPlain.{Drives, Goes, IsLinked, IsTold, driver, goes, told_delivered, told_sensed, told_start}
 use Rattle.sx_setup.specs.Schedule.{attest_lines, key_lines, part_lines, parts_schedule, setup_schedule}
+use Rattle.sx_setup.proofs.Counting.{part_long}
 use Rattle.sx_deliver.specs.Schedule.{delivery_lines, event_lines, honest_schedule, reading_lines, readings_lines, settling_lines, take_lines}
 use Rattle.sx_deliver.proofs.Effects.{sends_few}
 use Rattle.sx_deliver.proofs.Fitting.{delivery_is, reading_is, settling_fits}
@@ -65,16 +66,6 @@ numbered_first (suc k) [] b h = tt
 numbered_first (suc k) (l ∷ ls) b h = (h.0, numbered_first k ls (suc b) h.1)
 
 -- The set-up.
-
-keys_long : (m n number k : ℕ) → length (key_lines m n number k) ≡ 2 * k
-keys_long m n number zero = refl
-keys_long m n number (suc k) = let r = keys_long m n (number + 1) k in omega (arith, r)
-
-part_long : (m number : ℕ) (q : PartTree) (es : List End) → length (part_lines m number q es) ≡ 6 + 2 * length es
-part_long m number q es =
-    let a = length-append (attest_lines m q.node number) (key_lines m q.node (number + 2) (length es)) in
-    let b = keys_long m q.node (number + 2) (length es) in
-    omega (arith, a, b)
 
 keys_numbered : (m n number k b : ℕ) → number ≤ b → AreNumbered b (key_lines m n number k)
 keys_numbered m n number zero b le = tt

@@ -1,5 +1,5 @@
 -- The lines that an honest run says are run as any lines are, and show the items that it says.
-use Rattle.std.proofs.Common.{◌≡◌, ◌∙◌, ◌==◌, ◌||◌, Bool, true, false, List, [], ◌∷◌, ◌++◌, map, refl, sym, ap, append_assoc}
+use Rattle.std.proofs.Common.{◌≡◌, ◌∙◌, ◌==◌, ◌||◌, Bool, true, false, List, [], ◌∷◌, ◌++◌, map, refl, sym, ap}
 use Rattle.std.specs.Prelude.{if◌then◌else◌}
 use Rattle.std.proofs.lemmas.List.{append-nil}
 use Rattle.sx_trace.specs.declared.items.Item.{Item}
@@ -7,10 +7,11 @@ use Rattle.sx_trace.specs.Names.{NameLists}
 use Rattle.sx_sched.specs.Lines.{Line}
 use Rattle.sx_deploy.specs.Deployment.{Deployed}
 use Rattle.sx_run.specs.Acts.{then_}
-use Rattle.sx_run.specs.Run.{after_line, line_counted, run}
+use Rattle.sx_run.specs.Run.{run}
 use Rattle.sx_run.specs.Setting.{Setting}
 use Rattle.sx_run.specs.State.{Acted, World, switched_on}
 use Rattle.sx_guard.proofs.Performing.{runs_guarded}
+use Rattle.sx_setup.proofs.Runs.{run_append}
 use Rattle.sx_world.specs.Whole.{next}
 use Rattle.sx_drive.specs.Honest.{Driven, Honest, MOST_LINES, Reading, Said, SaidItem, SaidLine, each, honest_run, left_out, performed, reads, setup, start}
 use Rattle.sx_drive_laws.specs.Samplings.{items_of, told}
@@ -35,14 +36,6 @@ no_lines (i ∷ items) = no_lines items
 all_items : (items : List Item) → items_of (map SaidItem items) ≡ items
 all_items [] = refl
 all_items (i ∷ items) = ap (λ (is : List Item). i ∷ is) (all_items items)
-
-run_append : (set : Setting) (xs ys : List Line) (w : World) → run set w (xs ++ ys) ≡ then_ (run set w xs) (λ v. run set v ys)
-run_append set [] ys w = refl
-run_append set (x ∷ xs) ys w =
-    let a = after_line set (line_counted w) x in
-    ap (λ (r : Acted). record { world = r.world; items = a.items ++ r.items }) (run_append set xs ys a.world)
-    ∙ ap (λ (is : List Item). record { world = (run set (run set a.world xs).world ys).world; items = is })
-    (sym (append_assoc a.items (run set a.world xs).items (run set (run set a.world xs).world ys).items))
 
 -- the lines that were said lead there, and show these items
 pub record Ran (set : Setting) (h : Honest) (a : Driven) : Type 0 where

@@ -1,7 +1,6 @@
 -- What follows for `drive` from what it wrote and read.
 use Rattle.std.proofs.Common.{◌≡◌, ℕ, zero, suc, ◌<◌, Bool, true, false, List, [], ◌∷◌, length, get_or, refl, arith, Option, Some, None, Ok}
 use Rattle.std.specs.Prelude.{All, IsTrue, if◌then◌else◌}
-use Rattle.std.proofs.lemmas.List.Elements.{All-cons, All-head, All-nil, All-tail}
 use Rattle.sx_io.specs.Reading.{Answer}
 use Rattle.sx_told.specs.Told.{CommandAt}
 use Rattle.sx_tag.specs.Mac.{Mac, IsTag}
@@ -9,16 +8,15 @@ use Rattle.sx_deploy.specs.Deployment.{Deployed, IsRead}
 use Rattle.sx_deploy.specs.Law.{IsSoundDeployment}
 use Rattle.sx_deploy.proofs.Sound.{sound}
 use Rattle.sx_deploy.proofs.ValidNames.{names_valid}
-use Rattle.sx_mean.specs.Application.{AppTree}
 use Rattle.sx_trace.specs.ValidNames.{are_valid}
-use Rattle.sx_honest.specs.Course.{Course, IsHonest, IsSampling}
+use Rattle.sx_honest.specs.Course.{Course, IsHonest}
 use Rattle.sx_run.specs.Setting.{Setting}
 use Rattle.sx_run.specs.Accepted.{AreByteTexts, AreImages, setting_of}
 use Rattle.sx_drive.specs.Honest.{Driven, Honest, Reading, honest_run}
 use Rattle.sx_drive_laws.specs.Laws.{IsDriveable, IsReading as IsReadingOf}
-use Rattle.sx_drive_laws.specs.Samplings.{sampling_of, samplings_of}
+use Rattle.sx_drive_laws.specs.Samplings.{samplings_of}
 use Rattle.sx_drive_laws.proofs.Accepted.{accepted_is_driveable, accepted_is_driven, driven_is_reading}
-use Rattle.sx_drive_laws.proofs.Driven.{honest_is_driven}
+use Rattle.sx_drive_laws.proofs.Driven.{are_samplings, honest_is_driven}
 use Rattle.sx_command_head.specs.Begun.{Deploys}
 use Rattle.sx_command_deploy.specs.Afterwards.{DeployTold}
 use Rattle.sx_command_deploy.proofs.Said.{deploy_not_two, deploy_says}
@@ -44,11 +42,6 @@ reading_at d acc (r ∷ rs) are (suc k) x h = reading_at d acc rs are.1 k x (ome
 
 all_readings : (d : Deployed) → IsSoundDeployment d → (rs : List Reading) → AreReadings d rs → All (IsReadingOf d.app) rs
 all_readings d acc rs are = λ k x h. reading_at d acc rs are k x h
-
-all_samplings : (app : AppTree) (rs : List Reading) → All (IsReadingOf app) rs → All (IsSampling app) (samplings_of rs)
-all_samplings app [] all = All-nil (IsSampling app)
-all_samplings app (r ∷ rs) all =
-    All-cons (IsSampling app) (sampling_of r) (samplings_of rs) (All-head (IsReadingOf app) r rs all).sampling (all_samplings app rs (All-tail (IsReadingOf app) r rs all))
 
 -- ---- of one deployment that was read, with images that realize its modules
 
@@ -79,7 +72,7 @@ module _ (mac : Mac) (text : List ℕ) (texts : List (List ℕ)) (d : Deployed) 
   ran_by = is_the_run d set rs there (readings_given d 1 readings) (is_said set rs driveable).told
 
   read_by : AreRead d.names (lines_in a.said)
-  read_by = are_read d set rs refl valid driveable there (readings_given d 1 readings) (all_samplings d.app rs all)
+  read_by = are_read d set rs refl valid driveable there (readings_given d 1 readings) (are_samplings d.app rs all)
 
   delivered_by : a.honest.long ≡ false → IsPredicted d.app rs a
   delivered_by uncut =

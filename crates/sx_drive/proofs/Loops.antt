@@ -5,6 +5,7 @@ use Rattle.sx_tag.specs.Mac.{Mac}
 use Rattle.sx_deploy.specs.declared.deployment.Deployment.{Deployment}
 use Rattle.sx_mean.specs.View.{part_as}
 use Rattle.sx_run.specs.Setting.{Setting}
+use Rattle.sx_world.proofs.passing.Passed.{one_less}
 use Rattle.sx_drive.specs.declared.said.Said.{Said as Told}
 use Rattle.sx_drive.specs.Honest.{Honest, Driven, MOST_LINES, still, then_, each, made_by, takes_one, takes, collects, if_there, callee_at, sets_up}
 use Rattle.sx_drive.specs.Honest.{sets_up_from, setup, with_waiting, delivers, oldest, settles}
@@ -81,14 +82,11 @@ takes_first mac d n old before =
     whole : (k : ℕ) → k ≡ k - 0
     whole k = omega arith
 
-less : (count i : ℕ) → i < count → count - i ≡ suc (count - (i + 1))
-less count i lt = omega arith
-
 none : (count i : ℕ) → count ≤ i → count - i ≡ 0
 none count i le = omega arith
 
 takes_next : (n count i : ℕ) (set : Setting) (h : Honest) → i < count → takes set n i (count - i) h ≡ then_ (takes_one set n i h) (takes set n (i + 1) (count - (i + 1)))
-takes_next n count i set h lt = ap (λ k. takes set n i k h) (less count i lt)
+takes_next n count i set h lt = ap (λ k. takes set n i k h) (one_less count i lt)
 
 pub takes_on : (mac : Mac) (d : Deployment) (n count i : ℕ) (old now new : Kept) (before came after : List Told)
     → i < count → Remains mac d (collects_at n) (takes_from n count i) old now before came → Did mac d now new came after (λ set. takes_one set n i)
@@ -130,7 +128,7 @@ set_up_first mac d old before =
     whole k n e = omega arith
 
 set_up_next : (count m : ℕ) (set : Setting) (h : Honest) → m < count → sets_up_from set m (count - m) h ≡ then_ (set_up_part m set h) (sets_up_from set (m + 1) (count - (m + 1)))
-set_up_next count m set h lt = ap (λ k. sets_up_from set m k h) (less count m lt)
+set_up_next count m set h lt = ap (λ k. sets_up_from set m k h) (one_less count m lt)
 
 pub set_up_on : (mac : Mac) (d : Deployment) (count m : ℕ) (old now new : Kept) (before came after : List Told)
     → m < count → Remains mac d setup (set_up_rest count m) old now before came → Did mac d now new came after (set_up_part m)
@@ -195,7 +193,7 @@ settle_next mac d i k old now new before came lt first is remains = λ set h f.
     let left : Honest → Driven = settles set (MOST_LINES - (i + 1)) in
     let here : new ≡ waits now ks = is ∙ ap (λ (xs : List ℕ). waits now xs) (sym (ap (λ (x : Kept). x.waiting) is)) in
     let e : settles set (MOST_LINES - i) a.honest ≡ then_ (delivers set k (with_waiting a.honest ks)) left =
-    ap (λ n. settles set n a.honest) (less MOST_LINES i lt) ∙ ap (λ ws. oldest set left ws a.honest) (sym b.waiting ∙ first) in record {
+    ap (λ n. settles set n a.honest) (one_less MOST_LINES i lt) ∙ ap (λ ws. oldest set left ws a.honest) (sym b.waiting ∙ first) in record {
       honest = with_waiting a.honest ks;
       said = a.said;
       follows = subst (λ (x : Kept). Follows mac d x set (with_waiting a.honest ks)) (sym here) (popped mac d now ks set a.honest b);

@@ -43,7 +43,7 @@ told_items set (l ∷ ls) w =
 
 -- what holds of each reading
 
-are_samplings : (app : AppTree) (readings : List Reading) → All (IsReading app) readings → All (IsSampling app) (samplings_of readings)
+pub are_samplings : (app : AppTree) (readings : List Reading) → All (IsReading app) readings → All (IsSampling app) (samplings_of readings)
 are_samplings app [] all = All-nil (IsSampling app)
 are_samplings app (r ∷ rs) all = All-cons (IsSampling app) (sampling_of r) (samplings_of rs) (All-head (IsReading app) r rs all).sampling (are_samplings app rs (All-tail (IsReading app) r rs all))
 

@@ -17,7 +17,7 @@ keys_long : (m n number k : ℕ) → length (key_lines m n number k) ≡ 2 * k
 keys_long m n number zero = refl
 keys_long m n number (suc k) = let r = keys_long m n (number + 1) k in omega (arith, r)
 
-part_long : (m number : ℕ) (q : PartTree) (es : List End) → length (part_lines m number q es) ≡ 6 + 2 * length es
+pub part_long : (m number : ℕ) (q : PartTree) (es : List End) → length (part_lines m number q es) ≡ 6 + 2 * length es
 part_long m number q es =
     let a = length-append (attest_lines m q.node number) (key_lines m q.node (number + 2) (length es)) in
     let b = keys_long m q.node (number + 2) (length es) in
