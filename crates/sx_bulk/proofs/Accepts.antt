@@ -2,8 +2,7 @@
 use Rattle.std.proofs.Common.{◌≡◌, codes, List, [], ◌∷◌, refl, sym, subst}
 use Rattle.std.specs.Prelude.{Ok, map}
 use Rattle.sx_check.specs.Names.{is_taken, has_taken, is_handled_twice}
-use Rattle.sx_check.specs.Rules.{breaks, breaks_duplicate, breaks_unknown, samples_blindly, emits_nowhere, breaks_kind, breaks_depth, breaks_locals}
-use Rattle.sx_check.specs.Rules.{breaks_repeat, breaks_packets, breaks_cost, breaks_nodes, breaks_cells}
+use Rattle.sx_check.specs.Rules.{breaks}
 use Rattle.sx_mean.specs.declared.apps.Link.{Link}
 use Rattle.sx_entries.specs.declared.entries.Start.TheVariants as start
 use Rattle.sx_deploy.specs.Sources.{Coded, AreCoded, none_left, each}
@@ -29,8 +28,7 @@ are_coded = each (eye, eye_spelled, refl) (each (logic, logic_spelled, refl) (ea
 
 checked : checked_all modules ≡ Ok modules
 unfolding modules eye logic lamp
-    breaks breaks_duplicate is_taken has_taken is_handled_twice breaks_unknown breaks_kind samples_blindly emits_nowhere
-    breaks_depth breaks_locals breaks_repeat breaks_packets breaks_cost breaks_nodes breaks_cells
+    breaks is_taken has_taken is_handled_twice
 checked = refl
 
 unfoldable links : List Link

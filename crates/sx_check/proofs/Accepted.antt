@@ -12,8 +12,7 @@ use Rattle.sx_check.specs.declared.rules.Rule.TheVariants as rule
 use Rattle.sx_check.specs.Names.{declares, has_taken, is_actuator, is_declared, is_device, is_handled_twice, is_repeated, is_sample, is_sensor, is_taken, locals, same, same_input}
 use Rattle.sx_check.specs.Uses.{Use, used, declares_as, handler_uses, handlers_uses, is_local, is_misused, is_seen, is_unknown}
 use Rattle.sx_check.specs.Bounds.{block_counts, block_emits, block_sends, is_input, is_misfit, is_miscounted, is_output}
-use Rattle.sx_check.specs.Rules.{breaks, breaks_cells, breaks_cost, breaks_depth, breaks_duplicate, breaks_kind, breaks_locals, breaks_nodes, breaks_packets}
-use Rattle.sx_check.specs.Rules.{breaks_repeat, breaks_unknown, emits_nowhere, first_broken, is_too_deep, samples_blindly}
+use Rattle.sx_check.specs.Rules.{breaks, first_broken, is_too_deep}
 use Rattle.sx_check.specs.Accepted.{HasLength, IsAcceptedModule, IsCount, IsFine, IsProper}
 use Rattle.sx_check.proofs.Keeps.{In, keeps, none_is, uses_in}
 use Rattle.sx_check.proofs.Distinct.{all_not, apart, none_counted, pairs_weaker, same-refl, same-true, same_input-refl}
@@ -122,51 +121,49 @@ handled_once hs n =
 
 module _ (m : ModuleTree) (checked : first_broken m ≡ None) where
   repeated : (list_any (is_repeated m.decls) m.decls || (list_any (has_taken m.decls) m.handlers || list_any (is_handled_twice m.handlers) m.handlers)) ≡ false
-  unfolding breaks breaks_duplicate
+  unfolding breaks
   repeated = keeps m checked rule.Duplicate
 
   unknown : list_any (is_unknown m.decls) (handlers_uses m.handlers) ≡ false
-  unfolding breaks breaks_unknown
+  unfolding breaks
   unknown = keeps m checked rule.Unknown
 
-  misused : (list_any (is_misused m.decls) (handlers_uses m.handlers) || (samples_blindly m || emits_nowhere m)) ≡ false
-  unfolding breaks breaks_kind
+  misused : (list_any (is_misused m.decls) (handlers_uses m.handlers) || ((list_any is_sample m.handlers && not (list_any is_sensor m.decls)) || (list_any (λ h. block_emits h.body) m.handlers && not (list_any is_actuator m.decls)))) ≡ false
+  unfolding breaks
   misused = keeps m checked rule.Kind
 
   blind : (list_any is_sample m.handlers && not (list_any is_sensor m.decls)) ≡ false
-  unfolding samples_blindly
   blind = (or_parts _ _ (or_parts _ _ misused).1).0
 
   nowhere : (list_any (λ h. block_emits h.body) m.handlers && not (list_any is_actuator m.decls)) ≡ false
-  unfolding emits_nowhere
   nowhere = (or_parts _ _ (or_parts _ _ misused).1).1
 
   deep : list_any is_too_deep m.handlers ≡ false
-  unfolding breaks breaks_depth
+  unfolding breaks
   deep = keeps m checked rule.Depth
 
   crowded : list_any (λ h. nat_lt 16 (length (locals h))) m.handlers ≡ false
-  unfolding breaks breaks_locals
+  unfolding breaks
   crowded = keeps m checked rule.Locals
 
   turns : list_any (λ h. list_any is_miscounted (block_counts h.body)) m.handlers ≡ false
-  unfolding breaks breaks_repeat
+  unfolding breaks
   turns = keeps m checked rule.Repeat
 
   sending : list_any (λ h. nat_lt 16 (block_sends h.body)) m.handlers ≡ false
-  unfolding breaks breaks_packets
+  unfolding breaks
   sending = keeps m checked rule.Packets
 
   dear : nat_lt 262144 (module_cost m) ≡ false
-  unfolding breaks breaks_cost
+  unfolding breaks
   dear = keeps m checked rule.Cost
 
   large : (nat_lt 512 (module_nodes m) || (nat_lt 255 (count_by is_input m.decls) || nat_lt 255 (count_by is_output m.decls))) ≡ false
-  unfolding breaks breaks_nodes
+  unfolding breaks
   large = keeps m checked rule.Nodes
 
   long : (list_any is_misfit m.decls || nat_lt 1024 (declared_cells m.decls)) ≡ false
-  unfolding breaks breaks_cells
+  unfolding breaks
   long = keeps m checked rule.Cells
 
   pub fine : (h : HandlerTree) → In h m.handlers → IsFine m h

@@ -9,8 +9,9 @@ ghost use Rattle.sx_check.specs.Bounds.{height, inner_depth, is_miscounted, stat
 ghost use Rattle.sx_check.specs.Bounds.{statement_depth, statement_emits, statement_height};
 ghost use Rattle.sx_check.specs.Bounds.{statement_sends_by};
 ghost use Rattle.sx_check.specs.Names.{block_lets, statement_lets};
-ghost use Rattle.sx_check.specs.Rules.{breaks_cells, breaks_cost, breaks_depth, breaks_locals};
-ghost use Rattle.sx_check.specs.Rules.{breaks_nodes, breaks_packets, breaks_repeat};
+ghost use Rattle.sx_check.specs.Rules.{breaks};
+ghost use Rattle.sx_check.specs.declared.rules.Rule.TheVariants.{Cells, Cost, Depth, Locals};
+ghost use Rattle.sx_check.specs.declared.rules.Rule.TheVariants.{Nodes, Packets, Repeat};
 
 use crate::declared::{has_misfit, inputs, outputs};
 use sx_lang::sizes::{cells, cost, nodes};
@@ -81,9 +82,9 @@ fn depth_in_block(block: &Vec<Stmt>) -> u64
 }
 
 /// Whether an expression is higher than 32, or a block stands in more than 15 others.
-#[tactic(auto, unfolding(crate::specs::Rules::breaks_depth))]
+#[tactic(auto, unfolding(crate::specs::Rules::breaks))]
 pub fn breaks_depth(m: &Module) -> bool
-    ensures { result ≡ breaks_depth (module_of m.now) }
+    ensures { result ≡ breaks (module_of m.now) Depth }
 {
     for h in &m.handlers {
         if height_in_block(&h.body) > 32 || depth_in_block(&h.body) > 15 {
@@ -117,9 +118,9 @@ fn lets_in_block(block: &Vec<Stmt>) -> u64
 }
 
 /// Whether a handler has more than 16 locals, its parameter among them.
-#[tactic(auto, unfolding(crate::specs::Rules::breaks_locals))]
+#[tactic(auto, unfolding(crate::specs::Rules::breaks))]
 pub fn breaks_locals(m: &Module) -> bool
-    ensures { result ≡ breaks_locals (module_of m.now) }
+    ensures { result ≡ breaks (module_of m.now) Locals }
 {
     for h in &m.handlers {
         if 1 + lets_in_block(&h.body) > 16 {
@@ -162,9 +163,9 @@ fn miscounts_in_block(block: &Vec<Stmt>) -> bool
 }
 
 /// Whether a count of a `repeat` isn't 1 to 256.
-#[tactic(auto, unfolding(crate::specs::Rules::breaks_repeat))]
+#[tactic(auto, unfolding(crate::specs::Rules::breaks))]
 pub fn breaks_repeat(m: &Module) -> bool
-    ensures { result ≡ breaks_repeat (module_of m.now) }
+    ensures { result ≡ breaks (module_of m.now) Repeat }
 {
     for h in &m.handlers {
         if miscounts_in_block(&h.body) {
@@ -205,9 +206,9 @@ fn sends_in_block(block: &Vec<Stmt>) -> u64
 }
 
 /// Whether a handler can send more than 16 times.
-#[tactic(auto, unfolding(crate::specs::Rules::breaks_packets))]
+#[tactic(auto, unfolding(crate::specs::Rules::breaks))]
 pub fn breaks_packets(m: &Module) -> bool
-    ensures { result ≡ breaks_packets (module_of m.now) }
+    ensures { result ≡ breaks (module_of m.now) Packets }
 {
     for h in &m.handlers {
         if sends_in_block(&h.body) > 16 {
@@ -254,25 +255,25 @@ pub fn has_emit(handlers: &[Handler]) -> bool
 }
 
 /// Whether the cost is above 262,144.
-#[tactic(auto, unfolding(crate::specs::Rules::breaks_cost))]
+#[tactic(auto, unfolding(crate::specs::Rules::breaks))]
 pub fn breaks_cost(m: &Module) -> bool
-    ensures { result ≡ breaks_cost (module_of m.now) }
+    ensures { result ≡ breaks (module_of m.now) Cost }
 {
     cost(m) > 262_144
 }
 
 /// Whether there are more than 512 nodes, or more than 255 inputs or outputs.
-#[tactic(auto, unfolding(crate::specs::Rules::breaks_nodes))]
+#[tactic(auto, unfolding(crate::specs::Rules::breaks))]
 pub fn breaks_nodes(m: &Module) -> bool
-    ensures { result ≡ breaks_nodes (module_of m.now) }
+    ensures { result ≡ breaks (module_of m.now) Nodes }
 {
     nodes(m) > 512 || inputs(&m.decls) > 255 || outputs(&m.decls) > 255
 }
 
 /// Whether an array's length isn't 1 to 1,024, or there are more than 1,024 cells.
-#[tactic(auto, unfolding(crate::specs::Rules::breaks_cells))]
+#[tactic(auto, unfolding(crate::specs::Rules::breaks))]
 pub fn breaks_cells(m: &Module) -> bool
-    ensures { result ≡ breaks_cells (module_of m.now) }
+    ensures { result ≡ breaks (module_of m.now) Cells }
 {
     has_misfit(&m.decls) || cells(m) > 1024
 }

@@ -5,7 +5,8 @@ ghost use Rattle.std.specs.List.{list_any};
 ghost use Rattle.sx_lang.specs.View.{block_of, handler_of, module_of, statement_of};
 ghost use Rattle.sx_check.specs.Names.{block_lets, has_taken, is_handled_twice, is_taken};
 ghost use Rattle.sx_check.specs.Names.{same, same_input, statement_lets};
-ghost use Rattle.sx_check.specs.Rules.{breaks_duplicate};
+ghost use Rattle.sx_check.specs.Rules.{breaks};
+ghost use Rattle.sx_check.specs.declared.rules.Rule.TheVariants.{Duplicate};
 
 use crate::declared::{has_name, has_repeated};
 use sx_lang::names::Name;
@@ -134,9 +135,9 @@ fn has_handled_twice(handlers: &[Handler]) -> bool
 }
 
 /// Whether a name, a device or an event's handler is there twice.
-#[tactic(auto, unfolding(crate::specs::Rules::breaks_duplicate))]
+#[tactic(auto, unfolding(crate::specs::Rules::breaks))]
 pub fn breaks_duplicate(m: &Module) -> bool
-    ensures { result ≡ breaks_duplicate (module_of m.now) }
+    ensures { result ≡ breaks (module_of m.now) Duplicate }
 {
     has_repeated(&m.decls)
         || taken_in_handlers(&m.decls, &m.handlers)

@@ -1,14 +1,16 @@
 //! The rules on how names are used.
 
-ghost use Rattle.std.specs.Prelude.{◌≡◌, map};
+ghost use Rattle.std.specs.Prelude.{◌≡◌, ◌&&◌, map, not};
 ghost use Rattle.std.specs.List.{list_any};
 ghost use Rattle.sx_lang.specs.View.{block_of, expression_of, handler_of, module_of, statement_of};
-ghost use Rattle.sx_check.specs.Names.{is_sample};
-ghost use Rattle.sx_check.specs.Rules.{breaks_kind, breaks_unknown, emits_nowhere, samples_blindly};
+ghost use Rattle.sx_check.specs.Bounds.{block_emits};
+ghost use Rattle.sx_check.specs.Names.{is_actuator, is_sample, is_sensor};
+ghost use Rattle.sx_check.specs.Rules.{breaks};
 ghost use Rattle.sx_check.specs.Scopes.{is_flawed, seen_in};
 ghost use Rattle.sx_check.specs.Uses.{block_uses, expression_uses, handler_uses, handlers_uses};
 ghost use Rattle.sx_check.specs.Uses.{input_uses, is_local, is_misused, is_unknown, statement_uses};
 ghost use Rattle.sx_check.specs.Uses.{used};
+ghost use Rattle.sx_check.specs.declared.rules.Rule.TheVariants.{Kind, Unknown};
 
 use crate::bounds::has_emit;
 use crate::declared::{Role, has_actuator, has_name, has_role, has_sensor};
@@ -148,9 +150,9 @@ fn has_misused(m: &Module) -> bool
 }
 
 /// Whether a name that is used isn't known where it is used.
-#[tactic(auto, unfolding(crate::specs::Rules::breaks_unknown))]
+#[tactic(auto, unfolding(crate::specs::Rules::breaks))]
 pub fn breaks_unknown(m: &Module) -> bool
-    ensures { result ≡ breaks_unknown (module_of m.now) }
+    ensures { result ≡ breaks (module_of m.now) Unknown }
 {
     has_unknown(m)
 }
@@ -166,24 +168,26 @@ fn has_sample(handlers: &[Handler]) -> bool
     false
 }
 
-#[tactic(auto, unfolding(crate::specs::Rules::samples_blindly))]
+/// Whether the module handles samples, and declares no sensor.
 fn samples_blindly(m: &Module) -> bool
-    ensures { result ≡ samples_blindly (module_of m.now) }
+    ensures { result ≡ (list_any is_sample (module_of m.now).handlers
+        && not (list_any is_sensor (module_of m.now).decls)) }
 {
     has_sample(&m.handlers) && !has_sensor(&m.decls)
 }
 
-#[tactic(auto, unfolding(crate::specs::Rules::emits_nowhere))]
+/// Whether the module emits, and declares no actuator.
 fn emits_nowhere(m: &Module) -> bool
-    ensures { result ≡ emits_nowhere (module_of m.now) }
+    ensures { result ≡ (list_any (λ h. block_emits h.body) (module_of m.now).handlers
+        && not (list_any is_actuator (module_of m.now).decls)) }
 {
     has_emit(&m.handlers) && !has_actuator(&m.decls)
 }
 
 /// Whether a name is used as another kind, or the module samples or emits without a device for it.
-#[tactic(auto, unfolding(crate::specs::Rules::breaks_kind))]
+#[tactic(auto, unfolding(crate::specs::Rules::breaks))]
 pub fn breaks_kind(m: &Module) -> bool
-    ensures { result ≡ breaks_kind (module_of m.now) }
+    ensures { result ≡ breaks (module_of m.now) Kind }
 {
     has_misused(m) || samples_blindly(m) || emits_nowhere(m)
 }

@@ -16,7 +16,7 @@ use Rattle.sx_run.specs.Deployer.{key_of, accepts, after_acceptance, connection_
 use Rattle.sx_run.proofs.acts.Asking.{expected}
 use Rattle.sx_run.specs.State.{World, Acted}
 use Rattle.sx_run.specs.Observation.{unless_made}
-use Rattle.sx_run.specs.Acts.{only, then_, new_packet, with_deployer, key_given, keys_given, attested, after_denial, open_ask, attested_at, after_verdict, after_answer}
+use Rattle.sx_run.specs.Acts.{only, then_, new_packet, with_deployer, key_given, keys_given, attested, after_denial, joined, after_verdict, after_answer}
 use Rattle.sx_forged.specs.Tags.{SameTags, rekeyed, AgreeOnTags}
 use Rattle.sx_forged.proofs.Instructions.{wrapped_same}
 use Rattle.sx_forged.proofs.Steps.{LikeState}
@@ -129,7 +129,7 @@ module _ (a : Setting) (nac : Mac) (keys : List (List ℕ)) (secret : List ℕ) 
       → LikeActed a.mac nac (after_verdict a w m site boot answer o) (after_verdict b (with_nodes w ns) m site boot answer o)
   verdict_like w ns m site boot answer None h = (refl, record { rest = refl; nodes = h })
   verdict_like w ns m site boot answer (Some ask) h =
-      let last = attested_at (slice_get w.deployer.attested m) in
+      let last = joined (slice_get w.deployer.attested m) in
       let t = accepts a site w.deployer m boot answer (Some ask) last in
       subst (λ (p : Bool). LikeActed a.mac nac (cond t (attested a w m boot ask last) (after_denial w m)) (cond p (attested b (with_nodes w ns) m boot ask last) (after_denial (with_nodes w ns) m)))
       (sym (accepts_same site w.deployer m boot answer (Some ask) last))
@@ -140,4 +140,4 @@ module _ (a : Setting) (nac : Mac) (keys : List (List ℕ)) (secret : List ℕ) 
       → LikeActed a.mac nac (after_answer a w m boot o p) (after_answer b (with_nodes w ns) m boot o p)
   answer_like w ns m boot None p h = (refl, record { rest = refl; nodes = h })
   answer_like w ns m boot (Some site) None h = (refl, record { rest = refl; nodes = h })
-  answer_like w ns m boot (Some site) (Some answer) h = verdict_like w ns m site boot answer (open_ask (slice_get w.deployer.open_asks m)) h
+  answer_like w ns m boot (Some site) (Some answer) h = verdict_like w ns m site boot answer (joined (slice_get w.deployer.open_asks m)) h

@@ -18,7 +18,7 @@ use Rattle.sx_deployer.specs.Granting.{Grant, grants_after}
 use Rattle.sx_run.specs.Deployer.{set_key_entry, after_acceptance, accepts}
 use Rattle.sx_run.specs.Observation.{Observed, has_wrapped, event_seen, sender_of}
 use Rattle.sx_run.specs.State.{World, Acted, switched_on}
-use Rattle.sx_run.specs.Acts.{at_node, after_step, with_deployer, key_given, keys_given, attested, attested_at, after_take, after_interrupt, after_verdict, after_answer, after_denial, open_ask}
+use Rattle.sx_run.specs.Acts.{at_node, after_step, with_deployer, key_given, keys_given, attested, joined, after_take, after_interrupt, after_verdict, after_answer, after_denial}
 use Rattle.sx_run.specs.Run.{sense_at, give}
 use Rattle.sx_run.proofs.tie.Entries.{made_behind}
 use Rattle.sx_guard.specs.Happening.{Happening, Begin, Step, Put, Set, Take, Give, Forge, Sense, Irq, Reset, Ask, Answer, Show, done}
@@ -86,17 +86,17 @@ keys_logged set (g ∷ gs) w h = keys_logged set gs (key_given set w g (slice_ge
 answer_logged : (set : Setting) (w : World) (m boot : ℕ) (o : Option Site) (p : Option (List ℕ)) → AllLogged set w.ledger → AllLogged set (after_answer set w m boot o p).world.ledger
 answer_logged set w m boot None p h = h
 answer_logged set w m boot (Some site) None h = h
-answer_logged set w m boot (Some site) (Some answer) h = verdict (open_ask (slice_get w.deployer.open_asks m))
+answer_logged set w m boot (Some site) (Some answer) h = verdict (joined (slice_get w.deployer.open_asks m))
   where
-    by : (ask : List ℕ) (b : Bool) → AllLogged set (cond b (attested set w m boot ask (attested_at (slice_get w.deployer.attested m))) (after_denial w m)).world.ledger
+    by : (ask : List ℕ) (b : Bool) → AllLogged set (cond b (attested set w m boot ask (joined (slice_get w.deployer.attested m))) (after_denial w m)).world.ledger
     by ask true =
-        let d = after_acceptance set.app.links w.deployer m boot (attested_at (slice_get w.deployer.attested m)) in
-        keys_logged set (grants_after set.app d m boot (attested_at (slice_get w.deployer.attested m))) (with_deployer w d w.ledger) h
+        let d = after_acceptance set.app.links w.deployer m boot (joined (slice_get w.deployer.attested m)) in
+        keys_logged set (grants_after set.app d m boot (joined (slice_get w.deployer.attested m))) (with_deployer w d w.ledger) h
     by ask false = h
 
     verdict : (o : Option (List ℕ)) → AllLogged set (after_verdict set w m site boot answer o).world.ledger
     verdict None = h
-    verdict (Some ask) = by ask (accepts set site w.deployer m boot answer (Some ask) (attested_at (slice_get w.deployer.attested m)))
+    verdict (Some ask) = by ask (accepts set site w.deployer m boot answer (Some ask) (joined (slice_get w.deployer.attested m)))
 
 -- what deployed code wraps in the next step of a node
 abbrev pub NextWraps : Setting → World → Type 0

@@ -18,7 +18,7 @@ use Rattle.sx_wire.specs.Headers.{is_set_key_header, is_event_header, link_in, e
 use Rattle.sx_run.specs.Law.{IsSoundSetting, LinesInForm}
 use Rattle.sx_run.specs.Run.{run}
 use Rattle.sx_run.specs.State.{World, switched_on}
-use Rattle.sx_run.specs.Acts.{open_ask}
+use Rattle.sx_run.specs.Acts.{joined}
 use Rattle.sx_run.specs.Observation.{has_end}
 use Rattle.sx_forged.specs.Moments.{Moment, moment, FirstForged, NoForged}
 

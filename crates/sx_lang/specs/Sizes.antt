@@ -1,10 +1,9 @@
 -- The sizes of a module: the language's own formulas, by cases on the source.
 use Rattle.std.specs.Prelude.{ℕ, ◌+◌, ◌*◌, List, [], ◌∷◌, max}
 use Rattle.sx_lang.specs.declared.tree.BinOp.{BinOp}
-use Rattle.sx_lang.specs.declared.tree.BinOp.TheVariants.{Add, Sub, Or, Xor, Mul, And, Eq, Ne, Lt}
-use Rattle.sx_lang.specs.declared.tree.BinOp.TheVariants.{Le, Gt, Ge}
+use Rattle.sx_lang.specs.declared.tree.BinOp.TheVariants.{Mul}
 use Rattle.sx_lang.specs.declared.tree.Decl.{Decl}
-use Rattle.sx_lang.specs.declared.tree.Decl.TheVariants.{Device, Input, Output, Var, Array}
+use Rattle.sx_lang.specs.declared.tree.Decl.TheVariants.{Var, Array}
 use Rattle.sx_lang.specs.Tree.{Expression, Constant, Variable, Indexed, Applied, Combined}
 use Rattle.sx_lang.specs.Tree.{Statement, Defines, Assigns, Stores, Chooses, Repeats, Sends, Emits}
 use Rattle.sx_lang.specs.Tree.{Block, Done, Then, HandlerTree, ModuleTree}
@@ -36,11 +35,9 @@ abbrev mutual
 
 -- one node for each variable and each array
 abbrev pub declaration_nodes : Decl → ℕ
-declaration_nodes (Device kind) = 0
-declaration_nodes (Input x) = 0
-declaration_nodes (Output x) = 0
 declaration_nodes (Var x n) = 1
 declaration_nodes (Array x n) = 1
+declaration_nodes _ = 0
 
 -- the nodes of all declarations
 abbrev pub declarations_nodes : List Decl → ℕ
@@ -60,11 +57,9 @@ module_nodes m = declarations_nodes m.decls + handlers_nodes m.handlers
 
 -- a variable has one cell, an array one for each element
 abbrev pub declaration_cells : Decl → ℕ
-declaration_cells (Device kind) = 0
-declaration_cells (Input x) = 0
-declaration_cells (Output x) = 0
 declaration_cells (Var x n) = 1
 declaration_cells (Array x n) = n
+declaration_cells _ = 0
 
 -- the cells of all declarations
 abbrev pub declared_cells : List Decl → ℕ
@@ -87,17 +82,7 @@ module_data_size m ends = 512 + 24 * ends + 2 * declared_cells m.decls
 -- the cost of an operator, without those of its operands
 abbrev pub operator_cost : BinOp → ℕ
 operator_cost Mul = 512
-operator_cost Add = 32
-operator_cost Sub = 32
-operator_cost Or = 32
-operator_cost Xor = 32
-operator_cost And = 32
-operator_cost Eq = 32
-operator_cost Ne = 32
-operator_cost Lt = 32
-operator_cost Le = 32
-operator_cost Gt = 32
-operator_cost Ge = 32
+operator_cost _ = 32
 
 -- the cost of an expression
 abbrev pub expression_cost : Expression → ℕ

@@ -114,21 +114,16 @@ attested set w m boot ask last =
 abbrev pub after_denial : World → ℕ → Acted
 after_denial w m = only w (item.Denied m ∷ [])
 
--- a module's open ask, none where there is none
-abbrev pub open_ask : Option (Option (List ℕ)) → Option (List ℕ)
-open_ask None = None
-open_ask (Some ask) = ask
-
--- the boot at which a module was last attested, none where there is none
-abbrev pub attested_at : Option (Option ℕ) → Option ℕ
-attested_at None = None
-attested_at (Some boot) = boot
+-- the inner value, if there is one
+abbrev pub joined : {A : Type 0} → Option (Option A) → Option A
+joined None = None
+joined (Some x) = x
 
 -- an answer is accepted or denied; without an open ask it is denied
 abbrev pub after_verdict : Setting → World → ℕ → Site → ℕ → List ℕ → Option (List ℕ) → Acted
 after_verdict set w m site boot answer None = after_denial w m
 after_verdict set w m site boot answer (Some ask) =
-    let last = attested_at (slice_get w.deployer.attested m) in
+    let last = joined (slice_get w.deployer.attested m) in
     if accepts set site w.deployer m boot answer (Some ask) last then
     attested set w m boot ask last else after_denial w m
 
@@ -137,4 +132,4 @@ abbrev pub after_answer : Setting → World → ℕ → ℕ → Option Site → 
 after_answer set w m boot None packet = after_denial w m
 after_answer set w m boot (Some site) None = after_denial w m
 after_answer set w m boot (Some site) (Some answer) =
-    after_verdict set w m site boot answer (open_ask (slice_get w.deployer.open_asks m))
+    after_verdict set w m site boot answer (joined (slice_get w.deployer.open_asks m))

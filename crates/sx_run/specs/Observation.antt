@@ -1,6 +1,7 @@
 -- What a step of a node shows: its touches in their order, and then its event.
 use Rattle.std.specs.Prelude.{ℕ, ◌+◌, ◌*◌, ◌==◌, ◌&&◌, Bool, false, if◌then◌else◌, List, [], ◌∷◌}
 use Rattle.std.specs.Prelude.{◌++◌, length, slice_get, slice_index, Option, Some, None}
+use Rattle.std.specs.Prelude.{option_and_then}
 use Rattle.std.specs.List.{list_any}
 use Rattle.sx_lang.specs.declared.sides.Side.{Side}
 use Rattle.sx_lang.specs.declared.sides.Side.TheVariants.{From, To}
@@ -17,7 +18,6 @@ use Rattle.sx_machine.specs.declared.kinds.Event.{Event}
 use Rattle.sx_machine.specs.declared.kinds.Event.TheVariants as event
 use Rattle.sx_machine.specs.declared.kinds.Seen.{Seen}
 use Rattle.sx_machine.specs.State.{State}
-use Rattle.sx_mean.specs.declared.apps.Link.{Link}
 use Rattle.sx_mean.specs.declared.events.End.{End}
 use Rattle.sx_mean.specs.Application.{AppTree}
 use Rattle.sx_mean.specs.Ends.{ends_of, same_side}
@@ -51,20 +51,20 @@ abbrev pub is_driver : AppTree → Option ℕ → ℕ → Bool
 is_driver app None d = false
 is_driver app (Some m) d = drives (device_of app m) d
 
--- the number of a deployed module
-abbrev pub number_of : Option ℕ → ℕ
-number_of None = 0
-number_of (Some m) = m
+-- the number, or 0
+abbrev pub or_zero : Option ℕ → ℕ
+or_zero None = 0
+or_zero (Some k) = k
 
 -- the item of a read of a fresh sensor: the driver's `read`, or other code's `drain`
 abbrev pub read_item : AppTree → Option ℕ → ℕ → ℕ → Item
 read_item app runner d v =
-    if is_driver app runner d then item.Read (number_of runner) v else item.Drain d
+    if is_driver app runner d then item.Read (or_zero runner) v else item.Drain d
 
 -- the item of a write to an actuator: the driver's `out`, or other code's `raw`
 abbrev pub write_item : AppTree → Option ℕ → ℕ → ℕ → Item
 write_item app runner d v =
-    if is_driver app runner d then item.Out (number_of runner) v else item.Raw d v
+    if is_driver app runner d then item.Out (or_zero runner) v else item.Raw d v
 
 -- the items of touches, in order
 abbrev pub touch_items : AppTree → ℕ → Option ℕ → List Touch → List Item
@@ -101,14 +101,9 @@ is_end link side e = (e.link == link) && same_side e.side side
 abbrev pub has_end : AppTree → ℕ → ℕ → Side → Bool
 has_end app m link side = list_any (is_end link side) (ends_of app m)
 
--- the module that the connection comes from
-abbrev pub from_of : Option Link → ℕ
-from_of None = 0
-from_of (Some l) = l.from
-
 -- the module at the sending side of a connection
 abbrev pub sender_of : AppTree → ℕ → ℕ
-sender_of app link = from_of (slice_get app.links link)
+sender_of app link = or_zero (option_and_then (λ l. Some l.from) (slice_get app.links link))
 
 -- a deployed module unwrapped a header and a body: it opens an end, or it takes an event
 abbrev pub has_unwrapped : AppTree → ℕ → ℕ → List ℕ → List ℕ → List Made → List Item

@@ -15,6 +15,7 @@ use Rattle.sx_machine.specs.Step.{step}
 use Rattle.sx_machine.specs.Acts.{put, set, take as take_from, sense, irq}
 use Rattle.sx_run.specs.Setting.{Site, Setting, devices_at}
 use Rattle.sx_run.specs.State.{World, Acted}
+use Rattle.sx_run.specs.Observation.{or_zero}
 use Rattle.sx_run.specs.Acts.{only, then_, with_node, at_node, after_step, done_on, new_packet}
 use Rattle.sx_run.specs.Acts.{after_take, after_interrupt, ask, after_answer}
 
@@ -54,14 +55,9 @@ abbrev pub give : World → ℕ → ℕ → Option (List ℕ) → Acted
 give w n at None = only w (item.Skip n ∷ [])
 give w n at (Some bytes) = put_on n at bytes w
 
--- the number, or 0
-abbrev pub or_else : Option ℕ → ℕ
-or_else None = 0
-or_else (Some k) = k
-
 -- a device's index among those of its node
 abbrev pub place_at : Setting → ℕ → ℕ → ℕ
-place_at set n d = or_else (position_from (λ k. k == d) 0 (devices_at n 0 set.app.devices))
+place_at set n d = or_zero (position_from (λ k. k == d) 0 (devices_at n 0 set.app.devices))
 
 -- a sensor gets a value, where there is such a device
 abbrev pub sense_at : Setting → World → ℕ → ℕ → Option AppDevice → Acted

@@ -15,7 +15,7 @@ use Rattle.sx_run.proofs.acts.Asking.{expected}
 use Rattle.sx_run.specs.Ledger.{Made}
 use Rattle.sx_run.specs.Observation.{unless_made}
 use Rattle.sx_run.specs.State.{World, Acted}
-use Rattle.sx_run.specs.Acts.{after_answer, after_denial, after_verdict, attested, attested_at, key_given, keys_given, open_ask, then_, with_deployer}
+use Rattle.sx_run.specs.Acts.{after_answer, after_denial, after_verdict, attested, joined, key_given, keys_given, then_, with_deployer}
 use Rattle.sx_honest.specs.Course.{packet_items}
 use Rattle.sx_setup.proofs.forms.Acting.{AnswerAccepted, with_keys}
 use Rattle.sx_setup.proofs.Packets.{set_key_length}
@@ -66,7 +66,7 @@ answer_accepted set w m k site ask answer sound sited got asked fresh right made
     ((bytes_eq-Decides answer (expected set site 0 ask)).1 right) refl in
     ap (λ o. after_answer set w m 0 o (slice_get w.packets k)) sited
     ∙ ap (after_answer set w m 0 (Some site)) got
-    ∙ ap (λ o. after_verdict set w m site 0 answer (open_ask o)) asked
+    ∙ ap (λ o. after_verdict set w m site 0 answer (joined o)) asked
     ∙ ap (λ o. let last = attested_at o in if accepts set site w.deployer m 0 answer (Some ask) last then attested set w m 0 ask last else after_denial w m) fresh
     ∙ ap (λ b. if b then attested set w m 0 ask None else after_denial w m) first
     ∙ ap (λ b. then_ (record { world = with_deployer w d w.ledger; items = unless_made None b (item.Attested m 0) }) (keys_given set (grants_after set.app d m 0 None))) made

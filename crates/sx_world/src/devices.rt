@@ -3,7 +3,7 @@
 ghost use Rattle.std.specs.Prelude.{◌≡◌, ◌==◌, ◌<◌, ◌≤◌, length, slice_get, slice_index, Some};
 ghost use Rattle.std.specs.List.{position_from};
 ghost use Rattle.sx_mean.specs.declared.apps.AppDevice.{AppDevice as Device};
-ghost use Rattle.sx_run.specs.Run.{or_else};
+ghost use Rattle.sx_run.specs.Observation.{or_zero};
 ghost use Rattle.sx_mean.specs.View.{app_as};
 ghost use Rattle.sx_model.specs.Step.{device_of, drives};
 ghost use Rattle.sx_run.specs.Setting.{devices_at};
@@ -62,7 +62,7 @@ pub(crate) fn is_driver(app: &App, runner: Option<u8>, d: u8) -> bool
 pub(crate) fn place_at(devices: &[AppDevice], n: u8, d: u8) -> u8
     requires device { (x : Device) → slice_get devices.now d ≡ Some x → x.node ≡ n }
     requires within { d < length devices.now }
-    ensures { result ≡ or_else (position_from (λ k. k == d) 0 (devices_at n 0 devices.now)) }
+    ensures { result ≡ or_zero (position_from (λ k. k == d) 0 (devices_at n 0 devices.now)) }
 {
     let mut place = 0;
     for i in 0..d {

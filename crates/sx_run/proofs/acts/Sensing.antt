@@ -20,7 +20,8 @@ use Rattle.sx_run.specs.Setting.{Site, Setting, devices_at, device_number}
 use Rattle.sx_run.specs.Ledger.{Made}
 use Rattle.sx_run.specs.State.{World}
 use Rattle.sx_run.specs.Acts.{with_node, done_on}
-use Rattle.sx_run.specs.Run.{or_else, place_at}
+use Rattle.sx_run.specs.Observation.{or_zero}
+use Rattle.sx_run.specs.Run.{place_at}
 use Rattle.sx_run.specs.Law.{IsSoundSetting}
 use Rattle.sx_run.proofs.tie.Lists.{get_other, get_some, get_within, length_set, some_inj}
 use Rattle.sx_run.proofs.tie.Verdicts.{Going, judge_on, judge, Fares}
@@ -56,7 +57,7 @@ place_is set n d x e same =
   where
     found : (o : Option ℕ) → position_from (λ k. k == d) 0 (devices_at n 0 set.app.devices) ≡ o
         → (position_from (λ k. k == d) 0 (devices_at n 0 set.app.devices) ≡ None → ⊥)
-        → slice_get (devices_at n 0 set.app.devices) (or_else o) ≡ Some d
+        → slice_get (devices_at n 0 set.app.devices) (or_zero o) ≡ Some d
     found None e f = absurd (f e)
     found (Some k) e f =
         let p = position_is (λ k. k == d) 0 (devices_at n 0 set.app.devices) k e in

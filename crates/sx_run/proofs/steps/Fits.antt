@@ -2,7 +2,7 @@
 use Rattle.std.proofs.Common.{◌≡◌, ℕ, zero, suc, ◌+◌, ◌<◌, ◌≤◌, ◌⊎◌, inl, inr, ◌==◌, ◌||◌, Bool}
 use Rattle.std.proofs.Common.{true, false, not, cond, if◌then◌else◌, List, [], ◌∷◌, ◌++◌, length}
 use Rattle.std.proofs.Common.{Option, Some, None, refl, sym, ◌∙◌, ap, subst, arith}
-use Rattle.std.specs.Prelude.{slice_get, slice_index_or, nat_lt, count_by}
+use Rattle.std.specs.Prelude.{slice_get, slice_index_or, nat_lt, count_by, ◌&&◌}
 use Rattle.std.specs.List.{list_any, find}
 use Rattle.std.proofs.lemmas.List.Sums.{sum_by-cons}
 use Rattle.std.proofs.lemmas.Bool.{true≢false, or_parts, and_cases, not-false, cases_eq, cases_lt, ltb-false}
@@ -14,7 +14,7 @@ use Rattle.sx_lang.specs.declared.tree.DeviceKind.TheVariants as declared
 use Rattle.sx_lang.specs.Tree.{Statement, Defines, Assigns, Stores, Chooses, Repeats, Sends, Emits as EmitsValue, Block, Done, Then, HandlerTree, ModuleTree}
 use Rattle.sx_check.specs.Names.{is_device, is_actuator, is_repeated}
 use Rattle.sx_check.specs.Bounds.{statement_emits, block_emits}
-use Rattle.sx_check.specs.Rules.{first_broken, breaks, breaks_duplicate, breaks_kind, emits_nowhere, samples_blindly}
+use Rattle.sx_check.specs.Rules.{first_broken, breaks}
 use Rattle.sx_check.specs.declared.rules.Rule.TheVariants.{Duplicate, Kind}
 use Rattle.sx_mean.specs.declared.events.Act.{Act}
 use Rattle.sx_mean.specs.declared.events.Act.TheVariants.{Send, Emit}
@@ -144,12 +144,15 @@ one_device all (Var x n ∷ ds) r h = one_device all ds (or_parts (is_repeated a
 one_device all (Array x n ∷ ds) r h = one_device all ds (or_parts (is_repeated all (Array x n)) (list_any (is_repeated all) ds) r).1 h
 
 unrepeated : (m : ModuleTree) → breaks m Duplicate ≡ false → list_any (is_repeated m.decls) m.decls ≡ false
-unfolding breaks breaks_duplicate
+unfolding breaks
 unrepeated m h = (or_parts (list_any (is_repeated m.decls) m.decls) _ h).0
 
+unfoldable emits_nowhere : ModuleTree → Bool
+emits_nowhere m = list_any (λ h. block_emits h.body) m.handlers && not (list_any is_actuator m.decls)
+
 emits_somewhere : (m : ModuleTree) → breaks m Kind ≡ false → emits_nowhere m ≡ false
-unfolding breaks breaks_kind
-emits_somewhere m h = (or_parts (samples_blindly m) (emits_nowhere m) (or_parts _ (samples_blindly m || emits_nowhere m) h).1).1
+unfolding breaks emits_nowhere
+emits_somewhere m h = (or_parts _ _ (or_parts _ _ h).1).1
 
 emits_or_not : (m : ModuleTree) → emits_nowhere m ≡ false → (list_any (λ h. block_emits h.body) m.handlers ≡ false) ⊎ (list_any is_actuator m.decls ≡ true)
 unfolding emits_nowhere

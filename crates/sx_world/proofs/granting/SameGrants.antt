@@ -15,7 +15,7 @@ use Rattle.sx_mean.specs.Ends.{sending, receiving, ends_after}
 use Rattle.sx_deployer.specs.Keeping.{Keeping}
 use Rattle.sx_run.specs.Setting.{Setting}
 use Rattle.sx_deployer.specs.Granting.{DeployerState, Grant, grant, grants_of, grant_to, grant_beyond, grants_beyond, grants_after}
-use Rattle.sx_run.specs.Acts.{attested_at}
+use Rattle.sx_run.specs.Acts.{joined}
 use Rattle.sx_world.specs.Granted.{boot_in, grant_if_any, own_at, own_from, across_at, across_from, granted}
 use Rattle.sx_world.specs.Held.{IsKept}
 use Rattle.sx_world.proofs.granting.SameKeys.{boots_taken}
@@ -61,7 +61,7 @@ none_past (suc n) (x ∷ xs) zero h = absurd (omega (arith, h))
 none_past (suc n) (x ∷ xs) (suc i) h = none_past n xs i (omega (arith, h))
 
 -- the boot of a module, of the application or not
-boot_same : (P : ℕ) (xs : List (Option ℕ)) (j : ℕ) (b : Bool) → nat_lt j P ≡ b → (if b then get_or xs j None else None) ≡ attested_at (slice_get (take P xs) j)
+boot_same : (P : ℕ) (xs : List (Option ℕ)) (j : ℕ) (b : Bool) → nat_lt j P ≡ b → (if b then get_or xs j None else None) ≡ joined (slice_get (take P xs) j)
 boot_same P xs j true e = sym (boots_taken P xs j (ltb-true j P e))
 boot_same P xs j false e =
     sym (ap attested_at (none_past P xs j (ltb-false j P e)))
