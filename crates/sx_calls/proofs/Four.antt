@@ -22,7 +22,6 @@ use Rattle.sx_invoke.specs.Progress.{Progress, Returns}
 use Rattle.sx_invoke.specs.Acts.{event_header}
 use Rattle.sx_invoke.specs.Invocation.{invoke}
 use Rattle.sx_image.specs.Image.{private_bytes, public_bytes, progress_at}
-use Rattle.sx_model.specs.Step.{drives}
 use Rattle.sx_run.specs.Setting.{Setting, device_number, is_at_site, windows_at}
 use Rattle.sx_wire.specs.Headers.{is_ask, challenge_in, set_key_header}
 use Rattle.sx_deployer.specs.Granting.{side_number}
@@ -50,6 +49,7 @@ use Rattle.sx_calls.proofs.Calling.{call_returns}
 use Rattle.sx_calls.proofs.KeyGiving.{set_key_returns}
 use Rattle.sx_calls.proofs.Runner.{own_site}
 use Rattle.sx_calls.proofs.Showing.{Shows, acts_show}
+use Rattle.sx_model.specs.State.{contains}
 
 -- a call whose invocation gives this, and whose marks show that
 does : (set : Setting) (w : World) (c : Callee) (e : ℕ) (devices : List Window) (effect : CallEffect)
@@ -182,7 +182,7 @@ sample_called set w c k window sound h low few driver own fresh =
     let driven : c.part.device ≡ Some sensor =
     fits.3.device ∙ ap (λ j. Some (device_number set.app j fits.0)) (sym dep.node) ∙ ap (λ j. Some (device_number set.app n j)) one in
     let mine : is_driver set.app (Some m) sensor ≡ true =
-    ap (λ o. drives (option_and_then (λ (q : PartTree). q.device) o) sensor) h.part ∙ ap (λ o. drives o sensor) driven ∙ eq-eqb sensor sensor refl in
+    ap (λ o. contains (option_and_then (λ (q : PartTree). q.device) o) sensor) h.part ∙ ap (λ o. contains o sensor) driven ∙ eq-eqb sensor sensor refl in
     let index : own_device su c.node.devices ≡ Some k = ap index_in own in
     let em = emits set w c sound h (event.Sample window.value) st.cells in
     let rest : marks_observed set.app n m boot d.marks w.ledger ≡ record { items = map (λ u. item.Out m u) (emitted done.acts); ledger = w.ledger ++ entries_of m d.marks } =

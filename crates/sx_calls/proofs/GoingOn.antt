@@ -2,6 +2,7 @@
 use Rattle.std.proofs.Common.{◌≡◌, ℕ, ◌+◌, ◌*◌, ◌==◌, ◌&&◌, ◌||◌, Bool, true, false, if◌then◌else◌, List, [], ◌∷◌, length, Option, Some, refl, ap, ◌∙◌}
 use Rattle.std.specs.List.{list_any}
 use Rattle.std.proofs.lemmas.List.Folds.{list_any-append}
+use Rattle.std.specs.Prelude.{unwrap_or}
 use Rattle.sx_lang.specs.declared.sides.Side.TheVariants.{To}
 use Rattle.sx_trace.specs.declared.items.Item.{Item}
 use Rattle.sx_trace.specs.declared.items.Item.TheVariants as item
@@ -12,7 +13,7 @@ use Rattle.sx_run.specs.Setting.{device_number}
 use Rattle.sx_wire.specs.Headers.{is_ask, is_set_key_header, is_event_header, link_in, epoch_in, last_in, value_in}
 use Rattle.sx_ledger.specs.Made.{Made, NO_TARGET}
 use Rattle.sx_run.specs.Ledger.{made_entry, is_made}
-use Rattle.sx_run.specs.Observation.{Observed, is_driver, or_zero, unless_made, side_in, has_end, sender_of}
+use Rattle.sx_run.specs.Observation.{Observed, is_driver, unless_made, side_in, has_end, sender_of}
 use Rattle.sx_calls.specs.Shown.{is_stop, mark_observed, marks_observed}
 use Rattle.sx_calls.specs.Laws.{MarksGoOn}
 
@@ -42,12 +43,12 @@ mark_goes_on app n m boot (Unwrapped header body own) ledger =
     (item.Take m (link_in header) (65536 * epoch_in header + last_in header) (value_in body)) refl) refl)
 mark_goes_on app n m boot (Sampled k v) ledger = go (is_driver app (Some m) (device_number app n k))
   where
-    go : (b : Bool) → GoesOn ((if b then item.Read (or_zero (Some m)) v else item.Drain (device_number app n k)) ∷ [])
+    go : (b : Bool) → GoesOn ((if b then item.Read (unwrap_or (Some m) 0) v else item.Drain (device_number app n k)) ∷ [])
     go true = refl
     go false = refl
 mark_goes_on app n m boot (Actuated k v) ledger = go (is_driver app (Some m) (device_number app n k))
   where
-    go : (b : Bool) → GoesOn ((if b then item.Out (or_zero (Some m)) v else item.Raw (device_number app n k) v) ∷ [])
+    go : (b : Bool) → GoesOn ((if b then item.Out (unwrap_or (Some m) 0) v else item.Raw (device_number app n k) v) ∷ [])
     go true = refl
     go false = refl
 

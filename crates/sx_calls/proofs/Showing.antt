@@ -14,7 +14,6 @@ use Rattle.sx_invoke.specs.Protocol.{last_number}
 use Rattle.sx_invoke.specs.Setup.{Setup}
 use Rattle.sx_invoke.specs.ModuleState.{EndState, end_of}
 use Rattle.sx_invoke.specs.Marks.{Mark, Wrapped, Unwrapped, Sampled, Actuated}
-use Rattle.sx_model.specs.Step.{drives}
 use Rattle.sx_run.specs.Setting.{device_number}
 use Rattle.sx_ledger.specs.declared.entry.Maker.TheVariants as maker
 use Rattle.sx_ledger.specs.Made.{Made, NO_TARGET}
@@ -26,6 +25,7 @@ use Rattle.sx_gives.specs.Gives.{index_in, own_device}
 use Rattle.sx_calls.specs.Shown.{marks_observed}
 use Rattle.sx_calls.specs.FourCalls.{emitted, entries_of}
 use Rattle.sx_calls.proofs.Observing.{observed_append}
+use Rattle.sx_model.specs.State.{contains}
 
 pub marks_entries : (m : ℕ) (xs ys : List Mark) → entries_of m (xs ++ ys) ≡ entries_of m xs ++ entries_of m ys
 marks_entries m [] ys = refl
@@ -77,7 +77,7 @@ module _ (app : AppTree) (n m boot : ℕ) where
     emit_shows q v k part driven ledger =
         let d = device_number app n k in
         let mine : is_driver app (Some m) d ≡ true =
-        ap (λ o. drives (option_and_then (λ (q : PartTree). q.device) o) d) part ∙ ap (λ o. drives o d) driven ∙ eq-eqb d d refl in
+        ap (λ o. contains (option_and_then (λ (q : PartTree). q.device) o) d) part ∙ ap (λ o. contains o d) driven ∙ eq-eqb d d refl in
         ap (λ (b : Bool). record { items = (if b then item.Out m v else item.Raw d v) ∷ []; ledger = ledger }) mine
         ∙ ap (λ l. record { items = item.Out m v ∷ []; ledger = l }) (sym (append-nil ledger))
 

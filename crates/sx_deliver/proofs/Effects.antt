@@ -17,7 +17,7 @@ use Rattle.sx_trace.specs.declared.items.Item.{Item}
 use Rattle.sx_machine.specs.State.{State}
 use Rattle.sx_invoke.specs.ModuleState.{EndState}
 use Rattle.sx_run.specs.Setting.{Site, Setting}
-use Rattle.sx_run.specs.Observation.{from_of, sender_of}
+use Rattle.sx_run.specs.Observation.{sender_of}
 use Rattle.sx_run.specs.State.{World}
 use Rattle.sx_run.specs.Law.{IsSoundSetting}
 use Rattle.sx_run.proofs.tie.Lists.{get_some, get_within}
@@ -76,7 +76,7 @@ pub sent_by : (app : AppTree) (m : ℕ) (acts : List Act) (x : Waiting) → Amon
 sent_by app m acts x a =
     let l = acts_leave m app.links acts x a in
     let at : x.link ≡ l.place = (let z = l.at in omega (arith, z)) in
-    ap (λ (i : ℕ). from_of (slice_get app.links i)) at ∙ ap from_of l.there ∙ l.from
+    ap (sender_of app) at ∙ ap Rattle.sx_run.specs.Observation.from_of l.there ∙ l.from
 
 -- a module's node is there
 pub node_there : (set : Setting) → IsSoundSetting set → is_valid set.app ≡ true → (c : Course) (w : World) → Settled set w c → (m : ℕ) (q : PartTree) (site : Site) → slice_get set.app.parts m ≡ Some q

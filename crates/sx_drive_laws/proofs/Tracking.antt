@@ -11,7 +11,6 @@ use Rattle.sx_mean.specs.declared.events.SourceEvent.{SourceEvent}
 use Rattle.sx_mean.specs.declared.events.SourceEvent.TheVariants as event
 use Rattle.sx_mean.specs.Application.{AppTree, PartTree}
 use Rattle.sx_mean.specs.Validity.{is_valid, same_device}
-use Rattle.sx_model.specs.Step.{drives}
 use Rattle.sx_trace.specs.declared.items.Item.{Item}
 use Rattle.sx_trace.specs.declared.items.Item.TheVariants as item
 use Rattle.sx_sched.specs.Lines.{Line, Call, Give, Sense}
@@ -42,6 +41,7 @@ use Rattle.sx_drive_laws.proofs.Playing.{Fares, IsWhole, Plays, Shows, Waits, fa
 use Rattle.sx_drive_laws.proofs.Staying.{each_stay, reads_stay, samples_stay, settles_stay, there_stays}
 use Rattle.sx_drive_laws.proofs.Handing.{made_outs, numbers, numbers_append, receives_fares, rest_of, samples_fares}
 use Rattle.sx_drive_laws.proofs.Enough.{most_lines, still_at}
+use Rattle.sx_model.specs.State.{contains}
 
 -- It stands as a course does after so many readings: the packets of the values on their way wait in order. No event sends more than 16
 -- values.
@@ -82,15 +82,15 @@ turned a b = elim (cases_eq a b) [
   | inr apart ↦ ne_eqb a b apart ∙ sym (ne_eqb b a (λ e. apart (sym e)))
 ]
 
-device_same : (d : ℕ) (o : Option ℕ) → same_device (Some d) o ≡ drives o d
+device_same : (d : ℕ) (o : Option ℕ) → same_device (Some d) o ≡ contains o d
 device_same d None = refl
 device_same d (Some x) = turned d x
 
-pub drivers_same : (d i : ℕ) (qs : List PartTree) → position_from (λ (q : PartTree). same_device (Some d) q.device) i qs ≡ position_from (λ (q : PartTree). drives q.device d) i qs
+pub drivers_same : (d i : ℕ) (qs : List PartTree) → position_from (λ (q : PartTree). same_device (Some d) q.device) i qs ≡ position_from (λ (q : PartTree). contains q.device d) i qs
 drivers_same d i [] = refl
 drivers_same d i (q ∷ qs) =
     ap (λ (b : Bool). cond b (Some i) (position_from (λ (q : PartTree). same_device (Some d) q.device) (i + 1) qs)) (device_same d q.device)
-    ∙ ap (λ (o : Option ℕ). cond (drives q.device d) (Some i) o) (drivers_same d (i + 1) qs)
+    ∙ ap (λ (o : Option ℕ). cond (contains q.device d) (Some i) o) (drivers_same d (i + 1) qs)
 
 module _ (set : Setting) (sound : IsSoundSetting set) (room : HasRoom set) (words : HaveWords set.app) where
   abbrev app : AppTree

@@ -20,9 +20,9 @@ use Rattle.sx_mean.specs.React.{react}
 use Rattle.sx_mean.proofs.ValidApplications.{valid_applications}
 use Rattle.sx_trace.specs.declared.items.Item.{Item}
 use Rattle.sx_trace.specs.declared.items.Item.TheVariants.{Sense, Read, Take, Out}
-use Rattle.sx_model.specs.State.{EndView, FIELDS, Model, Present, Standing, power_on}
-use Rattle.sx_model.specs.Step.{device_of, ◌>>?◌, changed_views, idle, is_word, state_if, step}
-use Rattle.sx_model.specs.Reaction.{field_at, is_from}
+use Rattle.sx_model.specs.State.{EndView, FIELDS, Model, Present, Standing, power_on, contains}
+use Rattle.sx_model.specs.Step.{device_of, ◌>>?◌, changed_views, idle, state_if, step}
+use Rattle.sx_model.specs.Reaction.{field_at}
 use Rattle.sx_model.specs.Epochs.{open_epoch}
 use Rattle.sx_model.specs.Renewal.{takes}
 use Rattle.sx_model.specs.Legal.{Legal, after}
@@ -31,6 +31,7 @@ use Rattle.sx_model.proofs.Along.{some_of}
 use Rattle.sx_model.proofs.Steps.{Cases, by_step}
 use Rattle.sx_lists.proofs.Lists.{get_same}
 use Rattle.sx_model.proofs.ReadsAreSensed.{reads_are_sensed}
+use Rattle.sx_model.specs.Changes.{is_from}
 use Rattle.sx_explain.specs.Causes.{Among, CausedBy, HasCauses, IsCause, LeadsToSense, OutCaused, TakeCaused, appended, event_of, gives, latest, word_of}
 use Rattle.sx_explain.proofs.After.{idle_is, some_next}
 use Rattle.sx_explain.proofs.Emitted.{outs_owed}
@@ -241,7 +242,7 @@ sent_over_link app p c epoch v views acts l valid there h =
 
 -- What is there where a word is taken.
 
-word_is : (v : ℕ) (o : Option ℕ) → is_word v o ≡ true → o ≡ Some v
+word_is : (v : ℕ) (o : Option ℕ) → contains o v ≡ true → o ≡ Some v
 word_is v None h = absurd cc
 word_is v (Some w) h = ap (λ (w : ℕ). Some w) (eqb-true w v h)
 
@@ -258,7 +259,7 @@ taken_word app s t m c i v h =
     let l = some_next (slice_get app.links c) _ t p.2 in
     let words = some_next (slice_get s.sent (c + 256 * (i / 65536))) _ t l.2 in
     let views = some_next (changed_views (takes (i / 65536) (i % 65536)) c To (ends_of app m) p.0.ends) _ t words.2 in
-    let test = if_state (is_word v (slice_get words.0 (i % 65536))) _ t views.2 in
+    let test = if_state (contains (slice_get words.0 (i % 65536)) v) _ t views.2 in
     (l.0, l.1, ap (λ o. o >>? (λ ws. slice_get ws (i % 65536))) words.1 ∙ word_is v (slice_get words.0 (i % 65536)) test)
 
 -- Where a legal trace stands before an item.

@@ -19,13 +19,14 @@ use Rattle.sx_trace.specs.declared.items.Cause.{Cause}
 use Rattle.sx_trace.specs.declared.items.Item.{Item}
 use Rattle.sx_trace.specs.declared.items.Item.TheVariants.{Reset, Protect, Sense, Read, Drain, Ask, Attested, Denied, Vouch, Open, Take, Out, Raw, Done, Packet, Forged, Busy, Skip, Budget}
 use Rattle.sx_model.specs.State.{EndView, Model, Pending, Present, Standing, owing, power_on}
-use Rattle.sx_model.specs.Step.{◌>>?◌, absent_at, first_present, step, with_pending, without_first}
+use Rattle.sx_model.specs.Step.{◌>>?◌, absent_at, first_present, step, without_first}
 use Rattle.sx_model.specs.Reaction.{Flow, MOST_SENT, all_done, field_of, sends, sent_over, sent_to}
 use Rattle.sx_model.specs.Legal.{Legal, after}
 use Rattle.sx_model.specs.Consequences.{ends_event, is_part_at}
 use Rattle.sx_model.proofs.Along.{Keeps, some_of, step_of}
 use Rattle.sx_model.proofs.Steps.{Cases, by_step, on_out}
 use Rattle.sx_model.proofs.Written.{at_set}
+use Rattle.sx_model.specs.Changes.{with_pending}
 use Rattle.sx_explain.specs.Causes.{Reacts, emits_of, event_of, out_of, outs_of}
 use Rattle.sx_explain.proofs.After.{after_more, idle_is}
 

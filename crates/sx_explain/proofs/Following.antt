@@ -17,13 +17,14 @@ use Rattle.sx_trace.specs.declared.items.Item.{Item}
 use Rattle.sx_trace.specs.declared.items.Item.TheVariants.{Sense, Read, Take, Out, Forged}
 use Rattle.sx_model.specs.State.{EndView, FIELDS, Model, power_on}
 use Rattle.sx_model.specs.Step.{device_of, ◌>>?◌, step}
-use Rattle.sx_model.specs.Reaction.{Flow, MOST_SENT, all_done, field_of, is_from, sends, sent_over, sent_to}
+use Rattle.sx_model.specs.Reaction.{Flow, MOST_SENT, all_done, field_of, sends, sent_over, sent_to}
 use Rattle.sx_model.specs.Legal.{after, before, is_forged}
 use Rattle.sx_model.specs.Consequences.{begins_event}
 use Rattle.sx_model.proofs.Along.{some_of}
 use Rattle.sx_model.proofs.Steps.{Cases, by_step}
 use Rattle.sx_lists.proofs.Lists.{get_same, get_some}
 use Rattle.sx_model.proofs.Written.{get_other}
+use Rattle.sx_model.specs.Changes.{is_from}
 use Rattle.sx_explain.specs.Causes.{appended, cause, gives, latest, or_else, word_of}
 use Rattle.sx_explain.specs.Filling.{IsFullAt, at_field, full}
 use Rattle.sx_explain.specs.declared.judge.Judged.TheVariants as verdict

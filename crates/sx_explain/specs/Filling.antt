@@ -6,8 +6,8 @@ use Rattle.sx_mean.specs.declared.apps.Link.{Link}
 use Rattle.sx_mean.specs.declared.events.End.{End}
 use Rattle.sx_mean.specs.Ends.{ends_after, receiving, sending}
 use Rattle.sx_model.specs.State.{Model}
-use Rattle.sx_model.specs.Reaction.{is_from}
 use Rattle.sx_model.specs.Epochs.{open_epoch}
+use Rattle.sx_model.specs.Changes.{is_from}
 
 -- the list of a connection field
 abbrev pub at_field : List (List ℕ) → ℕ → List ℕ

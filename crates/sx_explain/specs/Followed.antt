@@ -11,10 +11,10 @@ use Rattle.sx_trace.specs.declared.items.Item.{Item}
 use Rattle.sx_trace.specs.declared.items.Item.TheVariants.{Sense, Read, Take, Out, Forged}
 use Rattle.sx_model.specs.State.{FIELDS, Model, power_on}
 use Rattle.sx_model.specs.Step.{device_of, ◌>>?◌}
-use Rattle.sx_model.specs.Reaction.{is_from}
 use Rattle.sx_model.specs.Epochs.{open_epoch}
 use Rattle.sx_model.specs.Legal.{after, before, is_forged}
 use Rattle.sx_model.specs.Consequences.{begins_event}
+use Rattle.sx_model.specs.Changes.{is_from}
 use Rattle.sx_explain.specs.declared.numbers.Latest.{Latest}
 use Rattle.sx_explain.specs.Causes.{appended, gives, latest, word_of}
 use Rattle.sx_explain.specs.declared.judge.Judged.{Judged}

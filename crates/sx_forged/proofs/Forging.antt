@@ -2,6 +2,8 @@
 use Rattle.std.proofs.Common.{◌≡◌, ℕ, ◌+◌, ◌*◌, ◌==◌, ◌⊎◌, inl, inr, Bool, true, false, cond, ◌&&◌, bytes_eq, List, [], ◌∷◌, ◌++◌, length, take, Option, Some, None, refl}
 use Rattle.std.specs.Prelude.{slice_get}
 use Rattle.std.proofs.lemmas.Bool.{and_parts}
+use Rattle.std.specs.Option.{option_flatten}
+use Rattle.std.specs.Prelude.{unwrap_or}
 use Rattle.sx_lang.specs.declared.sides.Side.TheVariants.{To}
 use Rattle.sx_trace.specs.declared.items.Item.{Item}
 use Rattle.sx_trace.specs.declared.items.Item.TheVariants as item
@@ -20,9 +22,9 @@ use Rattle.sx_wire.specs.Headers.{is_ask, is_set_key_header, is_event_header, li
 use Rattle.sx_deployer.specs.Granting.{Grant, grants_after}
 use Rattle.sx_run.specs.Deployer.{key_of, accepts, after_acceptance}
 use Rattle.sx_run.proofs.acts.Asking.{expected}
-use Rattle.sx_run.specs.Observation.{Observed, is_driver, or_zero, read_item, write_item, touch_items, has_wrapped, unless_made, side_in, has_end, sender_of, has_unwrapped, event_seen}
+use Rattle.sx_run.specs.Observation.{Observed, is_driver, read_item, write_item, touch_items, has_wrapped, unless_made, side_in, has_end, sender_of, has_unwrapped, event_seen}
 use Rattle.sx_run.specs.State.{World}
-use Rattle.sx_run.specs.Acts.{with_deployer, key_given, keys_given, attested, joined, after_denial, after_verdict, after_answer}
+use Rattle.sx_run.specs.Acts.{with_deployer, key_given, keys_given, attested, after_denial, after_verdict, after_answer}
 use Rattle.sx_run.proofs.tie.Entries.{bytes_same}
 use Rattle.sx_forged.specs.Moments.{IsAmong}
 
@@ -35,14 +37,14 @@ among_append i (x ∷ xs) ys h = elim h [ inl e ↦ inl (inl e) | inr r ↦ elim
 read_not : (who : Option ℕ) (app : AppTree) (runner : Option ℕ) (d v : ℕ) → read_item app runner d v ≡ item.Forged who → ⊥
 read_not who app runner d v e = by (is_driver app runner d) e
   where
-    by : (b : Bool) → cond b (item.Read (or_zero runner) v) (item.Drain d) ≡ item.Forged who → ⊥
+    by : (b : Bool) → cond b (item.Read (unwrap_or runner 0) v) (item.Drain d) ≡ item.Forged who → ⊥
     by true e = cc
     by false e = cc
 
 write_not : (who : Option ℕ) (app : AppTree) (runner : Option ℕ) (d v : ℕ) → write_item app runner d v ≡ item.Forged who → ⊥
 write_not who app runner d v e = by (is_driver app runner d) e
   where
-    by : (b : Bool) → cond b (item.Out (or_zero runner) v) (item.Raw d v) ≡ item.Forged who → ⊥
+    by : (b : Bool) → cond b (item.Out (unwrap_or runner 0) v) (item.Raw d v) ≡ item.Forged who → ⊥
     by true e = cc
     by false e = cc
 
@@ -148,29 +150,29 @@ packets_not who set (g ∷ gs) w h =
 pub record AnswerForged (set : Setting) (w : World) (m boot : ℕ) (site : Site) (answer : List ℕ) (who : Option ℕ) : Type 0 where
   pub deployer : who ≡ None
   pub ask : List ℕ
-  pub asked : joined (slice_get w.deployer.open_asks m) ≡ Some ask
+  pub asked : option_flatten (slice_get w.deployer.open_asks m) ≡ Some ask
   pub whole : answer ≡ take 16 (set.mac (key_of set site boot) (0x54 ∷ length ask ∷ (ask ++ [])))
   pub unmade : is_made w.ledger (made_entry (maker.Module m) NO_TARGET boot ask []) ≡ false
 
 pub answers_forge : (set : Setting) (w : World) (m boot : ℕ) (site : Site) (answer : List ℕ) (who : Option ℕ)
     → IsAmong (item.Forged who) (after_answer set w m boot (Some site) (Some answer)).items → AnswerForged set w m boot site answer who
 unfolding wrap_tag crypt
-answers_forge set w m boot site answer who h = verdict (joined (slice_get w.deployer.open_asks m)) refl h
+answers_forge set w m boot site answer who h = verdict (option_flatten (slice_get w.deployer.open_asks m)) refl h
   where
-    verdict : (o : Option (List ℕ)) → joined (slice_get w.deployer.open_asks m) ≡ o
+    verdict : (o : Option (List ℕ)) → option_flatten (slice_get w.deployer.open_asks m) ≡ o
         → IsAmong (item.Forged who) (after_verdict set w m site boot answer o).items → AnswerForged set w m boot site answer who
     verdict None e h = elim h [ inl f ↦ absurd cc | inr r ↦ absurd r ]
-    verdict (Some ask) e h = by (accepts set site w.deployer m boot answer (Some ask) (joined (slice_get w.deployer.attested m))) refl h
+    verdict (Some ask) e h = by (accepts set site w.deployer m boot answer (Some ask) (option_flatten (slice_get w.deployer.attested m))) refl h
       where
         accepted : (b : Bool) → is_made w.ledger (made_entry (maker.Module m) NO_TARGET boot ask []) ≡ b
             → IsAmong (item.Forged who) (unless_made None b (item.Attested m boot)) → (who ≡ None) × (b ≡ false)
         accepted b f h = forged_unless who None b (item.Attested m boot) (λ e. absurd cc) h
 
-        by : (b : Bool) → accepts set site w.deployer m boot answer (Some ask) (joined (slice_get w.deployer.attested m)) ≡ b
-            → IsAmong (item.Forged who) (cond b (attested set w m boot ask (joined (slice_get w.deployer.attested m))) (after_denial w m)).items → AnswerForged set w m boot site answer who
+        by : (b : Bool) → accepts set site w.deployer m boot answer (Some ask) (option_flatten (slice_get w.deployer.attested m)) ≡ b
+            → IsAmong (item.Forged who) (cond b (attested set w m boot ask (option_flatten (slice_get w.deployer.attested m))) (after_denial w m)).items → AnswerForged set w m boot site answer who
         by false f h = elim h [ inl f ↦ absurd cc | inr r ↦ absurd r ]
         by true f h =
-            let last = joined (slice_get w.deployer.attested m) in
+            let last = option_flatten (slice_get w.deployer.attested m) in
             let d = after_acceptance set.app.links w.deployer m boot last in
             let made = is_made w.ledger (made_entry (maker.Module m) NO_TARGET boot ask []) in
             elim (among_append (item.Forged who) (unless_made None made (item.Attested m boot)) (keys_given set (grants_after set.app d m boot last) (with_deployer w d w.ledger)).items h) [

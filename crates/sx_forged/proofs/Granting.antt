@@ -1,6 +1,7 @@
 -- Worlds that differ in the keys of nodes alone, and what the deployer does in them.
 use Rattle.std.proofs.Common.{◌≡◌, ℕ, zero, suc, Bool, true, false, cond, ◌&&◌, bytes_eq, List, [], ◌∷◌, ◌++◌, Option, Some, None, refl, sym, ◌∙◌, ap, subst}
 use Rattle.std.specs.Prelude.{slice_get, slice_set}
+use Rattle.std.specs.Option.{option_flatten}
 use Rattle.sx_trace.specs.declared.items.Item.TheVariants as item
 use Rattle.sx_ledger.specs.declared.entry.Maker.TheVariants as maker
 use Rattle.sx_tag.specs.Mac.{Mac}
@@ -16,7 +17,7 @@ use Rattle.sx_run.specs.Deployer.{key_of, accepts, after_acceptance, connection_
 use Rattle.sx_run.proofs.acts.Asking.{expected}
 use Rattle.sx_run.specs.State.{World, Acted}
 use Rattle.sx_run.specs.Observation.{unless_made}
-use Rattle.sx_run.specs.Acts.{only, then_, new_packet, with_deployer, key_given, keys_given, attested, after_denial, joined, after_verdict, after_answer}
+use Rattle.sx_run.specs.Acts.{only, then_, new_packet, with_deployer, key_given, keys_given, attested, after_denial, after_verdict, after_answer}
 use Rattle.sx_forged.specs.Tags.{SameTags, rekeyed, AgreeOnTags}
 use Rattle.sx_forged.proofs.Instructions.{wrapped_same}
 use Rattle.sx_forged.proofs.Steps.{LikeState}
@@ -129,7 +130,7 @@ module _ (a : Setting) (nac : Mac) (keys : List (List ℕ)) (secret : List ℕ) 
       → LikeActed a.mac nac (after_verdict a w m site boot answer o) (after_verdict b (with_nodes w ns) m site boot answer o)
   verdict_like w ns m site boot answer None h = (refl, record { rest = refl; nodes = h })
   verdict_like w ns m site boot answer (Some ask) h =
-      let last = joined (slice_get w.deployer.attested m) in
+      let last = option_flatten (slice_get w.deployer.attested m) in
       let t = accepts a site w.deployer m boot answer (Some ask) last in
       subst (λ (p : Bool). LikeActed a.mac nac (cond t (attested a w m boot ask last) (after_denial w m)) (cond p (attested b (with_nodes w ns) m boot ask last) (after_denial (with_nodes w ns) m)))
       (sym (accepts_same site w.deployer m boot answer (Some ask) last))
@@ -140,4 +141,4 @@ module _ (a : Setting) (nac : Mac) (keys : List (List ℕ)) (secret : List ℕ) 
       → LikeActed a.mac nac (after_answer a w m boot o p) (after_answer b (with_nodes w ns) m boot o p)
   answer_like w ns m boot None p h = (refl, record { rest = refl; nodes = h })
   answer_like w ns m boot (Some site) None h = (refl, record { rest = refl; nodes = h })
-  answer_like w ns m boot (Some site) (Some answer) h = verdict_like w ns m site boot answer (joined (slice_get w.deployer.open_asks m)) h
+  answer_like w ns m boot (Some site) (Some answer) h = verdict_like w ns m site boot answer (option_flatten (slice_get w.deployer.open_asks m)) h

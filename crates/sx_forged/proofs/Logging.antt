@@ -2,6 +2,7 @@
 use Rattle.std.proofs.Common.{◌≡◌, ℕ, ◌==◌, inl, inr, Bool, true, false, cond, ◌&&◌, List, [], ◌∷◌, ◌++◌, length, Option, Some, None, Result, Ok, Err, refl, sym, subst, arith}
 use Rattle.std.specs.Prelude.{slice_get}
 use Rattle.std.proofs.lemmas.Bool.{true≢false, and_parts, eqb-true}
+use Rattle.std.specs.Option.{option_flatten}
 use Rattle.sx_ledger.specs.declared.entry.Maker.TheVariants as maker
 use Rattle.sx_mean.specs.declared.apps.AppDevice.{AppDevice}
 use Rattle.sx_machine.specs.declared.kinds.Event.{Event}
@@ -18,7 +19,7 @@ use Rattle.sx_deployer.specs.Granting.{Grant, grants_after}
 use Rattle.sx_run.specs.Deployer.{set_key_entry, after_acceptance, accepts}
 use Rattle.sx_run.specs.Observation.{Observed, has_wrapped, event_seen, sender_of}
 use Rattle.sx_run.specs.State.{World, Acted, switched_on}
-use Rattle.sx_run.specs.Acts.{at_node, after_step, with_deployer, key_given, keys_given, attested, joined, after_take, after_interrupt, after_verdict, after_answer, after_denial}
+use Rattle.sx_run.specs.Acts.{at_node, after_step, with_deployer, key_given, keys_given, attested, after_take, after_interrupt, after_verdict, after_answer, after_denial}
 use Rattle.sx_run.specs.Run.{sense_at, give}
 use Rattle.sx_run.proofs.tie.Entries.{made_behind}
 use Rattle.sx_guard.specs.Happening.{Happening, Begin, Step, Put, Set, Take, Give, Forge, Sense, Irq, Reset, Ask, Answer, Show, done}
@@ -86,17 +87,17 @@ keys_logged set (g ∷ gs) w h = keys_logged set gs (key_given set w g (slice_ge
 answer_logged : (set : Setting) (w : World) (m boot : ℕ) (o : Option Site) (p : Option (List ℕ)) → AllLogged set w.ledger → AllLogged set (after_answer set w m boot o p).world.ledger
 answer_logged set w m boot None p h = h
 answer_logged set w m boot (Some site) None h = h
-answer_logged set w m boot (Some site) (Some answer) h = verdict (joined (slice_get w.deployer.open_asks m))
+answer_logged set w m boot (Some site) (Some answer) h = verdict (option_flatten (slice_get w.deployer.open_asks m))
   where
-    by : (ask : List ℕ) (b : Bool) → AllLogged set (cond b (attested set w m boot ask (joined (slice_get w.deployer.attested m))) (after_denial w m)).world.ledger
+    by : (ask : List ℕ) (b : Bool) → AllLogged set (cond b (attested set w m boot ask (option_flatten (slice_get w.deployer.attested m))) (after_denial w m)).world.ledger
     by ask true =
-        let d = after_acceptance set.app.links w.deployer m boot (joined (slice_get w.deployer.attested m)) in
-        keys_logged set (grants_after set.app d m boot (joined (slice_get w.deployer.attested m))) (with_deployer w d w.ledger) h
+        let d = after_acceptance set.app.links w.deployer m boot (option_flatten (slice_get w.deployer.attested m)) in
+        keys_logged set (grants_after set.app d m boot (option_flatten (slice_get w.deployer.attested m))) (with_deployer w d w.ledger) h
     by ask false = h
 
     verdict : (o : Option (List ℕ)) → AllLogged set (after_verdict set w m site boot answer o).world.ledger
     verdict None = h
-    verdict (Some ask) = by ask (accepts set site w.deployer m boot answer (Some ask) (joined (slice_get w.deployer.attested m)))
+    verdict (Some ask) = by ask (accepts set site w.deployer m boot answer (Some ask) (option_flatten (slice_get w.deployer.attested m)))
 
 -- what deployed code wraps in the next step of a node
 abbrev pub NextWraps : Setting → World → Type 0

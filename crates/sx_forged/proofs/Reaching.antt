@@ -3,6 +3,7 @@ use Rattle.std.proofs.Common.{◌≡◌, ℕ, zero, suc, ◌+◌, ◌-◌, ◌/�
 use Rattle.std.proofs.Common.{Option, Some, None, refl, sym, ◌∙◌, ap, subst, arith}
 use Rattle.std.specs.Prelude.{slice_get, slice_set, Result, Ok, Err}
 use Rattle.std.proofs.lemmas.Bool.{eqb-true, cases_eq}
+use Rattle.std.specs.Option.{option_flatten}
 use Rattle.sx_sched.specs.Lines as line
 use Rattle.sx_sched.specs.Lines.{Line}
 use Rattle.sx_trace.specs.declared.items.Item.TheVariants as item
@@ -19,7 +20,7 @@ use Rattle.sx_run.specs.Setting.{Setting, Site, windows_at}
 use Rattle.sx_run.specs.State.{World, Acted, nodes_from, switched_on}
 use Rattle.sx_deployer.specs.Granting.{Grant, grants_after}
 use Rattle.sx_run.specs.Deployer.{list_at, after_acceptance}
-use Rattle.sx_run.specs.Acts.{at_node, with_deployer, key_given, keys_given, attested, joined, after_take, after_interrupt, after_verdict, after_answer, after_denial}
+use Rattle.sx_run.specs.Acts.{at_node, with_deployer, key_given, keys_given, attested, after_take, after_interrupt, after_verdict, after_answer, after_denial}
 use Rattle.sx_run.specs.Run.{place_at, sense_at, give, protect_registers, call_registers, FINISH_STEPS}
 use Rattle.sx_run.specs.Law.{IsSoundSetting, LineInForm, LinesInForm, devices_of}
 use Rattle.sx_run.proofs.tie.Lists.{some_inj, get_other, get_within, get_some}
@@ -69,16 +70,16 @@ keys_keep set (g ∷ gs) w = keys_keep set gs (key_given set w g (slice_get set.
 pub answer_keeps : (set : Setting) (w : World) (m boot : ℕ) (o : Option Site) (p : Option (List ℕ)) → (after_answer set w m boot o p).world.nodes ≡ w.nodes
 answer_keeps set w m boot None p = refl
 answer_keeps set w m boot (Some site) None = refl
-answer_keeps set w m boot (Some site) (Some answer) = verdict (joined (slice_get w.deployer.open_asks m))
+answer_keeps set w m boot (Some site) (Some answer) = verdict (option_flatten (slice_get w.deployer.open_asks m))
   where
     verdict : (o : Option (List ℕ)) → (after_verdict set w m site boot answer o).world.nodes ≡ w.nodes
     verdict None = refl
-    verdict (Some ask) = by (Rattle.sx_run.specs.Deployer.accepts set site w.deployer m boot answer (Some ask) (joined (slice_get w.deployer.attested m)))
+    verdict (Some ask) = by (Rattle.sx_run.specs.Deployer.accepts set site w.deployer m boot answer (Some ask) (option_flatten (slice_get w.deployer.attested m)))
       where
-        by : (b : Bool) → (cond b (attested set w m boot ask (joined (slice_get w.deployer.attested m))) (after_denial w m)).world.nodes ≡ w.nodes
+        by : (b : Bool) → (cond b (attested set w m boot ask (option_flatten (slice_get w.deployer.attested m))) (after_denial w m)).world.nodes ≡ w.nodes
         by true =
-            let d = after_acceptance set.app.links w.deployer m boot (joined (slice_get w.deployer.attested m)) in
-            keys_keep set (grants_after set.app d m boot (joined (slice_get w.deployer.attested m))) (with_deployer w d w.ledger)
+            let d = after_acceptance set.app.links w.deployer m boot (option_flatten (slice_get w.deployer.attested m)) in
+            keys_keep set (grants_after set.app d m boot (option_flatten (slice_get w.deployer.attested m))) (with_deployer w d w.ledger)
         by false = refl
 
 module _ (set : Setting) (w : World) where

@@ -1,7 +1,7 @@
 -- What an invocation wraps: answers under its own key, and events of connections that it sends on.
 use Rattle.std.proofs.Common.{inl, inr, ◌⊎◌, ◌≡◌, ℕ, zero, suc, ◌==◌, true, false, ◌&&◌, ◌||◌, not, if◌then◌else◌, List, [], ◌∷◌, ◌++◌, length}
 use Rattle.std.proofs.Common.{take, drop, Option, Some, None, Result, Ok, Err, refl, sym, ◌∙◌, ap, subst, arith}
-use Rattle.std.specs.Prelude.{nat_lt, option_and_then, slice_get}
+use Rattle.std.specs.Prelude.{nat_lt, slice_get}
 use Rattle.std.proofs.lemmas.Bool.{true≢false, cond_both}
 use Rattle.sx_lang.specs.declared.sides.Side.{Side}
 use Rattle.sx_lang.specs.declared.sides.Side.TheVariants.{From, To}
@@ -178,4 +178,4 @@ sent_sender app m k e g side =
     let ra = r.at in
     let at : e.link ≡ r.place = omega (arith, ra) in
     let ends = subst (λ (s : Side). Rattle.sx_run.proofs.tie.Ends.EndOf m s e.port r.link) side r.ends in
-    ap (λ o. Rattle.sx_run.specs.Observation.or_zero (option_and_then (λ l. Some l.from) o)) (ap (slice_get app.links) at ∙ r.there) ∙ ends.0
+    ap Rattle.sx_run.specs.Observation.from_of (ap (slice_get app.links) at ∙ r.there) ∙ ends.0

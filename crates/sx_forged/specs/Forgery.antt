@@ -2,6 +2,7 @@
 use Rattle.std.specs.Prelude.{◌≡◌, ℕ, true, false, ◌≤◌, ◌⊎◌, List, [], ◌∷◌, ◌++◌, length, take}
 use Rattle.std.specs.Prelude.{slice_get}
 use Rattle.std.specs.Prelude.{Option, Some, None}
+use Rattle.std.specs.Option.{option_flatten}
 use Rattle.sx_trace.specs.declared.items.Item.{Item}
 use Rattle.sx_trace.specs.declared.items.Item.TheVariants as item
 use Rattle.sx_lang.specs.declared.sides.Side.TheVariants.{To}
@@ -18,7 +19,6 @@ use Rattle.sx_wire.specs.Headers.{is_set_key_header, is_event_header, link_in, e
 use Rattle.sx_run.specs.Law.{IsSoundSetting, LinesInForm}
 use Rattle.sx_run.specs.Run.{run}
 use Rattle.sx_run.specs.State.{World, switched_on}
-use Rattle.sx_run.specs.Acts.{joined}
 use Rattle.sx_run.specs.Observation.{has_end}
 use Rattle.sx_forged.specs.Moments.{Moment, moment, FirstForged, NoForged}
 
@@ -58,7 +58,8 @@ pub data CallsFor (set : Setting) (w : World) : Option ℕ → List ℕ → KeyN
   Takes : (m : ℕ) (header : List ℕ) → is_event_header header ≡ true
       → has_end set.app m (link_in header) To ≡ true
       → CallsFor set w (Some m) header (OfLink (link_in header) (epoch_in header))
-  Answers : (m boot : ℕ) (ask : List ℕ) → joined (slice_get w.deployer.open_asks m) ≡ Some ask
+  Answers : (m boot : ℕ) (ask : List ℕ)
+      → option_flatten (slice_get w.deployer.open_asks m) ≡ Some ask
       → CallsFor set w None ask (OfModule m boot)
 
 -- the tag stands in the memory of a node, outside all private sections, or it is a packet

@@ -1,6 +1,7 @@
 -- What happens in a run is an act on one node, or touches none.
 use Rattle.std.proofs.Common.{◌≡◌, ℕ, ◌+◌, ◌⊎◌, inl, inr, Bool, true, false, if◌then◌else◌, List, [], ◌∷◌, ◌++◌, length, Option, Some, None, Result, Ok, Err, refl, sym, ◌∙◌, ap, subst}
 use Rattle.std.specs.Prelude.{slice_get, slice_set}
+use Rattle.std.specs.Option.{option_flatten}
 use Rattle.sx_trace.specs.declared.items.Item.{Item}
 use Rattle.sx_trace.specs.declared.items.Item.TheVariants as item
 use Rattle.sx_trace.specs.declared.items.Cause.TheVariants.{Asked}
@@ -32,8 +33,7 @@ use Rattle.sx_run.specs.Observation.{Observed, observed, unless_made}
 use Rattle.sx_run.specs.State.{World, Acted}
 use Rattle.sx_run.specs.Acts.{only, then_, at_node, after_step, refused_item, or_refused, done_on}
 use Rattle.sx_run.specs.Acts.{after_take, after_interrupt, with_deployer, key_given, keys_given}
-use Rattle.sx_run.specs.Acts.{attested, after_denial, after_verdict, after_answer, joined}
-use Rattle.sx_run.specs.Acts.{joined}
+use Rattle.sx_run.specs.Acts.{attested, after_denial, after_verdict, after_answer}
 use Rattle.sx_run.specs.Run.{place_at, sense_at, give, put_on}
 use Rattle.sx_run.proofs.steps.Stretch.{set_same}
 use Rattle.sx_guard.specs.Happening.{Happening, Begin, Step, Put, Set, Take, Give, Forge, Sense, Irq, Reset, Ask, Answer, Show, done}
@@ -351,7 +351,7 @@ verdict_still : (set : Setting) (w : World) (m : ℕ) (site : Site) (boot : ℕ)
     → after_verdict set (with_nodes w ns) m site boot answer o ≡ renoded (after_verdict set w m site boot answer o) ns
 verdict_still set w m site boot answer None ns = refl
 verdict_still set w m site boot answer (Some bytes) ns =
-    let last = joined (slice_get w.deployer.attested m) in
+    let last = option_flatten (slice_get w.deployer.attested m) in
     if_still (accepts set site w.deployer m boot answer (Some bytes) last) (attested set w m boot bytes last)
     (after_denial w m) ns (attested set (with_nodes w ns) m boot bytes last) (after_denial (with_nodes w ns) m)
     (attested_still set w m boot bytes last ns) refl
@@ -360,7 +360,7 @@ answer_still : (set : Setting) (w : World) (m boot : ℕ) (o : Option Site) (p :
     → after_answer set (with_nodes w ns) m boot o p ≡ renoded (after_answer set w m boot o p) ns
 answer_still set w m boot None p ns = refl
 answer_still set w m boot (Some site) None ns = refl
-answer_still set w m boot (Some site) (Some answer) ns = verdict_still set w m site boot answer (joined (slice_get w.deployer.open_asks m)) ns
+answer_still set w m boot (Some site) (Some answer) ns = verdict_still set w m site boot answer (option_flatten (slice_get w.deployer.open_asks m)) ns
 
 pub kind : (set : Setting) (x : Happening) (w : World) → Kind set.mac x w (λ ns. done set x (with_nodes w ns))
 kind set Begin w = inl (record { base = done set Begin w; is = λ ns. refl })

@@ -18,7 +18,7 @@ use Rattle.sx_trace.specs.declared.items.Item.{Item}
 use Rattle.sx_trace.specs.declared.items.Item.TheVariants as item
 use Rattle.sx_model.specs.State.{FIELDS, Model, Present, Reading, Standing, power_on}
 use Rattle.sx_model.specs.Reaction.{flow_of}
-use Rattle.sx_model.specs.Step.{is_fresh_with, kind_is, reacts, step, with_device}
+use Rattle.sx_model.specs.Step.{kind_is, reacts, step, with_device}
 use Rattle.sx_model.specs.Legal.{after}
 use Rattle.sx_honest.specs.Plain.{Plain, Sampling, Waiting, acts_emit, acts_send, reacted, reaction}
 use Rattle.sx_honest.specs.Course.{Course, IsSampling, acts_items, count_over, delivered, packet_items, packets_so_far, sensed, words_over}
@@ -30,6 +30,7 @@ use Rattle.sx_honest.proofs.Sending.{Comes, SentAs, comes}
 use Rattle.sx_honest.proofs.Events.{event_done, event_ran, idle_as, ran_first, ran_on, read_step, small, take_step}
 use Rattle.sx_honest.proofs.Views.{other_views, taken_views}
 use Rattle.sx_model.proofs.Written.{at_set, get_other}
+use Rattle.sx_model.specs.Changes.{is_fresh_with}
 use Rattle.sx_lists.proofs.Lists.{get_same, get_some, get_mid}
 
 -- there are fields for each connection

@@ -20,7 +20,6 @@ use Rattle.sx_mean.specs.Validity.{has_port, is_port, is_valid}
 use Rattle.sx_mean.specs.Ends.{ends_of}
 use Rattle.sx_mean.specs.Valid.{IsTied}
 use Rattle.sx_mean.proofs.ValidApplications.{valid_applications}
-use Rattle.sx_model.specs.Step.{drives}
 use Rattle.sx_trace.specs.declared.items.Item.{Item}
 use Rattle.sx_trace.specs.declared.items.Item.TheVariants as item
 use Rattle.sx_honest.specs.Plain.{MOST_DELIVERIES, Output, Plain, Sampling, Waiting, act_sends, acts_emit, acts_send, delivers, driver_of, is_still, oldest}
@@ -30,6 +29,7 @@ use Rattle.sx_honest.specs.Course.{part_items, parts_items, played, sensed, sett
 use Rattle.sx_honest.specs.Told.{is_well, numbered, outputs_of, put_out, taken_by, takes_of}
 use Rattle.sx_honest.proofs.Lists.{all-append, found_at, numbered-push, put-outs, told-outs, told-packets, words-append}
 use Rattle.sx_honest.proofs.Course.{Keeps, played_keeps, total}
+use Rattle.sx_model.specs.State.{contains}
 
 -- a value waits on a connection that is there
 abbrev pub IsLinked : AppTree → Waiting → Type 0
@@ -92,11 +92,11 @@ pub record Drives (app : AppTree) (d p : ℕ) : Type 0 where
 
 pub driver : (app : AppTree) (d p : ℕ) → driver_of app d ≡ Some p → Drives app d p
 driver app d p e =
-    let f = found_at (λ (q : PartTree). drives q.device d) 0 p app.parts e in
+    let f = found_at (λ (q : PartTree). contains q.device d) 0 p app.parts e in
     let is : p ≡ f.place = (let s = f.is in omega arith) in
     record { part = f.found; there = subst (λ k. slice_get app.parts k ≡ Some f.found) (sym is) f.there; device = same f.found.device f.passes }
   where
-    same : (o : Option ℕ) → drives o d ≡ true → o ≡ Some d
+    same : (o : Option ℕ) → contains o d ≡ true → o ≡ Some d
     same None h = absurd cc
     same (Some e) h = ap (λ (k : ℕ). Some k) (eqb-true e d h)
 

@@ -14,8 +14,9 @@ use Rattle.sx_trace.specs.declared.items.Item.TheVariants as item
 use Rattle.sx_model.specs.State.{EndView, Model, Present, Reading, Standing}
 use Rattle.sx_model.specs.Renewal.{takes}
 use Rattle.sx_model.specs.Reaction.{flow_of}
-use Rattle.sx_model.specs.Step.{◌>>?◌, changed_views, idle, is_fresh_with, kind_is, reacts, step, with_device, with_pending, with_present}
+use Rattle.sx_model.specs.Step.{◌>>?◌, changed_views, idle, kind_is, reacts, step, with_device, with_present}
 use Rattle.sx_model.specs.Legal.{after}
+use Rattle.sx_model.specs.Changes.{is_fresh_with, with_pending}
 use Rattle.sx_honest.specs.Course.{packet_items}
 use Rattle.sx_lists.proofs.Lists.{get_same}
 

@@ -23,7 +23,7 @@ use Rattle.sx_trace.specs.declared.items.Item.{Item}
 use Rattle.sx_trace.specs.declared.items.Item.TheVariants as item
 use Rattle.sx_model.specs.State.{EndView, FIELDS, Model, Present, Reading, Standing, power_on}
 use Rattle.sx_model.specs.Renewal.{may_open, opens}
-use Rattle.sx_model.specs.Step.{changed_views, first_present, idle, step, with_pending, with_present, with_standing}
+use Rattle.sx_model.specs.Step.{changed_views, first_present, idle, step, with_present, with_standing}
 use Rattle.sx_model.specs.Legal.{after}
 use Rattle.sx_honest.specs.Plain.{plain_start}
 use Rattle.sx_honest.specs.Course.{open_items, packet_items, part_items, parts_items}
@@ -31,6 +31,7 @@ use Rattle.sx_honest.proofs.Agreement.{Agrees, IsPresent, next_of, present_as, v
 use Rattle.sx_honest.proofs.Sending.{SentAs}
 use Rattle.sx_honest.proofs.Events.{done_step, idle_as, owing, ran_first, ran_on, ran_packets}
 use Rattle.sx_model.proofs.Written.{get_other}
+use Rattle.sx_model.specs.Changes.{with_pending}
 use Rattle.sx_lists.proofs.Lists.{get_same}
 
 -- The ends open one by one.

@@ -14,7 +14,7 @@ use Rattle.sx_mean.specs.Application.{AppTree, PartTree, leaves}
 use Rattle.sx_mean.specs.Meaning.{HandlerState}
 use Rattle.sx_mean.specs.Places.{initial_cells}
 use Rattle.sx_mean.specs.React.{react}
-use Rattle.sx_model.specs.Step.{drives}
+use Rattle.sx_model.specs.State.{contains}
 
 -- a value on its way over a connection
 pub record Waiting : Type 0 where
@@ -99,7 +99,7 @@ delivers app w ws s = let t = record s { waiting = ws } in
 
 -- the module that drives a device, if any
 abbrev pub driver_of : AppTree → ℕ → Option ℕ
-driver_of app d = position_from (λ (q : PartTree). drives q.device d) 0 app.parts
+driver_of app d = position_from (λ (q : PartTree). contains q.device d) 0 app.parts
 
 -- the sensor's driver gets the reading
 abbrev pub takes_reading : AppTree → Sampling → Plain → Plain

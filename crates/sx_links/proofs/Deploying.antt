@@ -1,6 +1,7 @@
 -- What the deployer does, in both runs.
 use Rattle.std.proofs.Common.{◌≡◌, ℕ, ◌&&◌, Bool, true, false, cond, bytes_eq, inr, List, [], ◌∷◌, ◌++◌, length, take, Option, Some, None, refl, sym, ◌∙◌, ap, ap₂, subst}
 use Rattle.std.specs.Prelude.{slice_get}
+use Rattle.std.specs.Option.{option_flatten}
 use Rattle.sx_trace.specs.declared.items.Item.{Item}
 use Rattle.sx_trace.specs.declared.items.Item.TheVariants as item
 use Rattle.sx_ledger.specs.declared.entry.Maker.TheVariants as maker
@@ -14,7 +15,7 @@ use Rattle.sx_run.specs.Deployer.{grant_header, set_key, set_key_entry, key_of, 
 use Rattle.sx_run.proofs.acts.Asking.{expected}
 use Rattle.sx_run.specs.State.{World, Acted}
 use Rattle.sx_run.specs.Observation.{unless_made}
-use Rattle.sx_run.specs.Acts.{only, then_, with_deployer, ask, key_given, keys_given, attested, joined, after_denial, after_verdict, after_answer}
+use Rattle.sx_run.specs.Acts.{only, then_, with_deployer, ask, key_given, keys_given, attested, after_denial, after_verdict, after_answer}
 use Rattle.sx_links.specs.Unlinked.{Unlinked}
 use Rattle.sx_links.proofs.Linking.{second}
 use Rattle.sx_links.proofs.Ledgers.{same_more, module_made}
@@ -112,17 +113,17 @@ module _ (a : Setting) (nac : Mac) (keys : List (List ℕ)) (secret : List ℕ) 
     verdict_same m site boot answer None sited = (refl, aligned)
     verdict_same m site boot answer (Some challenge) sited =
         subst (λ (c : Bool). Done (after_verdict a w m site boot answer (Some challenge))
-        (cond c (attested b u m boot challenge (joined (slice_get w.deployer.attested m))) (after_denial u m))) (sym same)
-        (by (accepts a site w.deployer m boot answer (Some challenge) (joined (slice_get w.deployer.attested m))))
+        (cond c (attested b u m boot challenge (option_flatten (slice_get w.deployer.attested m))) (after_denial u m))) (sym same)
+        (by (accepts a site w.deployer m boot answer (Some challenge) (option_flatten (slice_get w.deployer.attested m))))
       where
-        same : accepts b site w.deployer m boot answer (Some challenge) (joined (slice_get w.deployer.attested m))
-            ≡ accepts a site w.deployer m boot answer (Some challenge) (joined (slice_get w.deployer.attested m))
-        same = ap (λ (t : List ℕ). bytes_eq answer t && may_attest m a.app.links w.deployer.epochs (joined (slice_get w.deployer.attested m)) boot)
+        same : accepts b site w.deployer m boot answer (Some challenge) (option_flatten (slice_get w.deployer.attested m))
+            ≡ accepts a site w.deployer m boot answer (Some challenge) (option_flatten (slice_get w.deployer.attested m))
+        same = ap (λ (t : List ℕ). bytes_eq answer t && may_attest m a.app.links w.deployer.epochs (option_flatten (slice_get w.deployer.attested m)) boot)
             (answer_same m boot site challenge sited)
 
-        by : (c : Bool) → Done (cond c (attested a w m boot challenge (joined (slice_get w.deployer.attested m))) (after_denial w m))
-            (cond c (attested b u m boot challenge (joined (slice_get w.deployer.attested m))) (after_denial u m))
-        by true = attested_same m boot challenge (joined (slice_get w.deployer.attested m))
+        by : (c : Bool) → Done (cond c (attested a w m boot challenge (option_flatten (slice_get w.deployer.attested m))) (after_denial w m))
+            (cond c (attested b u m boot challenge (option_flatten (slice_get w.deployer.attested m))) (after_denial u m))
+        by true = attested_same m boot challenge (option_flatten (slice_get w.deployer.attested m))
         by false = (refl, aligned)
 
     pub answer_done : (m boot k : ℕ) → Done (after_answer a w m boot (slice_get a.sites m) (slice_get w.packets k)) (after_answer b v m boot (slice_get a.sites m) (slice_get v.packets k))
@@ -133,4 +134,4 @@ module _ (a : Setting) (nac : Mac) (keys : List (List ℕ)) (secret : List ℕ) 
         by : (o : Option Site) (p : Option (List ℕ)) → slice_get a.sites m ≡ o → Done (after_answer a w m boot o p) (after_answer b (beside w v) m boot o p)
         by None p e = (refl, aligned)
         by (Some site) None e = (refl, aligned)
-        by (Some site) (Some answer) e = verdict_same m site boot answer (joined (slice_get w.deployer.open_asks m)) e
+        by (Some site) (Some answer) e = verdict_same m site boot answer (option_flatten (slice_get w.deployer.open_asks m)) e

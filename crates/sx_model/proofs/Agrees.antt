@@ -14,11 +14,11 @@ use Rattle.sx_mean.specs.declared.events.SourceEvent.TheVariants as event
 use Rattle.sx_mean.specs.Ends.{ends_of}
 use Rattle.sx_trace.specs.declared.items.Item.{Item}
 use Rattle.sx_trace.specs.declared.items.Item.TheVariants.{Reset, Protect, Sense, Read, Drain, Ask, Attested, Denied, Vouch, Open, Take, Out, Raw, Done, Packet, Forged, Busy, Skip, Budget}
-use Rattle.sx_model.specs.State.{EndView, Model, Pending, Present, Reading, Standing}
+use Rattle.sx_model.specs.State.{EndView, Model, Pending, Present, Reading, Standing, contains}
 use Rattle.sx_model.specs.Renewal.{boot_of, may_attest, may_open, opens, renewed, takes}
-use Rattle.sx_model.specs.Step.{◌>>?◌, changed_views, first_present, state_if, idle, is_fresh_with, is_nothing, is_vouched, is_word, kind_is, reacts, reset_at}
-use Rattle.sx_model.specs.Step.{step, is_undriven, waits, with_device, with_pending, with_present, with_standing, without_first}
-use Rattle.sx_model.specs.Changes.{accepts_with, answers, at_index, finishes, if_so, is_accepted, is_end, is_finished, is_readable, is_refused, on_end}
+use Rattle.sx_model.specs.Step.{◌>>?◌, changed_views, first_present, state_if, idle, is_nothing, is_vouched, kind_is, reacts, reset_at}
+use Rattle.sx_model.specs.Step.{step, is_undriven, waits, with_device, with_present, with_standing, without_first}
+use Rattle.sx_model.specs.Changes.{accepts_with, answers, at_index, finishes, if_so, is_accepted, is_end, is_finished, is_readable, is_refused, on_end, is_fresh_with, with_pending}
 use Rattle.sx_model.specs.Changes.{on_module, on_present, opens_ask, opens_end, opens_standing, protects, reacted, reads_from, refuses, resets, steps, takes_at}
 use Rattle.sx_model.specs.Changes.{takes_fresh, takes_idle, vouches, with_stale, word_at, writes, writes_present}
 
@@ -318,11 +318,11 @@ take_views b p before after (Some views) same = ap (λ t. state_if b t) (same vi
 
 take_words : (app : AppTree) (s : Model) (m c i v input : ℕ) (q : PartTree) (x : Standing) (p : Present) (o : Option (List ℕ)) → slice_get s.modules m ≡ Some x →
     (o >>? (λ words. changed_views (takes (i / 65536) (i % 65536)) c To (ends_of app m) p.ends >>? (λ views.
-    state_if (is_word v (slice_get words (i % 65536))) (reacts app s m q x (record p { ends = views }) (event.Input input v))))) ≡
-    if_so (is_word v (o >>? (λ words. slice_get words (i % 65536)))) (takes_idle app s m q c i input v p)
+    state_if (contains (slice_get words (i % 65536)) v) (reacts app s m q x (record p { ends = views }) (event.Input input v))))) ≡
+    if_so (contains (o >>? (λ words. slice_get words (i % 65536))) v) (takes_idle app s m q c i input v p)
 take_words app s m c i v input q x p None is = refl
 take_words app s m c i v input q x p (Some words) is =
-    let b = is_word v (slice_get words (i % 65536)) in
+    let b = contains (slice_get words (i % 65536)) v in
     ap (λ o. o >>? (λ views. state_if b (reacts app s m q x (record p { ends = views }) (event.Input input v)))) (changed_is (takes (i / 65536) (i % 65536)) c To (ends_of app m) p.ends)
     ∙ take_views b p (λ views. reacts app s m q x (record p { ends = views }) (event.Input input v)) (λ next. reacted q.tree (ends_of app m) (event.Input input v) s m next)
     (on_end (takes (i / 65536) (i % 65536)) c To (ends_of app m) p.ends)
@@ -330,27 +330,27 @@ take_words app s m c i v input q x p (Some words) is =
 
 take_idle : (app : AppTree) (s : Model) (m c i v : ℕ) (q : PartTree) (x : Standing) (ol : Option Link) (op : Option Present) → slice_get s.modules m ≡ Some x →
     (op >>? (λ p. ol >>? (λ l. slice_get s.sent (c + 256 * (i / 65536)) >>? (λ words. changed_views (takes (i / 65536) (i % 65536)) c To (ends_of app m) p.ends >>? (λ views.
-    state_if (is_word v (slice_get words (i % 65536))) (reacts app s m q x (record p { ends = views }) (event.Input l.input v))))))) ≡
-    (ol >>? (λ l. if_so (is_word v (word_at s.sent c i)) (op >>? (λ p. takes_idle app s m q c i l.input v p))))
+    state_if (contains (slice_get words (i % 65536)) v) (reacts app s m q x (record p { ends = views }) (event.Input l.input v))))))) ≡
+    (ol >>? (λ l. if_so (contains (word_at s.sent c i) v) (op >>? (λ p. takes_idle app s m q c i l.input v p))))
 take_idle app s m c i v q x None None is = refl
-take_idle app s m c i v q x (Some l) None is = sym (if_none (is_word v (word_at s.sent c i)))
+take_idle app s m c i v q x (Some l) None is = sym (if_none (contains (word_at s.sent c i) v))
 take_idle app s m c i v q x None (Some p) is = refl
 take_idle app s m c i v q x (Some l) (Some p) is = take_words app s m c i v l.input q x p (slice_get s.sent (c + 256 * (i / 65536))) is
 
 take_standing : (app : AppTree) (s : Model) (m c i v : ℕ) (q : PartTree) (ol : Option Link) (ox : Option Standing) → slice_get s.modules m ≡ ox →
     (ox >>? (λ x. idle x >>? (λ p. ol >>? (λ l. slice_get s.sent (c + 256 * (i / 65536)) >>? (λ words. changed_views (takes (i / 65536) (i % 65536)) c To (ends_of app m) p.ends >>? (λ views.
-    state_if (is_word v (slice_get words (i % 65536))) (reacts app s m q x (record p { ends = views }) (event.Input l.input v)))))))) ≡
-    (ol >>? (λ l. if_so (is_word v (word_at s.sent c i)) ((ox >>? idle) >>? (λ p. takes_idle app s m q c i l.input v p))))
+    state_if (contains (slice_get words (i % 65536)) v) (reacts app s m q x (record p { ends = views }) (event.Input l.input v)))))))) ≡
+    (ol >>? (λ l. if_so (contains (word_at s.sent c i) v) ((ox >>? idle) >>? (λ p. takes_idle app s m q c i l.input v p))))
 take_standing app s m c i v q None None is = refl
-take_standing app s m c i v q (Some l) None is = sym (if_none (is_word v (word_at s.sent c i)))
+take_standing app s m c i v q (Some l) None is = sym (if_none (contains (word_at s.sent c i) v))
 take_standing app s m c i v q ol (Some x) is = take_idle app s m c i v q x ol (idle x) is
 
 take_same : (app : AppTree) (s : Model) (m c i v : ℕ) (o : Option PartTree) →
     (o >>? (λ q. slice_get s.modules m >>? (λ x. idle x >>? (λ p. slice_get app.links c >>? (λ l. slice_get s.sent (c + 256 * (i / 65536)) >>? (λ words.
     changed_views (takes (i / 65536) (i % 65536)) c To (ends_of app m) p.ends >>? (λ views.
-    state_if (is_word v (slice_get words (i % 65536)))
+    state_if (contains (slice_get words (i % 65536)) v)
     (reacts app s m q x (record p { ends = views }) (event.Input l.input v))))))))) ≡
-    (o >>? (λ q. slice_get app.links c >>? (λ l. if_so (is_word v (word_at s.sent c i)) (takes_at app s m q c i l.input v))))
+    (o >>? (λ q. slice_get app.links c >>? (λ l. if_so (contains (word_at s.sent c i) v) (takes_at app s m q c i l.input v))))
 take_same app s m c i v None = refl
 take_same app s m c i v (Some q) = take_standing app s m c i v q (slice_get app.links c) (slice_get s.modules m) refl
 

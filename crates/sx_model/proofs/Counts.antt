@@ -11,13 +11,13 @@ use Rattle.sx_mean.specs.declared.events.SourceEvent.{SourceEvent}
 use Rattle.sx_mean.specs.declared.events.SourceEvent.TheVariants as event
 use Rattle.sx_mean.specs.Ends.{ends_of}
 use Rattle.sx_model.specs.Reaction.{after_event, flow_of}
-use Rattle.sx_model.specs.Step.{◌>>?◌, absent_at, state_if, idle, is_word, kind_is, stale_at, is_undriven, waits, with_device}
+use Rattle.sx_model.specs.Step.{◌>>?◌, absent_at, state_if, idle, kind_is, stale_at, is_undriven, waits, with_device}
 use Rattle.sx_model.specs.Changes.{accepts, at_index, finishes, if_so, is_readable, is_refused, on_device, on_module, on_present, opens_ask, opens_standing}
 use Rattle.sx_model.specs.Changes.{protects, puts, raised_at, reacted, reads_from, renewal, staled, steps, takes_at, takes_fresh, takes_present, vouches}
 use Rattle.sx_model.specs.Changes.{with_module, with_stale, word_at, writes_present}
 use Rattle.sx_trace.specs.declared.items.Item.{Item}
 use Rattle.sx_trace.specs.declared.items.Item.TheVariants.{Reset, Protect, Sense, Read, Drain, Ask, Attested, Denied, Vouch, Open, Take, Out, Raw, Done, Packet, Forged, Busy, Skip, Budget}
-use Rattle.sx_model.specs.State.{Model, Present, Reading, Standing, FIELDS, power_on}
+use Rattle.sx_model.specs.State.{Model, Present, Reading, Standing, FIELDS, power_on, contains}
 use Rattle.sx_mean.specs.declared.apps.Part.{Part}
 use Rattle.sx_mean.specs.declared.apps.App.{App}
 use Rattle.sx_mean.specs.View.{app_as, part_as}
@@ -145,7 +145,7 @@ counted_more app s (Open m c side epoch) n h =
     module_keeps s m (opens_standing boot (slice_index s.epochs c) c side epoch (ends_of app m))))) h
 counted_more app s (Take m c i v) n h =
     grown s _ n (then_keeps s (slice_get app.parts m) _ (λ q. then_keeps s (slice_get app.links c) _ (λ l.
-    if_keeps s (is_word v (word_at s.sent c i)) _ (take_keeps app s m c i v l.input q)))) h
+    if_keeps s (contains (word_at s.sent c i) v) _ (take_keeps app s m c i v l.input q)))) h
 counted_more app s (Out m v) n h = grown s _ n (module_keeps s m (on_present (writes_present v))) h
 counted_more app s (Raw d v) n h = grown s _ n (raw_keeps s (kind_is (λ k. not (is_sensor k)) (slice_get app.devices d) && is_undriven app.parts s.modules d)) h
 counted_more app s (Done m status k) n h = grown s _ n (then_keeps s (slice_get app.parts m) _ (λ q. done_keeps app s m status k (waits app s.devices q.device) (status == 1))) h

@@ -4,8 +4,8 @@ use Rattle.std.specs.Prelude.{is_some, nat_le, slice_get, slice_index}
 use Rattle.std.proofs.lemmas.Bool.{and_parts, eqb-true, leb-true, ltb-true, or_cases}
 use Rattle.std.proofs.lemmas.List.Folds.{list_any-append}
 use Rattle.std.proofs.lemmas.Option.{get_or_from_slice_get, same_Some}
-use Rattle.sx_model.specs.State.{Attestation, EndView, Vouched}
-use Rattle.sx_model.specs.Renewal.{boot_of, is_at, is_below, may_open, opens, takes}
+use Rattle.sx_model.specs.State.{Attestation, EndView, Vouched, contains}
+use Rattle.sx_model.specs.Renewal.{boot_of, is_below, may_open, opens, takes}
 use Rattle.sx_model.specs.Step.{is_vouched}
 
 abbrev pub is_open : Option EndView → Bool
@@ -149,7 +149,7 @@ module _ (c next number boot epoch : ℕ) (attested : Option Attestation) (vouch
   -- it takes a number
   pub held_taken : (i : ℕ) (v w : EndView) → view ≡ Some v → takes (i / 65536) (i % 65536) v ≡ Some w
       → (number ≤ i) × Held c next (i + 1) boot epoch attested vouched (Some w)
-  held_taken i v w at made = by v.epoch refl (is_at v.epoch (i / 65536) && nat_le v.next (i % 65536)) refl made
+  held_taken i v w at made = by v.epoch refl (contains v.epoch (i / 65536) && nat_le v.next (i % 65536)) refl made
     where
       takes_so : (k : ℕ) → v.epoch ≡ Some k → k ≡ i / 65536 → v.next ≤ i % 65536 → w ≡ record { epoch = v.epoch; next = i % 65536 + 1 }
           → (number ≤ i) × Held c next (i + 1) boot epoch attested vouched (Some w)
@@ -171,7 +171,7 @@ module _ (c next number boot epoch : ℕ) (attested : Option Attestation) (vouch
             },
           )
 
-      by : (o : Option ℕ) → v.epoch ≡ o → (b : Bool) → (is_at o (i / 65536) && nat_le v.next (i % 65536)) ≡ b
+      by : (o : Option ℕ) → v.epoch ≡ o → (b : Bool) → (contains o (i / 65536) && nat_le v.next (i % 65536)) ≡ b
           → (if b then Some (record { epoch = v.epoch; next = i % 65536 + 1 }) else None) ≡ Some w → (number ≤ i) × Held c next (i + 1) boot epoch attested vouched (Some w)
       by o e false t made = absurd cc
       by None e true t made = absurd cc

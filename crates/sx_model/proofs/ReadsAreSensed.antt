@@ -8,8 +8,8 @@ use Rattle.sx_mean.specs.Application.{AppTree, PartTree}
 use Rattle.sx_trace.specs.declared.items.Cause.{Cause}
 use Rattle.sx_trace.specs.declared.items.Item.{Item}
 use Rattle.sx_trace.specs.declared.items.Item.TheVariants.{Reset, Protect, Sense, Read, Drain, Ask, Attested, Denied, Vouch, Open, Take, Out, Raw, Done, Packet, Forged, Busy, Skip, Budget}
-use Rattle.sx_model.specs.State.{Model, Reading, power_on}
-use Rattle.sx_model.specs.Step.{device_of, ◌>>?◌, drives, stale_at, step}
+use Rattle.sx_model.specs.State.{Model, Reading, power_on, contains}
+use Rattle.sx_model.specs.Step.{device_of, ◌>>?◌, stale_at, step}
 use Rattle.sx_model.specs.Legal.{Legal}
 use Rattle.sx_model.specs.Consequences.{ReadsAreSensed, Since, ends_reading, is_device_at, senses}
 use Rattle.sx_model.proofs.Along.{keeps_by, some_of, step_of}
@@ -36,8 +36,8 @@ fresh_elsewhere n (x ∷ ds) (y ∷ rs) (suc d) r e f = fresh_elsewhere n ds rs 
 device_is : (app : AppTree) (m : ℕ) (q : PartTree) (d : ℕ) → slice_get app.parts m ≡ Some q → q.device ≡ Some d → device_of app m ≡ Some d
 device_is app m q d e f = ap (λ o. o >>? (λ (q : PartTree). q.device)) e ∙ f
 
-driven : (app : AppTree) (m : ℕ) (q : PartTree) (d k : ℕ) → slice_get app.parts m ≡ Some q → q.device ≡ Some d → (d ≡ k → ⊥) → drives (device_of app m) k ≡ false
-driven app m q d k e f n = ap (λ o. drives o k) (device_is app m q d e f) ∙ ne_eqb d k n
+driven : (app : AppTree) (m : ℕ) (q : PartTree) (d k : ℕ) → slice_get app.parts m ≡ Some q → q.device ≡ Some d → (d ≡ k → ⊥) → contains (device_of app m) k ≡ false
+driven app m q d k e f n = ap (λ o. contains o k) (device_is app m q d e f) ∙ ne_eqb d k n
 
 module _ (app : AppTree) (items : List Item) (rs : List Reading) (h : Sensed app items rs) where
   -- the devices are left as they were

@@ -11,10 +11,11 @@ use Rattle.sx_mean.specs.Ends.{ends_of}
 use Rattle.sx_trace.specs.declared.items.Cause.{Cause}
 use Rattle.sx_trace.specs.declared.items.Item.{Item}
 use Rattle.sx_trace.specs.declared.items.Item.TheVariants.{Reset, Protect, Sense, Read, Drain, Ask, Attested, Denied, Vouch, Open, Take, Out, Raw, Done, Packet, Forged, Busy, Skip, Budget}
-use Rattle.sx_model.specs.State.{EndView, Model, Pending, Present, Reading, Standing}
+use Rattle.sx_model.specs.State.{EndView, Model, Pending, Present, Reading, Standing, contains}
 use Rattle.sx_model.specs.Renewal.{boot_of, may_attest, may_open, opens, renewed, takes}
-use Rattle.sx_model.specs.Step.{◌>>?◌, changed_views, first_present, state_if, idle, is_fresh_with, is_nothing, is_vouched, is_word, kind_is, reacts, reset_at}
-use Rattle.sx_model.specs.Step.{step, is_undriven, waits, with_device, with_pending, with_present, with_standing, without_first}
+use Rattle.sx_model.specs.Step.{◌>>?◌, changed_views, first_present, state_if, idle, is_nothing, is_vouched, kind_is, reacts, reset_at}
+use Rattle.sx_model.specs.Step.{step, is_undriven, waits, with_device, with_present, with_standing, without_first}
+use Rattle.sx_model.specs.Changes.{is_fresh_with, with_pending}
 
 looked_up : {A B : Type 0} → (o : Option A) (f : A → Option B) (Q : B → Type 0) → ((x : A) → o ≡ Some x → IfSome (f x) Q) → IfSome (o >>? f) Q
 looked_up None f Q h = tt
@@ -74,7 +75,7 @@ on_take app s Q m c i v h =
     looked_up (slice_get app.parts m) _ _ (λ q eq. looked_up (slice_get s.modules m) _ _ (λ x ex. looked_up (idle x) _ _ (λ p ep.
     looked_up (slice_get app.links c) _ _ (λ l el. looked_up (slice_get s.sent (c + 256 * (i / 65536))) _ _ (λ words _.
     looked_up (changed_views (takes (i / 65536) (i % 65536)) c To (ends_of app m) p.ends) _ _ (λ views ev.
-    tested (is_word v (slice_get words (i % 65536))) _ _ (λ _. h q x p l views eq ex ep el ev)))))))
+    tested (contains (slice_get words (i % 65536)) v) _ _ (λ _. h q x p l views eq ex ep el ev)))))))
 
 pub on_out : (app : AppTree) (s : Model) (Q : Model → Type 0) (m v : ℕ) → OnOut s Q m v → IfSome (step app s (Out m v)) Q
 on_out app s Q m v h =

@@ -9,21 +9,34 @@ use Rattle.sx_lang.specs.declared.sides.Side.{Side}
 use Rattle.sx_mean.specs.Application.{AppTree, PartTree, is_sensor}
 use Rattle.sx_mean.specs.declared.apps.Link.{Link}
 use Rattle.sx_mean.specs.declared.events.End.{End}
-use Rattle.sx_lang.specs.declared.sides.Side.TheVariants.{To}
+use Rattle.sx_lang.specs.declared.sides.Side.TheVariants.{From, To}
 use Rattle.sx_mean.specs.declared.events.SourceEvent.{SourceEvent}
 use Rattle.sx_mean.specs.declared.events.SourceEvent.TheVariants as event
 use Rattle.sx_mean.specs.Ends.{ends_of, same_side}
 use Rattle.sx_model.specs.Reaction.{after_event, flow_of}
 use Rattle.sx_model.specs.State.{EndView, Model, Pending, Present, Reading, Standing, Vouched}
-use Rattle.sx_model.specs.Step.{◌>>?◌, absent_at, first_present, idle, is_fresh_with, is_word}
+use Rattle.sx_model.specs.State.{contains}
+use Rattle.sx_model.specs.Step.{◌>>?◌, absent_at, first_present, idle}
 use Rattle.sx_model.specs.Step.{is_nothing, kind_is, is_vouched, stale_at, state_if}
-use Rattle.sx_model.specs.Step.{is_undriven, waits, with_device, with_pending, without_first}
+use Rattle.sx_model.specs.Step.{is_undriven, waits, with_device, without_first}
 use Rattle.sx_trace.specs.declared.items.Item.{Item}
 use Rattle.sx_trace.specs.declared.items.Item.TheVariants.{Reset, Protect, Sense, Read, Drain, Ask}
 use Rattle.sx_trace.specs.declared.items.Item.TheVariants.{Attested, Denied, Vouch, Open, Take, Out}
 use Rattle.sx_trace.specs.declared.items.Item.TheVariants.{Raw, Done, Packet, Forged, Busy, Skip}
 use Rattle.sx_trace.specs.declared.items.Item.TheVariants.{Budget}
 use Rattle.sx_model.specs.Renewal.{boot_of, may_attest, may_open, opens, renewed, takes}
+
+-- the sending side
+abbrev pub is_from : Side → Bool
+is_from side = same_side side From
+
+-- the module with another pending event, or with none
+abbrev pub with_pending : Present → Option Pending → Present
+with_pending p pending = record p { pending = pending }
+
+-- the reading is fresh, with this value
+abbrev pub is_fresh_with : ℕ → Reading → Bool
+is_fresh_with v r = r.fresh && (r.value == v)
 
 -- the elements with that at the index replaced by what the change makes of it; none where it makes
 -- nothing
@@ -261,7 +274,7 @@ takes_at app s m q c i input v =
 abbrev pub takes_in : AppTree → Model → ℕ → ℕ → ℕ → ℕ → Option Model
 takes_in app s m c i v =
     slice_get app.parts m >>? (λ q. slice_get app.links c >>?
-    (λ l. if_so (is_word v (word_at s.sent c i)) (takes_at app s m q c i l.input v)))
+    (λ l. if_so (contains (word_at s.sent c i) v) (takes_at app s m q c i l.input v)))
 
 -- a sensor gets a value
 abbrev pub after_sample : AppTree → Model → ℕ → ℕ → Option Model

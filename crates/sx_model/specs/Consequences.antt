@@ -9,7 +9,8 @@ use Rattle.sx_trace.specs.declared.items.Item.TheVariants.{Reset, Protect, Sense
 use Rattle.sx_trace.specs.declared.items.Item.TheVariants.{Vouch, Open, Take, Out, Done}
 use Rattle.sx_mean.specs.declared.apps.AppDevice.{AppDevice}
 use Rattle.sx_mean.specs.Application.{PartTree, AppTree}
-use Rattle.sx_model.specs.Step.{drives, device_of}
+use Rattle.sx_model.specs.Step.{device_of}
+use Rattle.sx_model.specs.State.{contains}
 
 -- The numbers that are taken over a connection rise, so none is taken twice.
 abbrev pub TakesRise : List Item → Type 0
@@ -50,7 +51,7 @@ senses d v _ = false
 -- the device gets a value, a driver or other code takes the one that it has, or its node is reset
 abbrev pub ends_reading : AppTree → ℕ → Item → Bool
 ends_reading app d (Sense e v) = e == d
-ends_reading app d (Read m v) = drives (device_of app m) d
+ends_reading app d (Read m v) = contains (device_of app m) d
 ends_reading app d (Drain e) = e == d
 ends_reading app d (Reset n cause) = is_device_at n (slice_get app.devices d)
 ends_reading app d _ = false

@@ -2,13 +2,14 @@
 use Rattle.std.specs.Prelude.{ℕ, ◌+◌, ◌*◌, ◌==◌, ◌&&◌, nat_lt, Bool, true, false, if◌then◌else◌}
 use Rattle.std.specs.Prelude.{List, [], ◌∷◌, ◌++◌, length, slice_get, slice_set, Option, Some, None}
 use Rattle.std.specs.Prelude.{is_some}
+use Rattle.std.specs.Option.{option_map_or}
 use Rattle.sx_lang.specs.Tree.{ModuleTree}
-use Rattle.sx_lang.specs.declared.sides.Side.{Side}
-use Rattle.sx_lang.specs.declared.sides.Side.TheVariants.{From, To}
+use Rattle.sx_lang.specs.declared.sides.Side.TheVariants.{From}
 use Rattle.sx_mean.specs.declared.events.End.{End}
 use Rattle.sx_mean.specs.declared.events.SourceEvent.{SourceEvent}
 use Rattle.sx_mean.specs.declared.events.Act.{Act}
 use Rattle.sx_mean.specs.declared.events.Act.TheVariants.{Send, Emit}
+use Rattle.sx_mean.specs.Ends.{same_side}
 use Rattle.sx_mean.specs.React.{react}
 use Rattle.sx_model.specs.State.{EndView, Present, owing}
 
@@ -25,8 +26,7 @@ MOST_SENT = 65535
 
 -- the connection field of an end that is open: its connection, and 256 times its epoch
 abbrev pub field_at : ℕ → Option ℕ → ℕ
-field_at link None = link
-field_at link (Some epoch) = link + 256 * epoch
+field_at link o = option_map_or (λ epoch. link + 256 * epoch) o link
 
 -- the connection field of an end with this view
 abbrev pub field_of : End → EndView → ℕ
@@ -41,14 +41,9 @@ sent_over c v (Some words) f =
       pieces = f.pieces + 1;
     } else f
 
--- the sending side
-abbrev pub is_from : Side → Bool
-is_from From = true
-is_from To = false
-
 -- the end sends what its module sends to the output
 abbrev pub sends : ℕ → End → EndView → Bool
-sends output e view = is_from e.side && ((e.port == output) && is_some view.epoch)
+sends output e view = same_side e.side From && ((e.port == output) && is_some view.epoch)
 
 -- a value is sent over each open connection of the output, in connection order
 abbrev pub sent_to : List End → List EndView → ℕ → ℕ → Flow → Flow

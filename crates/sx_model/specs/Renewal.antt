@@ -1,8 +1,9 @@
 -- Epochs: which connections an attestation renews, and which ends open and take in an epoch.
 use Rattle.std.specs.Prelude.{ℕ, ◌+◌, ◌==◌, ◌&&◌, ◌||◌, nat_lt, nat_le, not, Bool, true, false}
 use Rattle.std.specs.Prelude.{if◌then◌else◌, List, ◌∷◌, slice_index, Option, Some, None}
+use Rattle.std.specs.Option.{option_map, option_map_or}
 use Rattle.sx_mean.specs.declared.apps.Link.{Link}
-use Rattle.sx_model.specs.State.{EndView, Attestation}
+use Rattle.sx_model.specs.State.{EndView, Attestation, contains}
 
 -- the module is at an end of the connection
 abbrev pub is_of : ℕ → Link → Bool
@@ -25,18 +26,15 @@ may_attest m ls es (Some last) b = nat_lt last b && not (is_spent m ls es)
 
 -- the epochs after it: where it was attested before, its connections are renewed
 abbrev pub renewed : ℕ → List Link → Option ℕ → List ℕ → List ℕ
-renewed m ls None es = es
-renewed m ls (Some last) es = raised_epochs m ls es
+renewed m ls last es = option_map_or (λ boot. raised_epochs m ls es) last es
 
 -- the boot of an attestation, if any
 abbrev pub boot_of : Option Attestation → Option ℕ
-boot_of None = None
-boot_of (Some a) = Some a.boot
+boot_of o = option_map (λ a. a.boot) o
 
 -- a closed end, or one that is open with a lower epoch, opens
 abbrev pub is_below : Option ℕ → ℕ → Bool
-is_below None epoch = true
-is_below (Some old) epoch = nat_lt old epoch
+is_below o epoch = option_map_or (λ old. nat_lt old epoch) o true
 
 -- the end as it opens in the epoch, with the first number to be taken
 abbrev pub opens : ℕ → EndView → Option EndView
@@ -49,12 +47,7 @@ may_open None boot c epoch now = false
 may_open (Some a) boot c epoch now =
     (a.boot == boot) && (nat_le (slice_index a.floors c) epoch && nat_le epoch now)
 
--- the end is open with this epoch
-abbrev pub is_at : Option ℕ → ℕ → Bool
-is_at None b = false
-is_at (Some a) b = a == b
-
 -- a receiving end that is open with the epoch takes the n-th word
 abbrev pub takes : ℕ → ℕ → EndView → Option EndView
-takes epoch n view = if is_at view.epoch epoch && nat_le view.next n then
+takes epoch n view = if contains view.epoch epoch && nat_le view.next n then
     Some (record { epoch = view.epoch; next = n + 1 }) else None

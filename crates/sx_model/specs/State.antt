@@ -1,6 +1,12 @@
 -- Where a run of the source stands.
 use Rattle.std.specs.Prelude.{ℕ, false, List, [], Bool, Option, Some, None, map, replicate}
+use Rattle.std.specs.Prelude.{◌==◌}
+use Rattle.std.specs.Option.{option_map_or}
 use Rattle.sx_mean.specs.Application.{AppTree}
+
+-- the number is there, and is this one
+abbrev pub contains : Option ℕ → ℕ → Bool
+contains o n = option_map_or (λ k. k == n) o false
 
 -- a device: its last value, and whether no one took it yet
 pub record Reading : Type 0 where

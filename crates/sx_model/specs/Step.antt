@@ -2,6 +2,7 @@
 use Rattle.std.specs.Prelude.{ℕ, ◌+◌, ◌*◌, ◌/◌, ◌%◌, ◌==◌, ◌&&◌, ◌||◌, nat_le, not, Bool, true}
 use Rattle.std.specs.Prelude.{false, if◌then◌else◌, List, [], ◌∷◌, ◌++◌, map, slice_get, slice_set}
 use Rattle.std.specs.Prelude.{slice_index, Option, Some, None, is_some, is_none, option_and_then}
+use Rattle.std.specs.Option.{option_map_or}
 use Rattle.std.specs.List.{list_any}
 use Rattle.sx_lang.specs.Tree.{ModuleTree}
 use Rattle.sx_lang.specs.declared.tree.DeviceKind.{DeviceKind}
@@ -19,7 +20,7 @@ use Rattle.sx_trace.specs.declared.items.Item.TheVariants.{Done}
 use Rattle.sx_mean.specs.Application.{PartTree, AppTree, is_sensor}
 use Rattle.sx_mean.specs.Ends.{ends_of, same_side}
 use Rattle.sx_model.specs.State.{Reading, EndView, Pending, Present, Vouched, Standing, Model}
-use Rattle.sx_model.specs.State.{owing}
+use Rattle.sx_model.specs.State.{contains, owing}
 use Rattle.sx_model.specs.Renewal.{may_attest, renewed, boot_of, opens, may_open, takes}
 use Rattle.sx_model.specs.Reaction.{flow_of, after_event}
 
@@ -48,19 +49,10 @@ with_device s d r = record s { devices = slice_set s.devices d r }
 abbrev pub idle : Standing → Option Present
 idle x = x.present >>? (λ p. if is_none p.pending then Some p else None)
 
--- the module with another pending event, or with none
-abbrev pub with_pending : Present → Option Pending → Present
-with_pending p pending = record p { pending = pending }
-
--- the part drives the device
-abbrev pub drives : Option ℕ → ℕ → Bool
-drives None d = false
-drives (Some x) d = x == d
-
 -- no driver of the device is present
 abbrev pub is_undriven : List PartTree → List Standing → ℕ → Bool
 is_undriven (q ∷ qs) (x ∷ xs) d =
-    not (drives q.device d && is_some x.present) && is_undriven qs xs d
+    not (contains q.device d && is_some x.present) && is_undriven qs xs d
 is_undriven _ _ d = true
 
 -- the node's modules are absent
@@ -97,14 +89,9 @@ reacts app s m q x p e =
     let f = flow_of q.tree (ends_of app m) e p s.sent in
     record (with_present s m x (after_event q.tree e f p)) { sent = f.sent }
 
--- the reading is fresh, with this value
-abbrev pub is_fresh_with : ℕ → Reading → Bool
-is_fresh_with v r = r.fresh && (r.value == v)
-
 -- the device's kind is so
 abbrev pub kind_is : (DeviceKind → Bool) → Option AppDevice → Bool
-kind_is test None = false
-kind_is test (Some w) = test w.kind
+kind_is test o = option_map_or (λ w. test w.kind) o false
 
 -- the challenge was vouched for at the boot
 abbrev pub is_vouched : ℕ → ℕ → List Vouched → Bool
@@ -119,11 +106,6 @@ changed_views change c side (e ∷ es) (view ∷ views) =
     else changed_views change c side es views >>? (λ vs. Some (view ∷ vs))
 changed_views change c side _ _ = None
 
--- the word is there, and is this one
-abbrev pub is_word : ℕ → Option ℕ → Bool
-is_word v None = false
-is_word v (Some w) = w == v
-
 -- the first of the emits that are owed, written
 abbrev pub without_first : ℕ → List ℕ → ℕ → Option Pending
 without_first v [] k = None
@@ -136,14 +118,12 @@ is_nothing (x ∷ xs) = false
 
 -- the reading isn't fresh
 abbrev pub is_stale : Option Reading → Bool
-is_stale None = false
-is_stale (Some r) = not r.fresh
+is_stale o = option_map_or (λ r. not r.fresh) o false
 
 -- the module drives a sensor that isn't fresh
 abbrev pub waits : AppTree → List Reading → Option ℕ → Bool
-waits app devices None = false
-waits app devices (Some d) =
-    kind_is is_sensor (slice_get app.devices d) && is_stale (slice_get devices d)
+waits app devices o = option_map_or
+    (λ d. kind_is is_sensor (slice_get app.devices d) && is_stale (slice_get devices d)) o false
 
 -- the state after an allowed item
 abbrev pub step : AppTree → Model → Item → Option Model
@@ -159,7 +139,7 @@ step app s (Sense d v) = slice_get app.devices d >>? (λ w. state_if (is_sensor 
 -- a driver takes its sensor's fresh value, and reacts to it
 step app s (Read m v) = slice_get app.parts m >>? (λ q. slice_get s.modules m >>? (λ x.
     idle x >>? (λ p. q.device >>? (λ d. slice_get s.devices d >>? (λ r.
-    state_if (kind_is is_sensor (slice_get app.devices d) && is_fresh_with v r)
+    state_if (kind_is is_sensor (slice_get app.devices d) && (r.fresh && (r.value == v)))
     (reacts app (with_device s d (record r { fresh = false })) m q x p (event.Sample v)))))))
 -- other code takes a sensor's fresh value, while no driver of it is present
 step app s (Drain d) = slice_get s.devices d >>? (λ r.
@@ -177,7 +157,7 @@ step app s (Attested m b) = slice_get s.modules m >>? (λ x. x.asked >>? (λ a.
 -- a module vouches for a challenge at its node's boot, in one piece
 step app s (Vouch m a) = slice_get app.parts m >>? (λ q. slice_get s.modules m >>? (λ x.
     idle x >>? (λ p. slice_get s.boots q.node >>? (λ boot. Some (with_standing s m (record x {
-      present = Some (with_pending p (owing [] 1));
+      present = Some (record p { pending = owing [] 1 });
       vouched = x.vouched ++ record { challenge = a; boot = boot } ∷ [];
     }))))))
 -- a module opens an end in an epoch from its floor to the connection's
@@ -192,12 +172,12 @@ step app s (Take m c i v) = slice_get app.parts m >>? (λ q. slice_get s.modules
     idle x >>? (λ p. slice_get app.links c >>? (λ l.
     slice_get s.sent (c + 256 * (i / 65536)) >>? (λ words.
     changed_views (takes (i / 65536) (i % 65536)) c To (ends_of app m) p.ends >>? (λ views.
-    state_if (is_word v (slice_get words (i % 65536)))
+    state_if (contains (slice_get words (i % 65536)) v)
     (reacts app s m q x (record p { ends = views }) (event.Input l.input v))))))))
 -- a module writes the first emit that it owes
 step app s (Out m v) = slice_get s.modules m >>? (λ x. x.present >>? (λ p. p.pending >>? (λ owed.
     without_first v owed.emits owed.pieces >>? (λ left.
-    Some (with_present s m x (with_pending p (Some left)))))))
+    Some (with_present s m x (record p { pending = Some left }))))))
 -- other code writes an actuator, while no driver of it is present
 step app s (Raw d v) = state_if (kind_is (λ k. not (is_sensor k)) (slice_get app.devices d)
     && is_undriven app.parts s.modules d) s
@@ -205,7 +185,7 @@ step app s (Raw d v) = state_if (kind_is (λ k. not (is_sensor k)) (slice_get ap
 step app s (Done m status k) = slice_get app.parts m >>? (λ q. slice_get s.modules m >>? (λ x.
     x.present >>? (λ p. if status == 1 then p.pending >>? (λ owed.
     state_if (is_nothing owed.emits && (k == owed.pieces))
-    (with_present s m x (with_pending p None)))
+    (with_present s m x (record p { pending = None })))
     else state_if ((nat_le 2 status && nat_le status 8)
     && ((k == 0) && (is_none p.pending && (not (status == 8) || waits app s.devices q.device))))
     s)))

@@ -4,9 +4,10 @@ ghost use Rattle.std.specs.Prelude.{◌≡◌, ◌<◌, ◌&&◌, false, is_some
 ghost use Rattle.std.specs.Prelude.{slice_set, unwrap_or};
 ghost use Rattle.sx_mean.specs.View.{app_as, part_as};
 ghost use Rattle.sx_mean.specs.Application.{is_sensor};
-ghost use Rattle.sx_model.specs.Step.{drives, is_stale, kind_is};
+ghost use Rattle.sx_model.specs.Step.{is_stale, kind_is};
 ghost use Rattle.sx_model.specs.Step.{is_undriven, waits};
 ghost use Rattle.sx_model.specs.Changes.{after_sample, drains, takes_fresh, wrote_raw};
+ghost use Rattle.sx_model.specs.State.{contains};
 
 use crate::state::{Reading, Standing, State};
 use sx_mean::apps::{App, AppDevice, Part, is_sensor};
@@ -53,7 +54,7 @@ fn has_actuator(devices: &[AppDevice], device: u8) -> bool
 }
 
 fn drives(driven: Option<u8>, device: u8) -> bool
-    ensures { result ≡ drives driven device }
+    ensures { result ≡ contains driven device }
 {
     match driven {
         Some(driven) => driven == device,
@@ -69,7 +70,7 @@ fn is_present(standing: &Standing) -> bool
 
 /// Whether the part drives the device, and is present.
 fn is_driving(part: &Part, standing: &Standing, device: u8) -> bool
-    ensures { result ≡ (drives part.now.device device && is_some standing.now.present) }
+    ensures { result ≡ (contains part.now.device device && is_some standing.now.present) }
 {
     drives(part.device, device) && is_present(standing)
 }

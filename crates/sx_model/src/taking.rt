@@ -7,11 +7,11 @@ ghost use Rattle.sx_mean.specs.Ends.{ends_of};
 ghost use Rattle.sx_mean.specs.declared.events.SourceEvent.TheVariants.{Sample};
 ghost use Rattle.sx_mean.specs.View.{app_as, part_as};
 ghost use Rattle.sx_lang.specs.declared.sides.Side.TheVariants.{To};
-ghost use Rattle.sx_model.specs.Changes.{at_index, is_readable, on_device, on_end, reads, reacted};
+ghost use Rattle.sx_model.specs.Changes.{at_index, is_readable, on_device, on_end, reads, reacted, is_fresh_with};
 ghost use Rattle.sx_model.specs.Changes.{reads_from, staled, takes_at, takes_idle, takes_in};
 ghost use Rattle.sx_model.specs.Changes.{takes_present, with_stale, word_at};
-ghost use Rattle.sx_model.specs.Renewal.{is_at, takes};
-ghost use Rattle.sx_model.specs.Step.{is_fresh_with, is_word};
+ghost use Rattle.sx_model.specs.Renewal.{takes};
+ghost use Rattle.sx_model.specs.State.{contains};
 
 use crate::devices::has_sensor;
 use crate::ends::end_at;
@@ -59,7 +59,7 @@ fn stale_device(state: &mut State, device: u8)
 }
 
 fn is_at(current: Option<u8>, epoch: u32) -> bool
-    ensures { result ≡ is_at current epoch }
+    ensures { result ≡ contains current epoch }
 {
     match current {
         Some(current) => u32::from(current) == epoch,
@@ -161,7 +161,7 @@ fn word_at(state: &State, link: u8, number: u32) -> Option<u16>
 }
 
 fn is_word(value: u16, word: Option<u16>) -> bool
-    ensures { result ≡ is_word value word }
+    ensures { result ≡ contains word value }
 {
     match word {
         Some(word) => word == value,

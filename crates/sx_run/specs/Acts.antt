@@ -2,6 +2,7 @@
 -- outside.
 use Rattle.std.specs.Prelude.{ℕ, ◌+◌, if◌then◌else◌, List, [], ◌∷◌, ◌++◌, length, slice_get}
 use Rattle.std.specs.Prelude.{slice_set, Option, Some, None, Result, Ok, Err}
+use Rattle.std.specs.Option.{option_flatten}
 use Rattle.sx_trace.specs.declared.items.Item.{Item}
 use Rattle.sx_trace.specs.declared.items.Item.TheVariants as item
 use Rattle.sx_ledger.specs.declared.entry.Maker.TheVariants as maker
@@ -114,16 +115,11 @@ attested set w m boot ask last =
 abbrev pub after_denial : World → ℕ → Acted
 after_denial w m = only w (item.Denied m ∷ [])
 
--- the inner value, if there is one
-abbrev pub joined : {A : Type 0} → Option (Option A) → Option A
-joined None = None
-joined (Some x) = x
-
 -- an answer is accepted or denied; without an open ask it is denied
 abbrev pub after_verdict : Setting → World → ℕ → Site → ℕ → List ℕ → Option (List ℕ) → Acted
 after_verdict set w m site boot answer None = after_denial w m
 after_verdict set w m site boot answer (Some ask) =
-    let last = joined (slice_get w.deployer.attested m) in
+    let last = option_flatten (slice_get w.deployer.attested m) in
     if accepts set site w.deployer m boot answer (Some ask) last then
     attested set w m boot ask last else after_denial w m
 
@@ -132,4 +128,4 @@ abbrev pub after_answer : Setting → World → ℕ → ℕ → Option Site → 
 after_answer set w m boot None packet = after_denial w m
 after_answer set w m boot (Some site) None = after_denial w m
 after_answer set w m boot (Some site) (Some answer) =
-    after_verdict set w m site boot answer (joined (slice_get w.deployer.open_asks m))
+    after_verdict set w m site boot answer (option_flatten (slice_get w.deployer.open_asks m))

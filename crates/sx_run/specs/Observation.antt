@@ -1,7 +1,8 @@
 -- What a step of a node shows: its touches in their order, and then its event.
 use Rattle.std.specs.Prelude.{ℕ, ◌+◌, ◌*◌, ◌==◌, ◌&&◌, Bool, false, if◌then◌else◌, List, [], ◌∷◌}
 use Rattle.std.specs.Prelude.{◌++◌, length, slice_get, slice_index, Option, Some, None}
-use Rattle.std.specs.Prelude.{option_and_then}
+use Rattle.std.specs.Prelude.{unwrap_or}
+use Rattle.std.specs.Option.{option_map_or}
 use Rattle.std.specs.List.{list_any}
 use Rattle.sx_lang.specs.declared.sides.Side.{Side}
 use Rattle.sx_lang.specs.declared.sides.Side.TheVariants.{From, To}
@@ -18,10 +19,12 @@ use Rattle.sx_machine.specs.declared.kinds.Event.{Event}
 use Rattle.sx_machine.specs.declared.kinds.Event.TheVariants as event
 use Rattle.sx_machine.specs.declared.kinds.Seen.{Seen}
 use Rattle.sx_machine.specs.State.{State}
+use Rattle.sx_mean.specs.declared.apps.Link.{Link}
 use Rattle.sx_mean.specs.declared.events.End.{End}
 use Rattle.sx_mean.specs.Application.{AppTree}
 use Rattle.sx_mean.specs.Ends.{ends_of, same_side}
-use Rattle.sx_model.specs.Step.{drives, device_of}
+use Rattle.sx_model.specs.Step.{device_of}
+use Rattle.sx_model.specs.State.{contains}
 use Rattle.sx_run.specs.Setting.{Setting, module_of, device_number}
 use Rattle.sx_wire.specs.Headers.{is_ask, is_set_key_header, is_event_header, challenge_in, link_in}
 use Rattle.sx_wire.specs.Headers.{epoch_in, last_in, value_in}
@@ -48,23 +51,17 @@ cause_of bad.Range = cause.Range
 
 -- the module whose code it was, if a deployed one, drives the device
 abbrev pub is_driver : AppTree → Option ℕ → ℕ → Bool
-is_driver app None d = false
-is_driver app (Some m) d = drives (device_of app m) d
-
--- the number, or 0
-abbrev pub or_zero : Option ℕ → ℕ
-or_zero None = 0
-or_zero (Some k) = k
+is_driver app runner d = option_map_or (λ m. contains (device_of app m) d) runner false
 
 -- the item of a read of a fresh sensor: the driver's `read`, or other code's `drain`
 abbrev pub read_item : AppTree → Option ℕ → ℕ → ℕ → Item
 read_item app runner d v =
-    if is_driver app runner d then item.Read (or_zero runner) v else item.Drain d
+    if is_driver app runner d then item.Read (unwrap_or runner 0) v else item.Drain d
 
 -- the item of a write to an actuator: the driver's `out`, or other code's `raw`
 abbrev pub write_item : AppTree → Option ℕ → ℕ → ℕ → Item
 write_item app runner d v =
-    if is_driver app runner d then item.Out (or_zero runner) v else item.Raw d v
+    if is_driver app runner d then item.Out (unwrap_or runner 0) v else item.Raw d v
 
 -- the items of touches, in order
 abbrev pub touch_items : AppTree → ℕ → Option ℕ → List Touch → List Item
@@ -101,9 +98,14 @@ is_end link side e = (e.link == link) && same_side e.side side
 abbrev pub has_end : AppTree → ℕ → ℕ → Side → Bool
 has_end app m link side = list_any (is_end link side) (ends_of app m)
 
+-- the module that the connection comes from
+abbrev pub from_of : Option Link → ℕ
+from_of None = 0
+from_of (Some l) = l.from
+
 -- the module at the sending side of a connection
 abbrev pub sender_of : AppTree → ℕ → ℕ
-sender_of app link = or_zero (option_and_then (λ l. Some l.from) (slice_get app.links link))
+sender_of app link = from_of (slice_get app.links link)
 
 -- a deployed module unwrapped a header and a body: it opens an end, or it takes an event
 abbrev pub has_unwrapped : AppTree → ℕ → ℕ → List ℕ → List ℕ → List Made → List Item

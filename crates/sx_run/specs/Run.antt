@@ -1,6 +1,7 @@
 -- A schedule's lines as acts, and the run of a schedule.
 use Rattle.std.specs.Prelude.{ℕ, zero, suc, ◌+◌, ◌/◌, ◌==◌, ◌||◌, Bool, true, false, if◌then◌else◌}
 use Rattle.std.specs.Prelude.{List, [], ◌∷◌, length, take, drop, slice_get, Option, Some, None}
+use Rattle.std.specs.Prelude.{unwrap_or}
 use Rattle.std.specs.List.{position_from}
 use Rattle.sx_trace.specs.declared.items.Cause.TheVariants.{Asked}
 use Rattle.sx_trace.specs.declared.items.Item.{Item}
@@ -15,7 +16,6 @@ use Rattle.sx_machine.specs.Step.{step}
 use Rattle.sx_machine.specs.Acts.{put, set, take as take_from, sense, irq}
 use Rattle.sx_run.specs.Setting.{Site, Setting, devices_at}
 use Rattle.sx_run.specs.State.{World, Acted}
-use Rattle.sx_run.specs.Observation.{or_zero}
 use Rattle.sx_run.specs.Acts.{only, then_, with_node, at_node, after_step, done_on, new_packet}
 use Rattle.sx_run.specs.Acts.{after_take, after_interrupt, ask, after_answer}
 
@@ -57,7 +57,7 @@ give w n at (Some bytes) = put_on n at bytes w
 
 -- a device's index among those of its node
 abbrev pub place_at : Setting → ℕ → ℕ → ℕ
-place_at set n d = or_zero (position_from (λ k. k == d) 0 (devices_at n 0 set.app.devices))
+place_at set n d = unwrap_or (position_from (λ k. k == d) 0 (devices_at n 0 set.app.devices)) 0
 
 -- a sensor gets a value, where there is such a device
 abbrev pub sense_at : Setting → World → ℕ → ℕ → Option AppDevice → Acted

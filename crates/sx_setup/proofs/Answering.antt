@@ -4,6 +4,7 @@ use Rattle.std.specs.Prelude.{bytes_eq, slice_get}
 use Rattle.std.proofs.lemmas.Bool.{and_from}
 use Rattle.std.proofs.lemmas.List.{append-nil}
 use Rattle.std.proofs.lemmas.Slice.Eq.{bytes_eq-Decides}
+use Rattle.std.specs.Option.{option_flatten}
 use Rattle.sx_mean.specs.declared.events.End.{End}
 use Rattle.sx_mean.specs.Ends.{ends_of}
 use Rattle.sx_trace.specs.declared.items.Item.TheVariants as item
@@ -15,7 +16,7 @@ use Rattle.sx_run.proofs.acts.Asking.{expected}
 use Rattle.sx_run.specs.Ledger.{Made}
 use Rattle.sx_run.specs.Observation.{unless_made}
 use Rattle.sx_run.specs.State.{World, Acted}
-use Rattle.sx_run.specs.Acts.{after_answer, after_denial, after_verdict, attested, joined, key_given, keys_given, then_, with_deployer}
+use Rattle.sx_run.specs.Acts.{after_answer, after_denial, after_verdict, attested, key_given, keys_given, then_, with_deployer}
 use Rattle.sx_honest.specs.Course.{packet_items}
 use Rattle.sx_setup.proofs.forms.Acting.{AnswerAccepted, with_keys}
 use Rattle.sx_setup.proofs.Packets.{set_key_length}
@@ -66,8 +67,8 @@ answer_accepted set w m k site ask answer sound sited got asked fresh right made
     ((bytes_eq-Decides answer (expected set site 0 ask)).1 right) refl in
     ap (λ o. after_answer set w m 0 o (slice_get w.packets k)) sited
     ∙ ap (after_answer set w m 0 (Some site)) got
-    ∙ ap (λ o. after_verdict set w m site 0 answer (joined o)) asked
-    ∙ ap (λ o. let last = attested_at o in if accepts set site w.deployer m 0 answer (Some ask) last then attested set w m 0 ask last else after_denial w m) fresh
+    ∙ ap (λ o. after_verdict set w m site 0 answer (option_flatten o)) asked
+    ∙ ap (λ o. let last = option_flatten o in if accepts set site w.deployer m 0 answer (Some ask) last then attested set w m 0 ask last else after_denial w m) fresh
     ∙ ap (λ b. if b then attested set w m 0 ask None else after_denial w m) first
     ∙ ap (λ b. then_ (record { world = with_deployer w d w.ledger; items = unless_made None b (item.Attested m 0) }) (keys_given set (grants_after set.app d m 0 None))) made
     ∙ ap (λ (a : Acted). record { world = a.world; items = item.Attested m 0 ∷ a.items }) (keys_all set m site w.deployer.epochs sound.tag sited (ends_of set.app m) (with_deployer w d w.ledger))

@@ -2,10 +2,11 @@
 
 ghost use Rattle.std.specs.Prelude.{◌≡◌, ◌==◌, ◌<◌, ◌≤◌, length, slice_get, slice_index, Some};
 ghost use Rattle.std.specs.List.{position_from};
+ghost use Rattle.std.specs.Prelude.{unwrap_or};
 ghost use Rattle.sx_mean.specs.declared.apps.AppDevice.{AppDevice as Device};
-ghost use Rattle.sx_run.specs.Observation.{or_zero};
 ghost use Rattle.sx_mean.specs.View.{app_as};
-ghost use Rattle.sx_model.specs.Step.{device_of, drives};
+ghost use Rattle.sx_model.specs.Step.{device_of};
+ghost use Rattle.sx_model.specs.State.{contains};
 ghost use Rattle.sx_run.specs.Setting.{devices_at};
 ghost use Rattle.sx_run.specs.Observation.{is_driver};
 
@@ -40,7 +41,7 @@ fn device_of(app: &App, m: u8) -> Option<u8>
 }
 
 fn drives(device: Option<u8>, d: u8) -> bool
-    ensures { result ≡ drives device d }
+    ensures { result ≡ contains device d }
 {
     match device {
         Some(own) => own == d,
@@ -62,7 +63,7 @@ pub(crate) fn is_driver(app: &App, runner: Option<u8>, d: u8) -> bool
 pub(crate) fn place_at(devices: &[AppDevice], n: u8, d: u8) -> u8
     requires device { (x : Device) → slice_get devices.now d ≡ Some x → x.node ≡ n }
     requires within { d < length devices.now }
-    ensures { result ≡ or_zero (position_from (λ k. k == d) 0 (devices_at n 0 devices.now)) }
+    ensures { result ≡ unwrap_or (position_from (λ k. k == d) 0 (devices_at n 0 devices.now)) 0 }
 {
     let mut place = 0;
     for i in 0..d {

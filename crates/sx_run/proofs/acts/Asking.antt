@@ -5,6 +5,7 @@ use Rattle.std.proofs.Common.{length, Option, Some, None, refl, sym, ◌∙◌, 
 use Rattle.std.specs.Prelude.{slice_get, slice_set, slice_index, is_some}
 use Rattle.std.proofs.lemmas.Bool.{and_parts, cases_eq, eq-eqb}
 use Rattle.std.proofs.lemmas.Option.{none-some}
+use Rattle.std.specs.Option.{option_flatten}
 use Rattle.sx_lang.specs.declared.sides.Side.TheVariants.{From, To}
 use Rattle.sx_mean.specs.declared.events.End.{End}
 use Rattle.sx_trace.specs.declared.items.Item.{Item}
@@ -28,7 +29,7 @@ use Rattle.sx_deployer.specs.Granting.{DeployerState, Grant, after_ask, grants_o
 use Rattle.sx_run.specs.Deployer.{key_of, accepts, after_acceptance, set_key, set_key_entry}
 use Rattle.sx_run.specs.State.{World, Acted}
 use Rattle.sx_run.specs.Observation.{unless_made}
-use Rattle.sx_run.specs.Acts.{then_, new_packet, with_deployer, ask, key_given, keys_given, attested, after_denial, joined, after_verdict, after_answer}
+use Rattle.sx_run.specs.Acts.{then_, new_packet, with_deployer, ask, key_given, keys_given, attested, after_denial, after_verdict, after_answer}
 use Rattle.sx_run.specs.Run.{line_counted}
 use Rattle.sx_run.proofs.tie.Lists.{get_other, get_some, get_within, length_set, some_inj}
 use Rattle.sx_run.proofs.tie.Entries.{made_behind}
@@ -558,7 +559,7 @@ module _ (set : Setting) (w : World) (mo : Model) (m : ℕ) (site : Site) (boot 
   asked_parts None ask e = absurd cc
   asked_parts (Some a) ask e = (a, refl, cc)
 
-  open_parts : (o : Option (Option (List ℕ))) (ask : List ℕ) → joined o ≡ Some ask → o ≡ Some (Some ask)
+  open_parts : (o : Option (Option (List ℕ))) (ask : List ℕ) → option_flatten o ≡ Some ask → o ≡ Some (Some ask)
   open_parts None ask e = absurd cc
   open_parts (Some p) ask e = ap Some e
 
@@ -567,11 +568,11 @@ module _ (set : Setting) (w : World) (mo : Model) (m : ℕ) (site : Site) (boot 
   answered_if true x y f g = f refl
   answered_if false x y f g = g
 
-  judged_fares : (o : Option (List ℕ)) → joined (slice_get w.deployer.open_asks m) ≡ o
+  judged_fares : (o : Option (List ℕ)) → option_flatten (slice_get w.deployer.open_asks m) ≡ o
       → Fares (judge set.app mo (after_verdict set w m site boot answer o).items) (Tied set (after_verdict set w m site boot answer o).world)
   judged_fares None e = t
   judged_fares (Some ask) e =
-      let last = joined (slice_get w.deployer.attested m) in
+      let last = option_flatten (slice_get w.deployer.attested m) in
       answered_if (accepts set site w.deployer m boot answer (Some ask) last) (attested set w m boot ask last) (after_denial w m) (λ ok.
       let p = open_parts (slice_get w.deployer.open_asks m) ask e in
       let within = get_within w.deployer.open_asks m (Some ask) p in
@@ -579,10 +580,10 @@ module _ (set : Setting) (w : World) (mo : Model) (m : ℕ) (site : Site) (boot 
       let at : (at : Option ℕ) × (slice_get w.deployer.attested m ≡ Some at) = get_some w.deployer.attested m (omega (arith, within, t.size.attested, t.size.asks)) in
       let d = t.deployer m x.0 (Some ask) at.0 x.1 p at.1 in
       let a = asked_parts x.0.asked ask d.open_ask in
-      accepted_fares ask x.0 a.0 last x.1 (ap joined at.1 ∙ d.when_attested) (and_parts _ (may_attest m set.app.links w.deployer.epochs last boot) ok).1 a.1 a.2) t
+      accepted_fares ask x.0 a.0 last x.1 (ap option_flatten at.1 ∙ d.when_attested) (and_parts _ (may_attest m set.app.links w.deployer.epochs last boot) ok).1 a.1 a.2) t
 
   pub answered_fares : Fares (judge set.app mo (after_answer set w m boot (Some site) (Some answer)).items) (Tied set (after_answer set w m boot (Some site) (Some answer)).world)
-  answered_fares = judged_fares (joined (slice_get w.deployer.open_asks m)) refl
+  answered_fares = judged_fares (option_flatten (slice_get w.deployer.open_asks m)) refl
 
 -- an ask of a module of the application
 pub ask_fares : (set : Setting) (w : World) (m : ℕ) → m < length set.app.parts → w.lines < 65536 → (mo : Model)

@@ -6,6 +6,7 @@ use Rattle.std.proofs.Common.{length-append}
 use Rattle.std.specs.Prelude.{slice_get, slice_set}
 use Rattle.std.specs.List.{cons_option}
 use Rattle.std.proofs.lemmas.Bool.{cases_eq}
+use Rattle.std.specs.Option.{option_flatten}
 use Rattle.sx_lang.specs.declared.sides.Side.TheVariants.{From, To}
 use Rattle.sx_mean.specs.declared.apps.AppDevice.{AppDevice}
 use Rattle.sx_mean.specs.declared.apps.Link.{Link}
@@ -41,8 +42,7 @@ use Rattle.sx_run.specs.Deployer.{accepts, after_acceptance}
 use Rattle.sx_run.specs.State.{World, Acted, switched_on}
 use Rattle.sx_run.specs.Acts.{only, then_, with_node, at_node, after_step, done_on, with_deployer}
 use Rattle.sx_run.specs.Acts.{new_packet, after_take, after_interrupt, ask, key_given, keys_given}
-use Rattle.sx_run.specs.Acts.{attested, after_denial, after_verdict, after_answer, joined}
-use Rattle.sx_run.specs.Acts.{joined}
+use Rattle.sx_run.specs.Acts.{attested, after_denial, after_verdict, after_answer}
 use Rattle.sx_run.specs.Run.{is_reset, steps_of, FINISH_STEPS, finish, put_on, set_on, give}
 use Rattle.sx_run.specs.Run.{place_at, sense_at, put_pieces, Register, set_all, register}
 use Rattle.sx_run.specs.Run.{unless_busy, load, call, after_line, line_counted, run}
@@ -348,7 +348,7 @@ module _ (set : Setting) where
       → Within b t p a w → Within b t (p + 192) a (after_verdict set w m site boot answer o).world
   judged_within b t p a w m site boot answer None few h = more b t p a b t (p + 192) a w h (omega arith) (omega arith) (omega arith) (omega arith)
   judged_within b t p a w m site boot answer (Some ask) few h =
-      let last = joined (slice_get w.deployer.attested m) in
+      let last = option_flatten (slice_get w.deployer.attested m) in
       let d = after_acceptance set.app.links w.deployer m boot last in
       let gs = grants_after set.app d m boot last in
       let some = after_few set d m boot last few in
@@ -361,7 +361,7 @@ module _ (set : Setting) where
       → Within b t p a w → Within b t (p + 192) a (after_answer set w m boot o packet).world
   answered_within b t p a w m boot None packet few h = more b t p a b t (p + 192) a w h (omega arith) (omega arith) (omega arith) (omega arith)
   answered_within b t p a w m boot (Some site) None few h = more b t p a b t (p + 192) a w h (omega arith) (omega arith) (omega arith) (omega arith)
-  answered_within b t p a w m boot (Some site) (Some answer) few h = judged_within b t p a w m site boot answer (joined (slice_get w.deployer.open_asks m)) few h
+  answered_within b t p a w m boot (Some site) (Some answer) few h = judged_within b t p a w m site boot answer (option_flatten (slice_get w.deployer.open_asks m)) few h
 
   -- what a line leaves
   abbrev pub Leaves : ℕ → ℕ → ℕ → ℕ → Line → World → Type 0

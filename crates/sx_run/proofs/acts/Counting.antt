@@ -1,6 +1,7 @@
 -- No act counts lines.
 use Rattle.std.proofs.Common.{◌≡◌, ℕ, zero, suc, ◌+◌, ◌/◌, ◌||◌, ◌==◌, Bool, true, false, if◌then◌else◌, List, [], ◌∷◌, length, take, drop, Option, Some, None, Result, Ok, Err, refl, ◌∙◌}
 use Rattle.std.specs.Prelude.{slice_get}
+use Rattle.std.specs.Option.{option_flatten}
 use Rattle.sx_mean.specs.declared.apps.AppDevice.{AppDevice}
 use Rattle.sx_trace.specs.declared.items.Item.{Item}
 use Rattle.sx_trace.specs.declared.items.Item.TheVariants as item
@@ -16,7 +17,7 @@ use Rattle.sx_run.specs.Deployer.{accepts, after_acceptance}
 use Rattle.sx_run.specs.State.{World, Acted}
 use Rattle.sx_run.specs.Acts.{only, then_, at_node, after_step, done_on, with_deployer, after_take}
 use Rattle.sx_run.specs.Acts.{after_interrupt, key_given, keys_given, attested, after_denial}
-use Rattle.sx_run.specs.Acts.{after_verdict, after_answer, joined}
+use Rattle.sx_run.specs.Acts.{after_verdict, after_answer}
 use Rattle.sx_run.specs.Run.{is_reset, steps_of, FINISH_STEPS, finish, put_on, set_on, give, place_at, sense_at, put_pieces, Register, set_all, register, unless_busy, load, call, after_line}
 
 abbrev Same : World → Acted → Type 0
@@ -109,7 +110,7 @@ same_keys set (g ∷ gs) w =
 same_judged : (set : Setting) (w : World) (m : ℕ) (site : Site) (boot : ℕ) (answer : List ℕ) (o : Option (List ℕ)) → Same w (after_verdict set w m site boot answer o)
 same_judged set w m site boot answer None = refl
 same_judged set w m site boot answer (Some ask) =
-    let last = joined (slice_get w.deployer.attested m) in
+    let last = option_flatten (slice_get w.deployer.attested m) in
     let d = after_acceptance set.app.links w.deployer m boot last in
     same_if w (accepts set site w.deployer m boot answer (Some ask) last) (attested set w m boot ask last) (after_denial w m)
     (same_keys set (grants_after set.app d m boot last) (with_deployer w d w.ledger)) refl
@@ -117,7 +118,7 @@ same_judged set w m site boot answer (Some ask) =
 same_answered : (set : Setting) (w : World) (m boot : ℕ) (o : Option Site) (p : Option (List ℕ)) → Same w (after_answer set w m boot o p)
 same_answered set w m boot None p = refl
 same_answered set w m boot (Some site) None = refl
-same_answered set w m boot (Some site) (Some answer) = same_judged set w m site boot answer (joined (slice_get w.deployer.open_asks m))
+same_answered set w m boot (Some site) (Some answer) = same_judged set w m site boot answer (option_flatten (slice_get w.deployer.open_asks m))
 
 pub counts_lines : (set : Setting) (w : World) (line : Line) → (after_line set w line).world.lines ≡ w.lines
 counts_lines set w Blank = refl

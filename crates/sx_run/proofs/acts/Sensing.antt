@@ -3,6 +3,7 @@ use Rattle.std.proofs.Common.{◌≡◌, ◌≢◌, ℕ, zero, suc, ◌+◌, ◌
 use Rattle.std.specs.Prelude.{slice_get, slice_set}
 use Rattle.std.specs.List.{position_from}
 use Rattle.std.proofs.lemmas.Bool.{eqb-true, cases_eq, eq-eqb}
+use Rattle.std.specs.Prelude.{unwrap_or}
 use Rattle.sx_bus.specs.declared.devices.Window.{Window}
 use Rattle.sx_bus.specs.Devices.{with_sample}
 use Rattle.sx_mean.specs.declared.apps.AppDevice.{AppDevice}
@@ -20,7 +21,6 @@ use Rattle.sx_run.specs.Setting.{Site, Setting, devices_at, device_number}
 use Rattle.sx_run.specs.Ledger.{Made}
 use Rattle.sx_run.specs.State.{World}
 use Rattle.sx_run.specs.Acts.{with_node, done_on}
-use Rattle.sx_run.specs.Observation.{or_zero}
 use Rattle.sx_run.specs.Run.{place_at}
 use Rattle.sx_run.specs.Law.{IsSoundSetting}
 use Rattle.sx_run.proofs.tie.Lists.{get_other, get_some, get_within, length_set, some_inj}
@@ -57,7 +57,7 @@ place_is set n d x e same =
   where
     found : (o : Option ℕ) → position_from (λ k. k == d) 0 (devices_at n 0 set.app.devices) ≡ o
         → (position_from (λ k. k == d) 0 (devices_at n 0 set.app.devices) ≡ None → ⊥)
-        → slice_get (devices_at n 0 set.app.devices) (or_zero o) ≡ Some d
+        → slice_get (devices_at n 0 set.app.devices) (unwrap_or o 0) ≡ Some d
     found None e f = absurd (f e)
     found (Some k) e f =
         let p = position_is (λ k. k == d) 0 (devices_at n 0 set.app.devices) k e in

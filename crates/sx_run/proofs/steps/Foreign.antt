@@ -29,8 +29,8 @@ use Rattle.sx_machine.specs.Step.{step, own_of}
 use Rattle.sx_machine.proofs.PlanGuard.{barred}
 use Rattle.sx_image.specs.Watched.{marks_of_touches, violation_of}
 use Rattle.sx_mean.specs.Application.{PartTree, is_sensor}
-use Rattle.sx_model.specs.State.{Reading, Standing, Model}
-use Rattle.sx_model.specs.Step.{drives, is_undriven, step as source_step}
+use Rattle.sx_model.specs.State.{Reading, Standing, Model, contains}
+use Rattle.sx_model.specs.Step.{is_undriven, step as source_step}
 use Rattle.sx_run.specs.Setting.{Site, Setting, module_of, deployed, is_at_site, device_number, devices_at, windows_at, kind_of}
 use Rattle.sx_run.specs.Ledger.{Made, is_made}
 use Rattle.sx_run.specs.State.{World}
@@ -108,7 +108,7 @@ undriven_where d [] xs f = refl
 undriven_where d (q ∷ qs) [] f = refl
 undriven_where d (q ∷ qs) (x ∷ xs) f = and_from _ (is_undriven qs xs d) (one q.device refl) (undriven_where d qs xs (λ m q2 x2 a b. f (suc m) q2 x2 a b))
   where
-    one : (o : Option ℕ) → q.device ≡ o → not (drives o d && is_some x.present) ≡ true
+    one : (o : Option ℕ) → q.device ≡ o → not (contains o d && is_some x.present) ≡ true
     one None e = refl
     one (Some c) e = elim (cases_eq c d) [
       | inl same ↦

@@ -21,9 +21,9 @@ use Rattle.sx_invoke.specs.Progress.{Progress, Invoked, Returns, Violates}
 use Rattle.sx_invoke.specs.Entries.{end_found}
 use Rattle.sx_mean.specs.Application.{PartTree, AppTree, is_sensor}
 use Rattle.sx_mean.specs.Ends.{ends_of}
-use Rattle.sx_model.specs.State.{Reading, EndView, Pending, Present, Vouched as Vow, Attestation, Standing, Model, FIELDS}
+use Rattle.sx_model.specs.State.{Reading, EndView, Pending, Present, Vouched as Vow, Attestation, Standing, Model, FIELDS, contains}
 use Rattle.sx_model.specs.Reaction.{flow_of, after_event}
-use Rattle.sx_model.specs.Step.{idle, changed_views, is_word, kind_is, waits, is_vouched, step}
+use Rattle.sx_model.specs.Step.{idle, changed_views, kind_is, waits, is_vouched, step}
 use Rattle.sx_model.specs.Renewal.{takes, opens, is_below, may_open}
 use Rattle.sx_run.specs.Setting.{device_number}
 use Rattle.sx_wire.specs.Headers.{begins, is_ask, is_set_key_header, is_event_header, challenge_in, link_in, epoch_in, last_in, value_in}
@@ -198,7 +198,7 @@ module _ (app : AppTree) (m : ℕ) (q : PartTree) (x : Standing) (pr : Present) 
   if_true : (b : Bool) (x y : List Item) → b ≡ true → (if b then x else y) ≡ x
   if_true b x y e = rw e refl
 
-  is_word_same : (v : ℕ) (o : Option ℕ) → o ≡ Some v → is_word v o ≡ true
+  is_word_same : (v : ℕ) (o : Option ℕ) → o ≡ Some v → contains o v ≡ true
   is_word_same v o e = rw e (eq-eqb v v refl)
 
   taken_step : (link epoch last value place i : ℕ) (l : Link) (words : List ℕ) (views : List EndView) → i / 65536 ≡ epoch → i % 65536 ≡ last → place ≡ link + 256 * epoch → pr.pending ≡ None

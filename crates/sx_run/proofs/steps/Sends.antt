@@ -2,7 +2,7 @@
 use Rattle.std.proofs.Common.{◌≡◌, ℕ, zero, suc, ◌+◌, ◌*◌, ◌≤◌, inl, inr, ◌==◌, ◌&&◌}
 use Rattle.std.proofs.Common.{Bool, true, false, if◌then◌else◌, List, [], ◌∷◌, ◌++◌, length, Option}
 use Rattle.std.proofs.Common.{Some, None, Result, Ok, Err, refl, sym, ◌∙◌, ap, subst, arith}
-use Rattle.std.specs.Prelude.{option_and_then, slice_get, slice_set, is_some, nat_lt}
+use Rattle.std.specs.Prelude.{slice_get, slice_set, is_some, nat_lt}
 use Rattle.std.proofs.lemmas.List.{append-nil, append_assoc, length-append}
 use Rattle.sx_lang.specs.declared.sides.Side.{Side}
 use Rattle.sx_lang.specs.declared.sides.Side.TheVariants.{From, To}
@@ -21,7 +21,8 @@ use Rattle.sx_mean.specs.Ends.{is_sending}
 use Rattle.sx_mean.specs.Application.{PartTree, AppTree}
 use Rattle.sx_mean.specs.Ends.{ends_of}
 use Rattle.sx_model.specs.State.{EndView}
-use Rattle.sx_model.specs.Reaction.{Flow, MOST_SENT, field_at, field_of, sent_over, is_from, sends, sent_to, all_done}
+use Rattle.sx_model.specs.Reaction.{Flow, MOST_SENT, field_at, field_of, sent_over, sends, sent_to, all_done}
+use Rattle.sx_model.specs.Changes.{is_from}
 use Rattle.sx_run.specs.Setting.{device_number}
 use Rattle.sx_wire.specs.Headers.{last_in, value_in}
 use Rattle.sx_run.specs.Observation.{sender_of}
@@ -163,7 +164,7 @@ module _ (app : AppTree) (m n : ℕ) (q : PartTree) (s : Setup) (c : Call) (cell
       let g = flows.grown x.field (words ++ v ∷ []) (get_same f.sent x.field (words ++ v ∷ []) words there) in
       let last : last_in (event_header x) ≡ length words = two_bytes x.number ∙ sym n in
       record {
-        sender = ap (λ k. sender_of app k) fe ∙ ap (λ o. Rattle.sx_run.specs.Observation.or_zero (option_and_then (λ l. Some l.from) o)) link_there ∙ (subst (λ t. EndOf m t e.port l.link) side l.ends).0;
+        sender = ap (λ k. sender_of app k) fe ∙ ap Rattle.sx_run.specs.Observation.from_of link_there ∙ (subst (λ t. EndOf m t e.port l.link) side l.ends).0;
         words = (words ++ v ∷ []) ++ g.0;
         there = subst (λ k. slice_get final k ≡ Some ((words ++ v ∷ []) ++ g.0)) (sym (two_bytes x.field)) g.1;
         word = subst (λ k. slice_get ((words ++ v ∷ []) ++ g.0) k ≡ Some (value_in (two v))) (sym last)

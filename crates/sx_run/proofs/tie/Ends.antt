@@ -11,9 +11,9 @@ use Rattle.sx_invoke.specs.ModuleState.{EndState, end_of, with_end, epoch_of, li
 use Rattle.sx_invoke.specs.Entries.{end_is, end_found}
 use Rattle.sx_mean.specs.Application.{AppTree}
 use Rattle.sx_mean.specs.Ends.{receiving, ends_after, ends_of, same_side}
-use Rattle.sx_model.specs.State.{EndView}
+use Rattle.sx_model.specs.State.{EndView, contains}
 use Rattle.sx_model.specs.Step.{◌>>?◌, changed_views}
-use Rattle.sx_model.specs.Renewal.{is_at, takes, is_below, opens}
+use Rattle.sx_model.specs.Renewal.{takes, is_below, opens}
 use Rattle.sx_run.specs.Observation.{is_end}
 use Rattle.sx_run.proofs.tie.Lists.{some_inj}
 use Rattle.sx_run.proofs.tie.Tied.{epoch_at, HasLength, Counts, SameEnds, open_at, AtLeast, HasEnd}
@@ -381,7 +381,7 @@ open_same change c link to side (e ∷ es) (v ∷ vs) ws st h =
     same_head change c link to side e es v vs ws ((e.link == link) && same_side e.side side) st (λ us g. open_same change c link to side es vs us st g) h
 
 pub takes_leaves : (epoch i : ℕ) → LeavesEpoch (takes epoch i)
-takes_leaves epoch i v w h = kept (is_at v.epoch epoch && nat_le v.next i) h
+takes_leaves epoch i v w h = kept (contains v.epoch epoch && nat_le v.next i) h
   where
     kept : (b : Bool) → (if b then Some (record { epoch = v.epoch; next = i + 1 }) else None) ≡ Some w → w.epoch ≡ v.epoch
     kept true h = sym (ap (λ (u : EndView). u.epoch) (some_inj (record { epoch = v.epoch; next = i + 1 }) w h))

@@ -9,7 +9,8 @@ use Rattle.sx_mean.specs.declared.events.End.{End}
 use Rattle.sx_mean.specs.declared.events.Act.{Act}
 use Rattle.sx_mean.specs.declared.events.Act.TheVariants.{Send, Emit}
 use Rattle.sx_model.specs.State.{EndView}
-use Rattle.sx_model.specs.Reaction.{Flow, MOST_SENT, field_of, sent_over, is_from, sends, sent_to, done, all_done}
+use Rattle.sx_model.specs.Reaction.{Flow, MOST_SENT, field_of, sent_over, sends, sent_to, done, all_done}
+use Rattle.sx_model.specs.Changes.{is_from}
 use Rattle.sx_run.proofs.tie.Lists.{get_other, length_set, some_inj}
 use Rattle.sx_lists.proofs.Lists.{get_same}
 

@@ -3,9 +3,9 @@ use Rattle.std.proofs.Common.{◌≡◌, ℕ, zero, suc, ◌+◌, ◌<◌, ◌==
 use Rattle.std.specs.Prelude.{slice_get, if◌then◌else◌}
 use Rattle.std.specs.List.{position_from}
 use Rattle.std.proofs.lemmas.Bool.{eq-eqb, ne_eqb}
+use Rattle.std.specs.Prelude.{unwrap_or}
 use Rattle.sx_mean.specs.declared.apps.AppDevice.{AppDevice}
 use Rattle.sx_run.specs.Setting.{devices_at}
-use Rattle.sx_run.specs.Observation.{or_zero}
 use Rattle.sx_run.proofs.tie.Lists.{get_some, some_inj}
 
 -- a device of another node
@@ -27,10 +27,10 @@ drop_at (y ∷ ds) (suc d) x e = drop_at ds d x e
 -- all devices before the d-th are counted
 pub counted_all : (ds : List AppDevice) (n d i c : ℕ) → ((x : AppDevice) → slice_get ds d ≡ Some x → x.node ≡ n) → d < length ds → i ≡ d
     → position_from (λ k. k == d) c (devices_at n i (drop i ds)) ≡ position_from (λ k. k == d) 0 (devices_at n 0 ds)
-    → c ≡ or_zero (position_from (λ k. k == d) 0 (devices_at n 0 ds))
+    → c ≡ unwrap_or (position_from (λ k. k == d) 0 (devices_at n 0 ds)) 0
 counted_all ds n d i c node lt same e =
     let f = get_some ds d lt in
     let there : position_from (λ k. k == d) c (devices_at n i (drop i ds)) ≡ Some c =
     ap (λ j. position_from (λ k. k == d) c (devices_at n j (drop j ds))) same
     ∙ ap (λ xs. position_from (λ k. k == d) c (devices_at n d xs)) (drop_at ds d f.0 f.1) ∙ found (drop (suc d) ds) n d c f.0 (node f.0 f.1) in
-    ap or_zero (sym there ∙ e)
+    ap (λ o. unwrap_or o 0) (sym there ∙ e)

@@ -6,6 +6,7 @@ use Rattle.std.specs.Prelude.{slice_get}
 use Rattle.std.proofs.lemmas.Bool.{true≢false}
 use Rattle.std.proofs.lemmas.List.{append_assoc}
 use Rattle.std.proofs.lemmas.Option.{none-some}
+use Rattle.std.specs.Option.{option_flatten}
 use Rattle.sx_trace.specs.declared.items.Item.{Item}
 use Rattle.sx_trace.specs.declared.items.Item.TheVariants.{Attested, Denied}
 use Rattle.sx_ledger.specs.declared.entry.Maker.TheVariants as maker
@@ -18,7 +19,7 @@ use Rattle.sx_deployer.specs.Granting.{Grant, grants_after, is_answer}
 use Rattle.sx_run.specs.Deployer.{accepts, after_acceptance}
 use Rattle.sx_run.specs.State.{World, Acted}
 use Rattle.sx_run.specs.Observation.{unless_made}
-use Rattle.sx_run.specs.Acts.{keys_given, with_deployer, attested, joined, after_denial, after_verdict, after_answer}
+use Rattle.sx_run.specs.Acts.{keys_given, with_deployer, attested, after_denial, after_verdict, after_answer}
 use Rattle.sx_world.specs.Granted.{granted, accepted_ask, judged_by, confirmed}
 use Rattle.sx_world.specs.Held.{Running, IsKept, Records, AddsFront, Shows, Wanted, DoesAct}
 use Rattle.sx_world.proofs.showing.Fronts.{front_more, front_next, front_same}
@@ -142,10 +143,10 @@ unanswered set old k m boot n lt kj aa w h = by_packet (slice_get old.packets n)
     no_packet (Some site) = refl
 
     by_ask : (answer : List ℕ) (site : Site) → slice_get set.sites m ≡ Some site → keeping.accepts set.mac old.deployer m boot answer ≡ false
-        → (a : Option (List ℕ)) → joined (slice_get w.deployer.open_asks m) ≡ a → after_verdict set w m site boot answer a ≡ after_denial w m
+        → (a : Option (List ℕ)) → option_flatten (slice_get w.deployer.open_asks m) ≡ a → after_verdict set w m site boot answer a ≡ after_denial w m
     by_ask answer site es acc None ea = refl
     by_ask answer site es acc (Some ask) ea =
-        let l = joined (slice_get w.deployer.attested m) in
+        let l = option_flatten (slice_get w.deployer.attested m) in
         ap (λ (b : Bool). if b then attested set w m boot ask l else after_denial w m)
         (same_accepts set old.deployer w.deployer m boot answer site (Some ask) l h.deployer es (sym ea ∙ same_ask set old.deployer w.deployer m h.deployer lt)
         (same_boot set old.deployer w.deployer m h.deployer lt) ∙ acc)
@@ -153,7 +154,7 @@ unanswered set old k m boot n lt kj aa w h = by_packet (slice_get old.packets n)
     by_site : (answer : List ℕ) → keeping.accepts set.mac old.deployer m boot answer ≡ false → (o : Option Site) → slice_get set.sites m ≡ o
         → after_answer set w m boot o (Some answer) ≡ after_denial w m
     by_site answer acc None es = refl
-    by_site answer acc (Some site) es = by_ask answer site es acc (joined (slice_get w.deployer.open_asks m)) refl
+    by_site answer acc (Some site) es = by_ask answer site es acc (option_flatten (slice_get w.deployer.open_asks m)) refl
 
     by_verdict : (answer : List ℕ) → slice_get old.packets n ≡ Some answer → (b : Bool) → keeping.accepts set.mac old.deployer m boot answer ≡ b
         → k ≡ (if b then keeping.accepted old.deployer m boot else old.deployer) → (if b then keeping.open_ask old.deployer m else None) ≡ None → Due

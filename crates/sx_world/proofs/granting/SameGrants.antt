@@ -8,6 +8,7 @@ use Rattle.std.specs.Option.{option_to_list}
 use Rattle.std.specs.List.{cons_option}
 use Rattle.std.proofs.lemmas.Bool.{ltb-true, ltb-false}
 use Rattle.std.proofs.lemmas.List.{get_or-take}
+use Rattle.std.specs.Option.{option_flatten}
 use Rattle.sx_lang.specs.declared.sides.Side.TheVariants.{From, To}
 use Rattle.sx_mean.specs.declared.apps.Link.{Link}
 use Rattle.sx_mean.specs.declared.events.End.{End}
@@ -15,7 +16,6 @@ use Rattle.sx_mean.specs.Ends.{sending, receiving, ends_after}
 use Rattle.sx_deployer.specs.Keeping.{Keeping}
 use Rattle.sx_run.specs.Setting.{Setting}
 use Rattle.sx_deployer.specs.Granting.{DeployerState, Grant, grant, grants_of, grant_to, grant_beyond, grants_beyond, grants_after}
-use Rattle.sx_run.specs.Acts.{joined}
 use Rattle.sx_world.specs.Granted.{boot_in, grant_if_any, own_at, own_from, across_at, across_from, granted}
 use Rattle.sx_world.specs.Held.{IsKept}
 use Rattle.sx_world.proofs.granting.SameKeys.{boots_taken}
@@ -61,12 +61,12 @@ none_past (suc n) (x ∷ xs) zero h = absurd (omega (arith, h))
 none_past (suc n) (x ∷ xs) (suc i) h = none_past n xs i (omega (arith, h))
 
 -- the boot of a module, of the application or not
-boot_same : (P : ℕ) (xs : List (Option ℕ)) (j : ℕ) (b : Bool) → nat_lt j P ≡ b → (if b then get_or xs j None else None) ≡ joined (slice_get (take P xs) j)
+boot_same : (P : ℕ) (xs : List (Option ℕ)) (j : ℕ) (b : Bool) → nat_lt j P ≡ b → (if b then get_or xs j None else None) ≡ option_flatten (slice_get (take P xs) j)
 boot_same P xs j true e = sym (boots_taken P xs j (ltb-true j P e))
 boot_same P xs j false e =
-    sym (ap attested_at (none_past P xs j (ltb-false j P e)))
+    sym (ap option_flatten (none_past P xs j (ltb-false j P e)))
 
-to_same : (L : ℕ) (es : List ℕ) (j : ℕ) (e : End) (o : Option (Option ℕ)) → e.link < L → option_to_list (grant_if_any es j e (attested_at o)) ≡ grant_to (take L es) j o e
+to_same : (L : ℕ) (es : List ℕ) (j : ℕ) (e : End) (o : Option (Option ℕ)) → e.link < L → option_to_list (grant_if_any es j e (option_flatten o)) ≡ grant_to (take L es) j o e
 to_same L es j e None h = refl
 to_same L es j e (Some None) h = refl
 to_same L es j e (Some (Some boot)) h = ap (λ (g : Grant). g ∷ []) (same_grant L es j boot e h)

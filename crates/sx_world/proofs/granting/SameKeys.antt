@@ -3,6 +3,7 @@ use Rattle.std.proofs.Common.{◌≡◌, ℕ, zero, suc, ◌+◌, ◌<◌, ◌&&
 use Rattle.std.proofs.Common.{nat_lt, not, if◌then◌else◌, List, [], ◌∷◌, length, take, get_or}
 use Rattle.std.proofs.Common.{Option, Some, None, refl, sym, ap, ◌∙◌, arith}
 use Rattle.std.specs.Prelude.{slice_get, slice_set}
+use Rattle.std.specs.Option.{option_flatten}
 use Rattle.sx_mean.specs.declared.apps.Link.{Link}
 use Rattle.sx_mean.specs.Ends.{ends_of}
 use Rattle.sx_model.specs.Renewal as model
@@ -14,7 +15,6 @@ use Rattle.sx_wire.specs.Headers.{ask_packet, challenge_in}
 use Rattle.sx_wire.proofs.Numbers.{low_number}
 use Rattle.sx_deployer.specs.Granting.{DeployerState, after_ask, is_answer}
 use Rattle.sx_run.specs.Deployer.{key_of, after_acceptance, accepts}
-use Rattle.sx_run.specs.Acts.{joined}
 use Rattle.sx_world.specs.Held.{IsKept, known_as, targets_from}
 
 pub take_set : {A : Type 0} → (n : ℕ) (xs : List A) (i : ℕ) (v : A) → take n (slice_set xs i v) ≡ slice_set (take n xs) i v
@@ -23,13 +23,13 @@ take_set (suc n) [] i v = refl
 take_set (suc n) (x ∷ xs) zero v = refl
 take_set (suc n) (x ∷ xs) (suc i) v = ap (λ r. x ∷ r) (take_set n xs i v)
 
-asks_taken : (n : ℕ) (xs : List (Option (List ℕ))) (i : ℕ) → i < n → joined (slice_get (take n xs) i) ≡ get_or xs i None
+asks_taken : (n : ℕ) (xs : List (Option (List ℕ))) (i : ℕ) → i < n → option_flatten (slice_get (take n xs) i) ≡ get_or xs i None
 asks_taken zero xs i h = absurd (omega (arith, h))
 asks_taken (suc n) [] i h = refl
 asks_taken (suc n) (x ∷ xs) zero h = refl
 asks_taken (suc n) (x ∷ xs) (suc i) h = asks_taken n xs i (omega (arith, h))
 
-pub boots_taken : (n : ℕ) (xs : List (Option ℕ)) (i : ℕ) → i < n → joined (slice_get (take n xs) i) ≡ get_or xs i None
+pub boots_taken : (n : ℕ) (xs : List (Option ℕ)) (i : ℕ) → i < n → option_flatten (slice_get (take n xs) i) ≡ get_or xs i None
 boots_taken zero xs i h = absurd (omega (arith, h))
 boots_taken (suc n) [] i h = refl
 boots_taken (suc n) (x ∷ xs) zero h = refl
@@ -37,13 +37,13 @@ boots_taken (suc n) (x ∷ xs) (suc i) h = boots_taken n xs i (omega (arith, h))
 
 -- a module's open ask
 pub same_ask : (set : Setting) (k : Keeping) (d : DeployerState) (m : ℕ) → IsKept set k d → m < length set.app.parts
-    → joined (slice_get d.open_asks m) ≡ keeping.open_ask k m
-same_ask set k d m h lt = ap (λ xs. joined (slice_get xs m)) (sym h.open_asks) ∙ asks_taken (length set.app.parts) k.state.open_asks m lt
+    → option_flatten (slice_get d.open_asks m) ≡ keeping.open_ask k m
+same_ask set k d m h lt = ap (λ xs. option_flatten (slice_get xs m)) (sym h.open_asks) ∙ asks_taken (length set.app.parts) k.state.open_asks m lt
 
 -- the boot at which a module was last attested
 pub same_boot : (set : Setting) (k : Keeping) (d : DeployerState) (m : ℕ) → IsKept set k d → m < length set.app.parts
-    → joined (slice_get d.attested m) ≡ keeping.attested_at k m
-same_boot set k d m h lt = ap (λ xs. joined (slice_get xs m)) (sym h.attested) ∙ boots_taken (length set.app.parts) k.state.attested m lt
+    → option_flatten (slice_get d.attested m) ≡ keeping.attested_at k m
+same_boot set k d m h lt = ap (λ xs. option_flatten (slice_get xs m)) (sym h.attested) ∙ boots_taken (length set.app.parts) k.state.attested m lt
 
 pub known_at : (set : Setting) (sites : List Site) (i m : ℕ) (site : Site) → slice_get sites m ≡ Some site → slice_get (targets_from set i sites) m ≡ Some (known_as set (i + m) site)
 known_at set [] i m site e = absurd cc

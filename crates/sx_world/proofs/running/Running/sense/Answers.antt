@@ -2,12 +2,12 @@ use Rattle.std.proofs.Common.{◌≡◌, ◌==◌, ◌≤◌, [], length, sym, a
 use Rattle.std.specs.Prelude.{slice_get}
 use Rattle.std.specs.List.{position_from}
 use Rattle.std.specs.Vec.{vec_len}
+use Rattle.std.specs.Prelude.{unwrap_or}
 use Rattle.sx_mean.specs.declared.apps.AppDevice.{AppDevice}
 use Rattle.sx_deploy.specs.SeenDeployment.{deployed_as}
 use Rattle.sx_run.specs.Setting.{devices_at}
 use Rattle.sx_world.specs.Held.{Running}
 use Rattle.sx_run.specs.Accepted.{setting}
-use Rattle.sx_run.specs.Observation.{or_zero}
 use Rattle.sx_run.specs.Run.{place_at}
 use Rattle.sx_run.proofs.tie.Lists.{some_inj}
 use Rattle.sx_world.proofs.doing.Loaded.{element_at}
@@ -34,7 +34,7 @@ sense_at-requires-clause-device g c = λ s here.
     let d = deployed_as c.args.deployment.now in
     let found = element_at c.args.deployment.now.app.devices.items c.args.d c.from.result x c.requires.device c.from.ensures c.index.ensures in
     let place : c.place_at-k.result ≡ place_at (setting g.T.Tag.mac d []) x.node c.args.d =
-    c.place_at-k.ensures ∙ ap (λ ds. or_zero (position_from (λ k. k == c.args.d) 0 (devices_at x.node 0 ds))) c.deref.ensures.value in
+    c.place_at-k.ensures ∙ ap (λ ds. unwrap_or (position_from (λ k. k == c.args.d) 0 (devices_at x.node 0 ds)) 0) c.deref.ensures.value in
     (sensor_there g.T.Tag.mac d [] c.args.d c.place_at-k.result x s.devices c.requires.sound c.requires.sensor found (c.requires.windows x.node s here) place).0
 
 pub sense_at-requires-clause-sensor : goal.sense_at-requires-clause-sensor
@@ -43,7 +43,7 @@ sense_at-requires-clause-sensor g c = λ s here.
     let d = deployed_as c.args.deployment.now in
     let found = element_at c.args.deployment.now.app.devices.items c.args.d c.from.result x c.requires.device c.from.ensures c.index.ensures in
     let place : c.place_at-k.result ≡ place_at (setting g.T.Tag.mac d []) x.node c.args.d =
-    c.place_at-k.ensures ∙ ap (λ ds. or_zero (position_from (λ k. k == c.args.d) 0 (devices_at x.node 0 ds))) c.deref.ensures.value in
+    c.place_at-k.ensures ∙ ap (λ ds. unwrap_or (position_from (λ k. k == c.args.d) 0 (devices_at x.node 0 ds)) 0) c.deref.ensures.value in
     (sensor_there g.T.Tag.mac d [] c.args.d c.place_at-k.result x s.devices c.requires.sound c.requires.sensor found (c.requires.windows x.node s here) place).1
 
 pub returns : goal.returns
@@ -52,6 +52,6 @@ returns g c = λ sites.
     let set = setting g.T.Tag.mac (deployed_as c.args.deployment.now) sites in
     let found = element_at c.args.deployment.now.app.devices.items c.args.d c.from.result x c.requires.device c.from.ensures c.index.ensures in
     let place : c.place_at-k.result ≡ place_at set x.node c.args.d =
-    c.place_at-k.ensures ∙ ap (λ ds. or_zero (position_from (λ k. k == c.args.d) 0 (devices_at x.node 0 ds))) c.deref.ensures.value in
+    c.place_at-k.ensures ∙ ap (λ ds. unwrap_or (position_from (λ k. k == c.args.d) 0 (devices_at x.node 0 ds)) 0) c.deref.ensures.value in
     sense_does set c.sense_at.result c.args.self.now c.sense_at.new.self c.args.items.now.items c.sense_at.new.items.items c.args.d c.args.value c.place_at-k.result x found place
     (c.sense_at.ensures set)
