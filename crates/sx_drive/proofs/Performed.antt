@@ -12,11 +12,13 @@ use Rattle.sx_run.specs.Setting.{Setting, Site}
 use Rattle.sx_run.specs.State.{World, switched_on}
 use Rattle.sx_run.specs.Run.{after_line, line_counted, run}
 use Rattle.sx_run.proofs.acts.Counting.{counts_lines}
-use Rattle.sx_world.specs.Held.{Held, IsFront}
+use Rattle.sx_world.specs.Held.{Held}
+use Rattle.sx_observe.specs.Observing.{IsFront}
 use Rattle.sx_world.specs.Standing.{Stands, IsGoing}
 use Rattle.sx_world.specs.Continued.{Acts, ActsInPart}
 use Rattle.sx_world.specs.Whole.{next}
-use Rattle.sx_world.specs.InMemory.{setting_at, world_setting}
+use Rattle.sx_observe.specs.InMemory.{setting_at}
+use Rattle.sx_world.specs.InMemory.{world_setting}
 use Rattle.sx_run.specs.Law.{IsSoundSetting}
 use Rattle.sx_drive.specs.declared.said.Said.{Said as Told}
 use Rattle.sx_drive.specs.Honest.{SaidLine, SaidItem, Honest, Driven, MOST_LINES, Said, left_out, performed, says}

@@ -7,7 +7,8 @@ use Rattle.sx_model.specs.Consequences.{TellsReader}
 use Rattle.sx_run.specs.Setting.{Setting}
 use Rattle.sx_run.specs.State.{World}
 use Rattle.sx_run.specs.Law.{LinesInForm}
-use Rattle.sx_world.specs.Held.{Held, AddsFront}
+use Rattle.sx_world.specs.Held.{Held}
+use Rattle.sx_observe.specs.Observing.{AddsFront}
 use Rattle.sx_world.specs.Standing.{Stands}
 use Rattle.sx_world.specs.Whole.{next, whole_run}
 

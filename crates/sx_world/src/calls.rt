@@ -4,19 +4,19 @@ ghost use Rattle.std.specs.Prelude.{◌≡◌, ℕ, ◌+◌, ◌<◌, ◌≤◌,
 ghost use Rattle.sx_machine.specs.State.{State};
 ghost use Rattle.sx_run.specs.Acts.{then_};
 ghost use Rattle.sx_world.specs.Held.{DoesAct};
-ghost use Rattle.sx_world.specs.InMemory.{setting_in};
+ghost use Rattle.sx_observe.specs.InMemory.{setting_in};
 ghost use Rattle.sx_world.specs.Loading.{AreSettable};
 ghost use Rattle.sx_run.specs.Run.{call_registers};
 ghost use Rattle.sx_run.specs.Run as run;
 ghost use Rattle.sx_run.specs.Setting.{Site as Placed};
 
-use crate::recording::add;
 use crate::registers::Register;
 use crate::running::Running;
-use crate::settings::Setting;
-use crate::sites::Site;
 use std::alloc::AllocError;
 use sx_bus::Copied;
+use sx_observe::recording::add;
+use sx_observe::settings::Setting;
+use sx_observe::sites::Site;
 use sx_tag::Tag;
 use sx_trace::items::Item;
 

@@ -3,11 +3,11 @@
 ghost use Rattle.std.specs.Prelude.{◌≡◌, ◌<◌, Some, IfOk, length, map, slice_get};
 
 use crate::running::Running;
-use crate::sites::Site;
 use crate::world::World;
 use std::alloc::{AllocError, Global};
 use sx_bus::{Bus, Copied};
 use sx_node::Node;
+use sx_observe::sites::Site;
 use sx_tag::Tag;
 
 fn copy_of_site(site: &Site) -> Result<Site, AllocError>

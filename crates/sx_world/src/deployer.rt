@@ -4,18 +4,18 @@ ghost use Rattle.std.specs.Prelude.{◌≡◌, ◌+◌, ◌<◌, ◌≤◌, List
 ghost use Rattle.sx_run.specs.Acts.{after_answer, ask};
 ghost use Rattle.sx_world.specs.Granted.{accepted_ask, confirmed, judged_by};
 ghost use Rattle.sx_world.specs.Held.{DoesAct};
-ghost use Rattle.sx_world.specs.InMemory.{setting_at};
+ghost use Rattle.sx_observe.specs.InMemory.{setting_at};
 ghost use Rattle.sx_run.specs.Setting.{Setting, Site};
 
 use crate::grants::granted;
 use crate::network::add_packet;
-use crate::recording::{NO_TARGET, add, add_unless_made, is_made};
 use crate::running::Running;
 use std::alloc::AllocError;
 use sx_bus::Copied;
 use sx_deploy::deployment::Deployment;
 use sx_deployer::{Deployer, Verdict};
 use sx_ledger::Maker;
+use sx_observe::recording::{NO_TARGET, add, add_unless_made, is_made};
 use sx_tag::Tag;
 use sx_trace::items::Item;
 use sx_wire::challenge_in;

@@ -3,18 +3,18 @@
 ghost use Rattle.std.specs.Prelude.{◌≡◌, ◌+◌, ◌<◌, ◌≤◌, List, length, slice_get, OnOk};
 ghost use Rattle.sx_run.specs.Acts.{key_given, keys_given};
 ghost use Rattle.sx_world.specs.Held.{DoesAct};
-ghost use Rattle.sx_world.specs.InMemory.{setting_at};
+ghost use Rattle.sx_observe.specs.InMemory.{setting_at};
 ghost use Rattle.sx_run.specs.Setting.{Site};
 
 use crate::grants::Grant;
 use crate::network::add_packet;
-use crate::recording::record;
 use crate::running::Running;
 use std::alloc::AllocError;
 use sx_bus::Copied;
 use sx_deploy::deployment::Deployment;
 use sx_deployer::connection_key;
 use sx_ledger::Maker;
+use sx_observe::recording::record;
 use sx_tag::Tag;
 use sx_trace::items::Item;
 

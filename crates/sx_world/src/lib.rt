@@ -6,32 +6,26 @@
 //! world of a run that it shows (`specs/Held.antt`).
 //!
 //! A line goes from `World::act` to `lines`, which puts the deployment and its sites together
-//! (`settings`) and hands each kind of line to its file: `stepping` for instructions and
-//! interrupts, `nodes` for what is done from outside, `packets`, `sensors`, `loading`, `calls` and
-//! `deployer`. What a step shows is `observation`, with `recording` for what modules wrap and
-//! unwrap. A `call` goes through `lines`, `calls`, `registers`, `stepping`, `quiet` and
-//! `observation`, in this order.
+//! (`Setting` of `sx_observe`) and hands each kind of line to its file: `stepping` for instructions
+//! and interrupts, `nodes` for what is done from outside, `packets`, `sensors`, `loading`, `calls`
+//! and `deployer`. What a step shows is `sx_observe`. A `call` goes through `lines`, `calls`,
+//! `registers`, `stepping`, `quiet` and `sx_observe`, in this order.
 #![tactic(auto)]
 
 mod calls;
 mod copying;
 mod deployer;
-mod devices;
 mod grants;
 mod keys;
 mod lines;
 mod loading;
 mod network;
 mod nodes;
-mod observation;
 mod packets;
 mod quiet;
-mod recording;
 mod registers;
 mod running;
 mod sensors;
-mod settings;
-pub mod sites;
 mod stepping;
 mod targets;
 pub mod world;

@@ -3,8 +3,8 @@
 ghost use Rattle.std.specs.Prelude.{◌≡◌, ◌+◌, ◌<◌, ◌++◌, ◌∷◌, [], length, map, OnErr, OnOk};
 ghost use Rattle.sx_trace.specs.declared.items.Item.TheVariants.{Packet};
 
-use crate::recording::add;
 use std::alloc::{AllocError, Global};
+use sx_observe::recording::add;
 use sx_trace::items::Item;
 
 /// A new packet, and its item.

@@ -14,11 +14,11 @@ ghost use Rattle.sx_world.specs.Held.{DoesAct, boots_of};
 ghost use Rattle.sx_run.specs.Run as run;
 ghost use Rattle.sx_run.specs.Setting.{Setting};
 
-use crate::recording::add;
 use crate::running::Running;
 use std::alloc::AllocError;
 use sx_bus::{Bus, Copied};
 use sx_node::{Node, Refused};
+use sx_observe::recording::add;
 use sx_tag::Tag;
 use sx_trace::items::{Cause, Item};
 

@@ -10,11 +10,11 @@ ghost use Rattle.sx_run.specs.Setting.{Setting};
 
 use crate::network::add_packet;
 use crate::nodes::{add_answer, put_node, refused_item};
-use crate::recording::add;
 use crate::running::Running;
 use std::alloc::{AllocError, Global};
 use sx_bus::{Bus, Copied};
 use sx_node::{Node, Refused};
+use sx_observe::recording::add;
 use sx_tag::Tag;
 use sx_trace::items::Item;
 

@@ -1,22 +1,40 @@
 //! The line `sense`: a sensor takes a sample.
 
-ghost use Rattle.std.specs.Prelude.{◌≡◌, ℕ, ◌<◌, List, length, slice_get, Some, true};
+ghost use Rattle.std.specs.Prelude.{◌≡◌, ℕ, ◌==◌, ◌<◌, List, length, slice_get, Some, true};
+ghost use Rattle.std.specs.List.{position_from};
 ghost use Rattle.sx_deploy.specs.Law.{IsSoundDeployment};
 ghost use Rattle.sx_deploy.specs.SeenDeployment.{deployed_as};
 ghost use Rattle.sx_machine.specs.NodeLaws.{shapes};
 ghost use Rattle.sx_machine.specs.State.{State};
+ghost use Rattle.sx_mean.specs.declared.apps.AppDevice.{AppDevice as Device};
+ghost use Rattle.std.specs.Prelude.{unwrap_or};
 ghost use Rattle.sx_world.specs.Held.{DoesAct};
-ghost use Rattle.sx_world.specs.InMemory.{setting_at};
+ghost use Rattle.sx_observe.specs.InMemory.{setting_at};
 ghost use Rattle.sx_run.specs.Run.{sense_at};
-ghost use Rattle.sx_run.specs.Setting.{Site, windows_at};
+ghost use Rattle.sx_run.specs.Setting.{Site, devices_at, windows_at};
 
-use crate::devices::place_at;
 use crate::running::Running;
 use std::alloc::AllocError;
 use sx_bus::Copied;
 use sx_deploy::deployment::Deployment;
+use sx_mean::apps::AppDevice;
 use sx_tag::Tag;
 use sx_trace::items::Item;
+
+/// The index of the d-th device among those of its node.
+fn place_at(devices: &[AppDevice], n: u8, d: u8) -> u8
+    requires device { (x : Device) → slice_get devices.now d ≡ Some x → x.node ≡ n }
+    requires within { d < length devices.now }
+    ensures { result ≡ unwrap_or (position_from (λ k. k == d) 0 (devices_at n 0 devices.now)) 0 }
+{
+    let mut place = 0;
+    for i in 0..d {
+        if devices[usize::from(i)].node == n {
+            place += 1;
+        }
+    }
+    place
+}
 
 impl<B: Copied, T: Tag> Running<B, T> {
     /// A sensor of the deployment takes a sample; nothing happens where its node is none of the

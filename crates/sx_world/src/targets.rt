@@ -5,13 +5,13 @@ ghost use Rattle.sx_deployer.specs.Keeping.{known};
 ghost use Rattle.sx_tag.specs.Keys.{identity};
 ghost use Rattle.sx_tag.specs.Mac.{Mac};
 ghost use Rattle.sx_world.specs.Held.{targets_from};
-ghost use Rattle.sx_world.specs.InMemory.{setting_at};
+ghost use Rattle.sx_observe.specs.InMemory.{setting_at};
 ghost use Rattle.sx_run.specs.Setting.{Site as Placed};
 
-use crate::sites::Site;
 use std::alloc::{AllocError, Global};
 use sx_deploy::deployment::Deployment;
 use sx_deployer::Target;
+use sx_observe::sites::Site;
 use sx_tag::layout_bytes;
 
 /// The identity of the module at a site: its text, and then its layout.

@@ -13,7 +13,6 @@ ghost use Rattle.sx_world.specs.Standing.{IsGoing, Stands};
 ghost use Rattle.sx_run.specs.State.{nodes_from, switched_on};
 
 use crate::running::Running;
-use crate::sites::{Site, sites_of};
 use crate::targets::targets_of;
 use std::alloc::{AllocError, Global};
 use std::marker::Model;
@@ -22,6 +21,7 @@ use sx_deploy::deployment::Deployment;
 use sx_deployer::Deployer;
 use sx_image::Image;
 use sx_node::Node;
+use sx_observe::sites::{Site, sites_of};
 use sx_sched::lines::Line;
 use sx_tag::Tag;
 use sx_trace::items::Item;

@@ -5,8 +5,9 @@ use Rattle.sx_trace.specs.declared.items.Item.{Item}
 use Rattle.sx_run.specs.Setting.{Setting}
 use Rattle.sx_run.specs.State.{World, Acted}
 use Rattle.sx_run.specs.Acts.{only, then_}
-use Rattle.sx_world.specs.Held.{Running, AddsFront, Shows, Did, Wanted, DoesAct}
-use Rattle.sx_world.proofs.showing.Fronts.{front_more, front_next, Comes, comes_first, comes_on, comes_all, comes_front}
+use Rattle.sx_world.specs.Held.{Running, Shows, Did, Wanted, DoesAct}
+use Rattle.sx_observe.specs.Observing.{AddsFront}
+use Rattle.sx_observe.proofs.Fronts.{front_more, front_next, Comes, comes_first, comes_on, comes_all, comes_front}
 
 -- an act that was done, and then what follows
 pub then_did : (set : Setting) (old mid new : Running) (before among after : List Item) (a b : World → Acted)

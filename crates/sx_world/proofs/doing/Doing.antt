@@ -16,8 +16,9 @@ use Rattle.sx_run.specs.Setting.{Setting}
 use Rattle.sx_ledger.specs.Made.{Made}
 use Rattle.sx_run.specs.State.{World, Acted}
 use Rattle.sx_run.specs.Acts.{at_node, with_node, done_on, or_refused}
-use Rattle.sx_world.specs.Held.{Running, Records, Shows, Did, Wanted, ArePlaced, boots_of}
-use Rattle.sx_world.proofs.showing.Fronts.{front_same}
+use Rattle.sx_world.specs.Held.{Running, Shows, Did, Wanted, ArePlaced, boots_of}
+use Rattle.sx_observe.specs.Observing.{Records}
+use Rattle.sx_observe.proofs.Fronts.{front_same}
 use Rattle.sx_run.proofs.tie.Lists.{get_other, get_some, some_inj, length_set}
 use Rattle.sx_lists.proofs.Lists.{get_same}
 

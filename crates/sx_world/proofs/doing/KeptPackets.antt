@@ -14,7 +14,7 @@ use Rattle.sx_run.specs.Run.{give, put_on}
 use Rattle.sx_run.specs.State.{World, Acted}
 use Rattle.sx_world.specs.Held.{Running, Shows, Did, DoesAct}
 use Rattle.sx_world.proofs.doing.Composed.{does_same}
-use Rattle.sx_world.proofs.showing.Fronts.{front_same}
+use Rattle.sx_observe.proofs.Fronts.{front_same}
 
 -- the bytes of a packet in memory
 abbrev pub bytes_in : Vec ℕ Global → List ℕ

@@ -20,7 +20,7 @@ use Rattle.sx_world.specs.Held.{Running, Shows, Did, Wanted, DoesAct, boots_of}
 use Rattle.sx_world.specs.Loading.{AreSettable, after_loading}
 use Rattle.sx_run.specs.Run.{protect_registers}
 use Rattle.sx_world.proofs.doing.Composed.{does_same, then_does, then_wanted, first_wanted}
-use Rattle.sx_world.proofs.showing.Fronts.{front_same}
+use Rattle.sx_observe.proofs.Fronts.{front_same}
 use Rattle.sx_world.proofs.passing.Passed.{one_less}
 use Rattle.sx_run.proofs.tie.Lists.{get_some, some_inj}
 

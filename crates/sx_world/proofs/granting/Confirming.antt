@@ -21,8 +21,9 @@ use Rattle.sx_run.specs.State.{World, Acted}
 use Rattle.sx_run.specs.Observation.{unless_made}
 use Rattle.sx_run.specs.Acts.{keys_given, with_deployer, attested, after_denial, after_verdict, after_answer}
 use Rattle.sx_world.specs.Granted.{granted, accepted_ask, judged_by, confirmed}
-use Rattle.sx_world.specs.Held.{Running, IsKept, Records, AddsFront, Shows, Wanted, DoesAct}
-use Rattle.sx_world.proofs.showing.Fronts.{front_more, front_next, front_same}
+use Rattle.sx_world.specs.Held.{Running, IsKept, Shows, Wanted, DoesAct}
+use Rattle.sx_observe.specs.Observing.{Records, AddsFront}
+use Rattle.sx_observe.proofs.Fronts.{front_more, front_next, front_same}
 use Rattle.sx_run.proofs.tie.Lists.{get_some}
 use Rattle.sx_world.proofs.granting.SameKeys.{same_ask, same_boot, unknown_site, accepted_kept, same_accepts}
 use Rattle.sx_world.proofs.granting.SameGrants.{same_grants}

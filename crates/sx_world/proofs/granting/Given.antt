@@ -19,8 +19,9 @@ use Rattle.sx_run.specs.Setting.{Site, Setting}
 use Rattle.sx_run.specs.Deployer.{connection_key, grant_header, set_key, set_key_entry}
 use Rattle.sx_run.specs.State.{World, Acted}
 use Rattle.sx_run.specs.Acts.{then_, with_deployer, key_given, keys_given}
-use Rattle.sx_world.specs.Held.{Running, IsKept, known_as, Records, AddsFront, Shows, Did, Wanted, DoesAct}
-use Rattle.sx_world.proofs.showing.Fronts.{front_more, front_same, Comes, comes_on, comes_all, comes_front}
+use Rattle.sx_world.specs.Held.{Running, IsKept, known_as, Shows, Did, Wanted, DoesAct}
+use Rattle.sx_observe.specs.Observing.{Records, AddsFront}
+use Rattle.sx_observe.proofs.Fronts.{front_more, front_same, Comes, comes_on, comes_all, comes_front}
 use Rattle.sx_world.proofs.granting.SameKeys.{known_site, unknown_site}
 use Rattle.sx_world.proofs.granting.Sent.{sent, deployer_shown, packet_shown, packet_item}
 

@@ -12,7 +12,8 @@ use Rattle.sx_wire.specs.Headers.{ask_packet, challenge_in}
 use Rattle.sx_deployer.specs.Granting.{DeployerState, after_ask}
 use Rattle.sx_run.specs.State.{World}
 use Rattle.sx_run.specs.Acts.{ask, with_deployer, new_packet}
-use Rattle.sx_world.specs.Held.{Running, IsKept, Records, Shows, DoesAct}
+use Rattle.sx_world.specs.Held.{Running, IsKept, Shows, DoesAct}
+use Rattle.sx_observe.specs.Observing.{Records}
 use Rattle.sx_world.proofs.granting.SameKeys.{asked_kept, challenge_same}
 
 -- what is kept, with other packets, another deployer and another ledger

@@ -10,8 +10,9 @@ use Rattle.sx_run.specs.Setting.{Setting}
 use Rattle.sx_run.specs.State.{World, Acted}
 use Rattle.sx_run.specs.Acts.{at_node, after_step, then_, only}
 use Rattle.sx_run.specs.Run.{is_reset, steps_of}
-use Rattle.sx_world.specs.Held.{Running, AddsFront, Shows, Did, Wanted}
-use Rattle.sx_world.proofs.showing.Fronts.{front_more, front_same, Comes, comes_on, comes_all, comes_front}
+use Rattle.sx_world.specs.Held.{Running, Shows, Did, Wanted}
+use Rattle.sx_observe.specs.Observing.{AddsFront}
+use Rattle.sx_observe.proofs.Fronts.{front_more, front_same, Comes, comes_on, comes_all, comes_front}
 
 -- of all the steps that are due, this many are left, and these items have come
 pub record Going (set : Setting) (stops : State → Bool) (ends : List Item) (n all left : ℕ) (old now : Running) (before came : List Item) : Type 0 where

@@ -20,8 +20,9 @@ use Rattle.sx_machine.proofs.Boots.{step_quiet}
 use Rattle.sx_deploy.specs.Deployment.{Deployed}
 use Rattle.sx_run.specs.Setting.{Site, Setting}
 use Rattle.sx_run.specs.Observation.{observed}
-use Rattle.sx_world.specs.Computed.{runner_of}
-use Rattle.sx_world.specs.Held.{Running, Records, Observes, ObservesFront, Wanted}
+use Rattle.sx_observe.specs.Computed.{runner_of}
+use Rattle.sx_world.specs.Held.{Running, Wanted}
+use Rattle.sx_observe.specs.Observing.{Records, Observes, ObservesFront}
 use Rattle.sx_run.specs.Accepted.{setting}
 use Rattle.sx_run.specs.Run.{is_reset}
 use Rattle.sx_world.specs.Passing.{after_steps, AreQuiet, EndsWith, stepped, taken}

@@ -20,12 +20,13 @@ use Rattle.sx_run.specs.Setting.{Site, Setting, module_of}
 use Rattle.sx_run.specs.State.{World, Acted}
 use Rattle.sx_run.specs.Acts.{at_node, after_step, with_node, after_interrupt, refused_item}
 use Rattle.sx_run.specs.Observation.{Observed, observed}
-use Rattle.sx_world.specs.Computed.{runner_of}
-use Rattle.sx_world.specs.Held.{Running, Records, AddsFront, Observes, ObservesFront, Shows, Did, Wanted}
+use Rattle.sx_observe.specs.Computed.{runner_of}
+use Rattle.sx_world.specs.Held.{Running, Shows, Did, Wanted}
+use Rattle.sx_observe.specs.Observing.{Records, AddsFront, Observes, ObservesFront}
 use Rattle.sx_run.specs.Accepted.{setting}
 use Rattle.sx_world.proofs.doing.Doing.{with_nodes, node_shown}
 use Rattle.sx_world.proofs.passing.Going.{next}
-use Rattle.sx_world.proofs.showing.Runners.{observed_behind}
+use Rattle.sx_observe.proofs.Runners.{observed_behind}
 use Rattle.sx_lists.proofs.Lists.{get_same}
 
 -- what is seen of a step, by whose code the node after it tells

@@ -12,7 +12,8 @@ use Rattle.sx_run.specs.Setting.{Site, Setting}
 use Rattle.sx_run.specs.State.{World, switched_on}
 use Rattle.sx_run.specs.Run.{after_line, line_counted, run}
 use Rattle.sx_run.specs.Law.{IsSoundSetting, LineInForm, LinesInForm}
-use Rattle.sx_world.specs.Held.{Held, Running, AddsFront, Shows, Did, Wanted, targets_from}
+use Rattle.sx_world.specs.Held.{Held, Running, Shows, Did, Wanted, targets_from}
+use Rattle.sx_observe.specs.Observing.{AddsFront}
 use Rattle.sx_run.specs.Accepted.{setting}
 use Rattle.sx_world.specs.Standing.{Stands}
 use Rattle.sx_world.specs.Ready.{IsReady}

@@ -1,6 +1,6 @@
 -- A world whose nodes were just switched on stands at the start of a run: its sites, what the deployer knows, and what it keeps.
 use Rattle.std.proofs.Common.{◌≡◌, ℕ, zero, suc, ◌+◌, ◌-◌, ◌<◌, ◌≤◌, ◌==◌, false, if◌then◌else◌}
-use Rattle.std.proofs.Common.{List, [], ◌∷◌, ◌++◌, length, take, map, replicate, Option, Some, None}
+use Rattle.std.proofs.Common.{List, [], ◌∷◌, length, take, map, replicate, Option, Some, None}
 use Rattle.std.proofs.Common.{refl, sym, ◌∙◌, ap, subst, arith}
 use Rattle.std.specs.Prelude.{slice_get}
 use Rattle.std.specs.List.{Contains}
@@ -8,10 +8,8 @@ use Rattle.std.proofs.lemmas.Bool.{true≢false}
 use Rattle.std.proofs.lemmas.Bool.Decides.{nat_tests}
 use Rattle.std.proofs.lemmas.List.{take-replicate}
 use Rattle.std.proofs.lemmas.Simd.{splat_is_map}
-use Rattle.sx_rules.specs.declared.section.Layout.{Layout}
 use Rattle.sx_rules.specs.Placed.{Placed}
 use Rattle.sx_rules.proofs.Placing.{starts_placed}
-use Rattle.sx_mean.specs.Application.{PartTree}
 use Rattle.sx_ledger.specs.declared.entry.Entry.{Entry}
 use Rattle.sx_ledger.specs.Entries.{entry_of}
 use Rattle.sx_machine.specs.State.{State}
@@ -26,27 +24,13 @@ use Rattle.sx_run.specs.Setting.{Site, Setting}
 use Rattle.sx_run.specs.State.{nodes_from, switched_on}
 use Rattle.sx_run.specs.Deployer.{list_at}
 use Rattle.sx_run.specs.Accepted.{sites_of}
-use Rattle.sx_world.specs.Held.{Held, Running, Records, IsKept, ArePlaced, Shows, targets_from}
+use Rattle.sx_world.specs.Held.{Held, Running, IsKept, ArePlaced, Shows, targets_from}
+use Rattle.sx_observe.specs.Observing.{Records}
 use Rattle.sx_run.specs.Accepted.{setting}
 use Rattle.sx_world.specs.Standing.{Stands}
-use Rattle.sx_run.proofs.accepted.LaidSites.{site_at, sites_long, laid_long}
+use Rattle.sx_run.proofs.accepted.LaidSites.{site_at}
 use Rattle.sx_world.proofs.granting.SameKeys.{known_at}
 use Rattle.sx_run.proofs.tie.Start.{get_nodes}
-
--- Lists that grow by their next element
-
-pub take_next : {X : Type 0} (xs : List X) (m : ℕ) (x : X) → slice_get xs m ≡ Some x → take (m + 1) xs ≡ take m xs ++ x ∷ []
-take_next [] m x e = absurd cc
-take_next (y ∷ xs) zero x e = let same : y ≡ x = cc in ap (λ z. z ∷ []) same
-take_next (y ∷ xs) (suc m) x e =
-    let next : suc m + 1 ≡ suc (m + 1) = omega arith in
-    ap (λ (k : ℕ). take k (y ∷ xs)) next ∙ ap (λ r. y ∷ r) (take_next xs m x e)
-
-pub take_whole : {X : Type 0} (xs : List X) (m : ℕ) → length xs ≤ m → take m xs ≡ xs
-take_whole [] zero le = refl
-take_whole [] (suc m) le = refl
-take_whole (x ∷ xs) zero le = absurd (omega arith)
-take_whole (x ∷ xs) (suc m) le = ap (λ r. x ∷ r) (take_whole xs m (omega arith))
 
 pub list_at_is : (xs : List (List ℕ)) (i : ℕ) (x : List ℕ) → slice_get xs i ≡ Some x → list_at xs i ≡ x
 list_at_is [] i x e = absurd cc
@@ -56,42 +40,13 @@ list_at_is (y ∷ xs) (suc i) x e =
     let less : suc i - 1 ≡ i = omega arith in
     ap (λ b. if b then y else list_at xs (suc i - 1)) later ∙ ap (λ (k : ℕ). list_at xs k) less ∙ list_at_is xs i x e
 
--- Sites
-
-pub site_is : (qs : List PartTree) (ls : List Layout) (ps : List ℕ) (ts : List (List ℕ)) (m : ℕ) (q : PartTree) (l : Layout) (p : ℕ) (t : List ℕ)
-    → slice_get qs m ≡ Some q → slice_get ls m ≡ Some l → slice_get ps m ≡ Some p → slice_get ts m ≡ Some t
-    → slice_get (sites_of qs ls ps ts) m ≡ Some (record { node = q.node; layout = l; provider = p; text = t })
-site_is [] ls ps ts m q l p t a b c d = absurd cc
-site_is (x ∷ qs) [] ps ts m q l p t a b c d = absurd cc
-site_is (x ∷ qs) (y ∷ ls) [] ts m q l p t a b c d = absurd cc
-site_is (x ∷ qs) (y ∷ ls) (z ∷ ps) [] m q l p t a b c d = absurd cc
-site_is (x ∷ qs) (y ∷ ls) (z ∷ ps) (u ∷ ts) zero q l p t a b c d =
-    let eq : x ≡ q = cc in
-    let el : y ≡ l = cc in
-    let ep : z ≡ p = cc in
-    let et : u ≡ t = cc in
-    ap (λ (v : PartTree). Some (record { node = v.node; layout = y; provider = z; text = u })) eq
-    ∙ ap (λ (v : Layout). Some (record { node = q.node; layout = v; provider = z; text = u })) el
-    ∙ ap (λ (v : ℕ). Some (record { node = q.node; layout = l; provider = v; text = u })) ep
-    ∙ ap (λ (v : List ℕ). Some (record { node = q.node; layout = l; provider = p; text = v })) et
-site_is (x ∷ qs) (y ∷ ls) (z ∷ ps) (u ∷ ts) (suc m) q l p t a b c d = site_is qs ls ps ts m q l p t a b c d
-
-module _ (d : Deployed) (acc : deployment.IsSoundDeployment d) where
-  pub layouts_long : length d.layouts ≡ length d.app.parts
-  layouts_long = laid_long d 0 d.app.parts d.layouts acc.laid
-
-  pub providers_long : length d.providers ≡ length d.app.parts
-  providers_long = acc.providers ∙ sym acc.parts
-
-  pub all_sited : (ts : List (List ℕ)) → length ts ≡ length d.app.parts → length (sites_of d.app.parts d.layouts d.providers ts) ≡ length d.app.parts
-  all_sited ts e = sites_long d.app.parts d.layouts d.providers ts layouts_long providers_long e
-
-  -- each is at a node that has a key
-  pub keyed : (ts : List (List ℕ)) (m : ℕ) (site : Site) → slice_get (sites_of d.app.parts d.layouts d.providers ts) m ≡ Some site → site.node < length d.keys
-  keyed ts m site e =
-      let r = site_at d.app.parts d.layouts d.providers ts m site e in
-      let part = acc.modules m r.part r.found in
-      omega (arith, r.node, part.node, acc.nodes, acc.keys)
+-- each site is at a node that has a key
+pub keyed : (d : Deployed) → deployment.IsSoundDeployment d → (ts : List (List ℕ)) (m : ℕ) (site : Site) → slice_get (sites_of d.app.parts d.layouts d.providers ts) m ≡ Some site
+    → site.node < length d.keys
+keyed d acc ts m site e =
+    let r = site_at d.app.parts d.layouts d.providers ts m site e in
+    let part = acc.modules m r.part r.found in
+    omega (arith, r.node, part.node, acc.nodes, acc.keys)
 
 -- The deployer's modules
 

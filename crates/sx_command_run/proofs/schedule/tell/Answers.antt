@@ -6,7 +6,7 @@ use Rattle.sx_sched.specs.Seen.{line_of}
 use Rattle.sx_world.specs.InMemory.{world_setting}
 use Rattle.sx_command_world.specs.Turning.{after_next}
 use Rattle.sx_command_run.specs.Run.{items_text}
-use Rattle.sx_world.proofs.showing.Fronts.{as_front}
+use Rattle.sx_observe.proofs.Fronts.{as_front}
 use Rattle.sx_command_run.proofs.Written.{prefix_told, told_front}
 use Rattle.sx_command_run.proofs.schedule.tell.Goals as goal
 

@@ -6,7 +6,7 @@ use Rattle.sx_deployer.specs.declared.target.Target.{Target}
 use Rattle.sx_world.specs.Held.{targets_from}
 use Rattle.sx_run.specs.Accepted.{setting}
 use Rattle.sx_world.proofs.standing.Readying.{targets_long}
-use Rattle.sx_world.proofs.standing.SwitchedOn.{take_next, take_whole}
+use Rattle.sx_observe.proofs.SitesOf.{take_next, take_whole}
 use Rattle.sx_world.proofs.targets.targets_of.Goals as goal
 
 pub loop-m-preserved : goal.loop-m-preserved

@@ -4,7 +4,7 @@ use Rattle.sx_run.specs.Acts.{ask}
 use Rattle.sx_run.specs.Setting.{Setting}
 use Rattle.sx_world.specs.Held.{Running, DoesAct}
 use Rattle.sx_world.proofs.granting.Sent.{ask_does}
-use Rattle.sx_world.proofs.showing.Fronts.{front_same}
+use Rattle.sx_observe.proofs.Fronts.{front_same}
 use Rattle.sx_world.proofs.granting.Given.{does_err}
 use Rattle.sx_world.proofs.running.Running.ask.Goals as goal
 

@@ -4,7 +4,7 @@ use Rattle.sx_trace.specs.declared.items.Item.TheVariants.{Busy}
 use Rattle.sx_run.specs.Setting.{Site}
 use Rattle.sx_run.specs.Acts.{then_}
 use Rattle.sx_world.specs.Held.{DoesAct}
-use Rattle.sx_world.specs.InMemory.{setting_in}
+use Rattle.sx_observe.specs.InMemory.{setting_in}
 use Rattle.sx_run.specs.Run.{call_registers}
 use Rattle.sx_run.specs.Run.{call, finish, set_all, unless_busy}
 use Rattle.sx_world.proofs.doing.Loaded.{idle_does, busy_does, element_at}

@@ -4,9 +4,10 @@ use Rattle.sx_deploy.specs.SeenDeployment.{deployed_as}
 use Rattle.sx_mean.specs.View.{part_as}
 use Rattle.sx_deployer.specs.Granting.{Grant}
 use Rattle.sx_world.specs.Granted.{confirmed, granted}
-use Rattle.sx_world.specs.Held.{Running, Records}
+use Rattle.sx_world.specs.Held.{Running}
+use Rattle.sx_observe.specs.Observing.{Records}
 use Rattle.sx_run.specs.Accepted.{setting}
-use Rattle.sx_world.proofs.showing.Fronts.{front_all}
+use Rattle.sx_observe.proofs.Fronts.{front_all}
 use Rattle.sx_world.proofs.granting.Confirming.{confirm_does, confirm_wanted, more_ok}
 use Rattle.sx_world.proofs.granting.Given.{does_err}
 use Rattle.sx_world.proofs.granting.SameGrants.{few_grants}

@@ -3,7 +3,7 @@ use Rattle.std.specs.Prelude.{slice_get}
 use Rattle.sx_run.specs.Setting.{Site}
 use Rattle.sx_run.specs.Acts.{then_}
 use Rattle.sx_world.specs.Held.{DoesAct}
-use Rattle.sx_world.specs.InMemory.{setting_in}
+use Rattle.sx_observe.specs.InMemory.{setting_in}
 use Rattle.sx_run.specs.Run.{finish, set_all}
 use Rattle.sx_world.proofs.doing.Composed.{first_wanted, then_does}
 use Rattle.sx_world.proofs.granting.Given.{does_err}

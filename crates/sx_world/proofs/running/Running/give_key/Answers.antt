@@ -8,7 +8,7 @@ use Rattle.sx_world.specs.Held.{Running, DoesAct, Did}
 use Rattle.sx_run.specs.Accepted.{setting}
 use Rattle.sx_run.specs.Setting.{Site}
 use Rattle.sx_world.proofs.granting.Given.{does_err, given_some, given_none}
-use Rattle.sx_world.proofs.showing.Fronts.{front_same}
+use Rattle.sx_observe.proofs.Fronts.{front_same}
 use Rattle.sx_world.proofs.running.Running.give_key.Goals as goal
 
 pub returns-in_ok-record-in-Some-clause-does : goal.returns-in_ok-record-in-Some-clause-does

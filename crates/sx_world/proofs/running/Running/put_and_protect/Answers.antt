@@ -2,7 +2,7 @@ use Rattle.std.proofs.Common.{◌≡◌, ◌+◌, ◌/◌, length, Some, sym, su
 use Rattle.std.specs.Prelude.{slice_get}
 use Rattle.sx_run.specs.Setting.{Site}
 use Rattle.sx_world.specs.Held.{Did, DoesAct, Wanted}
-use Rattle.sx_world.specs.InMemory.{setting_in}
+use Rattle.sx_observe.specs.InMemory.{setting_in}
 use Rattle.sx_world.specs.Loading.{after_loading}
 use Rattle.sx_run.specs.Run.{protect_registers}
 use Rattle.sx_run.specs.Run.{put_pieces, set_all}

@@ -1,6 +1,6 @@
 use Rattle.std.proofs.Common.{ap}
 use Rattle.sx_world.specs.Held.{Running}
-use Rattle.sx_world.specs.InMemory.{setting_in}
+use Rattle.sx_observe.specs.InMemory.{setting_in}
 use Rattle.sx_world.proofs.passing.Passed.{node_there, shown_did, shown_front}
 use Rattle.sx_world.proofs.running.Running.show.Goals as goal
 

@@ -1,7 +1,7 @@
 use Rattle.std.proofs.Common.{◌+◌, ◌-◌, ◌==◌, ◌&&◌, refl, ◌∙◌, arith}
 use Rattle.std.specs.Option.{option_to_list}
 use Rattle.sx_deploy.specs.SeenDeployment.{deployed_as}
-use Rattle.sx_world.specs.InMemory.{setting_in}
+use Rattle.sx_observe.specs.InMemory.{setting_in}
 use Rattle.sx_world.specs.Passing.{after_steps, stepped}
 use Rattle.sx_run.specs.Run.{steps_of}
 use Rattle.sx_world.proofs.doing.Composed.{does_both}

@@ -9,7 +9,7 @@ use Rattle.sx_run.proofs.tie.Lists.{get_some}
 use Rattle.sx_world.proofs.passing.Stepped.{refused_ok}
 use Rattle.sx_world.proofs.doing.KeptPackets.{took_does, took_refused}
 use Rattle.sx_run.specs.Acts.{at_node, after_take}
-use Rattle.sx_world.proofs.showing.Fronts.{front_same}
+use Rattle.sx_observe.proofs.Fronts.{front_same}
 use Rattle.sx_world.proofs.doing.Doing.{wanted_same}
 use Rattle.sx_world.proofs.doing.Composed.{does_any}
 use Rattle.sx_world.proofs.granting.Given.{does_err}

@@ -4,7 +4,7 @@ use Rattle.sx_sched.specs.Seen.{line_of}
 use Rattle.sx_world.specs.Held.{Held, Running}
 use Rattle.sx_world.specs.Ready.{IsReady}
 use Rattle.sx_run.specs.Setting.{Site}
-use Rattle.sx_world.proofs.showing.Fronts.{front_none}
+use Rattle.sx_observe.proofs.Fronts.{front_none}
 use Rattle.sx_world.proofs.standing.Continuing.{goes_on}
 use Rattle.sx_world.proofs.standing.Readying.{stands_ready, act_did, act_wanted}
 use Rattle.sx_world.proofs.world.World.act.Goals as goal

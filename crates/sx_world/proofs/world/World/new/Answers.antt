@@ -10,7 +10,8 @@ use Rattle.sx_world.specs.Held.{targets_from}
 use Rattle.sx_run.specs.Accepted.{setting}
 use Rattle.sx_run.specs.Setting.{Site}
 use Rattle.sx_world.proofs.standing.Readying.{targets_long}
-use Rattle.sx_world.proofs.standing.SwitchedOn.{all_sited, keyed, stands_first}
+use Rattle.sx_observe.proofs.SitesOf.{all_sited}
+use Rattle.sx_world.proofs.standing.SwitchedOn.{keyed, stands_first}
 use Rattle.sx_world.proofs.world.World.new.Goals as goal
 
 pub targets_of-requires-clause-few : goal.targets_of-requires-clause-few
