@@ -16,7 +16,7 @@ use Rattle.sx_executor.specs.Homes.{within, has_code, has_data, leaves, is_even_
 use Rattle.sx_executor.proofs.Rights.{all_weaker}
 
 -- both bytes of a word lie in a part with even bounds
-low_byte : (from to at : ℕ) → is_even from ≡ true → within from to at ≡ true → within from to (even at) ≡ true
+pub low_byte : (from to at : ℕ) → is_even from ≡ true → within from to at ≡ true → within from to (even at) ≡ true
 low_byte from to at e h =
     let parts = and_parts (nat_le from at) (nat_lt at to) h in
     let low = leb-true from at parts.0 in
@@ -26,7 +26,7 @@ low_byte from to at e h =
     let below : even at < to = first_of (omega arith, grind arith) in
     and_from (nat_le from (even at)) (nat_lt (even at) to) (le-leb from (even at) above) (lt-ltb (even at) to below)
 
-high_byte : (from to at : ℕ) → is_even to ≡ true → within from to at ≡ true → within from to (even at + 1) ≡ true
+pub high_byte : (from to at : ℕ) → is_even to ≡ true → within from to at ≡ true → within from to (even at + 1) ≡ true
 high_byte from to at e h =
     let parts = and_parts (nat_le from at) (nat_lt at to) h in
     let low = leb-true from at parts.0 in
@@ -37,7 +37,7 @@ high_byte from to at e h =
     and_from (nat_le from (even at + 1)) (nat_lt (even at + 1) to) (le-leb from (even at + 1) above) (lt-ltb (even at + 1) to below)
 
 -- a byte of one part isn't one of another that stands apart
-not_both : (a b c d at : ℕ) → apart a b c d ≡ true → within a b at ≡ true → within c d at ≡ false
+pub not_both : (a b c d at : ℕ) → apart a b c d ≡ true → within a b at ≡ true → within c d at ≡ false
 not_both a b c d at h p =
     let from = and_parts (nat_le a at) (nat_lt at b) p in
     false_from_ne_true (within c d at) (λ q.
@@ -163,7 +163,7 @@ keeps h live s f same e a =
           };
     }
 
-none_within : (at : ℕ) → within 0 0 at ≡ true → ⊥
+pub none_within : (at : ℕ) → within 0 0 at ≡ true → ⊥
 none_within at h = let below = ltb-true at 0 (and_parts (nat_le 0 at) (nat_lt at 0) h).1 in omega arith
 
 -- a home with no place

@@ -4,3 +4,4 @@ pub mod Clear
 pub mod Open
 pub mod Stretch
 pub mod Homes
+pub mod Gaps

@@ -1,3 +1,4 @@
+pub mod Gaps
 pub mod Homes
 pub mod Machine
 pub mod Reads

@@ -1,6 +1,6 @@
 //! Reads and writes of an instruction: the access table first, and then the device at the place.
 
-ghost use Rattle.std.specs.Prelude.{◌≡◌, ◌<◌, Bool, true, None, length, IsTrue, IfOk, IfSome};
+ghost use Rattle.std.specs.Prelude.{◌≡◌, ◌<◌, ℕ, Bool, true, None, length, IsTrue, IfOk, IfSome};
 ghost use Rattle.sx_alu.specs.Table.{limit};
 ghost use Rattle.sx_rules.specs.declared.access.Access.TheVariants.{Read, Write};
 ghost use Rattle.sx_rules.specs.Access.{holder, in_order};
@@ -41,7 +41,7 @@ impl<B: Bus> Executor<B> {
     }
 
     /// Whether one look says that the running code may read and write a place: no section meets its
-    /// page, or it lies in the private part of the home.
+    /// page, or it lies in the private part of the home or in a gap.
     #[inline(always)]
     #[tactic(auto, using(crate::proofs::Open::open_any))]
     fn is_free(&self, at: u16) -> bool
@@ -53,7 +53,7 @@ impl<B: Bus> Executor<B> {
         if self.table().is_open(at) {
             return true;
         }
-        self.protection().has_data(self.own(), at)
+        self.protection().has_data(self.own(), at) || self.protection().has_gap(at)
     }
 
     /// The same where no device is either. Then a read and a write ask no more.
@@ -66,6 +66,22 @@ impl<B: Bus> Executor<B> {
         ensures memory { IsTrue result → device_of self.now.devices at ≡ None }
     {
         self.is_free(at) && self.windows().at(at).is_none()
+    }
+
+    /// Whether one look says that no live section has a byte of the word at an address: none meets
+    /// its page, or it lies in a gap. Then what a step asks of the sections needs no look at them.
+    #[inline(always)]
+    #[tactic(auto, using(crate::proofs::Open::open_outside, crate::proofs::Open::open_ordered, sx_rules::proofs::Away::open_holder))]
+    pub fn is_apart(&self, at: u16) -> bool
+        ensures outside { IsTrue result → word_outside self.now.sections.live at ≡ true }
+        ensures order { IsTrue result
+            → (cur : ℕ) → in_order self.now.sections.live cur at ≡ true }
+        ensures none { IsTrue result → holder self.now.sections.live at ≡ 0 }
+    {
+        if self.table().is_open(at) {
+            return true;
+        }
+        self.protection().has_gap(at)
     }
 
     /// Whether the word at an address is known to be code of the module `id`: it is in the public
@@ -128,13 +144,14 @@ impl<B: Bus> Executor<B> {
         self.load_near(wide, at)
     }
 
-    /// The same where a section may meet the page, or a device be there. Its code stays out of the
-    /// way of what most accesses do.
+    /// The same where a section may meet the page, or a device be there. Where it lies in a gap, the
+    /// gap is known from then on. Its code stays out of the way of what most accesses do.
     #[inline(never)]
     fn load_near(&mut self, wide: bool, at: u16) -> Result<u16, Violation>
         ensures run { Loads wide at self.old result self.new }
         ensures below { IfOk result (λ v. v < limit wide) }
     {
+        self.learn_gap(at);
         if !self.may(wide, Access::Read, at) {
             return Err(Violation::Read);
         }
@@ -159,11 +176,12 @@ impl<B: Bus> Executor<B> {
         self.store_near(wide, at, value)
     }
 
-    /// The same where a section may meet the page, or a device be there.
+    /// The same where a section may meet the page, or a device be there, as for a read.
     #[inline(never)]
     fn store_near(&mut self, wide: bool, at: u16, value: u16) -> Result<(), Violation>
         ensures { Stores wide at value self.old result self.new }
     {
+        self.learn_gap(at);
         if !self.may(wide, Access::Write, at) {
             return Err(Violation::Write);
         }
@@ -190,7 +208,10 @@ impl<B: Bus> Executor<B> {
         ensures readable { IsTrue result
             → may_at true self.now.sections.live self.now.own Read at ≡ true }
     {
-        if self.table().is_open(at) || self.protection().has_code(self.own(), at) {
+        if self.table().is_open(at)
+            || self.protection().has_code(self.own(), at)
+            || self.protection().has_gap(at)
+        {
             return true;
         }
         self.table().extends_word(self.own(), at)

@@ -144,7 +144,7 @@ impl<B: Bus> Executor<B> {
         self.protection.table()
     }
 
-    /// The sections, with the home that is known.
+    /// The sections, with what is known beside them.
     #[inline(always)]
     pub(crate) fn protection(&self) -> &Protection
         ensures { result.now ≡ self.now.sections }
@@ -158,6 +158,14 @@ impl<B: Bus> Executor<B> {
         ensures { self.new ≡ self.old }
     {
         self.protection.learn_home(id);
+    }
+
+    /// Learns the gap around a place, if a section meets its page and none holds it: from then on
+    /// no code needs a look at the sections there, until they change or two others are learnt.
+    pub fn learn_gap(&mut self, at: u16)
+        ensures { self.new ≡ self.old }
+    {
+        self.protection.learn_gap(at);
     }
 
     /// The devices.
@@ -190,8 +198,8 @@ impl<B: Bus> Executor<B> {
     }
 
     /// The word at an address, whose bit 0 doesn't count, or in byte form the byte. It may be read,
-    /// and is no device's. Where inlining is but a hint, both bytes become one load before it.
-    #[inline]
+    /// and is no device's.
+    #[inline(always)]
     pub fn read(&self, wide: bool, at: u16) -> u16
         requires right { may_at wide self.now.sections.live self.now.own Read at ≡ true }
         requires memory { device_of self.now.devices at ≡ None }
@@ -199,13 +207,24 @@ impl<B: Bus> Executor<B> {
         ensures below { result < limit wide }
     {
         if wide {
-            let even = at - at % 2;
-            let low = self.bus.get(even);
-            let high = self.bus.get(even + 1);
-            u16::from(low) + 256 * u16::from(high)
+            self.read_word(at)
         } else {
             u16::from(self.bus.get(at))
         }
+    }
+
+    /// The word. Where inlining is but a hint, both bytes become one load before it.
+    #[inline]
+    fn read_word(&self, at: u16) -> u16
+        requires right { may_at true self.now.sections.live self.now.own Read at ≡ true }
+        requires memory { device_of self.now.devices at ≡ None }
+        ensures value { result ≡ read_at true self.now.mem at }
+        ensures below { result < limit true }
+    {
+        let even = at - at % 2;
+        let low = self.bus.get(even);
+        let high = self.bus.get(even + 1);
+        u16::from(low) + 256 * u16::from(high)
     }
 
     /// Writes the word at an address, or in byte form the byte. It may be written, and is no

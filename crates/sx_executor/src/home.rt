@@ -15,13 +15,13 @@ pub(crate) struct Home {
     layout: Layout,
 }
 
-fn apart(from: u16, to: u16, start: u16, end: u16) -> bool
+pub(crate) fn apart(from: u16, to: u16, start: u16, end: u16) -> bool
     ensures { result ≡ apart from to start end }
 {
     to <= start || end <= from
 }
 
-fn is_even(bound: u16) -> bool
+pub(crate) fn is_even(bound: u16) -> bool
     ensures { result ≡ is_even bound }
 {
     bound % 2 == 0

@@ -24,6 +24,7 @@ mod decoded;
 mod decoding;
 mod devices;
 mod executor;
+mod gap;
 mod home;
 mod protection;
 mod range;

@@ -1,6 +1,8 @@
-//! The sections of a node, with the home of the module whose code ran last.
+//! The sections of a node, with what is known beside them: the home of the module whose code ran
+//! last, and two gaps.
 
-ghost use Rattle.std.specs.Prelude.{◌≡◌, ◌&&◌, ◌+◌, ◌<◌, ◌≤◌, Bool, true, IsTrue, length};
+ghost use Rattle.std.specs.Prelude.{◌≡◌, ◌&&◌, ◌+◌, ◌<◌, ◌≤◌, ℕ, Bool, true, IsTrue, length};
+ghost use Rattle.sx_rules.specs.declared.access.Access.{Access};
 ghost use Rattle.sx_rules.specs.declared.access.Access.TheVariants.{Read, Write};
 ghost use Rattle.sx_rules.specs.Access.{holder, in_order, extends};
 ghost use Rattle.sx_rules.specs.Admission.{admitted, removed};
@@ -9,36 +11,48 @@ ghost use Rattle.sx_machine.specs.State.{no_sections};
 ghost use Rattle.sx_machine.specs.Run.{may_at};
 ghost use Rattle.sx_machine.specs.Step.{word_outside};
 
+use crate::gap::{Gap, Gaps};
 use crate::home::Home;
 use std::marker::Model;
 use sx_rules::{Layout, Table};
 
-/// A table, and a home beside its sections. What changes the sections forgets the home.
+/// How many misses pass between two at which a gap is learnt. Where code reads what a section
+/// holds, or goes between more than two gaps, learning at each would cost more than it saves.
+const MISSES_BETWEEN: u8 = 16;
+
+/// A table, and a home and two gaps beside its sections. What changes the sections forgets these.
+/// The next gap is learnt after `rest` more misses.
 #[derive(Drop)]
 pub(crate) struct Protection {
     table: Table,
     home: Home,
+    gaps: Gaps,
+    rest: u8,
 }
 
 impl Model for Protection {
     ghost use Rattle.sx_rules.specs.Access.{Sections};
     ghost use Rattle.sx_executor.specs.Homes.{KeepsHome};
+    ghost use Rattle.sx_executor.specs.Gaps.{KeepsGaps};
 
     ghost Value = { Sections };
 
     ghost view = { λ p. p.table };
 
-    ghost invariant = { λ p. KeepsHome p.home p.table.live };
+    ghost invariant = { λ p. KeepsHome p.home p.table.live
+        × KeepsGaps p.gaps p.table.live };
 }
 
 impl Protection {
-    /// No section, and no home.
+    /// No section, no home and no gap.
     pub(crate) fn new() -> Protection
         ensures { result ≡ no_sections }
     {
         Protection {
             table: Table::new(),
             home: Home::empty(),
+            gaps: Gaps::empty(),
+            rest: 0,
         }
     }
 
@@ -72,11 +86,52 @@ impl Protection {
         self.home.has_data(id, at)
     }
 
+    /// Whether the word at an address is known to lie in a gap: no live section has a byte of it.
+    #[inline(always)]
+    pub(crate) fn has_gap(&self, at: u16) -> bool
+        ensures reached { IsTrue result → (own : ℕ) (wide : Bool) (access : Access)
+            → may_at wide self.now.live own access at ≡ true }
+        ensures outside { IsTrue result → word_outside self.now.live at ≡ true }
+        ensures order { IsTrue result → (cur : ℕ) → in_order self.now.live cur at ≡ true }
+        ensures extended { IsTrue result → (own : ℕ)
+            → (extends self.now.live own (even at) && extends self.now.live own (even at + 1)) ≡ true }
+        ensures none { IsTrue result → holder self.now.live at ≡ 0 }
+    {
+        self.gaps.has(at)
+    }
+
     /// Learns the home of a module, and forgets the one before.
     pub(crate) fn learn_home(&mut self, id: u16)
         ensures { self.new ≡ self.old }
     {
         self.home = Home::of(&self.table, id);
+    }
+
+    /// Learns the gap around a place, if it isn't known and no section holds the place; but not
+    /// soon after the last time.
+    #[inline(always)]
+    pub(crate) fn learn_gap(&mut self, at: u16)
+        ensures { self.new ≡ self.old }
+    {
+        if self.table.is_open(at) || self.has_gap(at) {
+            return;
+        }
+        if self.rest > 0 {
+            self.rest -= 1;
+            return;
+        }
+        self.rest = MISSES_BETWEEN;
+        self.learn_gap_now(at);
+    }
+
+    #[inline(never)]
+    fn learn_gap_now(&mut self, at: u16)
+        ensures { self.new ≡ self.old }
+    {
+        let gap = Gap::around(&self.table, at);
+        if gap.has(at) {
+            self.gaps = self.gaps.with(gap);
+        }
     }
 
     /// Adds a section, as `Table::add` does.
@@ -87,6 +142,7 @@ impl Protection {
         ensures admitted { self.new ≡ admitted self.old layout provider key }
     {
         self.home = Home::empty();
+        self.gaps = Gaps::empty();
         self.table.add(layout, provider, key)
     }
 
@@ -95,6 +151,7 @@ impl Protection {
         ensures { self.new ≡ removed self.old id }
     {
         self.home = Home::empty();
+        self.gaps = Gaps::empty();
         self.table.remove(id);
     }
 
@@ -105,6 +162,8 @@ impl Protection {
         Protection {
             table: self.table.copy(),
             home: self.home,
+            gaps: self.gaps,
+            rest: self.rest,
         }
     }
 }

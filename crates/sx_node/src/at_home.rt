@@ -44,19 +44,6 @@ impl<B: Bus, T: Tag> Node<B, T> {
         }
     }
 
-    /// The same where the home of the module isn't known. It is known from the next step on.
-    #[inline(never)]
-    fn step_learning(&mut self, seen: &mut Seen) -> bool
-        requires { self.old.boot < 4294967295 }
-        ensures { Tells self.old (attempt T.mac self.old) result seen.new self.new }
-    {
-        let is_seen = self.step_near(seen);
-        if self.cur != 0 {
-            self.executor.learn_home(self.cur);
-        }
-        is_seen
-    }
-
     /// The instruction at PC, where the fast path is taken.
     #[inline(always)]
     #[tactic(auto, using(sx_executor::proofs::Rights::outside_word, sx_executor::proofs::Clear::none_found))]

@@ -1,5 +1,5 @@
 //! The fast path of a node's step. It is taken where no module runs and the last instruction was of
-//! none, and where no section meets the page of PC.
+//! none, and where no section has a byte of the word at PC, which one look says.
 //!
 //! Then neither the sections nor who ran before change anything, so what a step does is what its
 //! instruction does. Most steps show nothing, which is told without a look at what was touched, and
@@ -64,8 +64,8 @@ impl<B: Bus, T: Tag> Node<B, T> {
         if self.cur != 0 {
             return self.step_inside(seen);
         }
-        if self.last != 0 || !self.is_open(pc) {
-            return self.step_near(seen);
+        if self.last != 0 || !self.is_apart(pc) {
+            return self.step_learning(seen);
         }
         match self.executor.windows().at(pc) {
             Some(_device) => self.end_reset(Violation::Device, seen),
@@ -73,9 +73,24 @@ impl<B: Bus, T: Tag> Node<B, T> {
         }
     }
 
-    /// The same in each case. Its code stays out of the way of what most steps do.
+    /// The same in each case. From the next step on the home of the module that runs is known, or the
+    /// gap where PC stands may be. Its code stays out of the way of what most steps do.
     #[inline(never)]
-    pub(crate) fn step_near(&mut self, seen: &mut Seen) -> bool
+    pub(crate) fn step_learning(&mut self, seen: &mut Seen) -> bool
+        requires { self.old.boot < 4294967295 }
+        ensures { Tells self.old (attempt T.mac self.old) result seen.new self.new }
+    {
+        let is_seen = self.step_near(seen);
+        let pc = self.executor.register(PC);
+        if self.cur == 0 {
+            self.executor.learn_gap(pc);
+        } else if !self.executor.is_at_home(self.cur, pc) {
+            self.executor.learn_home(self.cur);
+        }
+        is_seen
+    }
+
+    fn step_near(&mut self, seen: &mut Seen) -> bool
         requires { self.old.boot < 4294967295 }
         ensures { Tells self.old (attempt T.mac self.old) result seen.new self.new }
     {
@@ -221,15 +236,14 @@ impl<B: Bus, T: Tag> Node<B, T> {
         is_anything(seen)
     }
 
-    /// Whether no section meets the page of the word at an address. Then what a step asks of the
-    /// sections needs no look at them.
-    #[tactic(auto, using(sx_executor::proofs::Open::open_outside, sx_executor::proofs::Open::open_ordered, sx_rules::proofs::Away::open_holder))]
-    fn is_open(&self, at: u16) -> bool
+    /// Whether one look says that no section has a byte of the word at an address. Then what a step
+    /// asks of the sections needs no look at them.
+    fn is_apart(&self, at: u16) -> bool
         ensures outside { IsTrue result → word_outside self.now.sections.live at ≡ true }
         ensures order { IsTrue result → in_order self.now.sections.live self.now.cur at ≡ true }
         ensures own { IsTrue result → holder self.now.sections.live at ≡ 0 }
     {
-        self.executor.table().is_open(at)
+        self.executor.is_apart(at)
     }
 
     /// Where no module runs and the last instruction was of none, `settle` changes nothing.
