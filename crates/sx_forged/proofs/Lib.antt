@@ -1,6 +1,6 @@
--- Two developments. That keys are unseen: Tables to Scripts, lowest first, and Naming; begin with
--- Scripts, where two worlds that differ in keys go side by side. What a first `forged` is: begin with
--- Unmade, whose record Holds has what stands at each moment before it.
+-- Two developments. That keys are unseen: Tables to Scripts, lowest first, Naming and Tabling; begin
+-- with Scripts, where two worlds that differ in keys go side by side. What a first `forged` is: begin
+-- with Unmade, whose record Holds has what stands at each moment before it.
 pub mod Tables
 pub mod Plans
 pub mod Instructions
@@ -9,6 +9,7 @@ pub mod Acting
 pub mod Granting
 pub mod Scripts
 pub mod Naming
+pub mod Tabling
 pub mod Turns
 pub mod Turning
 pub mod Reaching

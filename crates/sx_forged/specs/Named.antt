@@ -49,3 +49,7 @@ HasTags table set = (n boot provider : ℕ) (identity message : List ℕ)
 abbrev pub NamesAgree : Type 0
 NamesAgree = (table : Mac) (set : Setting) → length set.secret ≡ 16 → HasTags table set
     → AgreeOnTags set (named_setting table set)
+
+-- the parts of a name tell its module, so there is such a table
+abbrev pub TagsTabled : Type 0
+TagsTabled = (set : Setting) → (table : Mac) × HasTags table set

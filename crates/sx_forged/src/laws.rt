@@ -3,7 +3,7 @@
 ghost use Rattle.sx_forged.specs.Accepted.{AcceptedForged};
 ghost use Rattle.sx_forged.specs.Forgery.{ForgedShown, ForgedUnmade};
 ghost use Rattle.sx_forged.specs.Logged.{LedgerTells};
-ghost use Rattle.sx_forged.specs.Named.{NamesAgree};
+ghost use Rattle.sx_forged.specs.Named.{NamesAgree, TagsTabled};
 ghost use Rattle.sx_forged.specs.Unseen.{KeysUnseen, PlayersSeeTheSame, RunsKeysUnseen};
 
 /// Two settings that no tag tells apart show the same, whatever is done.
@@ -22,10 +22,14 @@ pub fn players_see_the_same()
 {}
 
 /// No tag tells a setting from the one whose nodes hold names in place of keys, and whose tags
-/// under modules' names stand in a table that has the tags of the first. Names tell modules apart,
-/// so there is such a table.
+/// under modules' names stand in a table that has the tags of the first.
 pub fn names_agree()
     ensures { NamesAgree }
+{}
+
+/// Names tell modules apart, so there is such a table.
+pub fn tags_tabled()
+    ensures { TagsTabled }
 {}
 
 /// The first `forged` of a run shows that a whole tag was accepted under the key that its header
