@@ -4,7 +4,7 @@
 -- Doing, over Touching; the deployer is Deploying. A whole turn of a deployed module is Whole, over
 -- Turned: the invocation in Twice, the node afterwards in Turning, what is remembered of it in
 -- Leaving; what its marks show over the ledgers is Ledgers. That there are settings with other keys:
--- Moved to Compiling; what a guess then is, Guessing.
+-- Moved to Compiling; what a guess then is, Guessing. Worked is a case that meets the premises.
 pub mod Moved
 pub mod Unlinking
 pub mod Finding
@@ -36,3 +36,4 @@ pub mod Happenings
 pub mod Whole
 pub mod Lines
 pub mod Final
+pub mod Worked

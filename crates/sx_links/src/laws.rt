@@ -5,6 +5,7 @@ ghost use Rattle.sx_links.specs.Choices.{ChoicesMove};
 ghost use Rattle.sx_links.specs.Compiles.{CompiledAlways};
 ghost use Rattle.sx_links.specs.Found.{KeysFound};
 ghost use Rattle.sx_links.specs.Laws.{LinksUnseen, UnlinksAll};
+ghost use Rattle.sx_links.specs.Worked.{LightingMeets};
 
 /// The run of a schedule that cuts no turn shows the same, up to the first `forged`, as that of
 /// each setting whose connections have keys of their own, unless code of no deployed module
@@ -37,4 +38,9 @@ pub fn choices_move()
 /// Compiled images realize their modules whatever the tag function is.
 pub fn compiled_always()
     ensures { CompiledAlways }
+{}
+
+/// A deployment and a schedule that meet the premises of these laws, and of those of sx_forged.
+pub fn lighting_meets()
+    ensures { LightingMeets }
 {}
