@@ -46,7 +46,7 @@ returns_same a b x y h = (cc, cc)
 violates_same : (u v : Violation) (x y : Progress) → Violates u x ≡ Violates v y → (u ≡ v) × (x ≡ y)
 violates_same u v x y h = (cc, cc)
 
-returns_violates : (a : ℕ) (x y : Progress) (v : Violation) → Returns a x ≡ Violates v y → ⊥
+pub returns_violates : (a : ℕ) (x y : Progress) (v : Violation) → Returns a x ≡ Violates v y → ⊥
 returns_violates a x y v h = cc
 
 module _ (set : Setting) (w : World) (c : Callee) (e input output : ℕ) (sound : IsSoundSetting set) (h : IsCallable set w c) (el : e < 65536) (il : input < 65536) (ol : output < 65536) where

@@ -25,7 +25,7 @@ use Rattle.sx_calls.proofs.Running.{Ended, runs}
 -- Devices of the same places and kinds.
 
 -- a module's cost is below the most steps of a call
-enough_steps : (cost : ℕ) → cost ≤ 262144 → 4096 + cost ≤ FINISH_STEPS
+pub enough_steps : (cost : ℕ) → cost ≤ 262144 → 4096 + cost ≤ FINISH_STEPS
 unfolding FINISH_STEPS
 enough_steps cost le = omega (arith, le)
 

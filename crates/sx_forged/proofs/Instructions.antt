@@ -25,6 +25,18 @@ use Rattle.sx_forged.specs.Tags.{SameTags}
 use Rattle.sx_forged.proofs.Tables.{LikeSection, LikeAll, LikeFound, holder_like, found_like, append_like, without_like, refusal_like}
 use Rattle.sx_forged.proofs.Plans.{LikeOutcome, Alike, same_alike, equal_alike, need_alike, bytes_alike}
 
+-- what follows the key of a wrap or an unwrap
+abbrev pub behind : Given → (List ℕ → List ℕ → List ℕ → Plan) → List ℕ → Plan
+behind g rest key = Bytes (slice_index g.regs 10) (slice_index g.regs 11) (λ ad. Bytes (slice_index g.regs 12) (slice_index g.regs 13) (λ text. rest key ad text))
+
+-- what is written of what was wrapped
+abbrev pub sealed : Given → List ℕ → List ℕ → WrappedBytes → Plan
+sealed g ad body w = Put (slice_index g.regs 14) w.cipher (Put (slice_index g.regs 15) w.tag (Tell (concluded g.regs 1) (Wrapped g.own) (exchanged g.regs ad body)))
+
+-- what follows the tag of an unwrap
+abbrev pub opens : Given → Mac → List ℕ → List ℕ → List ℕ → List ℕ → Plan
+opens g m k ad cipher tag = Writable (slice_index g.regs 14) (slice_index g.regs 13) (opened g ad (unwrapped m k ad cipher tag))
+
 module _ (mac nac : Mac) where
   -- What is under the keys.
 
@@ -132,49 +144,35 @@ module _ (mac nac : Mac) where
     key_alike true x y rest ress h f = f x.key y.key h.1
     key_alike false x y rest ress h f = bytes_ (slice_index g.regs 9) 16 rest ress (λ k e. f k k (held k e))
 
-    -- what follows the key
-    abbrev behind : (List ℕ → List ℕ → List ℕ → Plan) → List ℕ → Plan
-    behind rest key = Bytes (slice_index g.regs 10) (slice_index g.regs 11) (λ ad. Bytes (slice_index g.regs 12) (slice_index g.regs 13) (λ text. rest key ad text))
-
     inputs_alike : (x y : Section) (rest ress : List ℕ → List ℕ → List ℕ → Plan) → LikeSection mac nac x y
         → ((k l : List ℕ) → SameTags mac k nac l → (ad text : List ℕ) → Alike2 (rest k ad text) (ress l ad text))
         → Alike2 (with_inputs g x rest) (with_inputs other y ress)
     inputs_alike x y rest ress h f =
         let short = nat_le (slice_index g.regs 11) 32 && nat_le (slice_index g.regs 13) 32 in
-        let p = with_key g x (behind rest) in
-        let q = with_key other y (behind ress) in
+        let p = with_key g x (behind g rest) in
+        let q = with_key other y (behind g ress) in
         need_ short bad.Range (tested g (buffers g.regs) p) (tested other (buffers g.regs) q) (tested_alike (buffers g.regs) p q
-        (key_alike (own_key g.regs) x y (behind rest) (behind ress) h (λ k l same.
+        (key_alike (own_key g.regs) x y (behind g rest) (behind g ress) h (λ k l same.
         bytes_ (slice_index g.regs 10) (slice_index g.regs 11)
         (λ ad. Bytes (slice_index g.regs 12) (slice_index g.regs 13) (λ text. rest k ad text))
         (λ ad. Bytes (slice_index g.regs 12) (slice_index g.regs 13) (λ text. ress l ad text)) (λ ad e.
         bytes_ (slice_index g.regs 12) (slice_index g.regs 13) (λ text. rest k ad text) (λ text. ress l ad text) (λ text e2.
         f k l same ad text)))))
 
-    abbrev sealed : List ℕ → List ℕ → WrappedBytes → Plan
-    sealed ad body w = Put (slice_index g.regs 14) w.cipher (Put (slice_index g.regs 15) w.tag (Tell (concluded g.regs 1) (Wrapped g.own) (exchanged g.regs ad body)))
-
     wrap_alike : (x y : Section) → LikeSection mac nac x y → Alike2 (wrap mac g x) (wrap nac other y)
     wrap_alike x y h =
-        inputs_alike x y (λ k ad body. sealed ad body (wrapped mac k ad body)) (λ k ad body. sealed ad body (wrapped nac k ad body)) h (λ k l same ad body.
-        equal_ (sealed ad body (wrapped mac k ad body)) (sealed ad body (wrapped nac l ad body)) (ap (sealed ad body) (wrapped_same k l ad body same)))
+        inputs_alike x y (λ k ad body. sealed g ad body (wrapped mac k ad body)) (λ k ad body. sealed g ad body (wrapped nac k ad body)) h (λ k l same ad body.
+        equal_ (sealed g ad body (wrapped mac k ad body)) (sealed g ad body (wrapped nac l ad body)) (ap (sealed g ad body) (wrapped_same k l ad body same)))
 
     opened_same : (ad : List ℕ) (o : Option (List ℕ)) → opened g ad o ≡ opened other ad o
     opened_same ad None = refl
     opened_same ad (Some body) = refl
 
-    -- what follows the tag
-    abbrev opens : Mac → List ℕ → List ℕ → List ℕ → List ℕ → Plan
-    opens m k ad cipher tag = Writable (slice_index g.regs 14) (slice_index g.regs 13) (opened g ad (unwrapped m k ad cipher tag))
-
-    abbrev opent : Mac → List ℕ → List ℕ → List ℕ → List ℕ → Plan
-    opent m k ad cipher tag = Writable (slice_index g.regs 14) (slice_index g.regs 13) (opened other ad (unwrapped m k ad cipher tag))
-
     unwrap_alike : (x y : Section) → LikeSection mac nac x y → Alike2 (unwrap mac g x) (unwrap nac other y)
     unwrap_alike x y h =
-        inputs_alike x y (λ k ad cipher. Bytes (slice_index g.regs 15) 16 (opens mac k ad cipher)) (λ k ad cipher. Bytes (slice_index g.regs 15) 16 (opent nac k ad cipher)) h (λ k l same ad cipher.
-        bytes_ (slice_index g.regs 15) 16 (opens mac k ad cipher) (opent nac l ad cipher) (λ tag e.
-        equal_ (opens mac k ad cipher tag) (opent nac l ad cipher tag)
+        inputs_alike x y (λ k ad cipher. Bytes (slice_index g.regs 15) 16 (opens g mac k ad cipher)) (λ k ad cipher. Bytes (slice_index g.regs 15) 16 (opens other nac k ad cipher)) h (λ k l same ad cipher.
+        bytes_ (slice_index g.regs 15) 16 (opens g mac k ad cipher) (opens other nac l ad cipher) (λ tag e.
+        equal_ (opens g mac k ad cipher tag) (opens other nac l ad cipher tag)
         (ap (λ (o : Option (List ℕ)). Writable (slice_index g.regs 14) (slice_index g.regs 13) (opened g ad o)) (unwrapped_same k l ad cipher tag same)
         ∙ ap (λ (p : Plan). Writable (slice_index g.regs 14) (slice_index g.regs 13) p) (opened_same ad (unwrapped nac l ad cipher tag)))))
 

@@ -25,7 +25,31 @@ use Rattle.sx_forged.proofs.Instructions.{instruction_like}
 abbrev pub with_others : State → List ℕ → Sections → State
 with_others s key u = record s { key = key; sections = u }
 
+-- the state after an instruction of `own`, where PC is in the section of the id `at`
+abbrev pub ended : State → Sections → List ℕ → Moment → Exchange → (own at caller : ℕ) → State
+ended a v regs x exchange own at caller = record a {
+  regs = regs;
+  mem = x.mem;
+  devices = x.devices;
+  sections = v;
+  cur = cond (at == own) own 0;
+  last = own;
+  caller = caller;
+  exchange = exchange;
+}
+
 module _ (mac nac : Mac) where
+  -- Tables that differ in keys, and more that can't be seen, tell the same of who entered and who left.
+
+  pub caller_like : (s : State) (u : Sections) → LikeAll mac nac s.sections.live u.live → (own : ℕ) → entered_from (record s { sections = u }) own ≡ entered_from s own
+  caller_like s u like own = ap (λ b. cond (own == s.cur) s.caller (cond b s.last 0)) (live_like mac nac s.sections.live u.live s.last like)
+
+  pub left_like : (s : State) (u : Sections) → LikeAll mac nac s.sections.live u.live → (regs : List ℕ)
+      → left s (own_of s) regs ≡ left (record s { sections = u }) (own_of (record s { sections = u })) regs
+  left_like s u like regs =
+      sym (ap (λ (own : ℕ). cond ((own == 0) || (holder u.live (slice_index regs 0) == own)) Quiet (Left own)) (holder_like mac nac s.sections.live u.live (pc_of s) like)
+      ∙ ap (λ (a : ℕ). cond ((own_of s == 0) || (a == own_of s)) Quiet (Left (own_of s))) (holder_like mac nac s.sections.live u.live (slice_index regs 0) like))
+
   -- no tag tells apart the keys that come of a node's
   abbrev pub LikeKeys : List ℕ → List ℕ → Type 0
   LikeKeys k l = (boot provider : ℕ) (id : List ℕ) → SameTags mac (module_key mac k boot provider id) nac (module_key nac l boot provider id)
@@ -50,9 +74,6 @@ module _ (mac nac : Mac) where
       own_same : own_of twin ≡ own_of s
       own_same = holder_like mac nac s.sections.live u.live (pc_of s) like
 
-      caller_same : (own : ℕ) → entered_from twin own ≡ entered_from s own
-      caller_same own = ap (λ b. cond (own == s.cur) s.caller (cond b s.last 0)) (live_like mac nac s.sections.live u.live s.last like)
-
       bases : (provider : ℕ) (id : List ℕ) → SameTags mac (section_key mac (boot_key mac s.key s.boot) provider id) nac (section_key nac (boot_key nac key s.boot) provider id)
       unfolding module_key
       bases provider id = keys s.boot provider id
@@ -64,7 +85,7 @@ module _ (mac nac : Mac) where
       module_word_like : (code : ℕ) → LikeOutcome mac nac (module_instruction mac code (given_at_pc mac s) s.mem) (module_instruction nac code (given_at_pc nac twin) s.mem)
       module_word_like code =
           subst (λ (own : ℕ). LikeOutcome mac nac (module_instruction mac code (given_at_pc mac s) s.mem) (module_instruction nac code (given own (entered_from twin own)) s.mem)) (sym own_same)
-          (subst (λ (c : ℕ). LikeOutcome mac nac (module_instruction mac code (given_at_pc mac s) s.mem) (module_instruction nac code (given (own_of s) c) s.mem)) (sym (caller_same (own_of s)))
+          (subst (λ (c : ℕ). LikeOutcome mac nac (module_instruction mac code (given_at_pc mac s) s.mem) (module_instruction nac code (given (own_of s) c) s.mem)) (sym (caller_like s u like (own_of s)))
           (instruction_like mac nac held (given_at_pc mac s) u (boot_key nac key s.boot) like next bases code s.mem))
 
       plain_like : (w : ℕ) → LikeOutcome mac nac (exec s.sections (own_of s) (program w s.regs) (start s)) (exec u (own_of twin) (program w s.regs) (start s))
@@ -94,19 +115,6 @@ module _ (mac nac : Mac) where
           (ordered nac twin (device_at s.devices (pc_of s))) bad.Fetch
           (word_outside_like mac nac s.sections.live u.live (pc_of s) like) (ordered_like (device_at s.devices (pc_of s)))
 
-      -- the state after an instruction of `own`, where PC is in the section of the id `at`
-      abbrev ended : State → Sections → List ℕ → Moment → Exchange → (own at caller : ℕ) → State
-      ended a v regs x exchange own at caller = record a {
-        regs = regs;
-        mem = x.mem;
-        devices = x.devices;
-        sections = v;
-        cur = cond (at == own) own 0;
-        last = own;
-        caller = caller;
-        exchange = exchange;
-      }
-
       after_like : (regs : List ℕ) (x : Moment) (v w : Sections) (exchange : Exchange) → LikeAll mac nac v.live w.live → w.next ≡ v.next
           → LikeState (state_after s (own_of s) regs x v exchange) (state_after twin (own_of twin) regs x w exchange)
       after_like regs x v w exchange h e =
@@ -114,13 +122,8 @@ module _ (mac nac : Mac) where
           subst (λ (own : ℕ). LikeState (state_after s (own_of s) regs x v exchange) (ended twin w regs x exchange own (holder w.live (slice_index regs 0)) (entered_from twin own))) (sym own_same)
           (subst (λ (a : ℕ). LikeState (state_after s (own_of s) regs x v exchange) (ended twin w regs x exchange (own_of s) a (entered_from twin (own_of s))))
           (sym (holder_like mac nac v.live w.live (slice_index regs 0) h))
-          (subst (λ (c : ℕ). LikeState (state_after s (own_of s) regs x v exchange) (ended twin w regs x exchange (own_of s) at c)) (sym (caller_same (own_of s)))
+          (subst (λ (c : ℕ). LikeState (state_after s (own_of s) regs x v exchange) (ended twin w regs x exchange (own_of s) at c)) (sym (caller_like s u like (own_of s)))
           (record { rest = refl; sections = h; next = e; keys = keys })))
-
-      left_same : (regs : List ℕ) → left s (own_of s) regs ≡ left twin (own_of twin) regs
-      left_same regs =
-          sym (ap (λ (own : ℕ). cond ((own == 0) || (holder u.live (slice_index regs 0) == own)) Quiet (Left own)) own_same
-          ∙ ap (λ (a : ℕ). cond ((own_of s == 0) || (a == own_of s)) Quiet (Left (own_of s))) (holder_like mac nac s.sections.live u.live (slice_index regs 0) like))
 
       pub reset_like : LikeState (reset s) (reset twin)
       reset_like = record { rest = refl; sections = tt; next = refl; keys = keys }
@@ -129,7 +132,7 @@ module _ (mac nac : Mac) where
       settled_like (Finished r x) (Finished q y) h =
           subst (λ (z : List ℕ). LikeShown (settled_step s (Finished r x)) (settled_step twin (Finished z y))) h.0
           (subst (λ (z : Moment). LikeShown (settled_step s (Finished r x)) (settled_step twin (Finished r z))) h.1
-          (ap (λ (e : Event). record { touch = x.touches; event = e }) (left_same r), after_like r x s.sections u s.exchange like next))
+          (ap (λ (e : Event). record { touch = x.touches; event = e }) (left_like s u like r), after_like r x s.sections u s.exchange like next))
       settled_like (Violated v) (Violated w) h = (ap (λ (z : Violation). record { touch = untouched; event = Reset z }) h, reset_like)
       settled_like (Module r x t e c) (Module q y v f d) h =
           subst (λ (z : List ℕ). LikeShown (settled_step s (Module r x t e c)) (settled_step twin (Module z y v f d))) h.0

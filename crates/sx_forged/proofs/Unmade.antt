@@ -119,10 +119,10 @@ split (x ∷ xs) ys (y ∷ front) rest i e = elim (split xs ys front rest i (tai
     both : {f : List Item} → x ≡ y → front ≡ f → y ∷ front ≡ x ∷ f
     both e f = cc
 
-front_none : (i : Item) (xs ys : List Item) → IsAmong i xs → IsAmong i (xs ++ ys)
-front_none i [] ys h = absurd h
-front_none i (x ∷ xs) ys (inl e) = inl e
-front_none i (x ∷ xs) ys (inr h) = inr (front_none i xs ys h)
+pub among_left : (i : Item) (xs ys : List Item) → IsAmong i xs → IsAmong i (xs ++ ys)
+among_left i [] ys h = absurd h
+among_left i (x ∷ xs) ys (inl e) = inl e
+among_left i (x ∷ xs) ys (inr h) = inr (among_left i xs ys h)
 
 find : (set : Setting) (script : Script) (w : World) (front rest : List Item) (who : Option ℕ)
     → (performed set script w).items ≡ front ++ item.Forged who ∷ rest → NoForged front → Found set script w who
@@ -146,7 +146,7 @@ find set (Do x next) w front rest who e none =
             at = f.at;
             shown = f.shown;
             first = λ j past lt g. earlier x next w (done set x w).items (λ who2 h. none who2
-                (subst (IsAmong (item.Forged who2)) (sym t.2) (front_none (item.Forged who2) (done set x w).items t.0 h))) refl f j past lt g;
+                (subst (IsAmong (item.Forged who2)) (sym t.2) (among_left (item.Forged who2) (done set x w).items t.0 h))) refl f j past lt g;
           }
     ]
   where

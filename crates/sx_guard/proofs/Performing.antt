@@ -37,7 +37,7 @@ use Rattle.sx_lists.proofs.Lists.{get_same}
 same_boot : (b : ℕ) → false ≡ not (b == b)
 same_boot b = grind (arith, nat_tests)
 
-next_boot : (b : ℕ) → true ≡ not ((b + 1) == b)
+pub next_boot : (b : ℕ) → true ≡ not ((b + 1) == b)
 next_boot b = grind (arith, nat_tests)
 
 left_quiet : (b : Bool) (own : ℕ) → is_reset (if b then event.Quiet else event.Left own) ≡ false

@@ -1,5 +1,5 @@
 -- A step of code of no deployed module does the same where deployed modules' bytes and keys differ.
-use Rattle.std.proofs.Common.{◌≡◌, ℕ, ◌+◌, ◌-◌, ◌<◌, ◌≤◌, Bool, true, false, cond, not, ◌==◌, ◌||◌, ◌&&◌, inl, inr, ◌⊎◌, List, [], ◌∷◌, slice_index, Option, Some, None, is_some, refl, sym}
+use Rattle.std.proofs.Common.{◌≡◌, ℕ, ◌+◌, ◌-◌, ◌<◌, ◌≤◌, Bool, true, false, cond, not, ◌&&◌, inl, inr, ◌⊎◌, List, [], ◌∷◌, slice_index, Option, Some, None, is_some, refl, sym}
 use Rattle.std.proofs.Common.{◌∙◌, ap, subst, arith}
 use Rattle.std.specs.Prelude.{nat_le, nat_lt, option_and_then}
 use Rattle.std.proofs.lemmas.Bool.{and_parts, and_from, true≢false, false_from_ne_true, leb-true, le-leb, lt-ltb}
@@ -14,7 +14,7 @@ use Rattle.sx_bus.specs.Devices.{device_at}
 use Rattle.sx_tag.specs.Mac.{Mac}
 use Rattle.sx_tag.specs.Keys.{boot_key, section_key, module_key}
 use Rattle.sx_machine.specs.declared.kinds.Event.{Event}
-use Rattle.sx_machine.specs.declared.kinds.Event.TheVariants.{Quiet, Reset, Left}
+use Rattle.sx_machine.specs.declared.kinds.Event.TheVariants.{Reset}
 use Rattle.sx_machine.specs.declared.kinds.Exchange.{Exchange}
 use Rattle.sx_machine.specs.Memory.{even, word}
 use Rattle.sx_machine.specs.State.{State, reset}
@@ -22,7 +22,7 @@ use Rattle.sx_machine.specs.Given.{Given}
 use Rattle.sx_machine.specs.Rows.{program}
 use Rattle.sx_machine.specs.Run.{Moment, untouched, Outcome, Finished, Violated, Module, exec}
 use Rattle.sx_machine.specs.Modules.{is_code, module_instruction}
-use Rattle.sx_machine.specs.Step.{Shown, pc_of, own_of, start, is_module_word, entered_from, given_at_pc, instruction, ordered, word_outside, is_let_run, attempt, state_after, left, settled_step}
+use Rattle.sx_machine.specs.Step.{Shown, pc_of, own_of, start, is_module_word, entered_from, given_at_pc, instruction, ordered, word_outside, is_let_run, attempt, state_after, settled_step}
 use Rattle.sx_machine.specs.Step.{step}
 use Rattle.sx_machine.specs.Frame.{Framed}
 use Rattle.sx_machine.proofs.PlanGuard.{with_mem, barred}
@@ -32,7 +32,8 @@ use Rattle.sx_run.specs.Setting.{Site, module_of, deployed}
 use Rattle.sx_forged.specs.Tags.{SameTags}
 use Rattle.sx_links.proofs.Outside.{Kind, sites_on, text_at, is_deployed, Unhidden, AgreeAt, SameSections, InWords, AlikeOutside, UsesKey, given_layout, NoGuess, OutsidersSeeTheSame, IsUntouched}
 use Rattle.sx_links.proofs.Outside.{OutsidersTouchNone}
-use Rattle.sx_forged.proofs.Tables.{LikeAll, may_like, holder_like, in_order_like, word_outside_like, live_like}
+use Rattle.sx_forged.proofs.Steps.{ended, caller_like, left_like}
+use Rattle.sx_forged.proofs.Tables.{LikeAll, may_like, holder_like, in_order_like, word_outside_like}
 use Rattle.sx_links.proofs.Opened.{agree_fewer, agree_self, word_agree, bytes_same, IsOutsider, outside_open, blank_mac, blank_all, same_hides}
 use Rattle.sx_links.proofs.Blind.{AreZero, Grown, grown_self, SameOutcome, ifs_same, same_blind}
 use Rattle.sx_links.proofs.Outsiders.{instruction_blind}
@@ -60,9 +61,6 @@ module _ (mac nac : Mac) (kind : Kind) (s : State) (n key : List ℕ) (u : Secti
   own_same : own_of twin ≡ own_of s
   own_same = holder_like blank_mac blank_mac s.sections.live u.live (pc_of s) Blank
 
-  pub caller_same : (own : ℕ) → entered_from twin own ≡ entered_from s own
-  caller_same own = ap (λ b. cond (own == s.cur) s.caller (cond b s.last 0)) (live_like blank_mac blank_mac s.sections.live u.live s.last Blank)
-
   -- Of code that belongs to no deployed module.
   module _ (words : (r : ℕ) → slice_index s.regs r < 65536)
       (bare : (x : Section) → section_of s.sections.live (own_of s) ≡ Some x → hides x ≡ false) (guess : NoGuess mac nac kind s key) where
@@ -84,7 +82,7 @@ module _ (mac nac : Mac) (kind : Kind) (s : State) (n key : List ℕ) (u : Secti
     module_word_same w e is =
         let code = w - 0x1380 in
         subst (λ (own : ℕ). Match (module_instruction mac code (given_at_pc mac s) s.mem) (module_instruction nac code (given own (entered_from twin own)) n)) (sym own_same)
-        (subst (λ (c : ℕ). Match (module_instruction mac code (given_at_pc mac s) s.mem) (module_instruction nac code (given (own_of s) c) n)) (sym (caller_same (own_of s)))
+        (subst (λ (c : ℕ). Match (module_instruction mac code (given_at_pc mac s) s.mem) (module_instruction nac code (given (own_of s) c) n)) (sym (caller_like blank_mac blank_mac s u Blank (own_of s)))
         (instruction_blind mac nac hides (given_at_pc mac s) u (boot_key nac key s.boot) exchange s.mem n same next outsider agree code bare
         (λ c. new_keys (admits c) (record { pub_from = words 10; pub_to = words 11; priv_from = words 12; priv_to = words 13 }))
         (λ x found uses. guess.held (uses_key uses) x found)))
@@ -169,19 +167,6 @@ module _ (mac nac : Mac) (kind : Kind) (s : State) (n key : List ℕ) (u : Secti
       → is_deployed kind after.mem z ≡ hides z
   status_kept after n' f g z l = ap (kind z.layout z.provider) (elim (g.known z l) [ inl o ↦ text_kept after f z o l | inr e ↦ e.0 ])
 
-  -- the state after an instruction of `own`, where PC is in the section of the id `at`
-  abbrev ended : State → Sections → List ℕ → Moment → Exchange → (own at caller : ℕ) → State
-  ended a v regs x c own at caller = record a {
-    regs = regs;
-    mem = x.mem;
-    devices = x.devices;
-    sections = v;
-    cur = cond (at == own) own 0;
-    last = own;
-    caller = caller;
-    exchange = c;
-  }
-
   after_same : (regs : List ℕ) (x : Moment) (o : List ℕ) (v w : Sections) (c d : Exchange) → AgreeAt (Unhidden hides s.sections.live) x.mem o
       → SameSections mac nac hides v.live w.live → w.next ≡ v.next → Grown hides s.sections.live v.live s.mem x.mem o
       → IsFramed (state_after s (own_of s) regs x v c)
@@ -193,7 +178,7 @@ module _ (mac nac : Mac) (kind : Kind) (s : State) (n key : List ℕ) (u : Secti
       subst (λ (own : ℕ). AlikeOutside mac nac kind after (ended twin w regs (with_mem x o) d own (holder w.live (slice_index regs 0)) (entered_from twin own))) (sym own_same)
       (subst (λ (a : ℕ). AlikeOutside mac nac kind after (ended twin w regs (with_mem x o) d (own_of s) a (entered_from twin (own_of s))))
       (sym (holder_like blank_mac blank_mac v.live w.live (slice_index regs 0) (blank_all mac nac hides v.live w.live secs)))
-      (subst (λ (i : ℕ). AlikeOutside mac nac kind after (ended twin w regs (with_mem x o) d (own_of s) at i)) (sym (caller_same (own_of s)))
+      (subst (λ (i : ℕ). AlikeOutside mac nac kind after (ended twin w regs (with_mem x o) d (own_of s) at i)) (sym (caller_like blank_mac blank_mac s u Blank (own_of s)))
       (record {
         rest = refl;
         mem = agree_fewer (Unhidden hides s.sections.live) (Unhidden (is_deployed kind x.mem) v.live) x.mem o
@@ -201,11 +186,6 @@ module _ (mac nac : Mac) (kind : Kind) (s : State) (n key : List ℕ) (u : Secti
         sections = same_hides mac nac hides (is_deployed kind x.mem) v.live w.live kept secs;
         next = e;
       })))
-
-  left_same : (regs : List ℕ) → left s (own_of s) regs ≡ left twin (own_of twin) regs
-  left_same regs =
-      sym (ap (λ (own : ℕ). cond ((own == 0) || (holder u.live (slice_index regs 0) == own)) Quiet (Left own)) own_same
-      ∙ ap (λ (a : ℕ). cond ((own_of s == 0) || (a == own_of s)) Quiet (Left (own_of s))) (holder_like blank_mac blank_mac s.sections.live u.live (slice_index regs 0) Blank))
 
   pub reset_same : AlikeOutside mac nac kind (reset s) (reset twin)
   reset_same = record {
@@ -223,7 +203,7 @@ module _ (mac nac : Mac) (kind : Kind) (s : State) (n key : List ℕ) (u : Secti
   settled_same (Finished r x) (Finished q y) f h =
       subst (λ (z : List ℕ). SameShown (settled_step s (Finished r x)) (settled_step twin (Finished z y))) h.0
       (subst (λ (z : Moment). SameShown (settled_step s (Finished r x)) (settled_step twin (Finished r z))) (sym h.1.rest) (
-        ap (λ (e : Event). record { touch = x.touches; event = e }) (left_same r),
+        ap (λ (e : Event). record { touch = x.touches; event = e }) (left_like blank_mac blank_mac s u Blank r),
         after_same r x y.mem s.sections u s.exchange exchange h.1.mem same next (grown_self hides s.sections.live s.mem x.mem y.mem) f,
       ))
   settled_same (Violated v) (Violated w) f h = (ap (λ (z : Violation). record { touch = untouched; event = Reset z }) h, reset_same)

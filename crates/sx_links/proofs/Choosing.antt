@@ -1,6 +1,7 @@
 -- Choices of other keys are movings of keys.
 use Rattle.std.proofs.Common.{◌≡◌, ◌≢◌, ℕ, ◌<◌, inl, inr, Bool, true, false, cond, bytes_eq, List, [], ◌∷◌, length, refl, sym, ◌∙◌, ap, subst}
 use Rattle.std.specs.Prelude.{All}
+use Rattle.std.proofs.lemmas.Bool.{true≢false}
 use Rattle.std.proofs.lemmas.Slice.Eq.{bytes_eq-Decides}
 use Rattle.sx_links.specs.Choices.{Choice, exchanged, chosen, unchosen, AreKeys, IsNotIn, AreDistinct, IsChosen, ChoicesMove}
 
@@ -34,11 +35,7 @@ by_key : (P : List ℕ → Type 0) (c : Choice) (k : List ℕ) → (k ≡ c.old 
 by_key P c k one two three = by (bytes_eq k c.old) (bytes_eq k c.new) refl refl
   where
     differ : (x : List ℕ) → bytes_eq k x ≡ false → k ≢ x
-    differ x e same = clash (bytes_eq k x) e (equal k x same)
-      where
-        clash : (b : Bool) → b ≡ false → b ≡ true → ⊥
-        clash true e h = subst (λ (t : Bool). cond t ⊥ (Unit {0})) (sym e) tt
-        clash false e h = subst (λ (t : Bool). cond t ⊥ (Unit {0})) h tt
+    differ x e same = true≢false (sym (equal k x same) ∙ e)
 
     by : (b d : Bool) → bytes_eq k c.old ≡ b → bytes_eq k c.new ≡ d → P k
     by true d e h = one ((bytes_eq-Decides k c.old).0 e)

@@ -57,17 +57,14 @@ module _ (a : Setting) (nac : Mac) (keys : List (List ℕ)) (secret : List ℕ) 
   abbrev b : Setting
   b = second a nac keys secret
 
-  abbrev L : ℕ → List ℕ → List ℕ → Type 0
-  L = Linked a nac keys secret
-
   -- private sections with these bytes represent states that differ in keys
   abbrev StatesOf : ℕ → PartTree → List ℕ → List ℕ → Type 0
   StatesOf m q u v =
       ((state_of q.tree (ends_of a.app m) v).cells ≡ (state_of q.tree (ends_of a.app m) u).cells)
-      × SameEnds L (state_of q.tree (ends_of a.app m) u).ends (state_of q.tree (ends_of a.app m) v).ends
+      × SameEnds (Linked a nac keys secret) (state_of q.tree (ends_of a.app m) u).ends (state_of q.tree (ends_of a.app m) v).ends
 
   pub states_kept : (m : ℕ) (q : PartTree) (x : Section) (m1 m2 n1 n2 : List ℕ) → private_bytes x.layout n1 ≡ private_bytes x.layout m1
-      → private_bytes x.layout n2 ≡ private_bytes x.layout m2 → SameStates a nac keys secret L m q x m1 m2 → SameStates a nac keys secret L m q x n1 n2
+      → private_bytes x.layout n2 ≡ private_bytes x.layout m2 → SameStates a nac keys secret (Linked a nac keys secret) m q x m1 m2 → SameStates a nac keys secret (Linked a nac keys secret) m q x n1 n2
   states_kept m q x m1 m2 n1 n2 e f h =
       subst (λ (bs : List ℕ). StatesOf m q bs (private_bytes x.layout n2)) (sym e) (subst (λ (bs : List ℕ). StatesOf m q (private_bytes x.layout m1) bs) (sym f) h)
 

@@ -1,44 +1,31 @@
 -- A `finish` from a deployed module's entry.
-use Rattle.std.proofs.Common.{◌≡◌, ℕ, ◌+◌, ◌≤◌, true, [], ◌∷◌, Some, refl, sym, ◌∙◌, ap, subst, arith}
+use Rattle.std.proofs.Common.{◌≡◌, ℕ, ◌+◌, true, [], ◌∷◌, Some, refl, sym, ◌∙◌, ap, subst}
 use Rattle.std.specs.Prelude.{slice_get}
 use Rattle.sx_lists.proofs.Lists.{get_same}
 use Rattle.sx_lang.specs.Sizes.{module_cost}
 use Rattle.sx_mean.specs.Application.{PartTree, declared_kind}
 use Rattle.sx_check.proofs.Accepted.{accepted}
 use Rattle.sx_trace.specs.declared.items.Item.TheVariants as item
-use Rattle.sx_rules.specs.declared.access.Violation.{Violation}
 use Rattle.sx_rules.specs.declared.section.Layout.{Layout}
 use Rattle.sx_rules.specs.declared.section.Section.{Section}
 use Rattle.sx_rules.specs.Access.{Lives}
-use Rattle.sx_machine.specs.declared.kinds.Event.{Event}
 use Rattle.sx_machine.specs.declared.kinds.Event.TheVariants as event
 use Rattle.sx_machine.specs.State.{State}
 use Rattle.sx_machine.specs.NodeLaws.{shapes}
 use Rattle.sx_machine.specs.Step.{pc_of}
-use Rattle.sx_invoke.specs.Progress.{Progress, Returns, Violates}
+use Rattle.sx_invoke.specs.Progress.{Progress, Returns}
 use Rattle.sx_image.specs.Image.{Enters, StandsProtected, public_bytes}
 use Rattle.sx_image.specs.Realizes.{begins}
 use Rattle.sx_run.specs.Setting.{Setting, Site, is_at_site, windows_at}
 use Rattle.sx_run.specs.State.{World, Acted}
 use Rattle.sx_run.specs.Run.{FINISH_STEPS}
 use Rattle.sx_run.specs.Law.{IsSoundSetting, IsDeployedModule, image_at, devices_of}
-use Rattle.sx_run.proofs.steps.Entry.{at_site, shapes_on}
+use Rattle.sx_run.proofs.steps.Entry.{at_site, shapes_on, has_devices_same, quiet_left}
 use Rattle.sx_calls.specs.Calls.{Callee, IsCallable}
-use Rattle.sx_calls.proofs.Finishing.{Finishes, finishes}
+use Rattle.sx_calls.proofs.Calling.{returns_violates}
+use Rattle.sx_calls.proofs.Finishing.{enough_steps, Finishes, finishes}
 use Rattle.sx_forged.proofs.Turns.{setup_of, turn_of, NodeTurns}
-use Rattle.sx_run.proofs.steps.Entry.{has_devices_same}
 use Rattle.sx_links.proofs.Leaving.{Remembers, ends_remembering}
-
--- a module's cost is below the most steps of a `finish`
-enough_steps : (cost : ℕ) → cost ≤ 262144 → 4096 + cost ≤ FINISH_STEPS
-unfolding FINISH_STEPS
-enough_steps cost le = omega (arith, le)
-
-quiet_left : (id : ℕ) → ◌≡◌ {A = Event} event.Quiet (event.Left id) → ⊥
-quiet_left id e = cc
-
-returns_violates : (status : ℕ) (x y : Progress) (v : Violation) → Returns status x ≡ Violates v y → ⊥
-returns_violates status x y v h = cc
 
 module _ (set : Setting) (sound : IsSoundSetting set) (m : ℕ) (q : PartTree) (site : Site) (part : slice_get set.app.parts m ≡ Some q) (sited : slice_get set.sites m ≡ Some site)
     (s : State) (sec : Section) (turns : NodeTurns set site.node s) (lives : Lives s.sections.live sec) (at : is_at_site site.node s.mem sec site ≡ true)

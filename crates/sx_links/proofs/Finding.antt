@@ -1,7 +1,8 @@
 -- Whether a key is a deployed module's can be found out: boots enter keys as four bytes.
-use Rattle.std.proofs.Common.{◌≡◌, ◌≢◌, ℕ, zero, suc, ◌/◌, ◌%◌, ◌<◌, Bool, true, false, cond, bytes_eq, List, [], ◌∷◌, length, refl, sym, ◌∙◌, ap, subst, arith, lit<}
+use Rattle.std.proofs.Common.{◌≡◌, ◌≢◌, ℕ, zero, suc, ◌/◌, ◌%◌, ◌<◌, Bool, true, false, cond, bytes_eq, List, [], ◌∷◌, length, refl, sym, ◌∙◌, ap, arith, lit<}
 use Rattle.std.specs.Prelude.{slice_get, Option, Some, None}
 use Rattle.std.specs.Int.{w32, to_le_bytes}
+use Rattle.std.proofs.lemmas.Bool.{true≢false}
 use Rattle.std.proofs.lemmas.Nat.{mod_below}
 use Rattle.std.proofs.lemmas.Slice.Eq.{bytes_eq-Decides}
 use Rattle.sx_tag.specs.Keys.{kdf, boot_key, section_key, module_key, identity}
@@ -22,23 +23,16 @@ unfolding any_below
 any_found zero i test lt h = absurd (omega (arith, lt))
 any_found (suc n) i test lt h = by (test n) refl (λ l. any_found n i test l h)
   where
-    clash : (b : Bool) → b ≡ false → b ≡ true → ⊥
-    clash true e h = subst (λ (t : Bool). cond t ⊥ (Unit {0})) (sym e) tt
-    clash false e h = subst (λ (t : Bool). cond t ⊥ (Unit {0})) h tt
-
     differ : test n ≡ false → i ≢ n
-    differ e same = clash (test n) e (ap test (sym same) ∙ h)
+    differ e same = true≢false (sym (ap test (sym same) ∙ h) ∙ e)
 
     by : (b : Bool) → test n ≡ b → (i < n → any_below n test ≡ true) → cond b true (any_below n test) ≡ true
     by true e rest = refl
     by false e rest = rest (omega (arith, lt, differ e))
 
-no_truth : false ≡ true → ⊥
-no_truth e = subst (λ (t : Bool). cond t ⊥ (Unit {0})) e tt
-
 any_which : (n : ℕ) (test : ℕ → Bool) → any_below n test ≡ true → (i : ℕ) × (test i ≡ true)
 unfolding any_below
-any_which zero test h = absurd (no_truth h)
+any_which zero test h = absurd (true≢false (sym h))
 any_which (suc n) test h = by (test n) refl h (any_which n test)
   where
     by : (b : Bool) → test n ≡ b → cond b true (any_below n test) ≡ true → (any_below n test ≡ true → (i : ℕ) × (test i ≡ true)) → (i : ℕ) × (test i ≡ true)
@@ -90,7 +84,7 @@ module _ (a : Setting) where
       by w.0 (slice_get a.sites w.0) refl w.1
     where
       by : (m : ℕ) (o : Option Site) → slice_get a.sites m ≡ o → of_site top k o ≡ true → IsDeployedKey a k
-      by m None e h = absurd (no_truth h)
+      by m None e h = absurd (true≢false (sym h))
       by m (Some site) e h =
           let w = any_which top (λ i. bytes_eq k (key_of a site i)) h in
           (m, w.0, site, e, (bytes_eq-Decides k (key_of a site w.0)).0 w.1)

@@ -1,6 +1,5 @@
 -- What happens beside steps, in both runs.
-use Rattle.std.proofs.Common.{◌≡◌, ℕ, ◌+◌, ◌==◌, true, not, List, Option, Some, None, is_some, refl, sym, ◌∙◌, ap, arith}
-use Rattle.std.proofs.lemmas.Bool.Decides.{nat_tests}
+use Rattle.std.proofs.Common.{◌≡◌, ℕ, ◌+◌, ◌==◌, not, List, Option, Some, None, is_some, refl, sym, ◌∙◌, ap}
 use Rattle.std.specs.Prelude.{slice_get}
 use Rattle.std.proofs.lemmas.Bool.{eq-eqb}
 use Rattle.sx_trace.specs.declared.items.Cause.TheVariants.{Asked}
@@ -16,6 +15,7 @@ use Rattle.sx_run.specs.Setting.{Setting}
 use Rattle.sx_run.specs.State.{World}
 use Rattle.sx_run.specs.Run.{is_reset}
 use Rattle.sx_run.proofs.steps.Machine.{violates, onward}
+use Rattle.sx_guard.proofs.Performing.{next_boot}
 use Rattle.sx_guard.specs.Happening.{Happening, Begin, Step, Put, Set, Take, Give, Forge, Sense, Irq, Reset, Ask, Answer, Show, done}
 use Rattle.sx_links.specs.Unlinked.{Unlinked}
 use Rattle.sx_links.proofs.Linking.{second}
@@ -32,9 +32,6 @@ reset_is (event.Removed id) = refl
 reset_is (event.Wrapped id) = refl
 reset_is (event.Unwrapped id) = refl
 reset_is (event.Left id) = refl
-
-next_boot : (n : ℕ) → true ≡ not ((n + 1) == n)
-next_boot n = grind (arith, nat_tests)
 
 pub step_boot : (mac : Mac) (s : State) → is_reset (step mac s).shown.event ≡ not ((step mac s).state.boot == s.boot)
 step_boot mac s = by (violation_of (step mac s).shown.event) refl

@@ -1,32 +1,14 @@
 -- A set-key packet that opens to the one connection key opens to the other.
-use Rattle.std.proofs.Common.{◌≡◌, ℕ, zero, suc, ◌+◌, ◌-◌, ◌≤◌, List, [], ◌∷◌, ◌++◌, length, take, drop, refl, sym, ◌∙◌, ap, arith}
+use Rattle.std.proofs.Common.{◌≡◌, ℕ, zero, suc, ◌+◌, ◌-◌, ◌≤◌, List, [], ◌∷◌, length, drop, sym, ◌∙◌, length-take-le, arith}
 use Rattle.std.specs.Prelude.{replicate}
 use Rattle.sx_tag.specs.Mac.{Mac, GivesTags}
-use Rattle.sx_tag.specs.Wrap.{xor_bytes, stream, crypt}
+use Rattle.sx_tag.specs.Wrap.{crypt}
+use Rattle.sx_tag.proofs.UnwrapsWrapped.{length-crypt}
 use Rattle.sx_invoke.specs.Protocol.{set_key_size, header_size, key_size}
 use Rattle.sx_invoke.specs.Entries.{header_in}
+use Rattle.sx_gives.proofs.Wraps.{take_first}
 use Rattle.sx_links.proofs.Pads.{pads_tell}
 use Rattle.sx_links.proofs.Twice.{key_cipher, key_in}
-
-xor_length : (bytes stream : List ℕ) → length bytes ≤ length stream → length (xor_bytes bytes stream) ≡ length bytes
-xor_length [] stream h = refl
-xor_length (b ∷ bytes) [] h = absurd (omega arith)
-xor_length (b ∷ bytes) (s ∷ stream) h = ap suc (xor_length bytes stream (omega arith))
-
-crypt_length : (mac : Mac) (key ad bytes : List ℕ) → GivesTags mac → length bytes ≤ 32 → length (crypt mac key ad bytes) ≡ length bytes
-unfolding crypt
-crypt_length mac key ad bytes gives h = xor_length bytes (stream mac key ad) (omega (arith, h, gives key (0x53 ∷ length ad ∷ (ad ++ 0 ∷ []))))
-
-take_front : (n : ℕ) (xs ys : List ℕ) → length xs ≡ n → take n (xs ++ ys) ≡ xs
-take_front zero [] ys h = refl
-take_front zero (x ∷ xs) ys h = absurd (omega arith)
-take_front (suc n) [] ys h = absurd (omega arith)
-take_front (suc n) (x ∷ xs) ys h = ap (λ (r : List ℕ). x ∷ r) (take_front n xs ys (omega arith))
-
-pub take_length : (n : ℕ) (xs : List ℕ) → n ≤ length xs → length (take n xs) ≡ n
-take_length zero xs h = refl
-take_length (suc n) [] h = absurd (omega arith)
-take_length (suc n) (x ∷ xs) h = ap suc (take_length n xs (omega arith))
 
 drop_long : (n m : ℕ) (xs : List ℕ) → n + m ≤ length xs → m ≤ length (drop n xs)
 drop_long zero m xs h = omega (arith, h)
@@ -35,7 +17,7 @@ drop_long (suc n) m (x ∷ xs) h = drop_long n m xs (omega (arith, h))
 
 -- the cipher of a set-key packet is as long as a key
 pub cipher_length : (packet : List ℕ) → length packet ≡ set_key_size → length (key_cipher packet) ≡ 16
-cipher_length packet e = take_length key_size (drop header_size packet) (drop_long header_size key_size packet (omega (arith, e)))
+cipher_length packet e = length-take-le key_size (drop header_size packet) (drop_long header_size key_size packet (omega (arith, e)))
 
 -- where set-key packets are the same, the second node opens to its key what the first opens to its
 pub key_tells : (mac nac : Mac) (k l packet a b : List ℕ) → GivesTags mac → GivesTags nac → length packet ≡ set_key_size → length a ≡ 16 → length b ≡ 16
@@ -45,6 +27,6 @@ key_tells mac nac k l packet a b gives givet whole la lb same opens =
     let size = cipher_length packet whole in
     let c = key_cipher packet in
     let zeros : ℕ → List ℕ = λ n. replicate n 0 in
-    let first : crypt mac k ad c ≡ a = sym (take_front 16 (crypt mac k ad c) (zeros (32 - length (crypt mac k ad c))) (crypt_length mac k ad c gives (omega (arith, size)) ∙ size)) ∙ opens in
+    let first : crypt mac k ad c ≡ a = sym (take_first 16 (crypt mac k ad c) (zeros (32 - length (crypt mac k ad c))) (length-crypt mac k ad c gives (omega (arith, size)) ∙ size)) ∙ opens in
     let second : crypt nac l ad c ≡ b = pads_tell mac nac gives givet k l ad a b c (omega (arith, la)) (omega (arith, lb)) (omega (arith, size)) same first in
-    take_front 16 (crypt nac l ad c) (zeros (32 - length (crypt nac l ad c))) (crypt_length nac l ad c givet (omega (arith, size)) ∙ size) ∙ second
+    take_first 16 (crypt nac l ad c) (zeros (32 - length (crypt nac l ad c))) (length-crypt nac l ad c givet (omega (arith, size)) ∙ size) ∙ second

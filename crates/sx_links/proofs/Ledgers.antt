@@ -21,6 +21,8 @@ use Rattle.sx_run.specs.Observation.{Observed, with_items, has_wrapped, has_unwr
 use Rattle.sx_calls.specs.Shown.{mark_observed, marks_observed}
 use Rattle.sx_forged.specs.Moments.{IsAmong, NoForged}
 use Rattle.sx_forged.proofs.Opening.{AllMarks}
+use Rattle.sx_forged.proofs.Keyed.{among_right}
+use Rattle.sx_forged.proofs.Unmade.{among_left}
 use Rattle.sx_links.proofs.Twice.{IsKey, SameOpened, SameMarks, IsMark}
 use Rattle.sx_links.proofs.Linking.{second, Linked, Opens}
 
@@ -29,15 +31,6 @@ both_ways : (x y : Bool) → (x ≡ true → y ≡ true) → (y ≡ true → x �
 both_ways true y f g = sym (f refl)
 both_ways false true f g = g refl
 both_ways false false f g = refl
-
-among_left : (i : Item) (xs ys : List Item) → IsAmong i xs → IsAmong i (xs ++ ys)
-among_left i [] ys h = absurd h
-among_left i (x ∷ xs) ys (inl e) = inl e
-among_left i (x ∷ xs) ys (inr h) = inr (among_left i xs ys h)
-
-among_right : (i : Item) (xs ys : List Item) → IsAmong i ys → IsAmong i (xs ++ ys)
-among_right i [] ys h = h
-among_right i (x ∷ xs) ys h = inr (among_right i xs ys h)
 
 module _ (a : Setting) (nac : Mac) (keys : List (List ℕ)) (secret : List ℕ) where
   abbrev b : Setting

@@ -1,5 +1,5 @@
 -- How two runs are related whose settings are unlinked, and what opens in them.
-use Rattle.std.proofs.Common.{◌≡◌, ℕ, ◌+◌, ◌*◌, ◌/◌, ◌%◌, true, List, ◌∷◌, length, sym, subst, arith}
+use Rattle.std.proofs.Common.{◌≡◌, ℕ, ◌+◌, ◌*◌, ◌/◌, ◌%◌, true, List, ◌∷◌, length, length-take-le, sym, subst, arith}
 use Rattle.std.specs.Prelude.{slice_get, Some}
 use Rattle.sx_mean.specs.Application.{PartTree}
 use Rattle.sx_mean.specs.Ends.{ends_of}
@@ -21,11 +21,11 @@ use Rattle.sx_forged.proofs.Fields.{field_key}
 use Rattle.sx_links.specs.Unlinked.{Unlinked}
 use Rattle.sx_links.proofs.Outside.{sites_on, is_deployed, AlikeOutside}
 use Rattle.sx_links.proofs.Twice.{key_in, SameEnds}
-use Rattle.sx_links.proofs.KeyPackets.{take_length, key_tells}
+use Rattle.sx_links.proofs.KeyPackets.{key_tells}
 
 key_length : (mac : Mac) (key part : List ℕ) → GivesTags mac → length (kdf mac key part) ≡ 16
 unfolding kdf
-key_length mac key part gives = take_length 16 (mac key (0x4B ∷ part)) (omega (arith, gives key (0x4B ∷ part)))
+key_length mac key part gives = length-take-le 16 (mac key (0x4B ∷ part)) (omega (arith, gives key (0x4B ∷ part)))
 
 -- A setting, and the one with another tag function, other keys and another secret.
 module _ (a : Setting) (nac : Mac) (keys : List (List ℕ)) (secret : List ℕ) where

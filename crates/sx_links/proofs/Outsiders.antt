@@ -17,16 +17,16 @@ use Rattle.sx_rules.proofs.Admits.{admits}
 use Rattle.sx_bus.specs.Devices.{places_of}
 use Rattle.sx_tag.specs.Mac.{Mac}
 use Rattle.sx_tag.specs.Keys.{section_key, identity}
-use Rattle.sx_tag.specs.Wrap.{Wrapped as WrappedBytes, wrapped, unwrapped}
-use Rattle.sx_machine.specs.declared.kinds.Event.TheVariants.{Quiet, Protected, Wrapped}
+use Rattle.sx_tag.specs.Wrap.{wrapped, unwrapped}
+use Rattle.sx_machine.specs.declared.kinds.Event.TheVariants.{Quiet, Protected}
 use Rattle.sx_machine.specs.declared.kinds.Exchange.{Exchange}
 use Rattle.sx_machine.specs.Memory.{bytes_from, zeroed}
 use Rattle.sx_machine.specs.Ranges.{passes_end, meets_device}
-use Rattle.sx_machine.specs.Plan.{Plan, Need, Tell, Bytes, Put, Writable}
+use Rattle.sx_machine.specs.Plan.{Plan, Need, Bytes, Writable}
 use Rattle.sx_machine.specs.Run.{Moment, Outcome, Module, may_range, exec}
 use Rattle.sx_machine.specs.Given.{Given, own_section, untouched_with, concluded}
 use Rattle.sx_machine.specs.Protect.{layout_in, provider_in, identity_at, answer_registers, wiped, protected_if, protect, removed_if, unprotect}
-use Rattle.sx_machine.specs.ModuleRows.{answer, within, Buffer, tested, vouches, attested, attest, own_key, buffers, with_key, with_inputs, exchanged, wrap, opened, unwrap, module_row}
+use Rattle.sx_machine.specs.ModuleRows.{answer, within, Buffer, tested, vouches, attested, attest, own_key, buffers, with_key, with_inputs, wrap, opened, unwrap, module_row}
 use Rattle.sx_machine.specs.Modules.{module_instruction}
 use Rattle.sx_machine.proofs.PlanGuard.{passes, with_mem}
 use Rattle.sx_machine.proofs.Frame.{zeroed_other, out_of}
@@ -34,7 +34,7 @@ use Rattle.sx_machine.proofs.Apart.{lives_push, lives_without}
 use Rattle.sx_forged.specs.Tags.{SameTags}
 use Rattle.sx_links.proofs.Outside.{Unhidden, AgreeAt, SameSection, SameSections, text_at}
 use Rattle.sx_forged.proofs.Tables.{LikeAll, holder_like, refusal_like}
-use Rattle.sx_forged.proofs.Instructions.{attest_same, wrapped_same, unwrapped_same}
+use Rattle.sx_forged.proofs.Instructions.{behind, sealed, opens, attest_same, wrapped_same, unwrapped_same}
 use Rattle.sx_links.proofs.Opened.{bytes_same, zeroed_agree, IsOutsider, blank_mac, blank_all, SameFound, found_same, append_same, without_same}
 use Rattle.sx_links.proofs.Blind.{AreZero, Grown, grown_self, SameMoments, Same, AlikeIn, equal_blind, tell_blind, need_blind, writable_blind, bytes_blind}
 
@@ -193,19 +193,15 @@ module _ (mac nac : Mac) (hides : Section → Bool) (g : Given) (u : Sections) (
   key_alike false x y rest ress e held h f =
       bytes_ (slice_index g.regs 9) 16 rest ress (λ r. f (bytes_from m (slice_index g.regs 9) 16) (bytes_from m (slice_index g.regs 9) 16) (held e r))
 
-  -- what follows the key
-  abbrev behind : (List ℕ → List ℕ → List ℕ → Plan) → List ℕ → Plan
-  behind rest key = Bytes (slice_index g.regs 10) (slice_index g.regs 11) (λ ad. Bytes (slice_index g.regs 12) (slice_index g.regs 13) (λ text. rest key ad text))
-
   inputs_alike : (x y : Section) (rest ress : List ℕ → List ℕ → List ℕ → Plan) → Held → SameTags mac x.key nac y.key
       → ((k l : List ℕ) → SameTags mac k nac l → (ad text : List ℕ) → Alike (rest k ad text) (ress l ad text))
       → Alike (with_inputs g x rest) (with_inputs other y ress)
   inputs_alike x y rest ress held h f =
       let short = nat_le (slice_index g.regs 11) 32 && nat_le (slice_index g.regs 13) 32 in
-      let p = with_key g x (behind rest) in
-      let q = with_key other y (behind ress) in
+      let p = with_key g x (behind g rest) in
+      let q = with_key other y (behind g ress) in
       need_ short bad.Range (tested g (buffers g.regs) p) (tested other (buffers g.regs) q) (tested_alike (buffers g.regs) p q
-      (key_alike (own_key g.regs) x y (behind rest) (behind ress) refl held h (λ k l tags.
+      (key_alike (own_key g.regs) x y (behind g rest) (behind g ress) refl held h (λ k l tags.
       bytes_ (slice_index g.regs 10) (slice_index g.regs 11)
       (λ ad. Bytes (slice_index g.regs 12) (slice_index g.regs 13) (λ text. rest k ad text))
       (λ ad. Bytes (slice_index g.regs 12) (slice_index g.regs 13) (λ text. ress l ad text)) (λ e.
@@ -213,35 +209,25 @@ module _ (mac nac : Mac) (hides : Section → Bool) (g : Given) (u : Sections) (
       bytes_ (slice_index g.regs 12) (slice_index g.regs 13) (λ text. rest k ad text) (λ text. ress l ad text) (λ e2.
       f k l tags ad (bytes_from m (slice_index g.regs 12) (slice_index g.regs 13)))))))
 
-  abbrev sealed : List ℕ → List ℕ → WrappedBytes → Plan
-  sealed ad body w = Put (slice_index g.regs 14) w.cipher (Put (slice_index g.regs 15) w.tag (Tell (concluded g.regs 1) (Wrapped g.own) (exchanged g.regs ad body)))
-
   wrap_alike : (x y : Section) → Held → SameTags mac x.key nac y.key → Alike (wrap mac g x) (wrap nac other y)
   wrap_alike x y held h =
-      inputs_alike x y (λ k ad body. sealed ad body (wrapped mac k ad body)) (λ k ad body. sealed ad body (wrapped nac k ad body)) held h (λ k l tags ad body.
-      equal_ (sealed ad body (wrapped mac k ad body)) (sealed ad body (wrapped nac l ad body)) (ap (sealed ad body) (wrapped_same mac nac k l ad body tags)))
+      inputs_alike x y (λ k ad body. sealed g ad body (wrapped mac k ad body)) (λ k ad body. sealed g ad body (wrapped nac k ad body)) held h (λ k l tags ad body.
+      equal_ (sealed g ad body (wrapped mac k ad body)) (sealed g ad body (wrapped nac l ad body)) (ap (sealed g ad body) (wrapped_same mac nac k l ad body tags)))
 
   opened_alike : (ad : List ℕ) (o : Option (List ℕ)) → Alike (opened g ad o) (opened other ad o)
   opened_alike ad None = answer_alike 0 0 refl
   opened_alike ad (Some body) = equal_ (opened g ad (Some body)) (opened g ad (Some body)) refl
 
-  -- what follows the tag
-  abbrev opens : Mac → List ℕ → List ℕ → List ℕ → List ℕ → Plan
-  opens f k ad cipher tag = Writable (slice_index g.regs 14) (slice_index g.regs 13) (opened g ad (unwrapped f k ad cipher tag))
-
-  abbrev opent : Mac → List ℕ → List ℕ → List ℕ → List ℕ → Plan
-  opent f k ad cipher tag = Writable (slice_index g.regs 14) (slice_index g.regs 13) (opened other ad (unwrapped f k ad cipher tag))
-
-  opens_alike : (k l ad cipher tag : List ℕ) → SameTags mac k nac l → Alike (opens mac k ad cipher tag) (opent nac l ad cipher tag)
+  opens_alike : (k l ad cipher tag : List ℕ) → SameTags mac k nac l → Alike (opens g mac k ad cipher tag) (opens other nac l ad cipher tag)
   opens_alike k l ad cipher tag tags =
-      subst (λ (o : Option (List ℕ)). Alike (opens mac k ad cipher tag) (Writable (slice_index g.regs 14) (slice_index g.regs 13) (opened other ad o))) (unwrapped_same mac nac k l ad cipher tag tags)
+      subst (λ (o : Option (List ℕ)). Alike (opens g mac k ad cipher tag) (Writable (slice_index g.regs 14) (slice_index g.regs 13) (opened other ad o))) (unwrapped_same mac nac k l ad cipher tag tags)
       (writable_ (slice_index g.regs 14) (slice_index g.regs 13) (opened g ad (unwrapped mac k ad cipher tag)) (opened other ad (unwrapped mac k ad cipher tag))
       (opened_alike ad (unwrapped mac k ad cipher tag)))
 
   unwrap_alike : (x y : Section) → Held → SameTags mac x.key nac y.key → Alike (unwrap mac g x) (unwrap nac other y)
   unwrap_alike x y held h =
-      inputs_alike x y (λ k ad cipher. Bytes (slice_index g.regs 15) 16 (opens mac k ad cipher)) (λ k ad cipher. Bytes (slice_index g.regs 15) 16 (opent nac k ad cipher)) held h (λ k l tags ad cipher.
-      bytes_ (slice_index g.regs 15) 16 (opens mac k ad cipher) (opent nac l ad cipher) (λ e. opens_alike k l ad cipher (bytes_from m (slice_index g.regs 15) 16) tags))
+      inputs_alike x y (λ k ad cipher. Bytes (slice_index g.regs 15) 16 (opens g mac k ad cipher)) (λ k ad cipher. Bytes (slice_index g.regs 15) 16 (opens other nac k ad cipher)) held h (λ k l tags ad cipher.
+      bytes_ (slice_index g.regs 15) 16 (opens g mac k ad cipher) (opens other nac l ad cipher) (λ e. opens_alike k l ad cipher (bytes_from m (slice_index g.regs 15) 16) tags))
 
   -- The rows.
 

@@ -3,6 +3,7 @@ use Rattle.std.proofs.Common.{◌≡◌, ℕ, zero, suc, ◌+◌, ◌-◌, ◌<�
 use Rattle.std.proofs.Common.{Some, None, is_some, not, refl, sym, ◌∙◌, ap, ap₂, subst, arith}
 use Rattle.std.specs.Prelude.{slice_get, replicate}
 use Rattle.std.proofs.lemmas.Bool.{true≢false, and_from, le-leb, lt-ltb}
+use Rattle.std.proofs.option.Match.{None-if_not_some}
 use Rattle.sx_mean.specs.Application.{PartTree}
 use Rattle.sx_mean.specs.Ends.{ends_of}
 use Rattle.sx_mean.specs.declared.events.End.{End}
@@ -58,10 +59,6 @@ use Rattle.sx_links.proofs.Doing.{SameDone, states_kept, reset_node, unowned_sam
 abbrev pub GuessesNone : Setting → Setting → ℕ → State → Type 0
 GuessesNone a b n s = KeepsTo a (λ k. SameTags a.mac k b.mac k) (SameModule a b n) n s
 
-some_false : (o : Option ℕ) → is_some o ≡ false → o ≡ None
-some_false None e = refl
-some_false (Some m) e = absurd (true≢false e)
-
 -- a section at a site is deployed
 pub site_deployed : (sites : List Site) (n : ℕ) (mem : List ℕ) (x : Section) (m : ℕ) (site : Site) → slice_get sites m ≡ Some site → is_at_site n mem x site ≡ true
     → is_deployed (sites_on sites n) mem x ≡ true
@@ -104,9 +101,6 @@ module _ (a : Setting) (nac : Mac) (keys : List (List ℕ)) (secret : List ℕ) 
   abbrev b : Setting
   b = second a nac keys secret
 
-  abbrev L : ℕ → List ℕ → List ℕ → Type 0
-  L = Linked a nac keys secret
-
   module _ (n : ℕ) (s t : State) (h : SameNode a nac keys secret n s t) (ta : NodeTurns a n s) (tb : NodeTurns (second a nac keys secret) n t)
       (foreign : (module_of a.sites n s (own_of s) ≡ None) ⊎ (is_let_run s ≡ false))
       (guess : module_of a.sites n s (own_of s) ≡ None → GuessesNone a (second a nac keys secret) n s) where
@@ -128,7 +122,7 @@ module _ (a : Setting) (nac : Mac) (keys : List (List ℕ)) (secret : List ℕ) 
           admitted = λ is words other.
               subst (λ (k : List ℕ). SameTags a.mac (module_key a.mac k s.boot (slice_index s.regs 9) id) nac (module_key nac t.key s.boot (slice_index s.regs 9) id)) (sym ta.key)
               (subst (λ (k : List ℕ). SameTags a.mac (module_key a.mac (list_at a.keys n) s.boot (slice_index s.regs 9) id) nac (module_key nac k s.boot (slice_index s.regs 9) id)) (sym tb.key)
-              (g.admitted is (some_false (deployed a.sites n s.mem (wanted s)) other)));
+              (g.admitted is (None-if_not_some (deployed a.sites n s.mem (wanted s)) other)));
         }
 
     pub stepped : ((step a.mac s).shown ≡ (step nac t).shown) × AlikeOutside a.mac nac (sites_on a.sites n) (step a.mac s).state (step nac t).state
@@ -166,7 +160,7 @@ module _ (a : Setting) (nac : Mac) (keys : List (List ℕ)) (secret : List ℕ) 
     range_private x k lo hi = and_from _ _ (le-leb x.layout.priv_from k lo) (lt-ltb k x.layout.priv_to (omega (arith, lo, hi)))
 
     states : (m : ℕ) (q : PartTree) (site : Site) (x : Section) → slice_get a.app.parts m ≡ Some q → slice_get a.sites m ≡ Some site
-        → Lives u.sections.live x → is_at_site n u.mem x site ≡ true → SameStates a nac keys secret L m q x u.mem v.mem
+        → Lives u.sections.live x → is_at_site n u.mem x site ≡ true → SameStates a nac keys secret (Linked a nac keys secret) m q x u.mem v.mem
     states m q site x part sited l at =
         by (outsiders_touch_none a.mac nac a.sites n s t ta.node.placed tb.node.placed ta.node.registers.words foreign no_guess h.outside x l (site_deployed a.sites n u.mem x m site sited at))
       where

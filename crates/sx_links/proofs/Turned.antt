@@ -33,7 +33,9 @@ use Rattle.sx_forged.proofs.Accepting.{section_key}
 use Rattle.sx_forged.proofs.Opening.{Told, AllMarks, unwraps_told}
 use Rattle.sx_links.specs.Unlinked.{Unlinked}
 use Rattle.sx_links.proofs.Outside.{Kind, sites_on, is_deployed, Unhidden, SameSections, AlikeOutside}
-use Rattle.sx_links.proofs.Bystanding.{with_hidden, caller_same, reset_same}
+use Rattle.sx_forged.proofs.Steps.{caller_like}
+use Rattle.sx_links.proofs.Opened.{blank_mac, blank_all}
+use Rattle.sx_links.proofs.Bystanding.{with_hidden, reset_same}
 use Rattle.sx_links.proofs.Alike.{texts_same}
 use Rattle.sx_links.proofs.Twice.{key_in, SameEnds, SameMarks, SameProgress, SameLeft, SameInvoked, After, invoke_same}
 use Rattle.sx_links.proofs.Turning.{mays, readable, turn_same}
@@ -210,7 +212,7 @@ module _ (a : Setting) (nac : Mac) (keys : List (List ℕ)) (secret : List ℕ) 
             last = λ who. done_forged who x.status (length x.progress.pieces) fa.shown xs;
             outside = turn_same a.mac nac kind s mem key us x2 ta.node.placed h.outside.sections h.outside.next h.outside.mem sec mate lives hidden refl L O places su sv ra rb
                 fa.after fb.after fa.rest fb.rest ea eb refl refl refl refl x mx y my same.0 same.1 (two.0 ∙ sym one.0)
-                (two.1 ∙ caller_same a.mac nac kind s mem key us x2 ta.node.placed h.outside.sections h.outside.next h.outside.mem sec.id ∙ sym one.1);
+                (two.1 ∙ caller_like blank_mac blank_mac s us (blank_all a.mac nac (is_deployed kind s.mem) s.sections.live us.live h.outside.sections) sec.id ∙ sym one.1);
             stopped = x.idle;
             left = inr (record {
               sections = mx.sections;

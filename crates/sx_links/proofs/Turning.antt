@@ -1,5 +1,5 @@
 -- What a deployed module's whole turn leaves, where the keys of open ends differ.
-use Rattle.std.proofs.Common.{◌≡◌, ℕ, zero, suc, ◌+◌, ◌-◌, ◌<◌, ◌≤◌, Bool, true, false, ◌&&◌, inl, inr, List, [], ◌∷◌, ◌++◌, length, slice_index, refl, sym, ◌∙◌, ap, ap₂, subst, arith}
+use Rattle.std.proofs.Common.{◌≡◌, ℕ, ◌+◌, ◌-◌, ◌<◌, ◌≤◌, Bool, true, false, ◌&&◌, inl, inr, List, [], ◌∷◌, length, slice_index, refl, sym, ◌∙◌, ap, ap₂, subst, arith}
 use Rattle.std.specs.Prelude.{nat_lt, nat_le}
 use Rattle.std.proofs.lemmas.Bool.{cases_lt, and_parts, leb-true, ltb-true}
 use Rattle.sx_rules.specs.declared.access.Access.TheVariants.{Read, Write}
@@ -12,7 +12,6 @@ use Rattle.sx_bus.specs.Devices.{cleared}
 use Rattle.sx_tag.specs.Mac.{Mac}
 use Rattle.sx_machine.specs.declared.kinds.Event.{Event}
 use Rattle.sx_machine.specs.declared.kinds.Exchange.{Exchange}
-use Rattle.sx_machine.specs.Memory.{bytes_from}
 use Rattle.sx_machine.specs.State.{State}
 use Rattle.sx_machine.proofs.PlanGuard.{barred}
 use Rattle.sx_machine.proofs.Devices.{some_inj}
@@ -24,27 +23,12 @@ use Rattle.sx_image.specs.Image.{call_at}
 use Rattle.sx_image.specs.Realizes.{is_piece_address, Stand, KeepsOutside, Exited, exit_registers}
 use Rattle.sx_calls.specs.Shown.{devices_after}
 use Rattle.sx_calls.proofs.Middle.{Middle}
-use Rattle.sx_machine.proofs.Lengths.{length-bytes_from}
-use Rattle.std.proofs.lemmas.List.{get_or_append_left}
-use Rattle.std.proofs.Math.Seq.{get_or-append_seam}
 use Rattle.sx_links.proofs.Outside.{Kind, is_deployed, Unhidden, AgreeAt, SameSections, AlikeOutside}
+use Rattle.sx_tmpl.proofs.Texts.Entering.{bytes_from_get}
 use Rattle.sx_forged.proofs.Tables.{may_like}
 use Rattle.sx_links.proofs.Opened.{agree_fewer, blank_mac, blank_all, same_hides}
 use Rattle.sx_links.proofs.Bystanding.{with_hidden}
 use Rattle.sx_links.proofs.Twice.{SameMarks, SameLeft}
-
-byte_at : (m : List ℕ) (a n i : ℕ) → i < n → slice_index (bytes_from m a n) i ≡ slice_index m (a + i)
-unfolding bytes_from
-byte_at m a zero i lt = absurd (omega (arith, lt))
-byte_at m a (suc n) i lt =
-    let len = length-bytes_from m a n in
-    elim (cases_lt i n) [
-      | inl p ↦ get_or_append_left (bytes_from m a n) (slice_index m (a + n) ∷ []) 0 i (omega (arith, len, p)) ∙ byte_at m a n i p
-      | inr p ↦
-          let e : i ≡ length (bytes_from m a n) = omega (arith, lt, p, len) in
-          ap (λ (x : ℕ). slice_index (bytes_from m a n ++ slice_index m (a + n) ∷ []) x) e ∙ get_or-append_seam (bytes_from m a n) (slice_index m (a + n)) [] 0
-          ∙ ap (slice_index m) (omega (arith, lt, p))
-    ]
 
 -- the places where the same pieces stand
 stand_same : (m n : List ℕ) (pieces : List (List ℕ)) (at k : ℕ) → Stand m at pieces → Stand n at pieces → at ≤ k → k < at + bytes_in pieces → slice_index m k ≡ slice_index n k
@@ -55,7 +39,7 @@ stand_same m n (piece ∷ pieces) at k a b lo hi = elim (cases_lt k (at + length
       let e : at + i ≡ k = omega (arith, lo) in
       let small : i < length piece = omega (arith, lo, lt) in
       subst (λ (j : ℕ). slice_index m j ≡ slice_index n j) e
-      (sym (byte_at m at (length piece) i small) ∙ ap (λ (bs : List ℕ). slice_index bs i) (a.0 ∙ sym b.0) ∙ byte_at n at (length piece) i small)
+      (sym (bytes_from_get m at (length piece) i small) ∙ ap (λ (bs : List ℕ). slice_index bs i) (a.0 ∙ sym b.0) ∙ bytes_from_get n at (length piece) i small)
   | inr ge ↦ stand_same m n pieces (at + length piece) k a.1 b.1 ge (omega (arith, hi))
 ]
 

@@ -38,6 +38,7 @@ use Rattle.sx_invoke.specs.Entries.{number_taken, field_in, second_in, header_in
 use Rattle.sx_invoke.specs.Invocation.{invoke, entered, returns_inside, is_no_entry, has_bad_windows}
 use Rattle.sx_forged.specs.Tags.{SameTags}
 use Rattle.sx_links.proofs.Outside.{AgreeAt}
+use Rattle.sx_forged.proofs.Packets.{read_long}
 use Rattle.sx_forged.proofs.Instructions.{wrapped_same, unwrapped_same}
 use Rattle.sx_links.proofs.Opened.{set_agree}
 
@@ -47,16 +48,6 @@ key_cipher packet = take key_size (drop header_size packet)
 
 abbrev pub key_in : Mac → List ℕ → List ℕ → List ℕ
 key_in mac key packet = take key_size (padded (crypt mac key (header_in packet) (key_cipher packet)))
-
-pub read_length : (s : Setup) (d : List Window) (m : List ℕ) (at n : ℕ) (bs : List ℕ) → read_bytes s d m at n ≡ Ok bs → length bs ≡ n
-unfolding read_bytes
-read_length s d m at zero bs e = let q : [] ≡ bs = cc in ap (λ (l : List ℕ). length l) (sym q)
-read_length s d m at (suc n) bs e = by (read_byte s d m at) (read_bytes s d m (at + 1) n) (read_length s d m (at + 1) n) e
-  where
-    by : (r : Result ℕ Violation) (q : Result (List ℕ) Violation) → ((xs : List ℕ) → q ≡ Ok xs → length xs ≡ n) → then_ r (λ b. then_ q (λ xs. Ok (b ∷ xs))) ≡ Ok bs → length bs ≡ suc n
-    by (Ok b) (Ok xs) f e = let q : (b ∷ xs) ≡ bs = cc in ap (λ (l : List ℕ). length l) (sym q) ∙ ap suc (f xs refl)
-    by (Ok b) (Err v) f e = absurd cc
-    by (Err v) q f e = absurd cc
 
 -- the ends differ in keys alone, which are related where they are open
 abbrev pub SameEnd : (ℕ → List ℕ → List ℕ → Type 0) → EndState → EndState → Type 0
@@ -371,7 +362,7 @@ module _ (Linked : ℕ → List ℕ → List ℕ → Type 0) (Opens : List ℕ �
           where
             by : (r : Result (List ℕ) Violation) → read_bytes s p.devices p.mem c.input len ≡ r → SameInvoked (received r kind f p) (received r kind g q)
             by (Err v) e = (refl, plain)
-            by (Ok packet) e = way (is_kind kind packet) (f packet) (Returns other_kind p) (g packet) (Returns other_kind q) (h packet (read_length s p.devices p.mem c.input len packet e))
+            by (Ok packet) e = way (is_kind kind packet) (f packet) (Returns other_kind p) (g packet) (Returns other_kind q) (h packet (read_long s p.devices p.mem len c.input packet e))
                 (refl, plain)
 
         key_opened_same : (k : ℕ) (packet : List ℕ) → length packet ≡ set_key_size

@@ -1,6 +1,6 @@
 -- There is a setting whose connections have other keys.
-use Rattle.std.proofs.Common.{◌≡◌, ◌≢◌, ℕ, zero, suc, ◌+◌, ◌*◌, ◌-◌, ◌<◌, ◌≤◌, ◌==◌, ◌&&◌, Bool, true, false, cond, List, [], ◌∷◌, ◌++◌, length, take, drop, map, bit_xor, refl, sym, ◌∙◌, ap}
-use Rattle.std.proofs.Common.{subst, arith}
+use Rattle.std.proofs.Common.{◌≡◌, ◌≢◌, ℕ, suc, ◌+◌, ◌*◌, ◌-◌, ◌<◌, ◌≤◌, ◌==◌, ◌&&◌, Bool, true, false, cond, List, [], ◌∷◌, ◌++◌, length, take, drop, map, bit_xor, refl, sym, ◌∙◌, ap}
+use Rattle.std.proofs.Common.{subst, length-take-le, arith}
 use Rattle.std.specs.Prelude.{All, slice_index}
 use Rattle.std.specs.Int.{w16, w32, to_le_bytes}
 use Rattle.std.specs.Int.Bits.{xor_assoc, xor_self, xor_zero_r, xor_comm, xor_lt}
@@ -16,6 +16,7 @@ use Rattle.byteorder.specs.Endian.{little_bytes}
 use Rattle.sx_wire.specs.Headers.{set_key_header}
 use Rattle.sx_run.specs.Deployer.{list_at, key_of, connection_key}
 use Rattle.sx_run.specs.Law.{IsSoundSetting, IsDriven}
+use Rattle.sx_gives.proofs.Wraps.{take_first}
 use Rattle.sx_links.specs.Unlinked.{Unlinked}
 use Rattle.sx_links.specs.Unlinks.{IsMoving, IsDeployedKey}
 use Rattle.sx_links.specs.Laws.{RealizesAlways}
@@ -23,17 +24,6 @@ use Rattle.sx_links.proofs.Moved.{TellsApart, mixed, change, moved, moved_settin
 
 abbrev Bytes : List ℕ → Type 0
 Bytes xs = All (λ b. b < 256) xs
-
-take_front : (n : ℕ) (xs ys : List ℕ) → length xs ≡ n → take n (xs ++ ys) ≡ xs
-take_front zero [] ys h = refl
-take_front zero (x ∷ xs) ys h = absurd (omega arith)
-take_front (suc n) [] ys h = absurd (omega arith)
-take_front (suc n) (x ∷ xs) ys h = ap (λ (r : List ℕ). x ∷ r) (take_front n xs ys (omega arith))
-
-take_length : (n : ℕ) (xs : List ℕ) → n ≤ length xs → length (take n xs) ≡ n
-take_length zero xs h = refl
-take_length (suc n) [] h = absurd (omega arith)
-take_length (suc n) (x ∷ xs) h = ap suc (take_length n xs (omega arith))
 
 -- 1. bytes that are mixed
 mixed_length : (ts ds : List ℕ) → length (mixed ts ds) ≡ length ts
@@ -104,7 +94,7 @@ module _ (move back : List ℕ → List ℕ) (moving : IsMoving move back) (hold
   -- 3. keys that are derived
   kdf_length : (key part : List ℕ) → length (kdf a.mac key part) ≡ 16
   unfolding kdf
-  kdf_length key part = take_length 16 (a.mac key (0x4B ∷ part)) (omega (arith, lawful.width key (0x4B ∷ part)))
+  kdf_length key part = length-take-le 16 (a.mac key (0x4B ∷ part)) (omega (arith, lawful.width key (0x4B ∷ part)))
 
   kdf_bytes : (key part : List ℕ) → Bytes (kdf a.mac key part)
   unfolding kdf
@@ -114,8 +104,8 @@ module _ (move back : List ℕ → List ℕ) (moving : IsMoving move back) (hold
   unfolding moved kdf
   kdf_moved key part =
       ap (λ (z : List ℕ). take 16 (move (take 16 (a.mac z (0x4B ∷ part))) ++ drop 16 (a.mac z (0x4B ∷ part)))) (moving.back_is key)
-      ∙ take_front 16 (move (take 16 (a.mac key (0x4B ∷ part)))) (drop 16 (a.mac key (0x4B ∷ part)))
-      (moving.width (take 16 (a.mac key (0x4B ∷ part))) ∙ take_length 16 (a.mac key (0x4B ∷ part)) (omega (arith, lawful.width key (0x4B ∷ part))))
+      ∙ take_first 16 (move (take 16 (a.mac key (0x4B ∷ part)))) (drop 16 (a.mac key (0x4B ∷ part)))
+      (moving.width (take 16 (a.mac key (0x4B ∷ part))) ∙ length-take-le 16 (a.mac key (0x4B ∷ part)) (omega (arith, lawful.width key (0x4B ∷ part))))
 
   module_moved : (key : List ℕ) (boot provider : ℕ) (id : List ℕ) → module_key nac (move key) boot provider id ≡ move (module_key a.mac key boot provider id)
   unfolding module_key section_key boot_key
@@ -156,7 +146,7 @@ module _ (move back : List ℕ → List ℕ) (moving : IsMoving move back) (hold
       xor_all k (move k) all (moving.bytes k all)
 
   derived_width : (t : List ℕ) → length t ≡ 32 → length (move (take 16 t) ++ drop 16 t) ≡ 32
-  derived_width t e = omega (arith, length-append (move (take 16 t)) (drop 16 t), moving.width (take 16 t), take_length 16 t (omega (arith, e)), length-drop 16 t, e)
+  derived_width t e = omega (arith, length-append (move (take 16 t)) (drop 16 t), moving.width (take 16 t), length-take-le 16 t (omega (arith, e)), length-drop 16 t, e)
 
   moved_width : GivesTags nac
   unfolding moved

@@ -63,12 +63,6 @@ module _ (a : Setting) (nac : Mac) (keys : List (List ℕ)) (secret : List ℕ) 
   abbrev b : Setting
   b = second a nac keys secret
 
-  abbrev L : ℕ → List ℕ → List ℕ → Type 0
-  L = Linked a nac keys secret
-
-  abbrev O : List ℕ → List ℕ → List ℕ → Type 0
-  O = Opens a nac keys secret
-
   -- a section is at one site
   one_site : (n : ℕ) (mem : List ℕ) (x : Section) (m k : ℕ) (q : PartTree) (site other : Site) → slice_get a.app.parts m ≡ Some q → slice_get a.sites m ≡ Some site
       → slice_get a.sites k ≡ Some other → is_at_site n mem x site ≡ true → is_at_site n mem x other ≡ true → k ≡ m
@@ -83,7 +77,7 @@ module _ (a : Setting) (nac : Mac) (keys : List (List ℕ)) (secret : List ℕ) 
 
   -- a key that was given by a mark, of a granted packet, is that of its connection
   given_linked : (ms : List Mark) → ((header k : List ℕ) → IsMark (mark.Unwrapped header k true) ms → IsGranted a nac keys secret header k)
-      → (pl : ℕ → Type 0) (field : ℕ) (k l : List ℕ) → After L O pl ms field k l → L field k l
+      → (pl : ℕ → Type 0) (field : ℕ) (k l : List ℕ) → After (Linked a nac keys secret) (Opens a nac keys secret) pl ms field k l → Linked a nac keys secret field k l
   given_linked ms granted pl field k l (inl h) = h
   given_linked ms granted pl field k l (inr h) =
       let packet = h.0 in
@@ -167,7 +161,7 @@ module _ (a : Setting) (nac : Mac) (keys : List (List ℕ)) (secret : List ℕ) 
                   (subst (λ (z : ℕ). SameStates a nac keys secret (Linked a nac keys secret) z p sec r.after.mem r.later.mem) (sym number)
                   (subst (λ (z : PartTree). SameStates a nac keys secret (Linked a nac keys secret) m z sec r.after.mem r.later.mem) (sym tree) (
                     kept.own.0,
-                    ends_map (After L O pl r.ms) (Linked a nac keys secret) (given_linked r.ms granted pl)
+                    ends_map (After (Linked a nac keys secret) (Opens a nac keys secret) pl r.ms) (Linked a nac keys secret) (given_linked r.ms granted pl)
                         (state_in a nac keys secret m q sec r.after.mem).ends (state_in a nac keys secret m q sec r.later.mem).ends kept.own.1,
                   )))
               | inr ne ↦
