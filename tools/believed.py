@@ -33,7 +33,7 @@ PROGRAM = ["*.Promises.ProgramTold"]
 # What the first `forged` of a run says, and what keys show.
 FORGED = [f"sx_forged.{law}" for law in (
     "Forgery.ForgedUnmade", "Forgery.ForgedShown", "Logged.LedgerTells",
-    "Unseen.KeysUnseen", "Unseen.RunsKeysUnseen", "Unseen.PlayersSeeTheSame", "Named.NamesAgree",
+    "Unseen.KeysUnseen", "Unseen.RunsKeysUnseen", "Unseen.PlayersSeeTheSame", "Named.NamesAgree", "Named.TagsTabled",
 )]
 # What the keys of connections show.
 LINKS = [f"sx_links.{law}" for law in ("LinksUnseen.LinksAreUnseen", "Unlinks.HasMoved", "Found.KeysFound")]
