@@ -1,3 +1,5 @@
+-- Begin with Faults: what each command says of reads and writes that fail, and Ended: that it took
+-- its whole input. Output, Refusals and Address have the lines that commands share.
 pub mod Address
 pub mod Faults
 pub mod Ended

@@ -1,5 +1,8 @@
 //! What a command that deploys does before its own part: it reads the head, judges the deployment,
 //! and makes the images.
+//!
+//! Each function makes one thing and hands it on at once, since what is owned where a function ends
+//! is dropped there, and each such drop of a deployment costs a second of proof or two.
 
 ghost use Rattle.std.specs.Prelude.{◌≡◌, ℕ, List, IfErr, IfOk, IsTrue, OnErr, Ok};
 ghost use Rattle.sx_told.specs.Told.{command_at};

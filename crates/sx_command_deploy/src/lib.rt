@@ -1,5 +1,6 @@
-//! The way of the commands that deploy, `run`, `drive` and `snap`: the head of the input, its
-//! deployment, the images of its modules, and behind these what is the command's own.
+//! The common part of the commands that deploy, `run`, `drive` and `snap`: they read the head of
+//! the input, make its deployment and the images of its modules, and then do what is the command's
+//! own.
 //!
 //! A command gives its own part as an `impl` of `Deploys`, and `deploy_over` does the rest. What it
 //! promises then, where its own part owes as it must, is `DeploySays` of specs/Deploys.antt: what

@@ -1,1 +1,2 @@
+-- One file: what texts mean is a function.
 pub mod Known

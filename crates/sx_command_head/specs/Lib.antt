@@ -1,3 +1,5 @@
+-- Begin with Meanings: what a deployment's text means. Found and Begun are of the head; Ends,
+-- Headless and Refused of a command that ends without a deployment.
 pub mod Found
 pub mod Begun
 pub mod Ends

@@ -23,7 +23,8 @@ impl Deploys for RunCommand {
 
     ghost behind = { run_deployed assembled };
 
-    /// Runs the schedule of a deployment with these images of its modules.
+    /// Runs the schedule of a deployment with these images of its modules. The nodes are made
+    /// before the first line is written: if memory runs out there, nothing is written.
     fn perform<S: Source, K: Sink, T: Tag + Copy>(
         alloc: Global,
         tag: T,

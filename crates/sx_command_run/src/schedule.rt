@@ -67,7 +67,8 @@ fn tell<K: Sink, B: Copied, T: Tag>(
     }
 }
 
-/// Does what a line says, and writes its items.
+/// Does what a line says, and writes its items. `items` is the loop's, so that lines use its memory
+/// one after the other.
 fn turn<K: Sink, B: Copied, T: Tag>(
     alloc: Global,
     output: &mut K,

@@ -1,3 +1,6 @@
+-- Begin with Compiled, which images there are of a deployment, and Schedule, from the lines of an
+-- input to the lines of a schedule. Images has the lines that show images, Statuses and WellFormed
+-- say when an input is run to its end. Built and Turning are for contracts of functions.
 pub mod Built
 pub mod Compiled
 pub mod Images

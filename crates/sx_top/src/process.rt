@@ -29,7 +29,8 @@ fn words(rt: &HostRuntime) -> io::Result<Vec<String>> {
     Ok(words)
 }
 
-/// Does what the words say, over these streams, and gives the exit status.
+/// Does what the words say, over these streams, and gives the exit status. It is apart from
+/// `run_process` to have a contract: of the streams of the process itself nothing is known.
 pub fn run_over_streams<R: Read + Drop, W: Write + Drop>(
     alloc: Global,
     words: &[String],
