@@ -144,7 +144,8 @@ fn is_listed(at: u16, count: usize) -> bool
     count % 2 == 0 && at % 2 == 0 && usize::from(at) + count <= 65_536
 }
 
-/// Writes the listing of all bytes that have come, or that they can't be listed. It takes no memory.
+/// Writes the listing of all bytes that have come, or that they can't be listed. It takes no
+/// memory.
 #[tactic(auto, unfolding(crate::specs::Disassembling::unlisted_line))]
 fn tell<K: Sink>(at: u16, code: &Code, output: &mut K) -> u8
     ensures told { (bytes : List ℕ) → KeepsBytes code.now bytes

@@ -1,5 +1,5 @@
-//! The commands `asm` and `dis`: from a text to the listing of its code, and from code in hexadecimal
-//! to its listing.
+//! The commands `asm` and `dis`: from a text to the listing of its code, and from code in
+//! hexadecimal to its listing.
 //!
 //! What they promise is `AsmTold` of specs/Assembling.antt and `DisTold` of
 //! specs/Disassembling.antt: what is written, and the exit status, are a function of the address

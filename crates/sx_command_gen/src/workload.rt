@@ -1,5 +1,8 @@
 //! The command `gen`: it makes the images of the workload's modules, runs its lines, and tells what
 //! it counted.
+//!
+//! Each function makes one thing and lends it on at once, since what is owned where a function ends
+//! is dropped there, and the drop of a deployment or a world costs a second of proof or two.
 
 ghost use Rattle.std.specs.Prelude.{◌≡◌, ◌≤◌, IsTrue, Ok, length};
 ghost use Rattle.sx_told.specs.Told.{CommandEnds};

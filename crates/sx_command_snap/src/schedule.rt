@@ -1,4 +1,5 @@
-//! The schedule: its lines are judged and kept to its end, and nothing is written before.
+//! The schedule: its lines are judged and kept to its end, and nothing is written before, so that a
+//! schedule that breaks a rule is reported alone.
 
 ghost use Rattle.std.specs.Prelude.{◌≡◌, ℕ, ◌+◌, ◌≤◌, [], Err, IsTrue, OnOk, length};
 ghost use Rattle.sx_asm.specs.Assembled.{assembled};

@@ -22,7 +22,8 @@ use sx_mean::events::End;
 use sx_rules::Layout;
 use sx_tag::Tag;
 
-/// What the compiler asks of a module holds of one of an accepted deployment.
+/// What the compiler asks of a module holds of one of an accepted deployment. It does nothing, and
+/// is called before `compile` for what it says.
 fn can_be_compiled(plan: &Deployment, number: u8, part: &Part, ends: &[End], layout: &Layout)
     requires sound { IsSoundDeployment (deployed_as plan.now) }
     requires part { slice_get plan.now.app.parts.items number ≡ Some part.now }
@@ -58,7 +59,8 @@ fn are_bytes(text: &[u8])
     ensures { All (λ b. b < 256) text.now }
 {}
 
-/// So are the texts of images.
+/// So are the texts of images. The loop does nothing but go through them, so that it is said of
+/// each.
 fn have_bytes(images: &[Image])
     ensures { AreByteTexts (texts_of images.now) }
 {
