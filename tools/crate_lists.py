@@ -2,7 +2,7 @@
 """Compares the lists of crates: crates.txt, the folders of crates/, and the documents ARCHITECTURE and CRATES.
 
 Prints a line for each crate that a list lacks or has too much, and nothing if the lists agree. A crate must be in crates.txt after all
-crates that it depends on, and its root file must begin with a line that says what it is. Not a part of the gate.
+crates that it depends on, and its root file must begin with a line that says what it is. `.ci/run` starts it behind the gate.
 """
 
 import re
