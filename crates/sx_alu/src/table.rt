@@ -103,7 +103,8 @@ fn extended(s: u16) -> u16
 /// The result of a calculation, and the flags after it. `wide` says that it is on words; on bytes
 /// the high bytes of `src` and `dst` don't matter, and the result is below 256. `Swap` and `Extend`
 /// are on words alone. The calculations on one operand ignore `dst`. The rows are those of TI's
-/// MSP430x2xx Family User's Guide, "Instruction Set".
+/// MSP430x2xx Family User's Guide, "Instruction Set". It is for programs that keep flags apart; a
+/// node takes `calc_status`.
 pub fn calc(kind: Calc, wide: bool, src: u16, dst: u16, flags: Flags) -> (u16, Flags)
     requires { IsTrue (has_width kind wide) }
     ensures row { result ≡ row kind wide (src % limit wide) (dst % limit wide) flags }

@@ -1,3 +1,5 @@
+-- Begin with Reassembles and Listings: what is shown is assembled to its bytes, over ShownTokens
+-- and ShownOperands. Growing, Lines and Standing are of the assembler, Examples compute.
 mod Examples
 pub mod Numbers
 pub mod WordKinds

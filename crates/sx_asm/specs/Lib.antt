@@ -1,3 +1,6 @@
+-- Begin with Assembled: the code of a text, or its first fault; over Reading, from the text to its
+-- items, Tokens, Grammar and Meaning. Shown and Listing are the way back. Fronts, Forms and Adding
+-- are for contracts of functions.
 pub mod Fronts
 pub mod Forms
 pub mod Adding

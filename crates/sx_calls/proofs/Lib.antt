@@ -1,3 +1,5 @@
+-- Begin with Running: the steps of an invocation in a world, by Observing and Middle. Calling is
+-- the whole call, Finishing and Budgets its bound, Four the four entries.
 pub mod Observing
 pub mod Registering
 pub mod Runner

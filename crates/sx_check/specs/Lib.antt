@@ -1,3 +1,5 @@
+-- Begin with Rules: the ten rules. Names, Uses and Bounds are what they speak of, Accepted what
+-- holds of a module that breaks none; Source and Scopes are what contracts see.
 pub mod Names
 pub mod Uses
 pub mod Scopes

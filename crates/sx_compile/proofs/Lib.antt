@@ -1,3 +1,6 @@
+-- Begin with CompiledRealizes: a module's image realizes it; by Begun, Does and Written, the
+-- beginning, the middle and the end of a call, over Joins and Sound. Handling, BodyText and
+-- BodyDoes are of the handlers alone.
 pub mod Kept
 pub mod Regular
 pub mod Written

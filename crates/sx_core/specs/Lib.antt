@@ -1,1 +1,2 @@
+-- Begin with Quickly: what a step on the short way answers and leaves.
 pub mod Quickly

@@ -1,3 +1,5 @@
+-- Begin with Sound: each accepted deployment is sound, by Accepted, Parts, Linked, Apart and Laid,
+-- what each rule gives. Meanings: a text has one meaning. Accepts leads to what is in memory.
 pub mod Accepted
 pub mod Accepts
 pub mod Apart

@@ -1,3 +1,6 @@
+-- Begin with Deployment: the order of the rules. Counts (6), Sources (7), Checks (8), Ties (9) and
+-- Places (10) are the rules, Law is what holds of what they let through, and the files of Seen what
+-- contracts see in memory.
 pub mod Counts
 pub mod Sources
 pub mod SourceErrors

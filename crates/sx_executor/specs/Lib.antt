@@ -1,3 +1,5 @@
+-- Begin with Machine: what instructions run on, and what they leave of it. Shortcuts is what an
+-- instruction does, kept with its first word; Homes and Gaps say where no section need be asked.
 pub mod Gaps
 pub mod Homes
 pub mod Machine

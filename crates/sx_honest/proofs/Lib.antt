@@ -1,3 +1,5 @@
+-- Begin with Agreement: where the source model stands as the course says; Setup, Events, Sending
+-- and Agreed keep it, Course leads it along all readings. Honest and AsPlain are the laws.
 pub mod Agreement
 pub mod Computed
 pub mod Lists

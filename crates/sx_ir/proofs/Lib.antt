@@ -1,1 +1,2 @@
+-- One file: the bytes of operations that follow others.
 pub mod Appended

@@ -123,7 +123,8 @@ fn are_sound_parts(ops: u64, parts: &[(u16, u16)]) -> bool
 /// is there; each offset with its length lies in the private section, beside its first word, the
 /// stack's place and what only templates use, and is even where it names words; no operation writes
 /// the caller's saved registers; a wrap's header and body have at most 32 bytes each; and the text
-/// has room in the public section.
+/// has room in the public section. It is for programs that make stack code of their own: that of
+/// the compiler is sound by proof.
 pub fn sound(code: &Code, layout: &Layout) -> bool
     ensures { result ≡ is_sound code.now.ops.items code.now.parts.items layout.now }
 {

@@ -1,3 +1,6 @@
+-- Begin with Agreement: the computing reading is the spelling read back, from Sound (what is read
+-- is spelled) and Spelled (what is spelled is read). Formats, FirstWords, Operands, Codes and Bits
+-- are what both need, StandingLemmas is of instructions in memory.
 pub mod Agreement
 pub mod Bare
 pub mod Bits

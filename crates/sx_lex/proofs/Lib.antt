@@ -1,3 +1,5 @@
+-- Begin with Turns: one turn of the reading, by Names, Numbers and Signs. Same and HasReading: each
+-- text has exactly one reading.
 pub mod Found
 pub mod Names
 pub mod Numbers

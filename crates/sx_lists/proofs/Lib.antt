@@ -1,3 +1,4 @@
+-- Each file is for itself: Truths, Numbers, Lists, Texts, Results.
 pub mod Truths
 pub mod Numbers
 pub mod Lists

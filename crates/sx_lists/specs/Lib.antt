@@ -1,1 +1,2 @@
+-- One file: a truth value as a number.
 pub mod Truth

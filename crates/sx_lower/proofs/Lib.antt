@@ -1,3 +1,6 @@
+-- Begin with Reacts: a handler's part does the handler; by Statements, Packets and Run, over Holds,
+-- a private section that holds a source state. Sounds and Sizes are of the code, Puts and Parts of
+-- how it is made.
 pub mod Sizes
 pub mod Puts
 pub mod Parts

@@ -1,3 +1,6 @@
+-- Begin with PlanGuard: the one induction over plans. StepGuard, ActGuard and RunGuard lead from it
+-- to runs; Sections, Stays, Touches, Frame, Keys, Boots and RunsByTable are a law each, and the
+-- others what these need.
 pub mod PlanGuard
 pub mod ProtectGuard
 pub mod UnprotectGuard

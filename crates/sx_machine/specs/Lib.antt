@@ -1,3 +1,7 @@
+-- Begin with State and Step, what one step does: by Plan and Run, what an instruction asks for and
+-- how it is executed, and by Rows and ModuleRows, the plan of each instruction. Acts is what is
+-- done from outside. Guard and Guarding, Node, Touches, Events, Frame and Doing are what the laws
+-- say.
 pub mod Memory
 pub mod State
 pub mod Plan

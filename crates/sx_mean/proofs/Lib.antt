@@ -1,3 +1,5 @@
+-- Steps is of meaning; ValidApplications, Ends and LinkEnds are of applications; Words, Scope and
+-- ActsGrow say what a run of a handler keeps. Fine is what the compiler takes.
 pub mod Steps
 pub mod Kept
 pub mod Turns

@@ -1,3 +1,6 @@
+-- Begin with Meaning, what expressions and statements mean, and React, what a module does at an
+-- event. Application is what modules make together, Ends its connections at each module, Validity
+-- when it is one; Offsets and Working lay out a private section.
 pub mod Places
 pub mod Sized
 pub mod Offsets

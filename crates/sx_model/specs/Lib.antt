@@ -1,3 +1,6 @@
+-- Begin with Step, which items the source allows, and Legal, the runs of it, over State, Reaction
+-- and Renewal. Consequences is what a reader may take from a legal trace. Worked has examples;
+-- Changes, Sendings, Counted and Memory are for contracts of functions.
 pub mod State
 pub mod Reaction
 pub mod Renewal

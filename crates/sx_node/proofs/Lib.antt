@@ -1,1 +1,2 @@
+-- One file: only protect uses the boot key.
 pub mod BootKey

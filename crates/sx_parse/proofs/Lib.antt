@@ -1,3 +1,5 @@
+-- One file for each kind of part: Expressions, Statements, Declarations, Handlers, with Signs;
+-- Modules puts their answers together.
 pub mod Signs
 pub mod Expressions
 pub mod Statements

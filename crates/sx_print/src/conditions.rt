@@ -168,7 +168,8 @@ fn opens_in_handlers(handlers: &[Handler]) -> bool
 
 /// Whether the module can be printed: each name is a lower-case letter and up to 15 lower-case
 /// letters, digits or `_`, and no word of the language; and at most 48 of `(`, `[`, `{` and unary
-/// operators are open at a time in the text. It looks no deeper into a tree than 49 of them.
+/// operators are open at a time in the text. It looks no deeper into a tree than 49 of them. It is
+/// for programs that make modules; no command prints one.
 pub fn printable(m: &Module) -> bool
     ensures { result ≡ is_printable (module_of m.now) }
 {

@@ -252,7 +252,8 @@ fn text(bytes: Vec<u8>) -> String
 /// spaces for each block that it stands in, each binary expression in a pair of brackets and no
 /// other in any.
 ///
-/// The condition is `conditions::printable`. The error says that memory ran out.
+/// The condition is `conditions::printable`. The error says that memory ran out. It is for programs
+/// that make modules; no command prints one.
 pub fn print(alloc: Global, m: &Module) -> Result<String, OutOfMemory>
     requires { is_printable (module_of m.now) ≡ true }
     ensures text { IfOk result (λ t. string_bytes t ≡ text_of (module_pieces (module_of m.now))) }

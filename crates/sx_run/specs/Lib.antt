@@ -1,3 +1,6 @@
+-- Begin with Run: a schedule's lines as acts, over Setting, State and Acts. Observation, Ledger and
+-- Deployer are what a line shows and enters; Accepted and AcceptedLaw are the theorem, Law its form
+-- for sound settings.
 pub mod Setting
 pub mod Ledger
 pub mod Deployer

@@ -1,3 +1,6 @@
+-- Begin with StubInvokes: the whole stub, from SetKey, Attest, Input and Sample, a file for each
+-- entry, over Straight, Refuse, Chain, Search and Receive. JoinedInvokes puts the handlers behind
+-- it; StubSound and StubFits say that templates can be made for it.
 pub mod Mem
 pub mod Straight
 pub mod Slots

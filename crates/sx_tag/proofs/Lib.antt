@@ -1,1 +1,2 @@
+-- One file: what was wrapped is unwrapped.
 pub mod UnwrapsWrapped

@@ -1,3 +1,5 @@
+-- Begin with Running: steps of a module in mid-run. Operations does each template, and Texts leads
+-- to the whole text.
 pub mod Running
 pub mod Operations
 pub mod Texts

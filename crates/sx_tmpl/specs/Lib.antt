@@ -1,3 +1,6 @@
+-- Begin with Performs: what it means that instructions do what stack code does, over Shows and
+-- Running. Template has the instructions of each operation, Text the whole text, Scratch the places
+-- that templates alone use; Fits is for the code.
 pub mod Scratch
 pub mod Running
 pub mod Shows

@@ -1,3 +1,5 @@
+-- Begin with ItemsDiffer: each item has a line of its own. Indexed, Known and Valid are of names,
+-- Cut and Written of texts.
 pub mod Cut
 pub mod ItemsDiffer
 pub mod Indexed
