@@ -17,6 +17,7 @@ use Rattle.sx_command_head.specs.Meanings.{Meaning, IsMeaning}
 use Rattle.sx_command_head.specs.Refused.{fault_output}
 use Rattle.sx_command_world.specs.Compiled.{compiled_texts}
 use Rattle.sx_command_deploy.specs.Deploy.{Behind, by_deployment, by_head, deploy_output}
+use Rattle.sx_command_deploy.specs.Given.{RanOutBehind, Wanting}
 
 -- what is written of a deployment that was read, or the rule that it breaks
 abbrev pub found_output : Behind → List (List ℕ) → Result Deployed DeployFault → List Answer
@@ -33,7 +34,8 @@ head_status own meaning h = by_head own (λ f. 1) read_failed meaning h
 
 -- What does the rest of the command after a head of this text: with these images, which realize its
 -- modules, it writes what is defined for what is to come.
-pub record DeploysBehind (mac : Mac) (own : Behind) (tells to_tell : Bool) (now : Ahead)
+pub record DeploysBehind (mac : Mac) (own : Behind) (wants : Wanting) (tells to_tell : Bool)
+    (now : Ahead)
     (m1 m2 : CommandAt)
     (status : ℕ)
     (text : List ℕ) : Type 0 where
@@ -43,16 +45,19 @@ pub record DeploysBehind (mac : Mac) (own : Behind) (tells to_tell : Bool) (now 
   pub bytes : AreByteTexts texts
   pub rest : (meaning : Meaning) → IsMeaning meaning
       → Rest tells to_tell head_lines now m1 m2 status (found_output own texts (meaning text))
+  pub wanted : status ≡ out_of_memory → (d : Deployed) × IsRead text (Ok d)
+      × (new : Ahead) × wants d tells m1.source m2.source now new
 
 -- the rest of the command, or that memory ran out before the images were made
-abbrev pub DeploysOrRanOut : Mac → Behind → Bool → Bool → Ahead → CommandAt → CommandAt → ℕ
-    → List ℕ → Type 0
-DeploysOrRanOut mac own tells to_tell now m1 m2 status text =
-    RanOut m1 m2 status ⊎ DeploysBehind mac own tells to_tell now m1 m2 status text
+abbrev pub DeploysOrRanOut : Mac → Behind → Wanting → Bool → Bool → Ahead → CommandAt → CommandAt
+    → ℕ → List ℕ → Type 0
+DeploysOrRanOut mac own wants tells to_tell now m1 m2 status text =
+    RanOut m1 m2 status ⊎ DeploysBehind mac own wants tells to_tell now m1 m2 status text
 
 -- The whole command: there are images that realize the modules of the deployment that was read, and
 -- what was written is what is defined with them.
-pub record ToldWith (mac : Mac) (own : Behind) (tells to_tell : Bool) (m0 m1 : CommandAt)
+pub record ToldWith (mac : Mac) (own : Behind) (wants : Wanting) (tells to_tell : Bool)
+    (m0 m1 : CommandAt)
     (status : ℕ) : Type 0 where
   pub deployment : Option (List ℕ)
   pub texts : List (List ℕ)
@@ -63,8 +68,9 @@ pub record ToldWith (mac : Mac) (own : Behind) (tells to_tell : Bool) (m0 m1 : C
   pub told : (meaning : Meaning) → IsMeaning meaning
       → Told tells to_tell head_lines m0 m1 status (deploy_output own meaning texts)
       (λ answers. HasHead deployment (head answers))
+  pub wanted : status ≡ out_of_memory → RanOutBehind wants tells m0 m1
 
 -- this, or that memory ran out before the images were made
-abbrev pub DeployTold : Mac → Behind → Bool → Bool → CommandAt → CommandAt → ℕ → Type 0
-DeployTold mac own tells to_tell m0 m1 status =
-    Starved tells m0 m1 status ⊎ ToldWith mac own tells to_tell m0 m1 status
+abbrev pub DeployTold : Mac → Behind → Wanting → Bool → Bool → CommandAt → CommandAt → ℕ → Type 0
+DeployTold mac own wants tells to_tell m0 m1 status =
+    Starved tells m0 m1 status ⊎ ToldWith mac own wants tells to_tell m0 m1 status

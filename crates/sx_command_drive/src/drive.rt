@@ -78,9 +78,12 @@ fn drive_built<S: Source, K: Sink, B: Copied, T: Tag>(
 struct DriveCommand;
 
 impl Deploys for DriveCommand {
+    ghost use Rattle.sx_command_deploy.specs.Given.{says_nothing};
     ghost use Rattle.sx_command_drive.specs.Drive.{drive_deployed};
 
     ghost behind = { drive_deployed };
+
+    ghost wants = { says_nothing };
 
     /// Drives a deployment with these images of its modules.
     fn perform<S: Source, K: Sink, T: Tag + Copy>(

@@ -1,6 +1,6 @@
 -- What the command `run` promises, of its streams at its start (m0) and at its end (m1). Of the
 -- assembler nothing is said here but that the code of an `asm` line is what it gives.
-use Rattle.std.specs.Prelude.{ℕ, ◌≡◌, Bool, List, Option, Ok}
+use Rattle.std.specs.Prelude.{ℕ, ◌≡◌, ◌⊎◌, Bool, List, Option, Ok}
 use Rattle.sx_io.specs.Reading.{Answer}
 use Rattle.sx_told.specs.Told.{CommandAt, out_of_memory}
 use Rattle.sx_tag.specs.Mac.{Mac}
@@ -10,8 +10,9 @@ use Rattle.sx_model.specs.Consequences.{TellsReader}
 use Rattle.sx_explain.specs.Causes.{HasCauses}
 use Rattle.sx_deploy.specs.Deployment.{Deployed, IsRead}
 use Rattle.sx_run.specs.Accepted.{setting_of}
-use Rattle.sx_command_head.specs.Begun.{Deploys}
+use Rattle.sx_command_head.specs.Begun.{Deploys, Starved}
 use Rattle.sx_command_deploy.specs.Deploys.{DeploySays, OwnPart}
+use Rattle.sx_command_deploy.specs.Wanting.{RanOutAt}
 use Rattle.sx_sched.specs.Lines.{Line}
 use Rattle.sx_sched.specs.Reading.{Assembler}
 use Rattle.sx_guard.specs.Guarded.{GuardedRun}
@@ -23,8 +24,9 @@ use Rattle.sx_links.specs.LinksUnseen.{LinksAreUnseen}
 use Rattle.sx_links.specs.Unlinks.{HasMoved}
 use Rattle.sx_command_run.specs.Run.{items_of, run_deployed}
 use Rattle.sx_command_world.specs.Compiled.{compiled_texts}
-use Rattle.sx_command_world.specs.Schedule.{schedule}
+use Rattle.sx_command_world.specs.Schedule.{judged_line, schedule}
 use Rattle.sx_command_world.specs.Statuses.{schedule_status}
+use Rattle.sx_command_world.specs.Turning.{MayRunOut}
 
 -- Whatever the schedule is, the items of its run with these images are legal up to the first that
 -- is forged (`legal`); at this one a tag was accepted that nobody who holds its key had made
@@ -57,12 +59,18 @@ run_part assemble mac = record {
 abbrev pub RunSays : Assembler → Mac → Bool → Bool → CommandAt → CommandAt → ℕ → Type 0
 RunSays assemble mac = DeploySays mac (run_part assemble mac)
 
+-- memory may run out at the line with this number
+abbrev pub run_may : Assembler → Deployed → ℕ → List ℕ → Type 0
+run_may assemble d number text = MayRunOut (judged_line assemble d.names number text)
+
 -- What `run` promises, and beside it what a reader may take from each legal trace: that follows
 -- from what is legal. So does what each reading, taking and output in it rests on (`causes`): the
 -- word that is taken was sent by a handler of the module that the connection comes from, and the
 -- value that is put out is the next that the handler of the module's latest event emits. Of the
 -- keys of nodes and modules a run shows nothing but tags (`keys`), so names in place of them do as
 -- well (`named`). Unless a key is found by code of no deployed module, none is guessed (`found`).
+-- Where memory ran out, it was for the images, or the last line that was given may want it
+-- (`memory`).
 pub record RunTold (assemble : Assembler) (mac : Mac) (tells to_tell : Bool) (m0 m1 : CommandAt)
     (status : ℕ) : Type 0 where
   pub says : RunSays assemble mac tells to_tell m0 m1 status
@@ -72,3 +80,5 @@ pub record RunTold (assemble : Assembler) (mac : Mac) (tells to_tell : Bool) (m0
   pub keys : RunsKeysUnseen
   pub named : NamesAgree
   pub found : KeysFound
+  pub memory : status ≡ out_of_memory
+      → Starved tells m0 m1 status ⊎ RanOutAt (run_may assemble) tells m0 m1

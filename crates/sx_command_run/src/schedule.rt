@@ -18,6 +18,7 @@ ghost use Rattle.sx_run.specs.State.{switched_on};
 ghost use Rattle.sx_command_run.specs.Run.{run_at_start, run_deployed};
 ghost use Rattle.sx_command_world.specs.Schedule.{judged_line};
 ghost use Rattle.sx_command_run.specs.Turns.{Advances, TellsLine, TellsMade, TurnsFrom};
+ghost use Rattle.sx_command_run.specs.Turns.{run_wants};
 ghost use Rattle.sx_command_world.specs.Turning.{MayRunOut};
 
 use crate::trace::put_items;
@@ -117,11 +118,13 @@ pub(crate) fn run_lines<S: Source, K: Sink, B: Copied, T: Tag>(
     requires new { world.old.lines ≡ 0 }
     requires stands { Stands (world_setting T.mac plan.now world.old) world.old
         (switched_on (world_setting T.mac plan.now world.old)) }
-    ensures { Rest S.tells K.tells head_lines lines.old
+    ensures rest { Rest S.tells K.tells head_lines lines.old
         (command_at (S.at input.old) (K.at output.old))
         (command_at (S.at input.new) (K.at output.new)) result
         (run_at_start assembled (deployed_as plan.now).names
         (world_setting T.mac plan.now world.old)) }
+    ensures wanted { result ≡ out_of_memory → run_wants (deployed_as plan.now) S.tells
+        (S.at input.old) (S.at input.new) lines.old lines.new }
 {
     let mut into = [0; 4096];
     let mut items = Vec::new(alloc);
@@ -164,10 +167,12 @@ pub(crate) fn run_built<S: Source, K: Sink, B: Copied, T: Tag>(
     requires sites { world.old.sites ≡ (image_setting T.mac plan.now images.now).sites }
     requires stands { Stands (world_setting T.mac plan.now world.old) world.old
         (switched_on (world_setting T.mac plan.now world.old)) }
-    ensures { Rest S.tells K.tells head_lines lines.old
+    ensures rest { Rest S.tells K.tells head_lines lines.old
         (command_at (S.at input.old) (K.at output.old))
         (command_at (S.at input.new) (K.at output.new)) result
         (run_deployed assembled T.mac (deployed_as plan.now) (texts_of images.now)) }
+    ensures wanted { result ≡ out_of_memory → run_wants (deployed_as plan.now) S.tells
+        (S.at input.old) (S.at input.new) lines.old lines.new }
 {
     match begin_trace(alloc, &plan.names, images, output) {
         Turned::Stop(status) => status,

@@ -46,9 +46,12 @@ fn new_timeline<T: Tag + Copy>(
 struct SnapCommand;
 
 impl Deploys for SnapCommand {
+    ghost use Rattle.sx_command_deploy.specs.Given.{says_nothing};
     ghost use Rattle.sx_command_snap.specs.Snap.{snap_deployed};
 
     ghost behind = { snap_deployed };
+
+    ghost wants = { says_nothing };
 
     /// Answers the queries about a deployment with these images of its modules.
     fn perform<S: Source, K: Sink, T: Tag + Copy>(

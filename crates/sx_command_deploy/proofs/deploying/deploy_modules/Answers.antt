@@ -50,7 +50,8 @@ returns-in-Ok g c = λ text read.
           let R : Result Deployed DeployFault → Type 0 = λ r. Rest g.S.Source.tells g.K.Sink.tells head_lines c.args.lines.now
           (command_at (g.S.Source.at c.args.input.now) (g.K.Sink.at c.args.output.now)) (command_at (g.S.Source.at c.perform.new.input) (g.K.Sink.at c.perform.new.output))
           c.perform.result (found_output (g.C.Deploys.behind mac) texts r) in
-          subst R (one_meaning text (Ok d) (meaning text) read (is text)) c.perform.ensures;
+          subst R (one_meaning text (Ok d) (meaning text) read (is text)) c.perform.ensures.rest;
+      wanted = λ six. (d, read, c.perform.new.lines, c.perform.ensures.wanted six);
     })
 
 pub returns-in-Err : goal.returns-in-Err

@@ -1,26 +1,33 @@
-use Rattle.std.proofs.Common.{List, map, ap, sym}
+use Rattle.std.proofs.Common.{List, [], inl, map, ap, refl, sym}
 use Rattle.sx_asm.specs.Assembled.{assembled}
 use Rattle.sx_told.proofs.Laws.{begun-put, begun-same, told-stop}
 use Rattle.sx_deploy.specs.SeenDeployment.{deployed_as}
 use Rattle.sx_run.specs.Setting.{Site}
 use Rattle.sx_run.specs.State.{switched_on}
 use Rattle.sx_run.specs.Accepted.{setting, setting_of}
+use Rattle.sx_command_deploy.proofs.Given.{given_none}
 use Rattle.sx_command_run.specs.Run.{run_at_start, run_from, run_deployed}
 use Rattle.sx_command_run.proofs.schedule.run_built.Goals as goal
 
-pub returns-in-Stop : goal.returns-in-Stop
-returns-in-Stop g c = λ limit m0 defined aside noted b.
+pub returns-in-Stop-clause-rest : goal.returns-in-Stop-clause-rest
+returns-in-Stop-clause-rest g c = λ limit m0 defined aside noted b.
     let d = deployed_as c.args.plan.now in
     told-stop b (c.in-Stop.ensures (run_at_start assembled d.names (setting_of g.T.Tag.mac d (map (λ i. i.text.items) c.args.images.now))))
 
-pub returns-in-On : goal.returns-in-On
-returns-in-On g c = λ limit m0 defined aside noted b.
+pub returns-in-On-clause-rest : goal.returns-in-On-clause-rest
+returns-in-On-clause-rest g c = λ limit m0 defined aside noted b.
     let d = deployed_as c.args.plan.now in
     let mac = g.T.Tag.mac in
     let texts = map (λ i. i.text.items) c.args.images.now in
     let set = setting mac d c.args.world.now.sites in
     let left = run_at_start assembled d.names (setting_of mac d texts) in
-    c.run_lines.ensures limit m0 defined aside noted
+    c.run_lines.ensures.rest limit m0 defined aside noted
     (begun-same (run_from assembled d.names set (switched_on set) 1)
     (λ more. ap (λ (sites : List Site). run_from assembled d.names (setting mac d sites) (switched_on (setting mac d sites)) 1 more) (sym c.requires.sites))
     (begun-put (run_deployed assembled mac d texts) left b (c.in-On.ensures left)))
+
+pub returns-in-Stop-clause-wanted : goal.returns-in-Stop-clause-wanted
+returns-in-Stop-clause-wanted g c = λ six. ([], given_none _ _ _, inl refl)
+
+pub returns-in-On-clause-wanted : goal.returns-in-On-clause-wanted
+returns-in-On-clause-wanted g c = c.run_lines.ensures.wanted

@@ -1,4 +1,5 @@
-use Rattle.std.proofs.Common.{◌∙◌, ◌+◌, ◌∷◌, ℕ, List, take, arith, ap, refl, subst, sym}
+use Rattle.std.proofs.Common.{◌∙◌, ◌+◌, ◌∷◌, ◌++◌, ℕ, List, [], inr, take, arith, ap, refl, subst, sym}
+use Rattle.std.proofs.lemmas.List.{length-append}
 use Rattle.sx_asm.specs.Assembled.{assembled}
 use Rattle.sx_io.specs.Reading.{Line}
 use Rattle.sx_told.specs.Told.{read_line}
@@ -11,7 +12,9 @@ use Rattle.sx_run.specs.Setting.{Site}
 use Rattle.sx_world.specs.Standing.{Stands}
 use Rattle.sx_run.specs.State.{World, switched_on}
 use Rattle.sx_command.specs.Output.{end_line}
+use Rattle.sx_command_deploy.proofs.Given.{given_line, given_none}
 use Rattle.sx_command_run.specs.Run.{run_from}
+use Rattle.sx_command_run.specs.Runs.{run_may}
 use Rattle.sx_command_run.specs.Turns.{TurnsLine}
 use Rattle.sx_command_run.proofs.Written.{run_ended, run_too_long, run_unread}
 use Rattle.sx_command_run.proofs.schedule.run_lines.Goals as goal
@@ -22,29 +25,29 @@ lines-init g c =
       few = omega arith;
       counted = ap (λ (k : ℕ). k + 1) c.requires.new;
       sites = refl;
-      between = record { world = switched_on set; stands = c.requires.stands; begun = λ limit m0 defined aside noted b. b };
+      between = record { world = switched_on set; stands = c.requires.stands; begun = λ limit m0 defined aside noted b. b; given = []; numbered = refl; since = given_none _ _ _ };
     }
 
-pub returns-in-End : goal.returns-in-End
+pub returns-in-End-clause-rest : goal.returns-in-End-clause-rest
 unfolding end_line
-returns-in-End g c = λ limit m0 defined aside noted b.
+returns-in-End-clause-rest g c = λ limit m0 defined aside noted b.
     let d = deployed_as c.args.plan.now in
     let set = setting g.T.Tag.mac d c.args.world.now.sites in
     let st = c.lines.invariant.between in
     told-end {f = run_from assembled d.names set st.world c.lines.number} (run_unread d.names set st.world c.lines.number) (st.begun limit m0 defined aside noted b) c.in-End.ensures.next
     (ends-same _ _ _ _ _ _ (run_ended d.names set st.world c.lines.number) c.finish.ensures.ends)
 
-pub returns-in-TooLong : goal.returns-in-TooLong
-returns-in-TooLong g c = λ limit m0 defined aside noted b.
+pub returns-in-TooLong-clause-rest : goal.returns-in-TooLong-clause-rest
+returns-in-TooLong-clause-rest g c = λ limit m0 defined aside noted b.
     let d = deployed_as c.args.plan.now in
     let set = setting g.T.Tag.mac d c.args.world.now.sites in
     let st = c.lines.invariant.between in
     told-too-long {f = run_from assembled d.names set st.world c.lines.number} (run_unread d.names set st.world c.lines.number) (st.begun limit m0 defined aside noted b)
     c.in-TooLong.ensures.next (ends-same _ _ _ _ _ _ (run_too_long d.names set st.world c.lines.number) c.break_off.ensures.ends)
 
-pub returns-in-Failed : goal.returns-in-Failed
+pub returns-in-Failed-clause-rest : goal.returns-in-Failed-clause-rest
 unfolding read_line
-returns-in-Failed g c = λ limit m0 defined aside noted b.
+returns-in-Failed-clause-rest g c = λ limit m0 defined aside noted b.
     let d = deployed_as c.args.plan.now in
     let set = setting g.T.Tag.mac d c.args.world.now.sites in
     let st = c.lines.invariant.between in
@@ -62,8 +65,8 @@ turn-requires-clause-going g c = λ goes.
     let P : List Site → Type 0 = λ sites. Stands (setting g.T.Tag.mac (deployed_as c.args.plan.now) sites) c.lines.world st.world in
     (st.world, subst P (sym c.lines.invariant.sites) st.stands)
 
-pub returns-in-Stop : goal.returns-in-Stop
-returns-in-Stop g c = λ limit m0 defined aside noted b.
+pub returns-in-Stop-clause-rest : goal.returns-in-Stop-clause-rest
+returns-in-Stop-clause-rest g c = λ limit m0 defined aside noted b.
     let d = deployed_as c.args.plan.now in
     let set = setting g.T.Tag.mac d c.args.world.now.sites in
     let st = c.lines.invariant.between in
@@ -73,6 +76,25 @@ returns-in-Stop g c = λ limit m0 defined aside noted b.
     c.turn.new.world c.lines.number text (Stop c.in-Stop.status) w in
     told-stop (begun-line (run_from assembled d.names set st.world c.lines.number) (run_unread d.names set st.world c.lines.number) (st.begun limit m0 defined aside noted b) c.in-Text.ensures.next)
     (subst P c.lines.invariant.sites c.in-Stop.ensures.turns st.world st.stands).does
+
+pub returns-in-End-clause-wanted : goal.returns-in-End-clause-wanted
+returns-in-End-clause-wanted g c = λ six. absurd (omega (arith, six, c.finish.ensures.status (λ five. omega (arith, six, five))))
+
+pub returns-in-TooLong-clause-wanted : goal.returns-in-TooLong-clause-wanted
+returns-in-TooLong-clause-wanted g c = λ six. absurd (c.break_off.ensures.memory six)
+
+pub returns-in-Failed-clause-wanted : goal.returns-in-Failed-clause-wanted
+returns-in-Failed-clause-wanted g c = λ six. absurd (omega (arith, six, c.finish-in-Failed.ensures.status (λ five. omega (arith, six, five))))
+
+pub returns-in-Stop-clause-wanted : goal.returns-in-Stop-clause-wanted
+returns-in-Stop-clause-wanted g c = λ six.
+    let st = c.lines.invariant.between in
+    let text = take c.in-Text.n c.next.new.into in
+    let May : ℕ → Type 0 = λ number. run_may assembled (deployed_as c.args.plan.now) number text in (
+      st.given ++ Line text ∷ [],
+      given_line st.given c.next.new.into c.in-Text.n st.since c.in-Text.ensures.next,
+      inr (st.given, text, refl, subst May st.numbered (c.in-Stop.ensures.memory (ap Stop six))),
+    )
 
 pub lines-preserved : goal.lines-preserved
 lines-preserved g c =
@@ -94,5 +116,8 @@ lines-preserved g c =
             begun-put (λ more. run_from assembled d.names set st.world c.lines.number (Line text ∷ more)) (run_from assembled d.names set t.next (c.lines.number + 1))
             (begun-line (run_from assembled d.names set st.world c.lines.number) (run_unread d.names set st.world c.lines.number) (st.begun limit m0 defined aside noted b) c.in-Text.ensures.next)
             t.does;
+        given = st.given ++ Line text ∷ [];
+        numbered = (let l = length-append st.given (Line text ∷ []) in let n = st.numbered in omega (arith, l, n));
+        since = given_line st.given c.next.new.into c.in-Text.n st.since c.in-Text.ensures.next;
       };
     }

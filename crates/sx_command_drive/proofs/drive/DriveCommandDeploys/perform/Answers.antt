@@ -18,7 +18,13 @@ drive_built-requires-clause-going g c =
       sound = settled mac d (map (λ i. i.text.items) c.args.images.now) c.requires.sound c.requires.images g.met.T.Tag.is_tag;
     }
 
-pub returns-in-Err : goal.returns-in-Err
-returns-in-Err g c = λ limit m0 defined aside noted b.
+pub returns-in-Err-clause-rest : goal.returns-in-Err-clause-rest
+returns-in-Err-clause-rest g c = λ limit m0 defined aside noted b.
     let texts = map (λ i. i.text.items) c.args.images.now in
     told-stop b (λ more. ends-out-of-memory _ _ _ (drive_deployed g.T.Tag.mac (deployed_as c.args.plan.now) texts more) (λ t. prefix-none _ _ _ refl) refl)
+
+pub returns-in-Ok-clause-wanted : goal.returns-in-Ok-clause-wanted
+returns-in-Ok-clause-wanted g c = λ six. tt
+
+pub returns-in-Err-clause-wanted : goal.returns-in-Err-clause-wanted
+returns-in-Err-clause-wanted g c = λ six. tt

@@ -1,4 +1,4 @@
-use Rattle.std.proofs.Common.{List, map, refl, subst, sym}
+use Rattle.std.proofs.Common.{List, [], inl, map, refl, subst, sym}
 use Rattle.sx_asm.specs.Assembled.{assembled}
 use Rattle.sx_told.proofs.Laws.{told-stop, ends-out-of-memory, prefix-none}
 use Rattle.sx_deploy.specs.SeenDeployment.{deployed_as}
@@ -8,6 +8,7 @@ use Rattle.sx_run.specs.Setting.{Site}
 use Rattle.sx_world.specs.Standing.{Stands}
 use Rattle.sx_run.specs.State.{switched_on}
 use Rattle.sx_run.proofs.accepted.Settled.{settled}
+use Rattle.sx_command_deploy.proofs.Given.{given_none}
 use Rattle.sx_command_run.specs.Run.{run_deployed}
 use Rattle.sx_command_run.proofs.run.RunCommandDeploys.perform.Goals as goal
 
@@ -24,7 +25,10 @@ run_built-requires-clause-stands g c =
     let P : List Site → Type 0 = λ sites. Stands (setting g.T.Tag.mac d sites) c.in-Ok.world (switched_on (setting g.T.Tag.mac d sites)) in
     subst P (sym c.in-Ok.ensures.sites) c.in-Ok.ensures.stands
 
-pub returns-in-Err : goal.returns-in-Err
-returns-in-Err g c = λ limit m0 defined aside noted b.
+pub returns-in-Err-clause-rest : goal.returns-in-Err-clause-rest
+returns-in-Err-clause-rest g c = λ limit m0 defined aside noted b.
     let texts = map (λ i. i.text.items) c.args.images.now in
     told-stop b (λ more. ends-out-of-memory _ _ _ (run_deployed assembled g.T.Tag.mac (deployed_as c.args.plan.now) texts more) (λ t. prefix-none _ _ _ refl) refl)
+
+pub returns-in-Err-clause-wanted : goal.returns-in-Err-clause-wanted
+returns-in-Err-clause-wanted g c = λ six. ([], given_none _ _ _, inl refl)

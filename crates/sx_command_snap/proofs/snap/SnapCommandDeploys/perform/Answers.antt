@@ -16,8 +16,8 @@ snap_lines-requires-clause-images g c =
     let P : List Site → Type 0 = λ sites. IsSoundSetting (setting g.T.Tag.mac d sites) in
     subst P (sym c.in-Ok.ensures.sites) (settled g.T.Tag.mac d texts c.requires.sound c.requires.images g.met.T.Tag.is_tag)
 
-pub returns-in-Ok : goal.returns-in-Ok
-returns-in-Ok g c = λ limit m0 defined aside noted b.
+pub returns-in-Ok-clause-rest : goal.returns-in-Ok-clause-rest
+returns-in-Ok-clause-rest g c = λ limit m0 defined aside noted b.
     let mac = g.T.Tag.mac in
     let d = deployed_as c.args.plan.now in
     let texts = map (λ i. i.text.items) c.args.images.now in
@@ -26,7 +26,13 @@ returns-in-Ok g c = λ limit m0 defined aside noted b.
     (begun-same (snap_from d.names set (images_text d.names.modules texts) [])
     (λ more. ap (λ (sites : List Site). snap_from d.names (setting mac d sites) (images_text d.names.modules texts) [] more) (sym c.in-Ok.ensures.sites)) b)
 
-pub returns-in-Err : goal.returns-in-Err
-returns-in-Err g c = λ limit m0 defined aside noted b.
+pub returns-in-Err-clause-rest : goal.returns-in-Err-clause-rest
+returns-in-Err-clause-rest g c = λ limit m0 defined aside noted b.
     let texts = map (λ i. i.text.items) c.args.images.now in
     told-stop b (λ more. ends-out-of-memory _ _ _ (snap_deployed g.T.Tag.mac (deployed_as c.args.plan.now) texts more) (λ t. prefix-none _ _ _ refl) refl)
+
+pub returns-in-Ok-clause-wanted : goal.returns-in-Ok-clause-wanted
+returns-in-Ok-clause-wanted g c = λ six. tt
+
+pub returns-in-Err-clause-wanted : goal.returns-in-Err-clause-wanted
+returns-in-Err-clause-wanted g c = λ six. tt
