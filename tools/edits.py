@@ -1,9 +1,11 @@
-"""Wrong bodies as text: what an edit changes, and whether its lines are still there."""
+"""Wrong bodies and wrong systems as text: what an edit changes, and whether its lines are still there."""
 
 from dataclasses import dataclass
 from pathlib import Path
 
 TOP = Path(__file__).resolve().parent.parent
+# The folder of the edits whose files are of several crates.
+SYSTEMS = "wrong-systems"
 
 
 @dataclass(frozen=True)
@@ -18,12 +20,15 @@ class Change:
 @dataclass(frozen=True)
 class Edit:
     """The changes of one wrong body. They are of `crate`, which is another than `judge` only where the wrong definition
-    lies below the crate whose laws refuse it."""
+    lies below the crate whose laws refuse it. A wrong system has no crate: its files are named from crates/, and it names
+    the laws that refuse it and the lemmas that break."""
 
     path: Path
     judge: str
     crate: str
     changes: tuple[Change, ...]
+    laws: tuple[str, ...] = ()
+    lemmas: tuple[str, ...] = ()
 
     @property
     def is_below(self):
@@ -31,9 +36,10 @@ class Edit:
 
 
 def read_edit(path):
-    """The edit in a file. In one of a crate below, `\\n` in a text stands for the end of a line."""
+    """The edit in a file. In one of a crate below, and in a wrong system, `\\n` in a text stands for the end of a line."""
     judge = path.parent.name if path.parent.name != "must-fail" else path.parent.parent.name
-    crate, file, old, changes = judge, None, None, []
+    crate, file, old, changes = "" if judge == SYSTEMS else judge, None, None, []
+    named = {"law": [], "lemma": []}
     for line in path.read_text().splitlines():
         word, _, text = line.partition(": ")
         if crate != judge:
@@ -46,13 +52,20 @@ def read_edit(path):
             old = text
         elif word == "new":
             changes.append(Change(file, old, text))
-    return Edit(path, judge, crate, tuple(changes))
+        elif word in named:
+            named[word].append(text)
+    return Edit(path, judge, crate, tuple(changes), tuple(named["law"]), tuple(named["lemma"]))
 
 
 def edits_of(top=TOP):
-    """All edits: those of the gate, and those outside it."""
+    """All wrong bodies: those of the gate, and those outside it."""
     paths = [*top.glob("crates/*/must-fail/*.edit"), *top.glob("wrong-bodies/*/*.edit")]
     return [read_edit(path) for path in sorted(paths)]
+
+
+def systems_of(top=TOP):
+    """All wrong systems."""
+    return [read_edit(path) for path in sorted((top / SYSTEMS).glob("*.edit"))]
 
 
 def apply(edit, top=TOP):
@@ -67,9 +80,9 @@ def apply(edit, top=TOP):
     return texts
 
 
-def stale(top=TOP):
-    """What keeps edits from applying, a line each."""
-    for edit in edits_of(top):
+def stale(edits, top=TOP):
+    """What keeps these edits from applying, a line each."""
+    for edit in edits:
         try:
             apply(edit, top)
         except (OSError, ValueError) as why:

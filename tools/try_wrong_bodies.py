@@ -25,7 +25,7 @@ import time
 from collections import Counter
 from pathlib import Path
 
-from edits import apply, read_edit, stale
+from edits import apply, edits_of, read_edit, stale
 
 TOP = Path(__file__).resolve().parent.parent
 KEPT = TOP / "wrong-bodies"
@@ -138,7 +138,7 @@ def words():
 def main():
     given = words()
     if given.applies:
-        lost = list(stale())
+        lost = list(stale(edits_of()))
         print("\n".join(lost), end="\n" if lost else "")
         return 1 if lost else 0
     edits = all_edits()
