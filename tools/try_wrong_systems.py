@@ -178,9 +178,9 @@ def check(texts, prover):
 
 def targets_of(edit, texts):
     """The modules that prove the laws which refuse the system, and those of the lemmas that it names."""
-    found = {lemma.split(".antt ")[0].replace("/", ".") for lemma in edit.lemmas}
+    found = {lemma.partition(".antt ")[0].replace("/", ".") for lemma in edit.lemmas}
     for law in edit.laws:
-        crate, name = law.split()
+        crate, _, name = law.partition(" ")
         found |= cited((TOP / f"crates/{crate}/proofs/laws/{name}/Answers.antt").read_text(), texts)
     return found
 
@@ -220,11 +220,11 @@ def kit_folder():
 def misnamed(edit):
     """What keeps the laws and the lemmas that a system names from being found, a line each."""
     for law in edit.laws:
-        crate, name = law.split()
+        crate, _, name = law.partition(" ")
         if not (TOP / f"crates/{crate}/proofs/laws/{name}/Answers.antt").is_file():
             yield f"{edit.path.name}: there is no law {name} of {crate}"
     for lemma in edit.lemmas:
-        file, name = lemma.split()
+        file, _, name = lemma.partition(" ")
         path = TOP / "crates" / file
         if not path.is_file() or not re.search(rf"^ *(?:pub )?{re.escape(name)} :", path.read_text(), re.MULTILINE):
             yield f"{edit.path.name}: there is no lemma {name} in {file}"
@@ -254,14 +254,14 @@ def words():
 def main():
     given = words()
     edits = chosen(given.names)
-    if given.applies:
-        lost = [*stale(edits), *(line for edit in edits for line in misnamed(edit))]
-        print("\n".join(lost), end="\n" if lost else "")
-        return 1 if lost else 0
     if given.list:
         for edit in edits:
             print(f"{edit.path.stem}: {', '.join(edit.laws)}: {', '.join(edit.lemmas)}")
         return 0
+    lost = [*stale(edits), *(line for edit in edits for line in misnamed(edit))]
+    if given.applies or lost:
+        print("\n".join(lost), end="\n" if lost else "")
+        return 1 if lost else 0
     try:
         return try_all(edits, Prover(kit_folder(), given.libraries.resolve(), given.words))
     except Missing as why:
