@@ -36,6 +36,7 @@ fresh() {
   cp -- "$top/tools/release.sh" "$top/tools/after_gate.sh" "$top"/tools/*.py "$repository/tools"
   # (of what else runs after the gate, nothing stands here)
   : >"$repository/tools/try_wrong_bodies.py"
+  : >"$repository/tools/try_wrong_systems.py"
   : >"$repository/tools/crate_lists.py"
   mkdir -p -- "$repository/tests"
   printf 'import unittest\nclass Nothing(unittest.TestCase):\n    def test_it(self): pass\n' >"$repository/tests/test_nothing.py"
