@@ -234,7 +234,7 @@ def try_example(file, room):
 
 def make_room(room):
     """A folder in which the document's commands find what they name."""
-    for name in ("examples", "tools", "docs", "bench", "crates", "crates.txt", "wrong-bodies"):
+    for name in ("examples", "tools", "docs", "bench", "crates", "crates.txt", "wrong-bodies", "wrong-systems"):
         (room / name).symlink_to(TOP / name)
     (room / "sancus").symlink_to(TOP / "sancus")
 
