@@ -3,6 +3,7 @@
 -- that templates alone use; Fits is for the code.
 pub mod Scratch
 pub mod Running
+pub mod Unseen
 pub mod Shows
 pub mod Template
 pub mod Text

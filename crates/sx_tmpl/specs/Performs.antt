@@ -30,13 +30,15 @@ use Rattle.sx_ir.specs.Meaning.{Leaving, no_count, op_count, op_step, part_from,
 use Rattle.sx_tmpl.specs.Shows.{Stood}
 use Rattle.sx_tmpl.specs.Running.{fixed_at}
 use Rattle.sx_tmpl.specs.Text.{addresses}
+use Rattle.sx_tmpl.specs.Unseen.{NamesNoKey, StepShowsNone}
 
 -- the node comes from here to Q, or is reset with B, within this many instructions, and each moment
--- before is one of the invocation
+-- before is one of the invocation whose step shows no key
 abbrev pub NodeRuns : Setup → Invoked → State → (Watched → Violation → Type 0) → (Watched → Type 0)
     → ℕ → Watched → Type 0
 NodeRuns s result before B Q n w =
-    Comes Watched Violation (watch s.mac) (λ w. 1) (Underway s result before) B Q n w
+    Comes Watched Violation (watch s.mac) (λ w. 1)
+    (λ w. Underway s result before w × StepShowsNone s w.node) B Q n w
 
 -- an operation that doesn't break has no violation
 abbrev pub Never : Watched → Violation → Type 0
@@ -135,13 +137,17 @@ IsNarrow i = Unit {0}
 abbrev pub AreNarrow : List Ir → Type 0
 AreNarrow ops = (p : ℕ) (i : Ir) → slice_get ops p ≡ Some i → IsNarrow i
 
+-- no operation of a code names a byte that may be a key's
+abbrev pub AreUnseen : ℕ → List Ir → Type 0
+AreUnseen ends ops = (p : ℕ) (i : Ir) → slice_get ops p ≡ Some i → NamesNoKey ends i
+
 -- A text does sound code: wherever an image begins with the text and a call enters the module, the
 -- node does the code, for every end of the invocation whose pieces are those that its marks make.
 abbrev pub DoesCode : Mac → Code → Layout → List ℕ → Type 0
 DoesCode mac code l text =
     (tree : ModuleTree) (ends : List End) (image : Image) (section : Section) (n : State)
     (result : Invoked) (rest : List ℕ) → image.layout ≡ l → image.text ≡ text ++ rest
-    → AreNarrow code.ops.items → Enters tree image section n
+    → AreNarrow code.ops.items → AreUnseen (length ends) code.ops.items → Enters tree image section n
     → bytes_in (pieces_in result) ≡ made_bytes (marks_in result)
     → (let s = setup_at mac tree ends section n in
     Performs s code n result (Stood (fixed_at s n result) (marks_in result) (addresses l code).at))

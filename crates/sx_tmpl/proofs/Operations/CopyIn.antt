@@ -20,7 +20,7 @@ use Rattle.sx_rules.specs.Access.{may, in_private}
 use Rattle.sx_invoke.specs.Windows.{unless_device, then_, read_byte, read_bytes}
 use Rattle.sx_tmpl.proofs.Running.MidRun.{refused, device_refusal, PrivateByte, Stands, Runs}
 use Rattle.sx_tmpl.proofs.Running.Owes.{Inside}
-use Rattle.sx_tmpl.proofs.Running.Holding.{IsRange, holds_byte, data_word, holds_word}
+use Rattle.sx_tmpl.proofs.Running.Holding.{IsRange, holds_byte, low_shown, data_word, holds_word}
 use Rattle.sx_tmpl.proofs.Running.Owned.{write_free}
 use Rattle.sx_machine.specs.Memory.{put_bytes, word}
 use Rattle.sx_tmpl.proofs.Running.Flags.{flags_stay, flags_after, equal, unequal}
@@ -102,19 +102,19 @@ module _ (f : Fixed) (st : Stands f) (all : List Mark) (B : Watched → Violatio
         ))
 
     -- one byte, or the end
-    one_byte : (r : Regs) (d : Data) (sr src o left j : ℕ) (priv : List ℕ) → left < 65535 → src < 65536 → IsData o → o < length priv → MemoryHolds f at back stack priv outside r.sp d.mem
+    one_byte : (r : Regs) (d : Data) (sr src o left j : ℕ) (priv : List ℕ) → left < 65535 → src < 65536 → in_private f.setup.section src ≡ false → IsData o → o < length priv → MemoryHolds f at back stack priv outside r.sp d.mem
         → Safe f all (running f (turn_at r sr src (base_of f + o) (suc left)) d)
         → ((v : Violation) → refused f Read bad.Read src ≡ Some v → B (running f (turn_at r sr src (base_of f + o) (suc left)) d) v)
         → (refused f Read bad.Read src ≡ None → (m : List ℕ) (sr : ℕ) → MemoryHolds f at back stack (slice_set priv o (slice_index d.mem src % 256)) outside r.sp m
         → Safe f all (running f (record r { pc = behind left; sr = sr; r12 = (src + 1) % 65536; r13 = base_of f + (o + 1); r15 = left }) (record d { mem = m }))
         → Runs f all B Q j (running f (record r { pc = behind left; sr = sr; r12 = (src + 1) % 65536; r13 = base_of f + (o + 1); r15 = left }) (record d { mem = m })))
         → Runs f all B Q (suc (suc (suc (suc j)))) (running f (turn_at r sr src (base_of f + o) (suc left)) d)
-    one_byte r d sr src o left j priv lt ls i fits h safe stop allowed =
+    one_byte r d sr src o left j priv lt ls free i fits h safe stop allowed =
         let sz = h.size in
         let beneath = st.beneath in
         let dst = base_of f + o in
         let place : PrivateByte f dst = record { low = omega (arith, i.low); high = omega arith } in
-        let free = write_free f st dst place in
+        let open_ = write_free f st dst place in
         let up0 : (dst + 0) % 65536 ≡ dst = omega arith in
         let up : (dst % 65536 + 1 + 0) % 65536 ≡ base_of f + (o + 1) = omega arith in
         let m1 = slice_set d.mem dst (slice_index d.mem src % 256) in
@@ -125,12 +125,13 @@ module _ (f : Fixed) (st : Stands f) (all : List Mark) (B : Watched → Violatio
         (suc (suc (suc j))) refl safe (
           src,
           refl,
+          inl free,
           stop,
           λ ok. (
             dst,
             up0,
             Inside place,
-            (λ v e. absurd (none-some v (sym free ∙ e))),
+            (λ v e. absurd (none-some v (sym open_ ∙ e))),
             λ _ kept1. (
               r1,
               rw (flags_stay sr) refl,
@@ -174,7 +175,7 @@ module _ (f : Fixed) (st : Stands f) (all : List Mark) (B : Watched → Violatio
     copy_in_runs zero r d sr src o j priv lt le free rg h safe stop done =
         let fits = rg.fits in
         subst (λ j. Runs f all B Q j (running f (turn_at r sr src (base_of f + o) 1) d)) (omega arith)
-        (one_byte r d sr src o 0 j priv (omega arith) (omega arith) (record { low = rg.low; beside = elim (rg.beside) [ inl q ↦ inl (omega arith) | inr q ↦ inr q ] }) (omega arith) h safe
+        (one_byte r d sr src o 0 j priv (omega arith) (omega arith) (free src (omega arith) (omega arith)) (record { low = rg.low; beside = elim (rg.beside) [ inl q ↦ inl (omega arith) | inr q ↦ inr q ] }) (omega arith) h safe
         (λ v e. stop v (not_taken src 0 v e) (turn_at r sr src (base_of f + o) 1) d.mem)
         (λ ok m sr3 h2 s3. done (slice_index outside src ∷ []) (byte_taken src 0 ok
         ∙ ap (λ r. then_ r (λ bs. Ok (slice_index outside src ∷ bs))) (nothing (src + 1))) sr3 ((src + 1) % 65536) (base_of f + (o + 1)) m
@@ -186,7 +187,7 @@ module _ (f : Fixed) (st : Stands f) (all : List Mark) (B : Watched → Violatio
         let is_b = h.others src (free src (omega arith) (omega arith)) in
         let len : length (slice_set priv o (b % 256)) ≡ length priv = length-set priv o (b % 256) in
         subst (λ j. Runs f all B Q j (running f (turn_at r sr src (base_of f + o) (suc (suc n))) d)) (omega arith)
-        (one_byte r d sr src o (suc n) (4 * suc n + j) priv (omega arith) (omega arith) (record { low = rg.low; beside = elim (rg.beside) [ inl q ↦ inl (omega arith) | inr q ↦ inr q ] })
+        (one_byte r d sr src o (suc n) (4 * suc n + j) priv (omega arith) (omega arith) (free src (omega arith) (omega arith)) (record { low = rg.low; beside = elim (rg.beside) [ inl q ↦ inl (omega arith) | inr q ↦ inr q ] })
         (omega arith) h safe
         (λ v e. stop v (not_taken src (suc n) v e) (turn_at r sr src (base_of f + o) (suc (suc n))) d.mem)
         (λ ok m sr3 h2 s3.
@@ -212,7 +213,7 @@ module _ (f : Fixed) (st : Stands f) (all : List Mark) (B : Watched → Violatio
         let sz = h.size in
         let beneath = st.beneath in
         let stay = flags_stay r.sr in
-        let p8 = data_word f st 8 (omega arith) refl (omega (arith, st.room)) in
+        let p8 = data_word f st 8 (low_shown _ 8 2 (omega arith)) (omega arith) refl (omega (arith, st.room)) in
         let is = holds_word f st at back stack priv outside r.sp d.mem 8 h refl (record { low = omega arith; beside = inl (omega arith) }) (omega (arith, st.room)) ∙ ew in
         let r1 = record r { pc = P + 4; r12 = src } in
         let r2 = record r1 { pc = P + 12; r13 = base_of f + from_ } in

@@ -20,12 +20,13 @@ use Rattle.sx_tmpl.proofs.Running.MidRun.{refused, device_refusal, PrivateByte, 
 use Rattle.sx_tmpl.proofs.Running.Owes.{Outside, let_through}
 use Rattle.sx_tmpl.proofs.Running.Owned.{read_free, in_private_yes}
 use Rattle.sx_tmpl.proofs.Operations.Bytes.{BytesAt, bytes_same}
-use Rattle.sx_tmpl.proofs.Running.Holding.{holds_outside}
+use Rattle.sx_tmpl.proofs.Running.Holding.{are_part, holds_outside}
 use Rattle.sx_invoke.specs.Marks.{Mark}
 use Rattle.sx_image.specs.Watched.{Watched}
 use Rattle.sx_tmpl.specs.Running.{Regs, Fixed, Data, running, Safe}
 use Rattle.sx_tmpl.specs.Shows.{MemoryHolds}
 use Rattle.sx_tmpl.proofs.Running.Steps.{Text}
+use Rattle.sx_tmpl.specs.Unseen.{AreShown}
 use Rattle.sx_tmpl.proofs.Running.Instructions.{step}
 use Rattle.sx_tmpl.proofs.Running.Flags.{flags_after, equal, unequal}
 use Rattle.sx_tmpl.proofs.Operations.Plain.{inside}
@@ -107,14 +108,18 @@ module _ (f : Fixed) (st : Stands f) (all : List Mark) (B : Watched → Violatio
     abbrev after_turn : Regs → ℕ → ℕ → ℕ → ℕ → Regs
     after_turn r sr dst src left = record r { pc = behind left; sr = sr; r12 = (dst % 65536 + 1 + 0) % 65536; r13 = src + 1; r15 = left }
 
+    -- of these bytes the first
+    first_shown : (a n : ℕ) → AreShown f.setup a n → 1 ≤ n → AreShown f.setup a 1
+    first_shown a n h le = let same : a + 0 ≡ a = omega arith in subst (λ (b : ℕ). AreShown f.setup b 1) same (are_part f.setup a n 0 1 h (omega arith))
+
     -- one byte, or the end
-    one_byte : (r : Regs) (d : Data) (sr dst src b left j : ℕ) (outside : List ℕ) → left < 65535 → f.from ≤ dst → dst < f.to → PrivateByte f src → slice_index d.mem src ≡ b
+    one_byte : (r : Regs) (d : Data) (sr dst src b left j : ℕ) (outside : List ℕ) → left < 65535 → f.from ≤ dst → dst < f.to → PrivateByte f src → AreShown f.setup src 1 → slice_index d.mem src ≡ b
         → MemoryHolds f at back stack priv outside r.sp d.mem → Safe f all (running f (turn_at r sr dst src (suc left)) d)
         → ((v : Violation) → refused f Write bad.Write dst ≡ Some v → B (running f (turn_at r sr dst src (suc left)) d) v)
         → (refused f Write bad.Write dst ≡ None → (m : List ℕ) → m ≡ slice_set d.mem dst b → (sr : ℕ) → MemoryHolds f at back stack priv (slice_set outside dst b) r.sp m
         → Safe f all (running f (after_turn r sr dst src left) (record d { mem = m })) → Runs f all B Q j (running f (after_turn r sr dst src left) (record d { mem = m })))
         → Runs f all B Q (suc (suc (suc (suc j)))) (running f (turn_at r sr dst src (suc left)) d)
-    one_byte r d sr dst src b left j outside lt d1 d2 p is h safe stop allowed =
+    one_byte r d sr dst src b left j outside lt d1 d2 p shown is h safe stop allowed =
         let lim = st.window in
         let up0 : (dst + 0) % 65536 ≡ dst = omega arith in
         let up : (src + 1) % 65536 ≡ src + 1 = omega (arith, p.high, st.beneath) in
@@ -129,6 +134,7 @@ module _ (f : Fixed) (st : Stands f) (all : List Mark) (B : Watched → Violatio
         (suc (suc (suc j))) refl safe (
           src,
           refl,
+          inr shown,
           (λ v e. absurd (none-some v (sym free ∙ e))),
           λ _. (
             dst,
@@ -170,23 +176,23 @@ module _ (f : Fixed) (st : Stands f) (all : List Mark) (B : Watched → Violatio
 
     -- the whole copy: it comes to its end where no byte is refused, and else ends at the first that is
     pub copy_runs : (bs : List ℕ) (b : ℕ) (r : Regs) (d : Data) (sr dst src j : ℕ) (outside : List ℕ) → length bs < 65535 → f.from ≤ dst → dst + suc (length bs) ≤ f.to
-        → PrivateRange f src (suc (length bs)) → BytesAt d.mem src (b ∷ bs)
+        → PrivateRange f src (suc (length bs)) → AreShown f.setup src (suc (length bs)) → BytesAt d.mem src (b ∷ bs)
         → MemoryHolds f at back stack priv outside r.sp d.mem → Safe f all (running f (turn_at r sr dst src (suc (length bs))) d)
         → ((v : Violation) → write_bytes f.setup ds outside dst (b ∷ bs) ≡ Err v → (r2 : Regs) (m2 : List ℕ) → B (running f r2 (record d { mem = m2 })) v)
         → ((mem : List ℕ) → write_bytes f.setup ds outside dst (b ∷ bs) ≡ Ok mem → (sr a s : ℕ) (m2 : List ℕ) → MemoryHolds f at back stack priv mem r.sp m2
         → Safe f all (running f (record r { pc = P + 2 * (k + 2 + 1 + 1 + 1); sr = sr; r12 = a; r13 = s; r15 = 0 }) (record d { mem = m2 }))
         → Runs f all B Q j (running f (record r { pc = P + 2 * (k + 2 + 1 + 1 + 1); sr = sr; r12 = a; r13 = s; r15 = 0 }) (record d { mem = m2 })))
         → Runs f all B Q (4 * suc (length bs) + j) (running f (turn_at r sr dst src (suc (length bs))) d)
-    copy_runs [] b r d sr dst src j outside lt d1 d2 p is h safe stop done =
+    copy_runs [] b r d sr dst src j outside lt d1 d2 p shown is h safe stop done =
         subst (λ j. Runs f all B Q j (running f (turn_at r sr dst src 1) d)) (omega arith)
-        (one_byte r d sr dst src b 0 j outside (omega arith) d1 (omega arith) (record { low = p.low; high = omega (arith, p.high) }) is.0 h safe
+        (one_byte r d sr dst src b 0 j outside (omega arith) d1 (omega arith) (record { low = p.low; high = omega (arith, p.high) }) (first_shown src _ shown (omega arith)) is.0 h safe
         (λ v e. stop v (not_written outside dst b [] v e) (turn_at r sr dst src 1) d.mem)
         (λ ok m em sr3 h2 s3. done (slice_set outside dst b) (written outside dst b [] ok ∙ nothing_written (slice_set outside dst b) (dst + 1)) sr3 ((dst % 65536 + 1 + 0) % 65536) (src + 1) m h2 s3))
-    copy_runs (b2 ∷ bs) b r d sr dst src j outside lt d1 d2 p is h safe stop done =
+    copy_runs (b2 ∷ bs) b r d sr dst src j outside lt d1 d2 p shown is h safe stop done =
         let lim = st.window in
         let next : (dst % 65536 + 1 + 0) % 65536 ≡ dst + 1 = omega arith in
         subst (λ j. Runs f all B Q j (running f (turn_at r sr dst src (suc (suc (length bs)))) d)) (omega arith)
-        (one_byte r d sr dst src b (suc (length bs)) (4 * suc (length bs) + j) outside (omega arith) d1 (omega arith) (record { low = p.low; high = omega (arith, p.high) }) is.0 h safe
+        (one_byte r d sr dst src b (suc (length bs)) (4 * suc (length bs) + j) outside (omega arith) d1 (omega arith) (record { low = p.low; high = omega (arith, p.high) }) (first_shown src _ shown (omega arith)) is.0 h safe
         (λ v e. stop v (not_written outside dst b (b2 ∷ bs) v e) (turn_at r sr dst src (suc (suc (length bs)))) d.mem)
         (λ ok m em sr3 h2 s3.
         let still : BytesAt m (src + 1) (b2 ∷ bs) = bytes_same d.mem m (src + 1) (b2 ∷ bs) (λ c x y. ap (λ (l : List ℕ). slice_index l c) em
@@ -194,7 +200,7 @@ module _ (f : Fixed) (st : Stands f) (all : List Mark) (B : Watched → Violatio
         subst (λ a. Safe f all (running f (turn_at r sr3 a (src + 1) (suc (length bs))) (record d { mem = m }))
         → Runs f all B Q (4 * suc (length bs) + j) (running f (turn_at r sr3 a (src + 1) (suc (length bs))) (record d { mem = m }))) (sym next)
         (λ s. copy_runs bs b2 r (record d { mem = m }) sr3 (dst + 1) (src + 1) j (slice_set outside dst b) (omega arith) (omega arith) (omega arith)
-        (record { low = omega (arith, p.low); high = omega (arith, p.high) }) still h2 s
+        (record { low = omega (arith, p.low); high = omega (arith, p.high) }) (are_part f.setup src (suc (suc (length bs))) 1 (suc (length bs)) shown (omega arith)) still h2 s
         (λ v e. stop v (written outside dst b (b2 ∷ bs) ok ∙ e))
         (λ mem e. done mem (written outside dst b (b2 ∷ bs) ok ∙ e))) s3))
       where

@@ -14,7 +14,7 @@ use Rattle.std.proofs.lemmas.Bool.{cases_Bool, true≢false, or_right, and_from,
 use Rattle.sx_rules.specs.Access.{in_private}
 use Rattle.sx_invoke.specs.Windows.{write_bytes, read_bytes, is_bad_window}
 use Rattle.sx_tmpl.proofs.Running.Outcomes.{ok_err, ok_same, err_same}
-use Rattle.sx_tmpl.proofs.Running.Holding.{IsRange, holds_from, stack_word, data_word, holds_pop, holds_word}
+use Rattle.sx_tmpl.proofs.Running.Holding.{IsRange, holds_from, stack_word, low_shown, data_word, holds_pop, holds_word}
 use Rattle.sx_tmpl.proofs.Operations.Bytes.{BytesAt, stand_from}
 use Rattle.sx_tmpl.proofs.Operations.CopyLoop.{copy_runs}
 use Rattle.sx_tmpl.proofs.Operations.CopyIn.{copy_in_words, copy_in_whole}
@@ -30,6 +30,7 @@ use Rattle.sx_invoke.specs.Marks.{Mark}
 use Rattle.sx_image.specs.Watched.{Watched}
 use Rattle.sx_tmpl.specs.Running.{Regs, Fixed, Data, running, Safe}
 use Rattle.sx_tmpl.proofs.Running.MidRun.{Stands, Runs, later}
+use Rattle.sx_tmpl.specs.Unseen.{HoldsNoKey}
 use Rattle.sx_tmpl.specs.Shows.{base_of, MemoryHolds, ShowsConfiguration, Stood}
 use Rattle.sx_tmpl.proofs.Running.Steps.{Text}
 use Rattle.sx_tmpl.proofs.Operations.Plain.{inside, Leads}
@@ -122,10 +123,10 @@ copy_out_words base n o = templates.copy_out_words (base + 10) (base + o) n
 
 module _ (f : Fixed) (st : Stands f) (all : List Mark) (B : Watched → Violation → Type 0) (at : ℕ → ℕ) where
   -- CopyOut, where the piece lies where pieces go
-  pub copy_out_ends : (c : Conf) (v : ℕ) (rest : List ℕ) (n o : ℕ) → IsRange o (suc n) (length c.priv) → n < 65535 → f.from ≤ saved c 14 + v → saved c 14 + v + suc n ≤ f.to
+  pub copy_out_ends : (c : Conf) (v : ℕ) (rest : List ℕ) (n o : ℕ) → IsRange o (suc n) (length c.priv) → HoldsNoKey (length f.setup.ends) o (suc n) → n < 65535 → f.from ≤ saved c 14 + v → saved c 14 + v + suc n ≤ f.to
       → Ending (copy_out f.setup (record c { stack = v ∷ rest }) (suc n) o v rest) (λ t. Leads f st all B at 12 (copy_out_words (base_of f) (suc n) o) (8 + 4 * suc n)
       (record c { stack = v ∷ rest }) t) (λ x m. Breaks f st all B at 12 (copy_out_words (base_of f) (suc n) o) (8 + 4 * suc n) (record c { stack = v ∷ rest }) x m)
-  copy_out_ends c v rest n o rg lt w1 w2 = test (has_out_window f.setup c && has_copy_room c v (suc n)) refl
+  copy_out_ends c v rest n o rg shown lt w1 w2 = test (has_out_window f.setup c && has_copy_room c v (suc n)) refl
     where
       bytes : List ℕ
       bytes = bytes_from c.priv o (suc n)
@@ -164,7 +165,7 @@ module _ (f : Fixed) (st : Stands f) (all : List Mark) (B : Watched → Violatio
           (later f all B Q (4 * suc (length bs) + 0) (4 * suc (length bs)) _ (omega arith)
           (copy_runs f st all B at Q (at c.place) 12 7 (copy_out_words (base_of f) (suc n) o) t (omega arith) refl refl refl refl d.devices safe.devices c.back rest c.priv bs b r d sr
           (saved c 14 + v) (base_of f + o) 0 c.mem (omega arith) w1 (omega arith)
-          (record { low = omega arith; high = omega arith }) stand h
+          (record { low = omega arith; high = omega arith }) (o, refl, subst (λ (k : ℕ). HoldsNoKey (length f.setup.ends) o k) (sym lb) shown) stand h
           (subst (λ k. Safe f all (running f (record r { pc = at c.place + 14; sr = sr; r12 = saved c 14 + v; r13 = base_of f + o; r15 = k }) d)) (sym lb) safe)
           (λ x e r2 m2. stop x (ap (λ ds. write_bytes f.setup ds c.mem (saved c 14 + v) (b ∷ bs)) (sym dv) ∙ e) (running f r2 (record d { mem = m2 })) mk)
           (λ mem e sr2 a s m2 h2 s2. Here (done mem (ap (λ ds. write_bytes f.setup ds c.mem (saved c 14 + v) (b ∷ bs)) (sym dv)
@@ -187,7 +188,7 @@ module _ (f : Fixed) (st : Stands f) (all : List Mark) (B : Watched → Violatio
           let p1 = stack_word f st r.sp (length (v ∷ rest)) h.top (omega arith) (omega (arith, h.room)) in
           let up : (r.sp + 2) % 65536 ≡ r.sp + 2 = omega (arith, p1.high) in
           let h1 = holds_pop f st at c.back v rest c.priv c.mem r.sp d.mem h in
-          let p10 = data_word f st 10 (omega arith) refl (omega (arith, st.room)) in
+          let p10 = data_word f st 10 (low_shown _ 10 2 (omega arith)) (omega arith) refl (omega (arith, st.room)) in
           let is = holds_word f st at c.back (v ∷ rest) c.priv c.mem r.sp d.mem 10 h refl (record { low = omega arith; beside = inl (omega arith) }) (omega (arith, st.room)) in
           let sum : (v % 65536 + saved c 14 + 0) % 65536 ≡ saved c 14 + v = omega arith in
           let same : bytes_from d.mem (base_of f + o) (suc n) ≡ bytes = holds_from f st at c.back (v ∷ rest) c.priv c.mem r.sp d.mem o (suc n) h rg in

@@ -2,7 +2,7 @@
 use Rattle.sx_isa.specs.Instructions.{first_word}
 use Rattle.sx_isa.specs.Standing.{words_of}
 use Rattle.sx_isa.specs.Assembly.{&◌, pop, push}
-use Rattle.std.proofs.Common.{◌≡◌, ℕ, zero, suc, ◌+◌, ◌-◌, ◌*◌, ◌%◌, ◌<◌, ◌≤◌, true, false, cond, List, [], ◌∷◌, ◌++◌, length, Some, refl, sym, ◌∙◌, ap, subst, arith}
+use Rattle.std.proofs.Common.{◌≡◌, ℕ, zero, suc, ◌+◌, ◌-◌, ◌*◌, ◌%◌, ◌<◌, ◌≤◌, true, false, cond, inr, List, [], ◌∷◌, ◌++◌, length, Some, refl, sym, ◌∙◌, ap, subst, arith}
 use Rattle.sx_reach.specs.Reach.{Here, Next, Goes}
 use Rattle.sx_isa.specs.declared.instruction.Operand.TheVariants.{Increment, Absolute}
 use Rattle.sx_isa.specs.declared.instruction.Op2.TheVariants as op2
@@ -15,7 +15,7 @@ use Rattle.sx_bus.specs.declared.devices.Window.{Window}
 use Rattle.sx_bus.specs.Devices.{device_at, on_word, with_changed, stale, cleared}
 use Rattle.sx_invoke.specs.Marks as mark
 use Rattle.sx_invoke.specs.Marks.{HasPrefix, Mark}
-use Rattle.sx_tmpl.proofs.Running.Steps.{text_word, tests_passed, plain_instruction, fetched, program_two, exec_own, by_outcome, Text, InText, Reads}
+use Rattle.sx_tmpl.proofs.Running.Steps.{text_word, tests_passed, plain_instruction, fetched, program_two, shown_two, step_shown, exec_own, by_outcome, Text, InText, Reads}
 use Rattle.std.proofs.lemmas.List.{append-nil}
 use Rattle.sx_isa.specs.declared.instruction.Instr.{Instr}
 use Rattle.sx_rules.specs.Access.{holder}
@@ -27,20 +27,21 @@ use Rattle.sx_machine.specs.Run.{Moment, Finished, untouched, with_touch, device
 use Rattle.sx_image.specs.Watched.{marks_of_touches, watch, Watched}
 use Rattle.sx_tmpl.proofs.Running.Owned.{may_read, may_write, own_above, run_holder}
 use Rattle.sx_tmpl.proofs.Running.Owes.{load_word, store_word, kept_word}
+use Rattle.sx_tmpl.specs.Unseen.{AreShown, PlanShowsNone, StepShowsNone}
 use Rattle.sx_tmpl.proofs.Running.Mem.{even_is}
 use Rattle.sx_machine.specs.Step.{own_of, start, attempt}
 use Rattle.sx_tmpl.proofs.Running.Flags.{flags_stay, flags_after}
 use Rattle.sx_ir.specs.Conf.{Conf}
 use Rattle.sx_ir.specs.Meaning.{next}
 use Rattle.sx_tmpl.specs.Running.{Regs, regs16, Fixed, Data, running, Safe, cell, OutsideKept}
-use Rattle.sx_tmpl.proofs.Running.MidRun.{Stands, Runs, put_cell}
+use Rattle.sx_tmpl.proofs.Running.MidRun.{Stands, Runs, place_of, put_cell}
 use Rattle.sx_tmpl.specs.Shows.{base_of, Stood}
 use Rattle.sx_machine.specs.Rows.{row}
 use Rattle.sx_machine.specs.Registers.{at_pc}
 use Rattle.std.proofs.lemmas.Bool.{eq-eqb, ne_eqb}
 use Rattle.sx_tmpl.proofs.Operations.Plain.{inside, Leads}
 use Rattle.sx_tmpl.proofs.Running.Instructions.{reads_of}
-use Rattle.sx_tmpl.proofs.Running.Holding.{stack_word, holds_push, holds_pop}
+use Rattle.sx_tmpl.proofs.Running.Holding.{low_shown, stack_word, holds_push, holds_pop}
 
 -- clearing a sensor's sample leaves where the devices are
 at_cleared : (ds : List Window) (i n a : ℕ) → position_from (on_word a) n (with_changed stale ds i) ≡ position_from (on_word a) n ds
@@ -72,14 +73,34 @@ module _ (f : Fixed) (st : Stands f) (all : List Mark) (B : Watched → Violatio
       ∙ ap (λ b. exec_own f st all B Q (row (i u 0) (at_pc (regs16 f r) b) ((r.pc + 4) % 65536)) x) next
       ∙ ap (λ b. exec_own f st all B Q (row (i u 0) (at_pc (regs16 f r) (P + 2 * (k + 1))) b) x) next2
 
+  -- and shows no key, if its plan doesn't
+  two_step : {P n : ℕ} {ws : List ℕ} (t : Text f P n ws) (k w u : ℕ) (i : ℕ → ℕ → Instr) → slice_get ws k ≡ Some w → slice_get ws (k + 1) ≡ Some u → k + 2 ≤ n → Reads w 2 i
+      → (r : Regs) (d : Data) → r.pc ≡ P + 2 * k → Safe f all (running f r d)
+      → PlanShowsNone f.setup (row (i u 0) (at_pc (regs16 f r) ((r.pc + 2) % 65536)) ((r.pc + 4) % 65536)) (start (running f r d).node) → StepShowsNone f.setup (running f r d).node
+  two_step {P = P} {n = n} t k w u i has has1 fits reads r d pc safe shown =
+      let low = t.from in
+      let high = t.to in
+      let ev_ = t.is_even in
+      let lim = st.below in
+      let here : f.setup.section.layout.pub_from ≤ r.pc = omega arith in
+      let ends : r.pc + 1 < f.setup.section.layout.pub_to = omega arith in
+      let ev : r.pc % 2 ≡ 0 = omega arith in
+      let next : (r.pc + 2) % 65536 ≡ P + 2 * (k + 1) = omega arith in
+      let x = start (running f r d).node in
+      let i0 : cell d.mem r.pc ≡ w = text_word f st all B Q d.mem r.pc w safe.memory here ends (ap (cell f.entered) pc ∙ t.word k w has) in
+      let i1 : cell d.mem (P + 2 * (k + 1)) ≡ u = text_word f st all B Q d.mem (P + 2 * (k + 1)) u safe.memory (omega arith) (omega arith) (t.word (k + 1) u has1) in
+      let got = fetched f st all B Q ((r.pc + 2) % 65536) (P + 2 * (k + 1)) u x next (omega arith) (omega arith) (omega arith) safe.devices i1 in
+      step_shown f st all B Q (running f r d).node w ev i0 reads.plain (shown_two f st all B Q w u i (regs16 f r) x reads got shown)
+
   -- a step that touches a device
-  from_touched : (n : ℕ) (r r2 : Regs) (d : Data) (m : List ℕ) (ds : List Window) (ts : List Touch) (new : List Mark) → Safe f all (running f r d) → InText f r.pc → InText f r2.pc
+  from_touched : (n : ℕ) (r r2 : Regs) (d : Data) (m : List ℕ) (ds : List Window) (ts : List Touch) (new : List Mark) → Safe f all (running f r d) → StepShowsNone f.setup (running f r d).node
+      → InText f r.pc → InText f r2.pc
       → attempt f.setup.mac (running f r d).node ≡ Finished (regs16 f r2) (record { mem = m; devices = ds; touches = ts }) → marks_of_touches ts ≡ new → OutsideKept f m
       → ((a : ℕ) → device_at ds a ≡ device_at d.devices a) → HasPrefix all (d.marks ++ new)
       → (Safe f all (running f r2 (record { mem = m; devices = ds; exchange = d.exchange; marks = d.marks ++ new }))
       → Runs f all B Q n (running f r2 (record { mem = m; devices = ds; exchange = d.exchange; marks = d.marks ++ new }))) → Runs f all B Q (suc n) (running f r d)
   unfolding watch
-  from_touched n r r2 d m ds ts new safe here there at_ told kept same marks after =
+  from_touched n r r2 d m ds ts new safe shown here there at_ told kept same marks after =
       let c = running f r d in
       let d2 : Data = record { mem = m; devices = ds; exchange = d.exchange; marks = d.marks ++ new } in
       let own : own_of c.node ≡ f.setup.section.id = run_holder f st r.pc here.from here.to in
@@ -88,7 +109,7 @@ module _ (f : Fixed) (st : Stands f) (all : List Mark) (B : Watched → Violatio
       let ne : (f.setup.section.id == 0) ≡ false = ne_eqb f.setup.section.id 0 (omega (arith, own_above f st)) in
       let s : watch f.setup.mac c ≡ Goes (running f r2 d2) = ap (by_outcome f st all B Q c) at_
       ∙ rw (own, to, eq, ne) (ap (λ l. Goes (running f r2 (record d2 { marks = d.marks ++ l }))) (append-nil (marks_of_touches ts) ∙ told)) in
-      Next {k = n} safe s (omega arith) (after (record { inside = to; sections = refl; memory = kept; devices = λ a. same a ∙ safe.devices a; marks = marks }))
+      Next {k = n} (safe, shown) s (omega arith) (after (record { inside = to; sections = refl; memory = kept; devices = λ a. same a ∙ safe.devices a; marks = marks }))
 
 module _ (f : Fixed) (st : Stands f) (all : List Mark) (B : Watched → Violation → Type 0) (at : ℕ → ℕ) where
   base_word : f.setup.section.layout.priv_from + 2 ≤ f.setup.section.layout.priv_to
@@ -142,11 +163,13 @@ module _ (f : Fixed) (st : Stands f) (all : List Mark) (B : Watched → Violatio
       ap (λ r. after_write r (λ y. Finished g y)) (store_actuator x (cell d.mem r.sp) i w here kind)
       ∙ ap (λ v. Finished g (record x { touches = with_touch untouched (DeviceWrite i v) })) is
       ∙ ap (λ g. Finished g (record x { touches = with_touch untouched (DeviceWrite i v) })) (rw (up, flags_stay r.sr) refl) in
+      let shown = two_step f st all B Q t 0 (first_word (pop (& 0))) (base_of f) (λ x y. Two op2.Mov false (Increment 1) (Absolute x)) refl refl (omega arith)
+      (reads_of (pop (& 0)) refl refl) r d (omega (arith, sh.pc)) safe (inr (subst (λ (a : ℕ). AreShown f.setup a 2) (sym (even_is r.sp p1.is_even)) p1.shown, λ v y e z g. tt)) in
       let at_ = two_attempt f st all B Q t 0 (first_word (pop (& 0))) (base_of f) (λ x y. Two op2.Mov false (Increment 1) (Absolute x)) refl refl (omega arith)
       (reads_of (pop (& 0)) refl refl) r d (omega (arith, sh.pc)) safe
-      ∙ ap (λ r. after_read r (λ v y. after_write (store f.setup.live f.setup.section.id true (base_of f) v y) (λ y. Finished g y))) (load_word f st r.sp r.sp x refl p1 safe.devices) ∙ done in
+      ∙ ap (λ r. after_read r (λ v y. after_write (store f.setup.live f.setup.section.id true (base_of f) v y) (λ y. Finished g y))) (load_word f st r.sp r.sp x refl (place_of p1) safe.devices) ∙ done in
       let mk : d.marks ++ mark.Actuated i v ∷ [] ≡ c.marks ++ mark.Actuated i v ∷ [] = ap (λ l. l ++ mark.Actuated i v ∷ []) sh.marks in
-      from_touched f st all B Q 0 r r2 d d.mem d.devices (with_touch untouched (DeviceWrite i v)) (mark.Actuated i v ∷ []) safe (record { from = omega (arith, sh.pc); to = omega (arith, sh.pc) })
+      from_touched f st all B Q 0 r r2 d d.mem d.devices (with_touch untouched (DeviceWrite i v)) (mark.Actuated i v ∷ []) safe shown (record { from = omega (arith, sh.pc); to = omega (arith, sh.pc) })
       (inside t 2 (omega arith)) at_ refl safe.memory (λ a. refl) (subst (λ l. HasPrefix all l) (sym mk) begins)
       (λ s. Here (record {
         regs = r2;
@@ -179,15 +202,18 @@ module _ (f : Fixed) (st : Stands f) (all : List Mark) (B : Watched → Violatio
       let same : (a : ℕ) → device_at (cleared d.devices i) a ≡ device_at f.devices a = λ a. at_cleared d.devices i 0 a ∙ safe.devices a in
       let g : List ℕ = at_pc (slice_set (at_pc (regs16 f r) (at c.place + 2)) 1 ((r.sp + 65534) % 65536)) (at c.place + 4) in
       let m2 = put_cell d.mem sp v in
+      let zero_at : base_of f ≡ base_of f + 0 = omega arith in
+      let shown = two_step f st all B Q t 0 (first_word (push (& 0))) (base_of f) (λ x y. One op1.Push false (Absolute x)) refl refl (omega arith)
+      (reads_of (push (& 0)) refl refl) r d (omega (arith, sh.pc)) safe (inr ((0, even_is (base_of f) st.base_even ∙ zero_at, low_shown (length f.setup.ends) 0 2 (omega arith)), λ v y e z g. tt)) in
       let at_ = two_attempt f st all B Q t 0 (first_word (push (& 0))) (base_of f) (λ x y. One op1.Push false (Absolute x)) refl refl (omega arith)
       (reads_of (push (& 0)) refl refl) r d (omega (arith, sh.pc)) safe
       ∙ ap (λ r_. after_read r_ (λ v y. after_write (store f.setup.live f.setup.section.id true ((r.sp + 65534) % 65536) v y) (λ y. Finished g y))) (load_fresh x i w here kind fresh)
-      ∙ ap (λ o. after_write o (λ y. Finished g y)) (store_word f st ((r.sp + 65534) % 65536) sp v y down pr same)
+      ∙ ap (λ o. after_write o (λ y. Finished g y)) (store_word f st ((r.sp + 65534) % 65536) sp v y down (place_of pr) same)
       ∙ ap (λ g. Finished g (record y { mem = m2 })) (rw down refl) in
       let mk : d.marks ++ mark.Sampled i w.value ∷ [] ≡ c.marks ++ mark.Sampled i w.value ∷ [] = ap (λ l. l ++ mark.Sampled i w.value ∷ []) sh.marks in
-      from_touched f st all B Q 0 r r2 d m2 (cleared d.devices i) (with_touch untouched (DeviceRead i w.value)) (mark.Sampled i w.value ∷ []) safe
+      from_touched f st all B Q 0 r r2 d m2 (cleared d.devices i) (with_touch untouched (DeviceRead i w.value)) (mark.Sampled i w.value ∷ []) safe shown
       (record { from = omega (arith, sh.pc); to = omega (arith, sh.pc) }) (inside t 2 (omega arith)) at_ refl
-      (kept_word f st d.mem sp v safe.memory pr (omega arith)) (λ a. at_cleared d.devices i 0 a) (subst (λ l. HasPrefix all l) (sym mk) begins)
+      (kept_word f st d.mem sp v safe.memory (place_of pr) (omega arith)) (λ a. at_cleared d.devices i 0 a) (subst (λ l. HasPrefix all l) (sym mk) begins)
       (λ s. Here (record {
         regs = r2;
         rest = record { mem = m2; devices = cleared d.devices i; exchange = d.exchange; marks = d.marks ++ mark.Sampled i w.value ∷ [] };
@@ -217,13 +243,16 @@ module _ (f : Fixed) (st : Stands f) (all : List Mark) (B : Watched → Violatio
       let here : device_of d.devices (base_of f) ≡ Some (i, w) = ap (λ ds. device_of ds (base_of f)) sh.devices ∙ found in
       let g : List ℕ = at_pc (slice_set (at_pc (regs16 f r) (at c.place + 2)) 1 ((r.sp + 65534) % 65536)) (at c.place + 4) in
       let m2 = put_cell d.mem sp 0 in
+      let zero_at : base_of f ≡ base_of f + 0 = omega arith in
+      let shown = two_step f st all B Q t 0 (first_word (push (& 0))) (base_of f) (λ x y. One op1.Push false (Absolute x)) refl refl (omega arith)
+      (reads_of (push (& 0)) refl refl) r d (omega (arith, sh.pc)) safe (inr ((0, even_is (base_of f) st.base_even ∙ zero_at, low_shown (length f.setup.ends) 0 2 (omega arith)), λ v y e z g. tt)) in
       let at_ = two_attempt f st all B Q t 0 (first_word (push (& 0))) (base_of f) (λ x y. One op1.Push false (Absolute x)) refl refl (omega arith)
       (reads_of (push (& 0)) refl refl) r d (omega (arith, sh.pc)) safe
       ∙ ap (λ r_. after_read r_ (λ v y. after_write (store f.setup.live f.setup.section.id true ((r.sp + 65534) % 65536) v y) (λ y. Finished g y))) (load_stale x i w here kind fresh)
-      ∙ ap (λ o. after_write o (λ y. Finished g y)) (store_word f st ((r.sp + 65534) % 65536) sp 0 x down pr safe.devices)
+      ∙ ap (λ o. after_write o (λ y. Finished g y)) (store_word f st ((r.sp + 65534) % 65536) sp 0 x down (place_of pr) safe.devices)
       ∙ ap (λ g. Finished g (record x { mem = m2 })) (rw down refl) in
-      from_touched f st all B Q 0 r r2 d m2 d.devices untouched [] safe (record { from = omega (arith, sh.pc); to = omega (arith, sh.pc) }) (inside t 2 (omega arith)) at_ refl
-      (kept_word f st d.mem sp 0 safe.memory pr (omega arith)) (λ a. refl) (subst (λ l. HasPrefix all l) (sym (append-nil d.marks)) safe.marks)
+      from_touched f st all B Q 0 r r2 d m2 d.devices untouched [] safe shown (record { from = omega (arith, sh.pc); to = omega (arith, sh.pc) }) (inside t 2 (omega arith)) at_ refl
+      (kept_word f st d.mem sp 0 safe.memory (place_of pr) (omega arith)) (λ a. refl) (subst (λ l. HasPrefix all l) (sym (append-nil d.marks)) safe.marks)
       (λ s. Here (record {
         regs = r2;
         rest = record { mem = m2; devices = d.devices; exchange = d.exchange; marks = d.marks ++ [] };

@@ -15,8 +15,8 @@ use Rattle.sx_bus.specs.Devices.{device_at}
 use Rattle.sx_rules.specs.declared.access.Violation.TheVariants as bad
 use Rattle.sx_rules.specs.Access.{in_private, holder, in_order}
 use Rattle.sx_tmpl.proofs.Running.Mem.{put_word_is, word_is, length-put, even_is, get-put_other}
-use Rattle.sx_tmpl.proofs.Running.Holding.{same_word, outside_stays, data_word, holds_store}
-use Rattle.sx_tmpl.proofs.Running.Steps.{text_word, fetched, program_two, by_outcome, Text, InText, Then, NoTell}
+use Rattle.sx_tmpl.proofs.Running.Holding.{same_word, outside_stays, low_shown, mid_shown, data_place, data_word, holds_store}
+use Rattle.sx_tmpl.proofs.Running.Steps.{text_word, fetched, program_two, shown_two, step_shown, by_outcome, Text, InText, Then, NoTell}
 use Rattle.std.proofs.lemmas.List.{append-nil}
 use Rattle.sx_machine.specs.Run.{Outcome, Finished, Violated, Module}
 use Rattle.sx_machine.specs.Step.{own_of, start, attempt, instruction, ordered, word_outside, entered_from}
@@ -24,7 +24,8 @@ use Rattle.std.proofs.lemmas.Bool.{and_from, eq-eqb, ne_eqb}
 use Rattle.sx_image.specs.Watched.{watch, Watched}
 use Rattle.sx_tmpl.specs.Running.{sections_of, Regs, regs16, Fixed, Data, running, Safe, cell, OutsideKept}
 use Rattle.sx_tmpl.proofs.Running.Owned.{own_above, run_holder, run_outside, entry_in_order, in_public_yes}
-use Rattle.sx_tmpl.proofs.Running.Owes.{Met, owes_met, Owes}
+use Rattle.sx_tmpl.proofs.Running.Owes.{Met, owes_met, owes_shown, Owes}
+use Rattle.sx_tmpl.specs.Unseen.{StepShowsNone}
 use Rattle.sx_tmpl.proofs.Running.Flags.{flags_stay}
 use Rattle.sx_machine.specs.Memory.{word, put_word}
 use Rattle.sx_invoke.specs.Marks.{Mark}
@@ -55,11 +56,11 @@ entering f r d last caller e = record {
 }
 
 module _ (f : Fixed) (st : Stands f) (all : List Mark) (B : Watched → Violation → Type 0) (at : ℕ → ℕ) (Q : Watched → Type 0) where
-  from_entry : (n : ℕ) (r : Regs) (d : Data) (last caller : ℕ) (e : Event) (o : Outcome) → Safe f all (entering f r d last caller e) → InText f r.pc
+  from_entry : (n : ℕ) (r : Regs) (d : Data) (last caller : ℕ) (e : Event) (o : Outcome) → Safe f all (entering f r d last caller e) → StepShowsNone f.setup (entering f r d last caller e).node → InText f r.pc
       → entered_from (entering f r d last caller e).node f.setup.section.id ≡ f.caller → attempt f.setup.mac (entering f r d last caller e).node ≡ o
       → Met f (Then f st all B Q n d) (NoTell f st all B Q) (B (entering f r d last caller e)) (start (entering f r d last caller e).node) o → Runs f all B Q (suc n) (entering f r d last caller e)
   unfolding watch
-  from_entry n r d last caller e (Finished regs y) safe here from at_ h =
+  from_entry n r d last caller e (Finished regs y) safe shown here from at_ h =
       let c = entering f r d last caller e in
       let r2 = h.2.0 in
       let d2 : Data = record d { mem = y.mem } in
@@ -72,9 +73,9 @@ module _ (f : Fixed) (st : Stands f) (all : List Mark) (B : Watched → Violatio
       let s : watch f.setup.mac c ≡ Goes (running f r2 d2) = ap (by_outcome f st all B Q c) (at_ ∙ is)
       ∙ rw (own, to, from, same, ne) (ap (λ l. Goes (running f r2 (record d2 { marks = l }))) (append-nil d.marks)) in
       let safe2 : Safe f all (running f r2 d2) = record { inside = to; sections = refl; memory = h.1; devices = safe.devices; marks = safe.marks } in
-      Next {k = n} safe s (omega arith) (h.2.3 safe2)
-  from_entry n r d last caller e (Violated v) safe here from at_ h = Ends safe (rw at_ refl) (omega arith) h
-  from_entry n r d last caller e (Module regs y t event exchange) safe here from at_ h = absurd h.3
+      Next {k = n} (safe, shown) s (omega arith) (h.2.3 safe2)
+  from_entry n r d last caller e (Violated v) safe shown here from at_ h = Ends (safe, shown) (rw at_ refl) (omega arith) h
+  from_entry n r d last caller e (Module regs y t event exchange) safe shown here from at_ h = absurd h.3
 
   -- the first instruction
   first : (t : Text f f.setup.section.layout.pub_from 12 (entry_words (base_of f))) (r : Regs) (d : Data) (last caller : ℕ) (e : Event) (j : ℕ) → r.pc ≡ f.setup.section.layout.pub_from
@@ -113,7 +114,10 @@ module _ (f : Fixed) (st : Stands f) (all : List Mark) (B : Watched → Violatio
       ∙ ap (λ b. cond b (instruction f.setup.mac s) (Violated bad.Order)) ord
       ∙ rw (w0, own) refl
       ∙ program_two f st all B Q w (base_of f + 148) (λ x y. Two op2.Mov false (Reg 1) (Absolute x)) (regs16 f r) x reads got in
-      from_entry j r d last caller e _ safe (record { from = here; to = omega arith }) from at_
+      let p = row (Two op2.Mov false (Reg 1) (Absolute (base_of f + 148))) (at_pc (regs16 f r) ((r.pc + 2) % 65536)) ((r.pc + 4) % 65536) in
+      let shown = step_shown f st all B Q s w ev i0 plain (shown_two f st all B Q w (base_of f + 148) (λ x y. Two op2.Mov false (Reg 1) (Absolute x)) (regs16 f r) x reads got
+      (owes_shown f st (Then f st all B Q j d) (NoTell f st all B Q) (B (entering f r d last caller e)) p x safe.devices safe.memory owed)) in
+      from_entry j r d last caller e _ safe shown (record { from = here; to = omega arith }) from at_
       (owes_met f st (Then f st all B Q j d) (NoTell f st all B Q) (B (entering f r d last caller e))
       (row (Two op2.Mov false (Reg 1) (Absolute (base_of f + 148))) (at_pc (regs16 f r) ((r.pc + 2) % 65536)) ((r.pc + 4) % 65536)) x safe.devices safe.memory owed)
 
@@ -147,7 +151,7 @@ module _ (f : Fixed) (st : Stands f) (all : List Mark) (B : Watched → Violatio
   -- SP is saved first
   holds_first : (priv outside m : List ℕ) → Loaded f priv outside m → OutsideKept f m → MemoryHolds f at None [] priv outside (base_of f + 512) (put_cell m (base_of f + 148) f.sp)
   holds_first priv outside m l k =
-      let p = data_word f st 148 (omega arith) refl (omega (arith, st.room)) in
+      let p = data_place f st 148 (omega arith) refl (omega (arith, st.room)) in
       record {
         top = omega arith;
         room = omega arith;
@@ -189,11 +193,11 @@ module _ (f : Fixed) (st : Stands f) (all : List Mark) (B : Watched → Violatio
       let l14 = calls.r14 in
       let l15 = calls.r15 in
       let ls : f.sp < 65536 = omega arith in
-      let p148 = data_word f st 148 (omega arith) refl (omega (arith, st.room)) in
-      let p6 = data_word f st 6 (omega arith) refl (omega (arith, st.room)) in
-      let p8 = data_word f st 8 (omega arith) refl (omega (arith, st.room)) in
-      let p10 = data_word f st 10 (omega arith) refl (omega (arith, st.room)) in
-      let p12 = data_word f st 12 (omega arith) refl (omega (arith, st.room)) in
+      let p148 = data_word f st 148 (mid_shown _ 148 2 (omega arith) (omega arith)) (omega arith) refl (omega (arith, st.room)) in
+      let p6 = data_word f st 6 (low_shown _ 6 2 (omega arith)) (omega arith) refl (omega (arith, st.room)) in
+      let p8 = data_word f st 8 (low_shown _ 8 2 (omega arith)) (omega arith) refl (omega (arith, st.room)) in
+      let p10 = data_word f st 10 (low_shown _ 10 2 (omega arith)) (omega arith) refl (omega (arith, st.room)) in
+      let p12 = data_word f st 12 (low_shown _ 12 2 (omega arith)) (omega arith) refl (omega (arith, st.room)) in
       let next : (r.pc + 4) % 65536 ≡ P + 4 = omega arith in
       let sp2 : (b + 512) % 65536 - (b + 512) % 65536 % 2 ≡ b + 512 = omega (arith, st.base_even, st.room, st.beneath) in
       let m0 = put_cell d.mem (b + 148) f.sp in

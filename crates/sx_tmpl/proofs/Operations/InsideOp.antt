@@ -19,7 +19,8 @@ use Rattle.sx_machine.specs.Step.{start, attempt}
 use Rattle.sx_isa.specs.Reading.{length_of, instruction_at}
 use Rattle.sx_image.specs.Watched.{watch, Watched}
 use Rattle.sx_tmpl.specs.Running.{sections_of, Regs, regs16, Fixed, Data, running, Safe, cell}
-use Rattle.sx_tmpl.proofs.Running.Steps.{text_word, tests_passed, plain_instruction, Text}
+use Rattle.sx_tmpl.proofs.Running.Steps.{text_word, tests_passed, plain_instruction, step_shown, Text}
+use Rattle.sx_tmpl.specs.Unseen.{PlanShowsNone}
 use Rattle.sx_ir.specs.Conf.{Violates, Conf}
 use Rattle.sx_ir.specs.Meaning.{saved, next}
 use Rattle.sx_tmpl.proofs.Running.Flags.{flags_stay, flags_after, no_borrow, borrow}
@@ -28,12 +29,16 @@ use Rattle.sx_tmpl.proofs.Running.MidRun.{Stands, Runs}
 use Rattle.sx_tmpl.specs.Shows.{base_of, MemoryHolds, ShowsConfiguration, Stood}
 use Rattle.std.specs.Prelude.{slice_get}
 use Rattle.sx_tmpl.proofs.Operations.Plain.{inside, Leads}
-use Rattle.sx_tmpl.proofs.Running.Holding.{data_word, holds_word, cell_below}
+use Rattle.sx_tmpl.proofs.Running.Holding.{low_shown, data_word, holds_word, cell_below}
 
 module _ (f : Fixed) (st : Stands f) (all : List Mark) (B : Watched → Violation → Type 0) (Q : Watched → Type 0) where
   illegal_program : (regs : List ℕ) (x : Rattle.sx_machine.specs.Run.Moment) → exec (sections_of f) f.setup.section.id (program 0 regs) x ≡ Violated bad.Illegal
   unfolding program length_of instruction_at
   illegal_program regs x = refl
+
+  illegal_shown : (regs : List ℕ) (x : Rattle.sx_machine.specs.Run.Moment) → PlanShowsNone f.setup (program 0 regs) x
+  unfolding program length_of instruction_at
+  illegal_shown regs x = tt
 
   -- a word that is no instruction
   pub illegal_step : {P n : ℕ} {ws : List ℕ} (t : Text f P n ws) (k : ℕ) → slice_get ws k ≡ Some 0 → k + 1 ≤ n → (r : Regs) (d : Data) (j : ℕ) → r.pc ≡ P + 2 * k → Safe f all (running f r d)
@@ -49,7 +54,7 @@ module _ (f : Fixed) (st : Stands f) (all : List Mark) (B : Watched → Violatio
       let i0 : cell d.mem r.pc ≡ 0 = text_word f st all B Q d.mem r.pc 0 safe.memory here ends (ap (cell f.entered) pc ∙ t.word k 0 has) in
       let at_ : attempt f.setup.mac (running f r d).node ≡ Violated bad.Illegal = tests_passed f st all B Q event.Quiet r d safe here ends ev
       ∙ plain_instruction f st all B Q event.Quiet r d 0 here ends ev i0 refl ∙ illegal_program (regs16 f r) (start (running f r d).node) in
-      Ends safe (rw at_ refl) (omega arith) b
+      Ends (safe, step_shown f st all B Q (running f r d).node 0 ev i0 refl (illegal_shown (regs16 f r) (start (running f r d).node))) (rw at_ refl) (omega arith) b
 
 abbrev pub inside_words : Fixed → List ℕ
 inside_words f = templates.inside_words (base_of f + 12) f.setup.section.layout.pub_from f.setup.section.layout.pub_to
@@ -66,7 +71,7 @@ module _ (f : Fixed) (st : Stands f) (all : List Mark) (B : Watched → Violatio
       let lim = st.below in
       let fe = st.from_even in
       let te = st.to_even in
-      let p12 = data_word f st 12 (omega arith) refl (omega (arith, st.room)) in
+      let p12 = data_word f st 12 (low_shown _ 12 2 (omega arith)) (omega arith) refl (omega (arith, st.room)) in
       let is = holds_word f st at c.back c.stack c.priv c.mem r.sp d.mem 12 h refl (record { low = omega arith; beside = inl (omega arith) }) (let z = h.size in let y = st.room in omega arith) in
       let lx : x < 65536 = subst (λ (n : ℕ). n < 65536) is (cell_below f st d.mem (base_of f + 12) safe.memory) in
       let lf : l.pub_from < 65536 = omega (arith, t.from, t.to) in

@@ -13,7 +13,7 @@ use Rattle.sx_rules.specs.declared.access.Violation.{Violation}
 use Rattle.sx_machine.specs.declared.kinds.Event.TheVariants as event
 use Rattle.std.proofs.lemmas.Option.{same_Some}
 use Rattle.std.proofs.lemmas.Bool.{true≢false, cases_eq, eq-eqb, ne_eqb}
-use Rattle.sx_tmpl.proofs.Running.Steps.{text_word, tests_passed, plain_instruction, fetched, program_two, onward_to, by_outcome, Text, InText, NoTell}
+use Rattle.sx_tmpl.proofs.Running.Steps.{text_word, tests_passed, plain_instruction, fetched, program_two, shown_two, step_shown, onward_to, by_outcome, Text, InText, NoTell}
 use Rattle.std.proofs.lemmas.List.{append-nil}
 use Rattle.sx_isa.specs.declared.instruction.Instr.{Instr}
 use Rattle.sx_rules.specs.declared.section.Section.{Section}
@@ -25,7 +25,8 @@ use Rattle.sx_image.specs.Watched.{watch, Watched}
 use Rattle.sx_ir.specs.Meaning.{saved}
 use Rattle.sx_tmpl.specs.Running.{sections_of, Regs, regs16, Fixed, Data, running, Safe, cell, OutsideKept}
 use Rattle.sx_tmpl.proofs.Running.Owned.{own_above, run_holder}
-use Rattle.sx_tmpl.proofs.Running.Owes.{Met, owes_met}
+use Rattle.sx_tmpl.proofs.Running.Owes.{Met, Owes, owes_met, owes_shown}
+use Rattle.sx_tmpl.specs.Unseen.{StepShowsNone}
 use Rattle.sx_tmpl.proofs.Running.Flags.{flags_stay, flags_after}
 use Rattle.sx_invoke.specs.Marks.{Mark}
 use Rattle.sx_ir.specs.Conf.{Conf}
@@ -35,7 +36,7 @@ use Rattle.sx_machine.specs.Rows.{row}
 use Rattle.sx_machine.specs.Registers.{at_pc}
 use Rattle.std.specs.Prelude.{slice_get, ◌==◌}
 use Rattle.sx_tmpl.proofs.Operations.Plain.{inside}
-use Rattle.sx_tmpl.proofs.Running.Holding.{stack_word, data_word, holds_word}
+use Rattle.sx_tmpl.proofs.Running.Holding.{stack_word, low_shown, mid_shown, data_word, holds_word}
 
 -- what holds a byte is a live section with it in its public part
 holder_from : (live : List Section) (a i : ℕ) → holder live a ≡ i → 0 < i → (u : Section) × Lives live u × (in_public u a ≡ true) × (u.id ≡ i)
@@ -81,10 +82,10 @@ module _ (f : Fixed) (st : Stands f) (all : List Mark) (B : Watched → Violatio
     | inr ne ↦ ne_eqb (holder f.setup.live a) f.setup.section.id ne
   ]
 
-  from_exit : (n : ℕ) (r : Regs) (d : Data) (o : Outcome) → Safe f all (running f r d) → InText f r.pc → attempt f.setup.mac (running f r d).node ≡ o
+  from_exit : (n : ℕ) (r : Regs) (d : Data) (o : Outcome) → Safe f all (running f r d) → StepShowsNone f.setup (running f r d).node → InText f r.pc → attempt f.setup.mac (running f r d).node ≡ o
       → Met f (Out n d) (NoTell f st all B Q) (B (running f r d)) (start (running f r d).node) o → Runs f all B Q (suc n) (running f r d)
   unfolding watch
-  from_exit n r d (Finished regs y) safe here at h =
+  from_exit n r d (Finished regs y) safe shown here at h =
       let c = running f r d in
       let r2 = h.2.0 in
       let d2 : Data = record d { mem = y.mem } in
@@ -96,9 +97,9 @@ module _ (f : Fixed) (st : Stands f) (all : List Mark) (B : Watched → Violatio
       let ne : (f.setup.section.id == 0) ≡ false = ne_eqb f.setup.section.id 0 (omega (arith, own_above f st)) in
       let s : watch f.setup.mac c ≡ Goes (exited f r2 d2) = ap (by_outcome f st all B Q c) (at ∙ is)
       ∙ rw (own, away, same, ne) (ap (λ l. Goes (exited f r2 (record d2 { marks = l }))) (append-nil d.marks)) in
-      Next {k = n} safe s (omega arith) (h.2.3 h.1)
-  from_exit n r d (Violated v) safe here at h = Ends safe (rw at refl) (omega arith) h
-  from_exit n r d (Module regs y t event exchange) safe here at h = absurd h.3
+      Next {k = n} (safe, shown) s (omega arith) (h.2.3 h.1)
+  from_exit n r d (Violated v) safe shown here at h = Ends (safe, shown) (rw at refl) (omega arith) h
+  from_exit n r d (Module regs y t event exchange) safe shown here at h = absurd h.3
 
 -- the registers at the exit
 abbrev pub exit_regs : Fixed → ℕ → ℕ → ℕ → Regs
@@ -139,13 +140,16 @@ module _ (f : Fixed) (st : Stands f) (all : List Mark) (B : Watched → Violatio
       let got = fetched f st all B Q ((r.pc + 2) % 65536) (P + 2 * (k + 1)) (base_of f + 12) x next (omega arith) (omega arith) (omega arith) safe.devices i1 in
       let at_ = tests_passed f st all B Q event.Quiet r d safe here ends ev ∙ plain_instruction f st all B Q event.Quiet r d w here ends ev i0 reads.plain
       ∙ program_two f st all B Q w (base_of f + 12) ii (regs16 f r) x reads got in
-      let p12 = data_word f st 12 (omega arith) refl (omega (arith, st.room)) in
+      let p12 = data_word f st 12 (low_shown _ 12 2 (omega arith)) (omega arith) refl (omega (arith, st.room)) in
       let r2 = record r { pc = back - back % 2; sr = 0 } in
       let stay : flags_after op2.Mov 0 0 r.sr ≡ 0 = flags_stay r.sr ∙ sr0 in
-      from_exit f st all B Q 0 r d _ safe (record { from = here; to = omega arith }) at_
-      (owes_met f st (Out f st all B Q 0 d) (NoTell f st all B Q) (B (running f r d)) (row (Two op2.Mov false (Absolute (base_of f + 12)) (Reg 0)) (at_pc (regs16 f r) ((r.pc + 2) % 65536))
-      ((r.pc + 4) % 65536)) x safe.devices safe.memory
-      (base_of f + 12, refl, p12, back, is, λ kept. (r2, rw stay refl, out, λ kept2. Here (after kept2))))
+      let p = row (ii (base_of f + 12) 0) (at_pc (regs16 f r) ((r.pc + 2) % 65536)) ((r.pc + 4) % 65536) in
+      let O = Out f st all B Q 0 d in
+      let T = NoTell f st all B Q in
+      let owed : Owes f O T (B (running f r d)) p d.mem = (base_of f + 12, refl, p12, back, is, λ kept. (r2, rw stay refl, out, λ kept2. Here (after kept2))) in
+      let shown = step_shown f st all B Q (running f r d).node w ev i0 reads.plain (shown_two f st all B Q w (base_of f + 12) ii (regs16 f r) x reads got
+      (owes_shown f st O T (B (running f r d)) p x safe.devices safe.memory owed)) in
+      from_exit f st all B Q 0 r d _ safe shown (record { from = here; to = omega arith }) at_ (owes_met f st O T (B (running f r d)) p x safe.devices safe.memory owed)
 
   pub leave_run : (c : Conf) (status count : ℕ) (rest : List ℕ) → f.sp % 2 ≡ 0 → in_public f.setup.section (saved c 15 - saved c 15 % 2) ≡ false → 14 ≤ length c.priv → (r : Regs) (d : Data)
       → Text f (at c.place) 17 (leave_words (base_of f)) → ShowsConfiguration f at (record c { stack = count ∷ status ∷ rest }) r d → Safe f all (running f r d)
@@ -161,7 +165,7 @@ module _ (f : Fixed) (st : Stands f) (all : List Mark) (B : Watched → Violatio
       let stay = flags_stay r.sr in
       let i12 : IsData 12 = record { low = omega arith; beside = inl (omega arith) } in
       let back : cell d.mem (base_of f + 12) ≡ saved c 15 = holds_word f st at c.back (count ∷ status ∷ rest) c.priv c.mem r.sp d.mem 12 h refl i12 long in
-      let p148 = data_word f st 148 (omega arith) refl (omega (arith, st.room)) in
+      let p148 = data_word f st 148 (mid_shown _ 148 2 (omega arith) (omega arith)) (omega arith) refl (omega (arith, st.room)) in
       let spe : f.sp - f.sp % 2 ≡ f.sp = omega (arith, sp_even) in
       let r1 = record r { pc = at c.place + 2; sp = r.sp + 2; r13 = count } in
       let q0 = record r1 { pc = at c.place + 4; sp = r.sp + 4; r12 = status } in

@@ -20,7 +20,7 @@ use Rattle.sx_tmpl.proofs.Running.MidRun.{Stands, Runs, put_cell}
 use Rattle.sx_tmpl.specs.Shows.{base_of, MemoryHolds, Stood}
 use Rattle.std.specs.Prelude.{nat_lt}
 use Rattle.sx_tmpl.proofs.Operations.Plain.{inside, Leads, stood}
-use Rattle.sx_tmpl.proofs.Running.Holding.{stack_word, data_word, holds_push, holds_word, cell_below}
+use Rattle.sx_tmpl.proofs.Running.Holding.{low_shown, stack_word, data_word, holds_push, holds_word, cell_below}
 use Rattle.sx_lists.specs.Truth.{truth}
 
 abbrev pub meets_words : Fixed → ℕ → ℕ → List ℕ
@@ -57,7 +57,7 @@ module _ (f : Fixed) (st : Stands f) (all : List Mark) (B : Watched → Violatio
       let lim = st.below in
       let beneath = st.beneath in
       let o = working.saved_at q in
-      let po = data_word f st o (omega arith) (omega arith) (omega (arith, st.room)) in
+      let po = data_word f st o (low_shown _ o 2 (omega arith)) (omega arith) (omega arith) (omega (arith, st.room)) in
       let is = holds_word f st at c.back c.stack c.priv c.mem r.sp d.mem o h (omega arith) (record { low = omega arith; beside = inl (omega arith) }) (let z = h.size in let y = st.room in
       omega arith) in
       let lx : x < 65536 = subst (λ (n : ℕ). n < 65536) is (cell_below f st d.mem (base_of f + o) safe.memory) in

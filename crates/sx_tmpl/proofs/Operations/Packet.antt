@@ -12,9 +12,9 @@ use Rattle.sx_machine.specs.declared.kinds.Event.{Event}
 use Rattle.sx_machine.specs.declared.kinds.Event.TheVariants as event
 use Rattle.std.specs.Prelude.{Ok, Err, drop, take, nat_lt, ◌==◌}
 use Rattle.sx_invoke.specs.Windows.{write_bytes}
-use Rattle.sx_tmpl.proofs.Running.MidRun.{PrivateRange, PrivateWord, Stands, Runs, later, put_cell}
+use Rattle.sx_tmpl.proofs.Running.MidRun.{PrivateRange, PrivateWord, Stands, Runs, later, place_of, put_cell}
 use Rattle.sx_tmpl.proofs.Running.Mem.{cell-put_other, put_word_is, word_is, length-put}
-use Rattle.sx_tmpl.proofs.Running.Holding.{same_word, holds_under, holds_under_bytes, stack_word, data_word, holds_pop, holds_store, holds_word, cell_below}
+use Rattle.sx_tmpl.proofs.Running.Holding.{same_word, holds_under, holds_under_bytes, stack_word, low_shown, mid_shown, slot_shown, data_word, holds_pop, holds_store, holds_word, cell_below}
 use Rattle.sx_tag.specs.Mac.{IsTag}
 use Rattle.sx_tmpl.proofs.Operations.Bytes.{BytesAt, bytes_same, bytes_append, bytes_put, put_bytes_other, pair, six, bytes_agree, cipher_bytes, tag_bytes, length_cipher}
 use Rattle.sx_tmpl.proofs.Operations.Bytes.{length_tag, length-put_bytes, stand_from}
@@ -43,7 +43,7 @@ abbrev pub is_ready : EndState → Bool
 is_ready e = e.is_open && nat_lt e.number 65535
 
 module _ (f : Fixed) (st : Stands f) (all : List Mark) (B : Watched → Violation → Type 0) (at : ℕ → ℕ) (Q : Watched
-    → Type 0) (k A : ℕ) (t : Text f A 56 (routine_words (base_of f) k)) (back : Option ℕ) (priv : List ℕ) (slot : offsets.end_at k + 24 ≤ length priv) where
+    → Type 0) (k A : ℕ) (t : Text f A 56 (routine_words (base_of f) k)) (back : Option ℕ) (priv : List ℕ) (slot : offsets.end_at k + 24 ≤ length priv) (one : k < length f.setup.ends) where
   abbrev R : ℕ → Watched → Type 0
   R n c = Runs f all B Q n c
 
@@ -51,11 +51,11 @@ module _ (f : Fixed) (st : Stands f) (all : List Mark) (B : Watched → Violatio
   H stack outside sp m = MemoryHolds f at back stack priv outside sp m
 
   -- a word of the end's slot
-  slot_word : (o : ℕ) (stack outside : List ℕ) (sp : ℕ) (m : List ℕ) → o % 2 ≡ 0 → o + 2 ≤ 24 → H stack outside sp m
+  slot_word : (o : ℕ) (stack outside : List ℕ) (sp : ℕ) (m : List ℕ) → o % 2 ≡ 0 → o + 2 ≤ 8 → H stack outside sp m
       → (cell m (base_of f + (512 + 24 * k + o)) ≡ word priv (512 + 24 * k + o)) × PrivateWord f (base_of f + (512 + 24 * k + o))
   slot_word o stack outside sp m ev le h =
       let i : IsData (512 + 24 * k + o) = record { low = omega arith; beside = inr (omega arith) } in
-      (holds_word f st at back stack priv outside sp m (512 + 24 * k + o) h (omega arith) i (omega arith), data_word f st (512 + 24 * k + o) (omega arith) (omega arith) (omega (arith, h.size)))
+      (holds_word f st at back stack priv outside sp m (512 + 24 * k + o) h (omega arith) i (omega arith), data_word f st (512 + 24 * k + o) (slot_shown _ k o 2 le) (omega arith) (omega arith) (omega (arith, h.size)))
 
   -- the two tests
   pub tests_run : (e : EndState) → end_state priv k ≡ e → (r : Regs) (d : Data) (stack outside : List ℕ) (j : ℕ) → r.pc ≡ A + 2 * 0 → H stack outside r.sp d.mem → Safe f all (running f r d)
@@ -138,12 +138,12 @@ module _ (f : Fixed) (st : Stands f) (all : List Mark) (B : Watched → Violatio
 
   -- a word that only templates use
   scratch : (o : ℕ) → 106 ≤ o → o % 2 ≡ 0 → o ≤ 146 → PrivateWord f (base_of f + o)
-  scratch o p ev q = data_word f st o (omega arith) ev (omega (arith, st.room))
+  scratch o p ev q = data_word f st o (mid_shown _ o 2 (omega arith) (omega arith)) (omega arith) ev (omega (arith, st.room))
 
   -- writing it leaves what memory holds
   under : (stack outside : List ℕ) (sp : ℕ) (m : List ℕ) (o v : ℕ) → 106 ≤ o → o % 2 ≡ 0 → o ≤ 146 → H stack outside sp m → H stack outside sp (put_cell m (base_of f + o) v)
   under stack outside sp m o v p ev q h =
-      holds_under f st at back stack priv outside sp m (base_of f + o) v h (scratch o p ev q) (omega arith) (inl (omega arith)) (let t = h.top in let r = h.room in omega arith)
+      holds_under f st at back stack priv outside sp m (base_of f + o) v h (place_of (scratch o p ev q)) (omega arith) (inl (omega arith)) (let t = h.top in let r = h.room in omega arith)
 
   -- header and body are made
   pub header_run : (e : EndState) → end_state priv k ≡ e → (r : Regs) (d : Data) (ret v : ℕ) (rest outside : List ℕ) (j : ℕ) → r.pc ≡ A + 2 * 6 → H (ret ∷ v ∷ rest) outside r.sp d.mem
@@ -256,12 +256,12 @@ module _ (f : Fixed) (st : Stands f) (all : List Mark) (B : Watched → Violatio
                                         after m4 h4
                                             (cell-put_other m3 (b + 130) v (b + 106) (omega arith) (omega arith) (omega arith)
                                             ∙ cell-put_other m2 (b + 110) number (b + 106) (omega arith) (omega arith) (omega arith)
-                                            ∙ cell-put_other m1 (b + 108) field (b + 106) (omega arith) (omega arith) (omega arith) ∙ same_word f st d.mem (b + 106) 3 safe.memory p106)
+                                            ∙ cell-put_other m1 (b + 108) field (b + 106) (omega arith) (omega arith) (omega arith) ∙ same_word f st d.mem (b + 106) 3 safe.memory (place_of p106))
                                             (ap (cell m4) (omega arith) ∙ cell-put_other m3 (b + 130) v (b + 108) (omega arith) (omega arith) (omega arith)
-                                            ∙ cell-put_other m2 (b + 110) number (b + 108) (omega arith) (omega arith) (omega arith) ∙ same_word f st m1 (b + 108) field kept1 p108 ∙ ef)
+                                            ∙ cell-put_other m2 (b + 110) number (b + 108) (omega arith) (omega arith) (omega arith) ∙ same_word f st m1 (b + 108) field kept1 (place_of p108) ∙ ef)
                                             (ap (cell m4) (omega arith) ∙ cell-put_other m3 (b + 130) v (b + 110) (omega arith) (omega arith) (omega arith)
-                                            ∙ same_word f st m2 (b + 110) number kept2 p110 ∙ en)
-                                            (same_word f st m3 (b + 130) v kept3 p130),
+                                            ∙ same_word f st m2 (b + 110) number kept2 (place_of p110) ∙ en)
+                                            (same_word f st m3 (b + 130) v kept3 (place_of p130)),
                                       ),
                                     ),
                                   ),
@@ -306,6 +306,8 @@ module _ (f : Fixed) (st : Stands f) (all : List Mark) (B : Watched → Violatio
         tag = record { low = omega arith; high = omega arith };
         few = omega arith;
         short = omega arith;
+        header_shown = (106, refl, mid_shown (length f.setup.ends) 106 6 (omega arith) (omega arith));
+        text_shown = (130, refl, mid_shown (length f.setup.ends) 130 2 (omega arith) (omega arith));
       } in
       let ne : (b + offsets.end_key_at k == 0) ≡ false = ne_eqb (b + offsets.end_key_at k) 0 (omega arith) in
       let W = wrapped f.setup.mac e.key (event_header e) (windows.two v) in
@@ -335,7 +337,7 @@ module _ (f : Fixed) (st : Stands f) (all : List Mark) (B : Watched → Violatio
       → ((x : Exchange) → let d2 : Data = record d { mem = mt; exchange = x; marks = d.marks ++ mark.Wrapped (event_header e) (windows.two v) own ∷ [] } in
       Safe f all (running_after (event.Wrapped f.setup.section.id) f (record r7 { pc = A + 64; r15 = 1 }) d2)
       → R j (running_after (event.Wrapped f.setup.section.id) f (record r7 { pc = A + 64; r15 = 1 }) d2)) → R (suc j) (running f r7 d)) ne
-      (wrap_as f st all B Q t 31 refl (omega arith) event.Quiet r7 d e.key (event_header e) (windows.two v) j refl s7 bs (KeyIn pk key) ad body)
+      (wrap_as f st all B Q t 31 refl (omega arith) event.Quiet r7 d e.key (event_header e) (windows.two v) j refl s7 bs (KeyIn k one refl pk key) ad body)
       marks (λ x s. after x mt (record r7 { pc = A + 64; r15 = 1 }) refl refl ht packet s))
 
   -- R12 doubled
@@ -350,11 +352,11 @@ module _ (f : Fixed) (st : Stands f) (all : List Mark) (B : Watched → Violatio
       (λ kept. (record r { pc = A + 2 * (i + 1); sr = sr1; r12 = 2 * x }, rw twice refl, inside t (i + 1) le, after sr1))
 
   -- a word of the data is read
-  data_read : (o : ℕ) (stack outside : List ℕ) (sp : ℕ) (m : List ℕ) → 2 ≤ o → o + 2 ≤ 104 → o % 2 ≡ 0 → H stack outside sp m → (cell m (base_of f + o) ≡ word priv o) × PrivateWord f (base_of f + o)
+  data_read : (o : ℕ) (stack outside : List ℕ) (sp : ℕ) (m : List ℕ) → 2 ≤ o → o + 2 ≤ 56 → o % 2 ≡ 0 → H stack outside sp m → (cell m (base_of f + o) ≡ word priv o) × PrivateWord f (base_of f + o)
   data_read o stack outside sp m p q ev h = (
     holds_word f st at back stack priv outside sp m o h ev (record { low = p; beside = inl (omega arith) }) (let z = h.size in let y = st.room in
         omega arith),
-    data_word f st o p ev (let y = st.room in omega arith),
+    data_word f st o (low_shown _ o 2 q) p ev (let y = st.room in omega arith),
   )
 
   -- the place of the packet in the out-window
@@ -482,7 +484,7 @@ module _ (f : Fixed) (st : Stands f) (all : List Mark) (B : Watched → Violatio
       let size : length priv1 ≡ length priv = ap (λ (l : List ℕ). length l) same ∙ length-put priv o (n + 1) in
       let ip1 : word priv1 4 ≡ p = word_is priv1 4 refl ∙ ap (λ l. cell l 4) same ∙ cell-put_other priv o (n + 1) 4 (omega arith) (omega arith) (omega arith) ∙ sym (word_is priv 4 refl) ∙ ip in
       let i_p : IsData 4 = record { low = omega arith; beside = inl (omega arith) } in
-      let pp = data_word f st 4 (omega arith) refl (omega (arith, st.room)) in
+      let pp = data_word f st 4 (low_shown _ 4 2 (omega arith)) (omega arith) refl (omega (arith, st.room)) in
       let cp : cell m1 (b + 4) ≡ p = holds_word f st at back (ret ∷ stack) priv1 outside r.sp m1 4 h1 refl i_p (omega arith) ∙ ip1 in
       let up_p : (p + 1 + 0) % 65536 ≡ p + 1 = omega arith in
       let m2 = put_cell m1 (b + 4) (p + 1) in
@@ -568,7 +570,7 @@ module _ (f : Fixed) (st : Stands f) (all : List Mark) (B : Watched → Violatio
       (λ s. subst (λ n. R n (running f (record r2 { pc = A + 92; sr = sr3; r12 = out + 24 * p; r13 = base_of f + 106; r14 = r14; r15 = suc (length bs) }) d2)) (omega arith)
       (copy_runs f st all B at Q A 56 46 (routine_words (base_of f) k) t (omega arith) refl refl refl refl d.devices safe.devices back (ret ∷ v ∷ rest) priv bs 3
       (record r2 { r14 = r14 }) d2 sr3 (out + 24 * p) (base_of f + 106) (suc (suc (suc j))) outside (omega arith) w1 (omega arith)
-      (record { low = omega arith; high = omega (arith, st.room) }) packet (subst (λ a. H (ret ∷ v ∷ rest) outside a m2) (sym sp2) h2) s
+      (record { low = omega arith; high = omega (arith, st.room) }) (106, refl, mid_shown (length f.setup.ends) 106 _ (omega arith) (omega arith)) packet (subst (λ a. H (ret ∷ v ∷ rest) outside a m2) (sym sp2) h2) s
       (λ x2 bad_ r4 m4. stop x2 bad_ (running f r4 (record d2 { mem = m4 })) em)
       (λ mem good sr5 a5 a6 m5 h5 s5.
       counts_run e is (record r2 { pc = A + 102; sr = sr5; r12 = a5; r13 = a6; r14 = r14; r15 = 0 }) (record d2 { mem = m5 }) (v ∷ rest) mem ret p j refl h5 ln ip (omega arith) to ev s5

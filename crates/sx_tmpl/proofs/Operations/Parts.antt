@@ -16,7 +16,7 @@ use Rattle.sx_tmpl.specs.Shows.{base_of}
 use Rattle.sx_tmpl.proofs.Running.Steps.{InText}
 use Rattle.sx_tmpl.proofs.Running.Flags.{flags_stay}
 use Rattle.sx_tmpl.proofs.Operations.Plain.{inside, Leads, stood}
-use Rattle.sx_tmpl.proofs.Running.Holding.{holds_return, holds_forget, data_word, holds_store}
+use Rattle.sx_tmpl.proofs.Running.Holding.{holds_return, holds_forget, low_shown, mid_shown, data_word, holds_store}
 
 module _ (f : Fixed) (st : Stands f) (all : List Mark) (B : Watched → Violation → Type 0) (at : ℕ → ℕ) where
   -- the count of pieces is set to 0, the next place is kept, and the part begins
@@ -31,8 +31,8 @@ module _ (f : Fixed) (st : Stands f) (all : List Mark) (B : Watched → Violatio
       let e : at q % 65536 - at q % 65536 % 2 ≡ at q = omega (arith, to.to, st.below) in
       let ret = at (c.place + 1) in
       let cut : ret % 65536 ≡ ret = omega arith in
-      let p4 = data_word f st 4 (omega arith) refl (omega (arith, st.room)) in
-      let p104 = data_word f st 104 (omega arith) refl (omega (arith, st.room)) in
+      let p4 = data_word f st 4 (low_shown _ 4 2 (omega arith)) (omega arith) refl (omega (arith, st.room)) in
+      let p104 = data_word f st 104 (mid_shown _ 104 2 (omega arith) (omega arith)) (omega arith) refl (omega (arith, st.room)) in
       let m1 = put_cell d.mem (base_of f + 4) 0 in
       let h1 = holds_store f st at c.back c.stack c.priv c.mem r.sp d.mem 4 0 safe.memory h refl (record { low = omega arith; beside = inl (omega arith) }) long in
       let m2 = put_cell m1 (base_of f + 104) ret in
@@ -84,7 +84,7 @@ module _ (f : Fixed) (st : Stands f) (all : List Mark) (B : Watched → Violatio
   stop_leads c p to ev r d t on sh safe =
       let h = sh.holds in
       let e : at p - at p % 2 ≡ at p = omega arith in
-      let p104 = data_word f st 104 (omega arith) refl (omega (arith, st.room)) in
+      let p104 = data_word f st 104 (mid_shown _ 104 2 (omega arith) (omega arith)) (omega arith) refl (omega (arith, st.room)) in
       let r2 = record r { pc = at p } in
       step f st all B _ t 0 (br (& (base_of f + 104))) refl (omega arith) refl refl event.Quiet r d 0 (omega (arith, sh.pc)) safe (
         base_of f + 104,

@@ -20,6 +20,7 @@ use Rattle.sx_tmpl.specs.Running.{Regs, Fixed, Data, running, Safe}
 use Rattle.sx_tmpl.proofs.Running.MidRun.{Stands, Runs, put_cell}
 use Rattle.sx_tmpl.specs.Shows.{base_of, IsData, MemoryHolds, ShowsConfiguration, Stood}
 use Rattle.sx_tmpl.proofs.Running.Steps.{Text, InText}
+use Rattle.sx_tmpl.specs.Unseen.{HoldsNoKey}
 use Rattle.sx_tmpl.proofs.Running.Flags.{flags_after}
 use Rattle.sx_tmpl.proofs.Running.Holding.{stack_word, data_word, holds_push, holds_pop, holds_replace, holds_store, holds_word, cell_below}
 
@@ -64,14 +65,14 @@ module _ (f : Fixed) (st : Stands f) (all : List Mark) (B : Watched → Violatio
         ),
       )
 
-  pub load_leads : (c : Conf) (o : ℕ) → o % 2 ≡ 0 → IsData o → o + 2 ≤ length c.priv → length c.stack < 160 → Leads 2 (words_of (push (& (base_of f + o)) ∷ [])) 1 c (next c (word c.priv o ∷ c.stack))
-  load_leads c o ev i fits room r d t on sh safe =
+  pub load_leads : (c : Conf) (o : ℕ) → o % 2 ≡ 0 → IsData o → HoldsNoKey (length f.setup.ends) o 2 → o + 2 ≤ length c.priv → length c.stack < 160 → Leads 2 (words_of (push (& (base_of f + o)) ∷ [])) 1 c (next c (word c.priv o ∷ c.stack))
+  load_leads c o ev i shown fits room r d t on sh safe =
       let h = sh.holds in
       let top = h.top in
       let sp = r.sp - 2 in
       let x = word c.priv o in
       let pr = stack_word f st sp (length (x ∷ c.stack)) (omega arith) (omega arith) (omega arith) in
-      let po = data_word f st o i.low ev (omega (arith, h.size)) in
+      let po = data_word f st o shown i.low ev (omega (arith, h.size)) in
       let is = holds_word f st at c.back c.stack c.priv c.mem r.sp d.mem o h ev i fits in
       let down : (r.sp + 65534) % 65536 ≡ sp = omega (arith, st.beneath, st.room) in
       let r2 = record r { pc = at c.place + 4; sp = sp } in
@@ -99,13 +100,13 @@ module _ (f : Fixed) (st : Stands f) (all : List Mark) (B : Watched → Violatio
         ),
       )
 
-  pub store_leads : (c : Conf) (x : ℕ) (rest : List ℕ) (o : ℕ) → o % 2 ≡ 0 → IsData o → o + 2 ≤ length c.priv
+  pub store_leads : (c : Conf) (x : ℕ) (rest : List ℕ) (o : ℕ) → o % 2 ≡ 0 → IsData o → HoldsNoKey (length f.setup.ends) o 2 → o + 2 ≤ length c.priv
       → Leads 2 (words_of (pop (& (base_of f + o)) ∷ [])) 1 (record c { stack = x ∷ rest }) (record c { place = c.place + 1; stack = rest; priv = put_word c.priv o x })
-  store_leads c x rest o ev i fits r d t on sh safe =
+  store_leads c x rest o ev i shown fits r d t on sh safe =
       let h = sh.holds in
       let top = h.top in
       let p1 = stack_word f st r.sp (length (x ∷ rest)) top (omega arith) (omega (arith, h.room)) in
-      let po = data_word f st o i.low ev (omega (arith, h.size)) in
+      let po = data_word f st o shown i.low ev (omega (arith, h.size)) in
       let up : (r.sp + 2) % 65536 ≡ r.sp + 2 = omega (arith, st.beneath, st.room) in
       let r2 = record r { pc = at c.place + 4; sp = r.sp + 2; sr = flags_after op2.Mov 0 0 r.sr } in
       step f st all B _ t 0 (pop (& (base_of f + o))) refl (omega arith) refl refl event.Quiet r d 0 (omega (arith, sh.pc)) safe (

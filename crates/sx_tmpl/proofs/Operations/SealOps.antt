@@ -10,7 +10,7 @@ use Rattle.sx_rules.specs.declared.access.Violation.{Violation}
 use Rattle.sx_machine.specs.declared.kinds.Event.{Event}
 use Rattle.sx_machine.specs.declared.kinds.Event.TheVariants as event
 use Rattle.sx_tmpl.proofs.Running.MidRun.{PrivateRange, Stands, Runs, put_cell}
-use Rattle.sx_tmpl.proofs.Running.Holding.{IsRange, holds_bytes, holds_from, stack_word, holds_push}
+use Rattle.sx_tmpl.proofs.Running.Holding.{IsRange, part_shown, holds_bytes, holds_from, stack_word, holds_push}
 use Rattle.sx_tag.specs.Mac.{IsTag}
 use Rattle.sx_tmpl.proofs.Operations.Bytes.{length_cipher, length_tag, length-put_bytes}
 use Rattle.sx_tag.specs.Wrap.{unwrapped, wrapped}
@@ -26,6 +26,8 @@ use Rattle.sx_tmpl.proofs.Running.Flags.{flags_stay}
 use Rattle.sx_tmpl.proofs.Operations.Sealing.{KeyAt, OwnKey, KeyIn, Buffers, wrap_as, unwrap_step}
 use Rattle.sx_image.specs.Watched.{Watched}
 use Rattle.sx_ir.specs.Conf.{Conf}
+use Rattle.sx_ir.specs.declared.ir.Ir.TheVariants as ir
+use Rattle.sx_tmpl.specs.Unseen.{AreShown, HoldsNoKey, IsKeyPlace, NamesNoKey}
 use Rattle.sx_tmpl.specs.Shows.{base_of, MemoryHolds, Stood}
 use Rattle.sx_tmpl.proofs.Running.Owes.{kept_bytes}
 use Rattle.sx_tmpl.proofs.Running.Steps.{Text}
@@ -67,15 +69,19 @@ module _ (f : Fixed) (st : Stands f) (all : List Mark) (B : Watched → Violatio
   private_range : (o n : ℕ) (priv : List ℕ) → base_of f + length priv ≡ f.setup.section.layout.priv_to → IsRange o n (length priv) → PrivateRange f (base_of f + o) n
   private_range o n priv sz r = record { low = omega (arith, r.low); high = omega (arith, r.fits) }
 
-  key_here : (c : Conf) (k : ℕ) (stack : List ℕ) (sp : ℕ) (r : Regs) (m : List ℕ) → (k ≡ 0) ⊎ IsRange k 16 (length c.priv) → MemoryHolds f at c.back stack c.priv c.mem sp m → r.r9 ≡ key_place f k
+  key_here : (c : Conf) (k : ℕ) (stack : List ℕ) (sp : ℕ) (r : Regs) (m : List ℕ) → (k ≡ 0) ⊎ IsRange k 16 (length c.priv) → IsKeyPlace (length f.setup.ends) k → MemoryHolds f at c.back stack c.priv c.mem sp m → r.r9 ≡ key_place f k
       → KeyAt f r m (key_at f.setup c k)
-  key_here c zero stack sp r m h hold e = OwnKey e refl
-  key_here c (suc k) stack sp r m h hold e =
+  key_here c zero stack sp r m h place hold e = OwnKey e refl
+  key_here c (suc k) stack sp r m h place hold e =
       elim h [
         | inl z ↦ absurd (omega arith)
         | inr g ↦
             let same = holds_from f st at c.back stack c.priv c.mem sp m (suc k) 16 hold g in
-            KeyIn (subst (λ a. PrivateRange f a 16) (sym e) (private_range (suc k) 16 c.priv hold.size g)) (ap (λ a. bytes_from m a 16) e ∙ same)
+            elim place [
+              | inl z ↦ absurd (omega arith)
+              | inr i ↦ KeyIn i.0 i.1 (e ∙ ap (λ (o : ℕ). base_of f + o) i.2) (subst (λ a. PrivateRange f a 16) (sym e) (private_range (suc k) 16 c.priv hold.size g))
+                  (ap (λ a. bytes_from m a 16) e ∙ same)
+            ]
       ]
 
   key_is_own : (k : ℕ) → (key_place f k == 0) ≡ (k == 0)
@@ -87,8 +93,8 @@ module _ (f : Fixed) (st : Stands f) (all : List Mark) (B : Watched → Violatio
   key_small c (suc k) sz h = elim h [ inl z ↦ absurd (omega arith) | inr g ↦ omega (arith, g.fits, st.beneath) ]
 
   buffers_here : (c : Conf) (k h hn b bn : ℕ) (r : Regs) → base_of f + length c.priv ≡ f.setup.section.layout.priv_to → SealsAt k h hn b bn (length c.priv)
-      → r.r10 ≡ base_of f + h → r.r11 ≡ hn → PrivateRange f r.r12 r.r13 → PrivateRange f r.r14 r.r13 → r.r13 ≡ bn → r.r15 ≡ base_of f + (h + hn + bn) → Buffers f r
-  buffers_here c k h hn b bn r sz ok e10 e11 p12 p14 e13 e15 =
+      → r.r10 ≡ base_of f + h → r.r11 ≡ hn → HoldsNoKey (length f.setup.ends) h hn → AreShown f.setup r.r12 r.r13 → PrivateRange f r.r12 r.r13 → PrivateRange f r.r14 r.r13 → r.r13 ≡ bn → r.r15 ≡ base_of f + (h + hn + bn) → Buffers f r
+  buffers_here c k h hn b bn r sz ok e10 e11 shown text p12 p14 e13 e15 =
       let hdr = ok.header in
       let few = ok.few in
       let short = ok.short in
@@ -99,15 +105,17 @@ module _ (f : Fixed) (st : Stands f) (all : List Mark) (B : Watched → Violatio
         tag = record { low = omega (arith, hdr.low); high = omega (arith, hdr.fits) };
         few = omega arith;
         short = omega arith;
+        header_shown = (h, e10, subst (λ (n : ℕ). HoldsNoKey (length f.setup.ends) h n) (sym e11) shown);
+        text_shown = text;
       }
 
   -- wrap, and a plain instruction after it
-  pub seal_leads : IsTag f.setup.mac → (c : Conf) (k h hn b bn : ℕ) → SealsAt k h hn b bn (length c.priv)
+  pub seal_leads : IsTag f.setup.mac → (c : Conf) (k h hn b bn : ℕ) → SealsAt k h hn b bn (length c.priv) → NamesNoKey (length f.setup.ends) (ir.Seal k h hn b bn)
       → (let w = wrapped f.setup.mac (key_at f.setup c k) (bytes_from c.priv h hn) (bytes_from c.priv b bn) in
       let marks = c.marks ++ mark.Wrapped (bytes_from c.priv h hn) (bytes_from c.priv b bn) (k == 0) ∷ [] in
       HasPrefix all marks → Leads f st all B at 16 (sealing_words (base_of f) k h hn b bn) 9 c
       (record (next c c.stack) { priv = put_bytes (put_bytes c.priv (h + hn) w.cipher) (h + hn + bn) w.tag; marks = marks }))
-  seal_leads tag c k h hn b bn ok begins r d t on sh safe =
+  seal_leads tag c k h hn b bn ok unseen begins r d t on sh safe =
       let hold = sh.holds in
       let sz = hold.size in
       let hdr = ok.header in
@@ -153,8 +161,8 @@ module _ (f : Fixed) (st : Stands f) (all : List Mark) (B : Watched → Violatio
       → ((x : Exchange) → let d2 : Data = record d { mem = mt; exchange = x; marks = d.marks ++ mark.Wrapped ad body own ∷ [] } in
       Safe f all (running_after (event.Wrapped f.setup.section.id) f (record rL { pc = at c.place + 30; r15 = 1 }) d2)
       → Runs f all B Q 1 (running_after (event.Wrapped f.setup.section.id) f (record rL { pc = at c.place + 30; r15 = 1 }) d2)) → Runs f all B Q 2 (running f rL d)) (key_is_own k)
-      (wrap_as f st all B Q t 14 refl (omega arith) event.Quiet rL d key ad body 1 refl sL (buffers_here c k h hn b bn rL sz ok refl refl (private_range b bn c.priv sz bdy) pc_ refl refl)
-      (key_here c k c.stack r.sp rL d.mem ok.key hold refl) ea eb)
+      (wrap_as f st all B Q t 14 refl (omega arith) event.Quiet rL d key ad body 1 refl sL (buffers_here c k h hn b bn rL sz ok refl refl unseen.1 (b, refl, unseen.2) (private_range b bn c.priv sz bdy) pc_ refl refl)
+      (key_here c k c.stack r.sp rL d.mem ok.key unseen.0 hold refl) ea eb)
       (subst (λ l. HasPrefix all l) (sym mk) begins)
       (λ x s2.
       let d2 : Data = record d { mem = mt; exchange = x; marks = d.marks ++ mark.Wrapped ad body (k == 0) ∷ [] } in
@@ -217,11 +225,11 @@ module _ (f : Fixed) (st : Stands f) (all : List Mark) (B : Watched → Violatio
         ),
       )
 
-  pub open_leads : (c : Conf) (k h hn b bn : ℕ) (result : Option (List ℕ)) → SealsAt k h hn b bn (length c.priv) → length c.stack < 160
+  pub open_leads : (c : Conf) (k h hn b bn : ℕ) (result : Option (List ℕ)) → SealsAt k h hn b bn (length c.priv) → NamesNoKey (length f.setup.ends) (ir.Open k h hn b bn) → length c.stack < 160
       → unwrapped f.setup.mac (key_at f.setup c k) (bytes_from c.priv h hn) (bytes_from c.priv (h + hn) bn) (bytes_from c.priv (h + hn + bn) 16) ≡ result
       → HasPrefix all (after_open c k (bytes_from c.priv h hn) b bn result).marks
       → Leads f st all B at 16 (opening_words (base_of f) k h hn b bn) 9 c (after_open c k (bytes_from c.priv h hn) b bn result)
-  open_leads c k h hn b bn result ok room is begins r d t on sh safe =
+  open_leads c k h hn b bn result ok unseen room is begins r d t on sh safe =
       let hold = sh.holds in
       let sz = hold.size in
       let hdr = ok.header in
@@ -247,13 +255,18 @@ module _ (f : Fixed) (st : Stands f) (all : List Mark) (B : Watched → Violatio
       ap (λ a. unwrapped f.setup.mac key a (bytes_from d.mem (base + (h + hn)) bn) (bytes_from d.mem (base + (h + hn + bn)) 16)) ea
       ∙ ap (λ x. unwrapped f.setup.mac key ad x (bytes_from d.mem (base + (h + hn + bn)) 16)) ec ∙ ap (λ x. unwrapped f.setup.mac key ad (bytes_from c.priv (h + hn) bn) x) et ∙ is in
       let ls = key_small c k sz ok.key in
+      let at0 : h + 0 ≡ h = omega arith in
+      let header = subst (λ (o : ℕ). HoldsNoKey (length f.setup.ends) o hn) at0 (part_shown (length f.setup.ends) h (hn + bn + 16) 0 hn unseen.1 (omega arith)) in
+      let at_tag : h + (hn + bn) ≡ h + hn + bn = omega arith in
+      let last = subst (λ (o : ℕ). HoldsNoKey (length f.setup.ends) o 16) at_tag (part_shown (length f.setup.ends) h (hn + bn + 16) (hn + bn) 16 unseen.1 (omega arith)) in
       let told : (plain : List ℕ) → d.marks ++ mark.Unwrapped (bytes_from d.mem (base + h) hn) (take bn plain) (v9 == 0) ∷ [] ≡ c.marks ++ mark.Unwrapped ad (take bn plain) (k == 0) ∷ [] =
       λ plain. ap (λ l. l ++ mark.Unwrapped (bytes_from d.mem (base + h) hn) (take bn plain) (v9 == 0) ∷ []) sh.marks ∙ ap (λ a. c.marks ++ mark.Unwrapped a (take bn plain) (v9 == 0) ∷ []) ea
       ∙ ap (λ o. c.marks ++ mark.Unwrapped ad (take bn plain) o ∷ []) (key_is_own k) in
       loads f st all B Q t 0 (operands v9 (base + h) hn (base + (h + hn)) bn (base + b) (base + (h + hn + bn))) refl (omega arith) refl
       (ls, (omega arith, (omega arith, (omega arith, (omega arith, (omega arith, (omega arith, tt))))))) r d 2 r.pc (omega (arith, sh.pc)) safe (λ sL.
-      unwrap_step f st all B Q t 14 refl (omega arith) event.Quiet rL d key 1 result refl sL (buffers_here c k h hn b bn rL sz ok refl refl (private_range (h + hn) bn c.priv sz rc)
-      (private_range b bn c.priv sz bdy) refl refl) (key_here c k c.stack r.sp rL d.mem ok.key hold refl) same
+      unwrap_step f st all B Q t 14 refl (omega arith) event.Quiet rL d key 1 result refl sL (buffers_here c k h hn b bn rL sz ok refl refl header
+      (h + hn, refl, part_shown (length f.setup.ends) h (hn + bn + 16) hn bn unseen.1 (omega arith)) (private_range (h + hn) bn c.priv sz rc)
+      (private_range b bn c.priv sz bdy) refl refl) (h + hn + bn, refl, last) (key_here c k c.stack r.sp rL d.mem ok.key unseen.0 hold refl) same
       (λ er s2. subst (λ o. Runs f all B (Stood f all at (after_open c k ad b bn o)) 1 (running f (record rL { pc = at c.place + 30; r15 = 0 }) d)) (sym er)
       (answer_pushed (next c (0 ∷ c.stack)) 0 t refl (omega arith) event.Quiet (record rL { pc = at c.place + 30; r15 = 0 }) d c.stack c.priv c.mem c.back 0 refl s2 hold room refl
       (omega arith) on refl refl refl refl sh.devices sh.marks))

@@ -1,5 +1,5 @@
 -- Wrap and unwrap as one step each: buffers in the private section are never refused.
-use Rattle.std.proofs.Common.{◌≡◌, ℕ, suc, ◌+◌, ◌-◌, ◌*◌, ◌%◌, ◌<◌, ◌≤◌, inl, inr, true, false, not, ◌&&◌, ◌==◌, nat_le, nat_lt, List, [], ◌∷◌, ◌++◌}
+use Rattle.std.proofs.Common.{◌≡◌, ℕ, suc, ◌+◌, ◌-◌, ◌*◌, ◌%◌, ◌<◌, ◌≤◌, ◌⊎◌, inl, inr, true, false, not, ◌&&◌, ◌==◌, nat_le, nat_lt, List, [], ◌∷◌, ◌++◌}
 use Rattle.std.proofs.Common.{length, take, Option, Some, None, refl, sym, ◌∙◌, ap, subst, arith, cond}
 use Rattle.std.specs.Prelude.{slice_get}
 use Rattle.std.specs.List.{list_any, position_from}
@@ -33,7 +33,10 @@ use Rattle.sx_image.specs.Watched.{Watched, watch, violation_of, marks_of_event}
 use Rattle.sx_tmpl.specs.Running.{Regs, regs16, Fixed, Data, sections_of, running_after, Safe, cell}
 use Rattle.sx_tmpl.proofs.Running.MidRun.{Stands, Runs, PrivateRange}
 use Rattle.sx_tmpl.proofs.Running.Owned.{own_found, run_holder, in_private_yes}
-use Rattle.sx_tmpl.proofs.Running.Owes.{Owes, Met, owes_met}
+use Rattle.sx_tmpl.proofs.Running.Owes.{OwesSeal, Met, seal_met}
+use Rattle.sx_tmpl.specs.Shows.{base_of}
+use Rattle.sx_tmpl.specs.Unseen.{AreShown, SealShowsNone, StepShowsNone, WordShowsNone}
+use Rattle.sx_mean.specs.Offsets.{end_key_at}
 use Rattle.sx_tmpl.proofs.Running.Mem.{word_is}
 use Rattle.sx_tmpl.proofs.Running.Steps.{Text, InText, text_word, tests_passed, by_outcome}
 use Rattle.sx_machine.proofs.Lengths.{length-bytes_from}
@@ -79,12 +82,12 @@ module _ (f : Fixed) (st : Stands f) (all : List Mark) (B : Watched → Violatio
   abbrev pub given_own : Event → Regs → Data → Given
   given_own e r d = record (given_at_pc f.setup.mac (running_after e f r d).node) { own = f.setup.section.id }
 
-  from_told : (n : ℕ) (e : Event) (r : Regs) (d : Data) (o : Outcome) → Safe f all (running_after e f r d) → InText f r.pc → attempt f.setup.mac (running_after e f r d).node ≡ o
+  from_told : (n : ℕ) (e : Event) (r : Regs) (d : Data) (o : Outcome) → Safe f all (running_after e f r d) → StepShowsNone f.setup (running_after e f r d).node → InText f r.pc → attempt f.setup.mac (running_after e f r d).node ≡ o
       → Met f NoDone (Tells n d) (B (running_after e f r d)) (start (running_after e f r d).node) o → Runs f all B Q (suc n) (running_after e f r d)
   unfolding watch
-  from_told n e r d (Finished regs y) safe here at h = absurd h.2
-  from_told n e r d (Violated v) safe here at h = Ends safe (rw at refl) (omega arith) h
-  from_told n e r d (Module regs y t ev x) safe here at h =
+  from_told n e r d (Finished regs y) safe shown here at h = absurd h.2
+  from_told n e r d (Violated v) safe shown here at h = Ends (safe, shown) (rw at refl) (omega arith) h
+  from_told n e r d (Module regs y t ev x) safe shown here at h =
       let c = running_after e f r d in
       let told = h.3 in
       let r2 = told.0 in
@@ -101,7 +104,7 @@ module _ (f : Fixed) (st : Stands f) (all : List Mark) (B : Watched → Violatio
       let s : watch f.setup.mac c ≡ Goes (running_after ev f r2 d2) = ap (by_outcome f st all B Q c) (at ∙ is)
       ∙ rw (quiet, own, to, same) (ap (λ l. Goes (running_after ev f r2 (record d2 { marks = d.marks ++ l }))) marks) in
       let safe2 : Safe f all (running_after ev f r2 d2) = record { inside = to; sections = refl; memory = h.1; devices = safe.devices; marks = told.6 } in
-      Next {k = n} safe s (omega arith) (told.7 safe2)
+      Next {k = n} (safe, shown) s (omega arith) (told.7 safe2)
 
   -- the instruction at PC by its first word
   abbrev at_word : ℕ → State → Outcome
@@ -110,7 +113,7 @@ module _ (f : Fixed) (st : Stands f) (all : List Mark) (B : Watched → Violatio
 -- the key of a wrap or unwrap: the module's own, or sixteen bytes of the private section
 pub data KeyAt (f : Fixed) (r : Regs) (m key : List ℕ) : Type 0 where
   OwnKey : r.r9 ≡ 0 → f.setup.section.key ≡ key → KeyAt f r m key
-  KeyIn : PrivateRange f r.r9 16 → bytes_from m r.r9 16 ≡ key → KeyAt f r m key
+  KeyIn : (k : ℕ) → k < length f.setup.ends → r.r9 ≡ base_of f + end_key_at k → PrivateRange f r.r9 16 → bytes_from m r.r9 16 ≡ key → KeyAt f r m key
 
 -- its other buffers: the header, the body or cipher, the place of the other, and the tag
 pub record Buffers (f : Fixed) (r : Regs) : Type 0 where
@@ -120,6 +123,8 @@ pub record Buffers (f : Fixed) (r : Regs) : Type 0 where
   pub tag : PrivateRange f r.r15 16
   pub few : r.r11 ≤ 32
   pub short : r.r13 ≤ 32
+  pub header_shown : AreShown f.setup r.r10 r.r11
+  pub text_shown : AreShown f.setup r.r12 r.r13
 
 module _ (f : Fixed) (st : Stands f) where
   no_passing : (a n : ℕ) → PrivateRange f a n → passes_end a n ≡ false
@@ -143,7 +148,7 @@ module _ (f : Fixed) (st : Stands f) where
     g = given_own f st all Bw Q e r d
 
     abbrev OwesT : Plan → Type 0
-    OwesT p = Owes f (NoDone f st all Bw Q) T B p d.mem
+    OwesT p = OwesSeal f (NoDone f st all Bw Q) T B p d.mem
 
     tests_met : (rest : Plan) → ((b : ℕ) → device_at d.devices b ≡ device_at f.devices b) → Buffers f r → passes_end r.r9 (cond (own_key (regs16 f r)) 0 16) ≡ false
         → meets_device (places_of d.devices) r.r9 (cond (own_key (regs16 f r)) 0 16) ≡ false → OwesT rest → OwesT (tested g (buffers g.regs) rest)
@@ -174,7 +179,7 @@ module _ (f : Fixed) (st : Stands f) where
       where
         body : List ℕ → Plan
         body key = Bytes r.r10 r.r11 (λ ad. Bytes r.r12 r.r13 (λ text. rest key ad text))
-    inputs_met key rest same bs (KeyIn p is) owed =
+    inputs_met key rest same bs (KeyIn i one place p is) owed =
         let own : own_key (regs16 f r) ≡ false = ne_eqb r.r9 0 (omega (arith, p.low)) in
         let lens : (nat_le r.r11 32 && nat_le r.r13 32) ≡ true = and_from _ _ (le-leb r.r11 32 bs.few) (le-leb r.r13 32 bs.short) in
         let k1 : passes_end r.r9 (cond (own_key (regs16 f r)) 0 16) ≡ false = rw own (no_passing r.r9 16 p) in
@@ -224,6 +229,27 @@ module _ (f : Fixed) (st : Stands f) (all : List Mark) (B : Watched → Violatio
       tests_passed f st all B Q e r d safe here ends ev ∙ ap (λ w. at_word f st all B Q w a) e1 ∙ row a
       ∙ ap (λ o. exec (sections_of f) o (module_row f.setup.mac code (record (given_at_pc f.setup.mac a) { own = o })) (start a)) own
 
+  -- what it shows
+  seal_shown : {P n : ℕ} {ws : List ℕ} (t : Text f P n ws) (k w : ℕ) → slice_get ws k ≡ Some w → k + 1 ≤ n → (e : Event) (r : Regs) (d : Data) (key : List ℕ) → r.pc ≡ P + 2 * k
+      → Safe f all (running_after e f r d) → is_module_word w ≡ true → (w ≡ 0x1384) ⊎ (w ≡ 0x1385) → Buffers f r → KeyAt f r d.mem key → (w ≡ 0x1385 → AreShown f.setup r.r15 16)
+      → StepShowsNone f.setup (running_after e f r d).node
+  seal_shown t k w has fits e r d key pc safe module_ seals bs key_at tag =
+      let low = t.from in
+      let high = t.to in
+      let even = t.is_even in
+      let here : f.setup.section.layout.pub_from ≤ r.pc = omega arith in
+      let ends : r.pc + 1 < f.setup.section.layout.pub_to = omega arith in
+      let ev : r.pc % 2 ≡ 0 = omega arith in
+      let a = (running_after e f r d).node in
+      let is : cell d.mem r.pc ≡ w = text_word f st all B Q d.mem r.pc w safe.memory here ends (ap (cell f.entered) pc ∙ t.word k w has) in
+      let e1 : word d.mem r.pc ≡ w = word_is d.mem r.pc ev ∙ is in
+      subst (λ (z : ℕ). WordShowsNone f.setup a z (is_module_word z)) (sym e1) (subst (λ b. WordShowsNone f.setup a w b) (sym module_)
+      (record { seals = seals; key = key_in key_at; header = bs.header_shown; text = bs.text_shown; tag = tag }))
+    where
+      key_in : KeyAt f r d.mem key → (r.r9 ≡ 0) ⊎ ((i : ℕ) × (i < length f.setup.ends) × (r.r9 ≡ f.setup.section.layout.priv_from + end_key_at i))
+      key_in (OwnKey z is) = inl z
+      key_in (KeyIn i one place p is) = inr (i, one, place)
+
   next_pc : {P n : ℕ} {ws : List ℕ} (t : Text f P n ws) (k : ℕ) (r : Regs) → k + 1 ≤ n → r.pc ≡ P + 2 * k → (r.pc + 2) % 65536 ≡ P + 2 * (k + 1)
   next_pc t k r le pc = omega (arith, t.to, st.below)
 
@@ -256,7 +282,7 @@ module _ (f : Fixed) (st : Stands f) (all : List Mark) (B : Watched → Violatio
       let r2 = record r { pc = P + 2 * (k + 1); r15 = 1 } in
       let m = mark_of (regs16 f r) ad body in
       let new = mark.Wrapped ad body (r.r9 == 0) ∷ [] in
-      let row : Owes f (NoDone f st all B Q) (Tells f st all B Q j d) (B (running_after e f r d)) (wrap f.setup.mac g f.setup.section) d.mem =
+      let row : OwesSeal f (NoDone f st all B Q) (Tells f st all B Q j d) (B (running_after e f r d)) (wrap f.setup.mac g f.setup.section) d.mem =
       inputs_met f st all e r d (Tells f st all B Q j d) (B (running_after e f r d)) B Q key
       (λ key ad body. Put r.r14 (wrapped f.setup.mac key ad body).cipher
       (Put r.r15 (wrapped f.setup.mac key ad body).tag (Tell (concluded (regs16 f r) 1) (event.Wrapped f.setup.section.id) (exchanged (regs16 f r) ad body)))) safe.devices bs key_at (
@@ -276,10 +302,11 @@ module _ (f : Fixed) (st : Stands f) (all : List Mark) (B : Watched → Violatio
           ),
         ),
       ) in
-      let owed : Owes f (NoDone f st all B Q) (Tells f st all B Q j d) (B (running_after e f r d)) (module_row f.setup.mac 4 g) d.mem =
-      subst (λ o. Owes f (NoDone f st all B Q) (Tells f st all B Q j d) (B (running_after e f r d)) (within g (wrap f.setup.mac g) o) d.mem) (sym found) row in
-      from_told f st all B Q j e r d _ safe (record { from = omega (arith, t.from); to = omega (arith, t.to) }) (module_fetched t k 0x1384 4 has fits e r d pc safe (λ a. refl))
-      (owes_met f st (NoDone f st all B Q) (Tells f st all B Q j d) (B (running_after e f r d)) (module_row f.setup.mac 4 g) (start (running_after e f r d).node) safe.devices safe.memory owed)
+      let owed : OwesSeal f (NoDone f st all B Q) (Tells f st all B Q j d) (B (running_after e f r d)) (module_row f.setup.mac 4 g) d.mem =
+      subst (λ o. OwesSeal f (NoDone f st all B Q) (Tells f st all B Q j d) (B (running_after e f r d)) (within g (wrap f.setup.mac g) o) d.mem) (sym found) row in
+      from_told f st all B Q j e r d _ safe (seal_shown t k 0x1384 has fits e r d key pc safe refl (inl refl) bs key_at (λ x. absurd (omega (arith, x))))
+      (record { from = omega (arith, t.from); to = omega (arith, t.to) }) (module_fetched t k 0x1384 4 has fits e r d pc safe (λ a. refl))
+      (seal_met f st (NoDone f st all B Q) (Tells f st all B Q j d) (B (running_after e f r d)) (module_row f.setup.mac 4 g) (start (running_after e f r d).node) safe.memory owed)
 
   abbrev unsealed : Regs → Data → List ℕ → Option (List ℕ)
   unsealed r d key = unwrapped f.setup.mac key (bytes_from d.mem r.r10 r.r11) (bytes_from d.mem r.r12 r.r13) (bytes_from d.mem r.r15 16)
@@ -287,7 +314,7 @@ module _ (f : Fixed) (st : Stands f) (all : List Mark) (B : Watched → Violatio
   -- unwrap: where the tag is wrong only R15 tells it
   pub unwrap_step : {P n : ℕ} {ws : List ℕ} (t : Text f P n ws) (k : ℕ) → slice_get ws k ≡ Some 0x1385 → k + 1 ≤ n
       → (e : Event) (r : Regs) (d : Data) (key : List ℕ) (j : ℕ) (result : Option (List ℕ)) → r.pc ≡ P + 2 * k → Safe f all (running_after e f r d)
-      → Buffers f r → KeyAt f r d.mem key → unsealed r d key ≡ result
+      → Buffers f r → AreShown f.setup r.r15 16 → KeyAt f r d.mem key → unsealed r d key ≡ result
       → (result ≡ None → Safe f all (running_after event.Quiet f (record r { pc = P + 2 * (k + 1); r15 = 0 }) d)
       → Runs f all B Q j (running_after event.Quiet f (record r { pc = P + 2 * (k + 1); r15 = 0 }) d))
       → ((plain : List ℕ) → result ≡ Some plain → HasPrefix all (d.marks ++ mark.Unwrapped (bytes_from d.mem r.r10 r.r11) (take r.r13 plain) (r.r9 == 0) ∷ []))
@@ -296,23 +323,24 @@ module _ (f : Fixed) (st : Stands f) (all : List Mark) (B : Watched → Violatio
       Safe f all (running_after (event.Unwrapped f.setup.section.id) f r2 d2) → Runs f all B Q j (running_after (event.Unwrapped f.setup.section.id) f r2 d2))
       → Runs f all B Q (suc j) (running_after e f r d)
   unfolding module_row
-  unwrap_step {P = P} t k has fits e r d key j result pc safe bs key_at is failed marks after =
+  unwrap_step {P = P} t k has fits e r d key j result pc safe bs tag_shown key_at is failed marks after =
       let g = given_own f st all B Q e r d in
       let found : own_section g ≡ Some f.setup.section = own_found f st in
-      let row : Owes f (NoDone f st all B Q) (Tells f st all B Q j d) (B (running_after e f r d)) (unwrap f.setup.mac g f.setup.section) d.mem =
+      let row : OwesSeal f (NoDone f st all B Q) (Tells f st all B Q j d) (B (running_after e f r d)) (unwrap f.setup.mac g f.setup.section) d.mem =
       inputs_met f st all e r d (Tells f st all B Q j d) (B (running_after e f r d)) B Q key
       (λ key ad cipher. Bytes r.r15 16 (λ tag. Writable r.r14 r.r13 (opened g ad (unwrapped f.setup.mac key ad cipher tag)))) safe.devices bs key_at (
         bs.tag,
         (
           bs.out,
-          subst (λ o. Owes f (NoDone f st all B Q) (Tells f st all B Q j d) (B (running_after e f r d)) (opened g (bytes_from d.mem r.r10 r.r11) o) d.mem) (sym is)
+          subst (λ o. OwesSeal f (NoDone f st all B Q) (Tells f st all B Q j d) (B (running_after e f r d)) (opened g (bytes_from d.mem r.r10 r.r11) o) d.mem) (sym is)
               (either result failed marks after),
         ),
       ) in
-      let owed : Owes f (NoDone f st all B Q) (Tells f st all B Q j d) (B (running_after e f r d)) (module_row f.setup.mac 5 g) d.mem =
-      subst (λ o. Owes f (NoDone f st all B Q) (Tells f st all B Q j d) (B (running_after e f r d)) (within g (unwrap f.setup.mac g) o) d.mem) (sym found) row in
-      from_told f st all B Q j e r d _ safe (record { from = omega (arith, t.from); to = omega (arith, t.to) }) (module_fetched t k 0x1385 5 has fits e r d pc safe (λ a. refl))
-      (owes_met f st (NoDone f st all B Q) (Tells f st all B Q j d) (B (running_after e f r d)) (module_row f.setup.mac 5 g) (start (running_after e f r d).node) safe.devices safe.memory owed)
+      let owed : OwesSeal f (NoDone f st all B Q) (Tells f st all B Q j d) (B (running_after e f r d)) (module_row f.setup.mac 5 g) d.mem =
+      subst (λ o. OwesSeal f (NoDone f st all B Q) (Tells f st all B Q j d) (B (running_after e f r d)) (within g (unwrap f.setup.mac g) o) d.mem) (sym found) row in
+      from_told f st all B Q j e r d _ safe (seal_shown t k 0x1385 has fits e r d key pc safe refl (inr refl) bs key_at (λ x. tag_shown))
+      (record { from = omega (arith, t.from); to = omega (arith, t.to) }) (module_fetched t k 0x1385 5 has fits e r d pc safe (λ a. refl))
+      (seal_met f st (NoDone f st all B Q) (Tells f st all B Q j d) (B (running_after e f r d)) (module_row f.setup.mac 5 g) (start (running_after e f r d).node) safe.memory owed)
     where
       next : (r.pc + 2) % 65536 ≡ P + 2 * (k + 1)
       next = next_pc t k r fits pc
@@ -332,7 +360,7 @@ module _ (f : Fixed) (st : Stands f) (all : List Mark) (B : Watched → Violatio
                 (r.r9 == 0) ∷ [];
           } in
           Safe f all (running_after (event.Unwrapped f.setup.section.id) f r2 d2) → Runs f all B Q j (running_after (event.Unwrapped f.setup.section.id) f r2 d2))
-          → Owes f (NoDone f st all B Q) (Tells f st all B Q j d) (B (running_after e f r d)) (opened (given_own f st all B Q e r d) (bytes_from d.mem r.r10 r.r11) result) d.mem
+          → OwesSeal f (NoDone f st all B Q) (Tells f st all B Q j d) (B (running_after e f r d)) (opened (given_own f st all B Q e r d) (bytes_from d.mem r.r10 r.r11) result) d.mem
       either None failed marks after = λ kept. (
         record r { pc = P + 2 * (k + 1); r15 = 0 },
         rw next refl,

@@ -2,7 +2,7 @@
 use Rattle.sx_isa.specs.Assembly.{##◌, #◌, &◌, ◌⟨◌⟩, call, clr, mov, pc, pop, r12}
 use Rattle.sx_tmpl.proofs.Running.Instructions.{step}
 use Rattle.sx_tmpl.specs.Template.{slot_words}
-use Rattle.std.proofs.Common.{◌≡◌, ℕ, zero, suc, ◌+◌, ◌-◌, ◌*◌, ◌/◌, ◌%◌, ◌<◌, ◌≤◌, inl, inr, List, [], ◌∷◌, ◌++◌, length, Option, refl, sym, ◌∙◌, ap, subst, arith, slice_index}
+use Rattle.std.proofs.Common.{◌≡◌, ℕ, zero, suc, ◌+◌, ◌-◌, ◌*◌, ◌/◌, ◌%◌, ◌<◌, ◌≤◌, inl, inr, List, [], ◌∷◌, ◌++◌, length, Option, Some, refl, sym, ◌∙◌, ap, subst, arith, slice_index}
 use Rattle.sx_reach.specs.Reach.{Here}
 use Rattle.sx_isa.specs.Spelling.{spelling}
 use Rattle.sx_isa.specs.Standing.{words_of}
@@ -20,11 +20,18 @@ use Rattle.sx_ir.specs.Meaning.{next, slot_keyed}
 use Rattle.sx_tmpl.specs.Running.{Regs, Fixed, Data, running, Safe, cell}
 use Rattle.sx_tmpl.proofs.Running.MidRun.{Stands, Runs, put_cell}
 use Rattle.sx_tmpl.specs.Shows.{base_of, MemoryHolds, Stood}
-use Rattle.sx_tmpl.proofs.Running.Steps.{Text}
+use Rattle.sx_tmpl.proofs.Running.Steps.{NoTell, Text, Then, three_met}
+use Rattle.sx_tmpl.proofs.Running.Owes.{moved_met}
+use Rattle.sx_tmpl.proofs.Running.Instructions.{reads_of, word_there}
+use Rattle.sx_isa.specs.declared.instruction.Instr.{Instr}
+use Rattle.sx_isa.specs.Instructions.{first_word}
+use Rattle.sx_machine.specs.Step.{start}
+use Rattle.std.specs.Prelude.{slice_get}
+use Rattle.sx_tmpl.specs.Unseen.{HoldsNoKey, InSlotKey}
 use Rattle.sx_tmpl.proofs.Operations.Plain.{inside, Leads}
 use Rattle.sx_tmpl.proofs.Operations.SealOps.{length_from}
 use Rattle.std.proofs.lemmas.List.{append_assoc}
-use Rattle.sx_tmpl.proofs.Running.Holding.{stack_word, data_word, holds_push, holds_pop, holds_store, holds_word, cell_below}
+use Rattle.sx_tmpl.proofs.Running.Holding.{low_shown, slot_shown, stack_word, data_place, data_word, holds_push, holds_pop, holds_store, holds_word, cell_below}
 
 -- a word below stays
 word_stays : (p : List ℕ) (o v j : ℕ) → o % 2 ≡ 0 → j % 2 ≡ 0 → j + 2 ≤ o → word (put_word p o v) j ≡ word p j
@@ -107,18 +114,18 @@ module _ (f : Fixed) (st : Stands f) (all : List Mark) (B : Watched → Violatio
     → Type 0) (P k : ℕ) (t : Text f P 32 (slot_words (base_of f))) (back : Option ℕ) (stack outside : List ℕ) where
   -- MOV &s, y(R12)
   move_step : (i s o y : ℕ) → o ≡ offsets.end_at k + y → take 3 (drop i (slot_words (base_of f))) ≡ spelling (mov (& (base_of f + s)) (y ⟨ r12 ⟩)) → i + 3 ≤ 32
-      → 2 ≤ s → s + 2 ≤ 104 → s % 2 ≡ 0 → 512 ≤ o → o % 2 ≡ 0 → (r : Regs) (d : Data) (priv : List ℕ) (v j : ℕ) → r.r12 ≡ base_of f + offsets.end_at k → o + 2 ≤ length priv → word priv s ≡ v
+      → 2 ≤ s → s + 2 ≤ 104 → s % 2 ≡ 0 → 512 ≤ o → o % 2 ≡ 0 → HoldsNoKey (length f.setup.ends) s 2 → HoldsNoKey (length f.setup.ends) o 2 → (r : Regs) (d : Data) (priv : List ℕ) (v j : ℕ) → r.r12 ≡ base_of f + offsets.end_at k → o + 2 ≤ length priv → word priv s ≡ v
       → MemoryHolds f at back stack priv outside r.sp d.mem → Safe f all (running f (record r { pc = P + 2 * i }) d)
       → ((m : List ℕ) → MemoryHolds f at back stack (put_word priv o v) outside r.sp m → Safe f all (running f (record r { pc = P + 2 * (i + 3) }) (record d { mem = m }))
       → Runs f all B Q j (running f (record r { pc = P + 2 * (i + 3) }) (record d { mem = m })))
       → Runs f all B Q (suc j) (running f (record r { pc = P + 2 * i }) d)
-  move_step i s o y eo has le s1 s2 se o1 oe r d priv v j e12 fits ev h safe after =
+  move_step i s o y eo has le s1 s2 se o1 oe shown_s shown_o r d priv v j e12 fits ev h safe after =
       let beneath = st.beneath in
       let sz2 = h.size in
       let place : (r.r12 + y) % 65536 ≡ base_of f + o = omega arith in
       let sz = h.size in
-      let ps = data_word f st s s1 se (omega (arith, st.room)) in
-      let po = data_word f st o (omega arith) oe (omega arith) in
+      let ps = data_word f st s shown_s s1 se (omega (arith, st.room)) in
+      let po = data_word f st o shown_o (omega arith) oe (omega arith) in
       let is = holds_word f st at back stack priv outside r.sp d.mem s h se (record { low = s1; beside = inl (omega arith) }) (let y = st.room in omega arith) ∙ ev in
       let lv = subst (λ (n : ℕ). n < 65536) is (cell_below f st d.mem (base_of f + s) safe.memory) in
       step f st all B Q t i (mov (& (base_of f + s)) (y ⟨ r12 ⟩)) has le refl refl event.Quiet (record r { pc = P + 2 * i }) d j refl safe (
@@ -143,11 +150,45 @@ module _ (f : Fixed) (st : Stands f) (all : List Mark) (B : Watched → Violatio
         ),
       )
 
+  -- the same of a word of a key
+  move_key : (i s o y : ℕ) → o ≡ offsets.end_at k + y → take 3 (drop i (slot_words (base_of f))) ≡ spelling (mov (& (base_of f + s)) (y ⟨ r12 ⟩)) → i + 3 ≤ 32
+      → 2 ≤ s → s + 2 ≤ 104 → s % 2 ≡ 0 → 512 ≤ o → o % 2 ≡ 0 → InSlotKey (length f.setup.ends) o → (r : Regs) (d : Data) (priv : List ℕ) (v j : ℕ) → r.r12 ≡ base_of f + offsets.end_at k → o + 2 ≤ length priv → word priv s ≡ v
+      → MemoryHolds f at back stack priv outside r.sp d.mem → Safe f all (running f (record r { pc = P + 2 * i }) d)
+      → ((m : List ℕ) → MemoryHolds f at back stack (put_word priv o v) outside r.sp m → Safe f all (running f (record r { pc = P + 2 * (i + 3) }) (record d { mem = m }))
+      → Runs f all B Q j (running f (record r { pc = P + 2 * (i + 3) }) (record d { mem = m })))
+      → Runs f all B Q (suc j) (running f (record r { pc = P + 2 * i }) d)
+  move_key i s o y eo has le s1 s2 se o1 oe inside_key r d priv v j e12 fits ev h safe after =
+      let beneath = st.beneath in
+      let sz2 = h.size in
+      let place : (r.r12 + y) % 65536 ≡ base_of f + o = omega arith in
+      let sz = h.size in
+      let ps = data_place f st s s1 se (omega (arith, st.room)) in
+      let po = data_place f st o (omega arith) oe (omega arith) in
+      let is = holds_word f st at back stack priv outside r.sp d.mem s h se (record { low = s1; beside = inl (omega arith) }) (let y = st.room in omega arith) ∙ ev in
+      let lv = subst (λ (n : ℕ). n < 65536) is (cell_below f st d.mem (base_of f + s) safe.memory) in
+      let w = first_word (mov (& 0) (0 ⟨ r12 ⟩)) in
+      let ii : ℕ → ℕ → Instr = λ x z. mov (& x) (z ⟨ r12 ⟩) in
+      let r1 = record r { pc = P + 2 * i } in
+      let r2 = record r { pc = P + 2 * (i + 3) } in
+      let x0 = start (running f r1 d).node in
+      let there = λ (n u : ℕ) (h : slice_get (w ∷ (base_of f + s) ∷ (y ∷ [])) n ≡ Some u). word_there (slot_words (base_of f)) (w ∷ (base_of f + s) ∷ (y ∷ [])) 3 i n u has h in
+      let at0 : i ≡ i + 0 = omega arith in
+      let here : slice_get (slot_words (base_of f)) i ≡ Some w = ap (slice_get (slot_words (base_of f))) at0 ∙ there 0 w refl in
+      three_met f st all B Q t i w (base_of f + s) y ii here (there 1 (base_of f + s) refl) (there 2 y refl) le (reads_of (mov (& 0) (0 ⟨ r12 ⟩)) refl refl) event.Quiet r1 d j refl safe
+      (moved_met f st (Then f st all B Q j d) (NoTell f st all B Q) (B (running f r1 d)) (base_of f + s) (base_of f + s) ((r.r12 + y) % 65536) (base_of f + o) v _ x0 refl ps is place po lv
+      safe.devices safe.memory (λ kept. (
+        r2,
+        rw (flags_stay r.sr) refl,
+        inside t (i + 3) le,
+        after (put_cell d.mem (base_of f + o) v) (holds_store f st at back stack priv outside r.sp d.mem o v safe.memory h oe (record { low = omega arith; beside = inr o1 }) fits),
+      )))
+      (inl (record { at = (r.r12 + y) % 65536; o = o; regs = _; is = λ v. refl; place = place; key = inside_key }))
+
 module _ (f : Fixed) (st : Stands f) (all : List Mark) (B : Watched → Violation → Type 0) (at : ℕ → ℕ) where
-  pub set_end_leads : (c : Conf) (k A : ℕ) → Text f A 32 (slot_words (base_of f)) → offsets.end_at k + 24 ≤ length c.priv → length c.stack ≤ 160
+  pub set_end_leads : (c : Conf) (k A : ℕ) → Text f A 32 (slot_words (base_of f)) → offsets.end_at k + 24 ≤ length c.priv → k < length f.setup.ends → length c.stack ≤ 160
       → Leads f st all B at 4 (words_of (mov (## (base_of f + offsets.end_at k)) r12 ∷ call (## A) ∷ [])) 14 c
       (record (next c c.stack) { priv = slot_keyed c.priv k (word c.priv 18) (bytes_from c.priv 56 16) })
-  set_end_leads c k A rt fits len r d t on sh safe =
+  set_end_leads c k A rt fits one len r d t on sh safe =
       let h = sh.holds in
       let top = h.top in
       let room = st.room in
@@ -199,10 +240,11 @@ module _ (f : Fixed) (st : Stands f) (all : List Mark) (B : Watched → Violatio
       → ((m2 : List ℕ) → MemoryHolds f at c.back (ret ∷ c.stack) (K (suc n)) c.mem sp m2 → Safe f all (running f (record r_ { pc = A + 2 * (7 + 3 * n + 3) }) (record d0 { mem = m2 }))
       → Runs f all B Q j (running f (record r_ { pc = A + 2 * (7 + 3 * n + 3) }) (record d0 { mem = m2 })))
       → Runs f all B Q (suc j) (running f (record r_ { pc = A + 2 * (7 + 3 * n) }) (record d0 { mem = m })) =
-      λ n lt has m j h s after. move_step f st all B at Q A k rt c.back (ret ∷ c.stack) c.mem (7 + 3 * n) (56 + 2 * n) (o + 2 * n) (8 + 2 * n) (omega arith) has (omega (arith, lt)) (omega arith)
-      (omega (arith, lt)) (omega arith) (omega arith) (omega (arith, even_)) r_ (record d0 { mem = m }) (K n) (word p (56 + 2 * n)) j refl (fits_ n lt) (word_ n lt) h s after in
-      let pn = data_word f st o1 (omega arith) (omega arith) (omega arith) in
-      let po = data_word f st o2 (omega arith) (omega arith) (omega arith) in
+      λ n lt has m j h s after. move_key f st all B at Q A k rt c.back (ret ∷ c.stack) c.mem (7 + 3 * n) (56 + 2 * n) (o + 2 * n) (8 + 2 * n) (omega arith) has (omega (arith, lt)) (omega arith)
+      (omega (arith, lt)) (omega arith) (omega arith) (omega (arith, even_)) (record { slot = k; one = one; from = omega arith; to = omega (arith, lt) }) r_ (record d0 { mem = m }) (K n) (word p (56 + 2 * n)) j refl (fits_ n lt) (word_ n lt) h s after in
+      let first_at : 512 + 24 * k + 0 ≡ o0 = omega arith in
+      let pn = data_word f st o1 (slot_shown _ k 2 2 (omega arith)) (omega arith) (omega arith) (omega arith) in
+      let po = data_word f st o2 (slot_shown _ k 4 2 (omega arith)) (omega arith) (omega arith) (omega arith) in
       let i2 : (b + o0 + 2) % 65536 ≡ b + o1 = omega arith in
       let i4 : (b + o0 + 4) % 65536 ≡ b + o2 = omega arith in
       let done : key_part K0 p o 8 ≡ put_bytes K0 o (bytes_from p 56 16) = key_put K0 p o even_ small 8 (omega arith) in
@@ -227,7 +269,7 @@ module _ (f : Fixed) (st : Stands f) (all : List Mark) (B : Watched → Violatio
                     subst (λ pc. Safe f all (running f (record r_ { pc = pc }) d0) → Runs f all B Q 12 (running f (record r_ { pc = pc }) d0)) (omega arith)
                     (λ s0.
                     move_step f st all B at Q A k rt c.back (ret ∷ c.stack) c.mem 0 18 o0 0 (omega arith) refl (omega arith) (omega arith) (omega arith) refl (omega arith)
-                    (omega arith) r_ d0 p field 11 refl (omega arith) refl h0 s0 (λ ma ha sa.
+                    (omega arith) (low_shown _ 18 2 (omega arith)) (subst (λ (o : ℕ). HoldsNoKey (length f.setup.ends) o 2) first_at (slot_shown _ k 0 2 (omega arith))) r_ d0 p field 11 refl (omega arith) refl h0 s0 (λ ma ha sa.
                     step f st all B Q rt 3 (clr (2 ⟨ r12 ⟩)) refl (omega arith) refl refl event.Quiet (record r_ { pc = A + 6 })
                     (record d0 { mem = ma }) 10 refl sa (
                       b + o1,

@@ -1,12 +1,14 @@
 -- What writes to the stack and to the data leave of what memory holds.
-use Rattle.std.proofs.Common.{◌≡◌, ◌≢◌, ℕ, ◌+◌, ◌*◌, ◌%◌, ◌<◌, ◌≤◌, ◌⊎◌, inl, inr, true, false, List, [], ◌∷◌, length, Option, Some, None, refl, sym, ◌∙◌, ap, subst, arith, slice_index}
-use Rattle.std.proofs.lemmas.Bool.{cases_eq, true≢false}
+use Rattle.std.proofs.Common.{◌≡◌, ◌≢◌, ℕ, ◌+◌, ◌-◌, ◌*◌, ◌%◌, ◌<◌, ◌≤◌, ◌⊎◌, inl, inr, true, false, List, [], ◌∷◌, length, Option, Some, None, refl, sym, ◌∙◌, ap, subst, arith, slice_index}
+use Rattle.std.proofs.lemmas.Bool.{cases_eq, cases_lt, true≢false}
 use Rattle.sx_rules.specs.Access.{in_private}
 use Rattle.std.specs.Prelude.{slice_set}
 use Rattle.std.proofs.lemmas.List.{get_or-set_same, get_or-set_other, length-set}
 use Rattle.sx_machine.specs.Memory.{word, put_word, put_bytes, bytes_from}
 use Rattle.sx_tmpl.specs.Running.{Fixed, OutsideKept, cell}
-use Rattle.sx_tmpl.proofs.Running.MidRun.{Stands, PrivateByte, PrivateWord, put_cell}
+use Rattle.sx_tmpl.proofs.Running.MidRun.{Stands, PrivateByte, PrivatePlace, PrivateWord, place_of, put_cell}
+use Rattle.sx_tmpl.specs.Unseen.{AreShown, HoldsNoKey}
+use Rattle.sx_invoke.specs.Setup.{Setup}
 use Rattle.sx_tmpl.specs.Shows.{base_of, WordsAt, IsData, MemoryHolds, ReturnsTo}
 use Rattle.sx_tmpl.proofs.Operations.Bytes.{bytes_agree}
 use Rattle.sx_tmpl.proofs.Running.Owes.{Inside, kept_byte}
@@ -27,28 +29,57 @@ pub returns_stay : (f : Fixed) (at : ℕ → ℕ) (back : Option ℕ) (m n : Lis
 returns_stay f at None m n e h = tt
 returns_stay f at (Some p) m n e h = e ∙ h
 
+-- offsets below the plain body, and those from it up to the slots
+pub low_shown : (ends o n : ℕ) → o + n ≤ 56 → HoldsNoKey ends o n
+low_shown ends o n h = record { plain = inl h; slots = λ k lt. inl (omega arith) }
+
+pub mid_shown : (ends o n : ℕ) → 72 ≤ o → o + n ≤ 520 → HoldsNoKey ends o n
+mid_shown ends o n l h = record { plain = inr l; slots = λ k lt. inl (omega arith) }
+
+-- fewer of them
+pub part_shown : (ends o m i n : ℕ) → HoldsNoKey ends o m → i + n ≤ m → HoldsNoKey ends (o + i) n
+part_shown ends o m i n h le = record {
+  plain = elim (h.plain) [ inl p ↦ inl (omega arith) | inr p ↦ inr (omega arith) ];
+  slots = λ k lt. elim (h.slots k lt) [ inl p ↦ inl (omega arith) | inr p ↦ inr (omega arith) ];
+}
+
+-- those of the private section from an address on
+pub are_part : (s : Setup) (a m i n : ℕ) → AreShown s a m → i + n ≤ m → AreShown s (a + i) n
+are_part s a m i n h le = (h.0 + i, omega (arith, h.1), part_shown (length s.ends) h.0 m i n h.2 le)
+
+-- the connection field, the number and the mark of a slot
+pub slot_shown : (ends k y n : ℕ) → y + n ≤ 8 → HoldsNoKey ends (512 + 24 * k + y) n
+slot_shown ends k y n h = record { plain = inr (omega arith); slots = λ i lt. elim (cases_lt i k) [ inl p ↦ inr (omega arith) | inr p ↦ inl (omega arith) ] }
+
 module _ (f : Fixed) (st : Stands f) where
   -- the words of the stack are private words
   pub stack_word : (a k : ℕ) → a + 2 * k ≡ base_of f + 512 → 0 < k → k ≤ 180 → PrivateWord f a
   stack_word a k e p q =
       let even = st.base_even in
       let room = st.room in
-      record { low = omega arith; high = omega arith; is_even = omega arith }
+      let o = 512 - 2 * k in
+      record { low = omega arith; high = omega arith; is_even = omega arith; shown = (o, omega arith, record { plain = inr (omega arith); slots = λ i lt. inl (omega arith) }) }
 
   -- a word at an even offset beside the first one
-  pub data_word : (o : ℕ) → 2 ≤ o → o % 2 ≡ 0 → base_of f + (o + 2) ≤ f.setup.section.layout.priv_to → PrivateWord f (base_of f + o)
-  data_word o p ev q =
+  pub data_place : (o : ℕ) → 2 ≤ o → o % 2 ≡ 0 → base_of f + (o + 2) ≤ f.setup.section.layout.priv_to → PrivatePlace f (base_of f + o)
+  data_place o p ev q =
       let even = st.base_even in
       record { low = omega arith; high = omega arith; is_even = omega arith }
 
-  fits : (m : List ℕ) (a : ℕ) → OutsideKept f m → PrivateWord f a → a + 1 < length m
+  -- one that holds no key
+  pub data_word : (o : ℕ) → HoldsNoKey (length f.setup.ends) o 2 → 2 ≤ o → o % 2 ≡ 0 → base_of f + (o + 2) ≤ f.setup.section.layout.priv_to → PrivateWord f (base_of f + o)
+  data_word o shown p ev q =
+      let even = st.base_even in
+      record { low = omega arith; high = omega arith; is_even = omega arith; shown = (o, refl, shown) }
+
+  fits : (m : List ℕ) (a : ℕ) → OutsideKept f m → PrivatePlace f a → a + 1 < length m
   fits m a k p = let e : length m ≡ 65536 = k.size in omega (arith, p.high, st.beneath)
 
   -- a word read back
-  pub same_word : (m : List ℕ) (a v : ℕ) → OutsideKept f m → PrivateWord f a → cell (put_cell m a v) a ≡ v
+  pub same_word : (m : List ℕ) (a v : ℕ) → OutsideKept f m → PrivatePlace f a → cell (put_cell m a v) a ≡ v
   same_word m a v k p = cell-put_same m a v (fits m a k p)
 
-  pub outside_stays : (m outside : List ℕ) (a v : ℕ) → PrivateWord f a → ((b : ℕ) → in_private f.setup.section b ≡ false → slice_index m b ≡ slice_index outside b) → (b : ℕ)
+  pub outside_stays : (m outside : List ℕ) (a v : ℕ) → PrivatePlace f a → ((b : ℕ) → in_private f.setup.section b ≡ false → slice_index m b ≡ slice_index outside b) → (b : ℕ)
       → in_private f.setup.section b ≡ false → slice_index (put_cell m a v) b ≡ slice_index outside b
   outside_stays m outside a v p h b o =
       let i1 = in_private_yes f.setup.section a (omega (arith, p.low)) (omega (arith, p.high)) in
@@ -60,7 +91,7 @@ module _ (f : Fixed) (st : Stands f) where
 
 module _ (f : Fixed) (st : Stands f) (at : ℕ → ℕ) (back : Option ℕ) where
   -- a write under the stack's words: SP itself, or a place that only templates use
-  pub holds_under : (stack priv outside : List ℕ) (sp : ℕ) (m : List ℕ) (a v : ℕ) → MemoryHolds f at back stack priv outside sp m → PrivateWord f a → base_of f + 106 ≤ a
+  pub holds_under : (stack priv outside : List ℕ) (sp : ℕ) (m : List ℕ) (a v : ℕ) → MemoryHolds f at back stack priv outside sp m → PrivatePlace f a → base_of f + 106 ≤ a
       → (a + 2 ≤ base_of f + 148) ⊎ (base_of f + 150 ≤ a) → a + 2 ≤ sp → MemoryHolds f at back stack priv outside sp (put_cell m a v)
   holds_under stack priv outside sp m a v h p lo mid hi = record {
     top = h.top;
@@ -89,7 +120,7 @@ module _ (f : Fixed) (st : Stands f) (at : ℕ → ℕ) (back : Option ℕ) wher
       → MemoryHolds f at back (v ∷ stack) priv outside a (put_cell m a v)
   holds_push stack priv outside sp m a v k h e room =
       let top = h.top in
-      let p = stack_word f st a (length (v ∷ stack)) (omega arith) (omega arith) (omega arith) in
+      let p = place_of (stack_word f st a (length (v ∷ stack)) (omega arith) (omega arith) (omega arith)) in
       let u = holds_under stack priv outside sp m a v h p (omega arith) (inr (omega arith)) (omega arith) in
       record {
         top = omega arith;
@@ -130,7 +161,7 @@ module _ (f : Fixed) (st : Stands f) (at : ℕ → ℕ) (back : Option ℕ) wher
       let t = h.top in
       let s = h.size in
       let lo = i.low in
-      let p = data_word f st o lo ev (omega arith) in
+      let p = data_place f st o lo ev (omega arith) in
       let e = put_word_is priv o v ev in
       let low = elim (i.beside) as (λ x. (base_of f + o + 2 ≤ sp) ⊎ (base_of f + 512 ≤ base_of f + o)) [ inl q ↦ inl (let r = h.room in omega arith) | inr q ↦ inr (omega arith) ] in
       rw e record {
@@ -157,7 +188,7 @@ module _ (f : Fixed) (st : Stands f) (at : ℕ → ℕ) (back : Option ℕ) wher
     where
       both : (q : ℕ) → IsData q → q < length priv → slice_index (put_cell m (base_of f + o) v) (base_of f + q) ≡ slice_index (put_cell priv o v) q
       both q j lt =
-          let p = data_word f st o i.low ev (omega (arith, h.size)) in
+          let p = data_place f st o i.low ev (omega (arith, h.size)) in
           let long = fits f st m (base_of f + o) k p in
           elim (cases_eq q o) [
             | inl e ↦ ap (λ q. slice_index (put_cell m (base_of f + o) v) (base_of f + q)) e ∙ get-put_low m (base_of f + o) v (omega arith) ∙ sym (get-put_low priv o v (omega arith))
@@ -260,7 +291,7 @@ module _ (f : Fixed) (st : Stands f) (at : ℕ → ℕ) (back : Option ℕ) wher
 pub holds_return : (f : Fixed) (st : Stands f) (at : ℕ → ℕ) (back : Option ℕ) (p : ℕ) (stack priv outside : List ℕ) (sp : ℕ) (m : List ℕ) → OutsideKept f m
     → MemoryHolds f at back stack priv outside sp m → MemoryHolds f at (Some p) stack priv outside sp (put_cell m (base_of f + 104) (at p))
 holds_return f st at back p stack priv outside sp m k h =
-    let pr = data_word f st 104 (omega arith) refl (omega (arith, st.room)) in
+    let pr = data_place f st 104 (omega arith) refl (omega (arith, st.room)) in
     let a = base_of f + 104 in
     let v = at p in
     record {

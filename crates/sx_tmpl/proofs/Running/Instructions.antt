@@ -38,7 +38,7 @@ get_drop (suc k) j [] = refl
 get_drop (suc k) j (x ∷ xs) = let on : suc k + j ≡ suc (k + j) = omega arith in ap (λ n. slice_get (x ∷ xs) n) on ∙ get_drop k j xs
 
 -- the words at a place are these
-word_there : (ws xs : List ℕ) (n k j w : ℕ) → take n (drop k ws) ≡ xs → slice_get xs j ≡ Some w → slice_get ws (k + j) ≡ Some w
+pub word_there : (ws xs : List ℕ) (n k j w : ℕ) → take n (drop k ws) ≡ xs → slice_get xs j ≡ Some w → slice_get ws (k + j) ≡ Some w
 word_there ws xs n k j w e h = get_drop k j ws ∙ from_take n j w (drop k ws) (ap (λ l. slice_get l j) e ∙ h)
 
 module _ (f : Fixed) (st : Stands f) (all : List Mark) (B : Watched → Violation → Type 0) (Q : Watched → Type 0) where

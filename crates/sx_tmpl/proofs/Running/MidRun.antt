@@ -11,6 +11,7 @@ use Rattle.sx_rules.specs.Placed.{Placed}
 use Rattle.sx_invoke.specs.Marks.{Mark}
 use Rattle.sx_image.specs.Watched.{Watched, watch}
 use Rattle.sx_tmpl.specs.Running.{Fixed, sections_of, Safe}
+use Rattle.sx_tmpl.specs.Unseen.{AreShown, StepShowsNone}
 
 -- the module runs, its first private word is the only one that a device may have, and its public section has none
 pub record Stands (f : Fixed) : Type 0 where
@@ -27,9 +28,13 @@ pub record Stands (f : Fixed) : Type 0 where
   pub window : f.to ≤ 65536
   pub window_apart : (a : ℕ) → f.from ≤ a → a < f.to → in_private f.setup.section a ≡ false
 
+-- what holds at every moment of a run: nothing was done so far that may not be, and the next step shows no key
+abbrev pub Held : Fixed → List Mark → Watched → Type 0
+Held f all c = Safe f all c × StepShowsNone f.setup c.node
+
 -- the run of a module comes to Q, or ends in a violation with B
 abbrev pub Runs : Fixed → List Mark → (Watched → Violation → Type 0) → (Watched → Type 0) → ℕ → Watched → Type 0
-Runs f all B Q n c = Comes Watched Violation (watch f.setup.mac) (λ _. 1) (Safe f all) B Q n c
+Runs f all B Q n c = Comes Watched Violation (watch f.setup.mac) (λ _. 1) (Held f all) B Q n c
 
 -- so it does within a greater count
 pub later : (f : Fixed) (all : List Mark) (B : Watched → Violation → Type 0) (Q : Watched → Type 0) (n m : ℕ) (c : Watched) → n ≤ m → Runs f all B Q n c → Runs f all B Q m c
@@ -51,10 +56,20 @@ pub record PrivateByte (f : Fixed) (a : ℕ) : Type 0 where
   pub high : a < f.setup.section.layout.priv_to
 
 -- an even word of it
+pub record PrivatePlace (f : Fixed) (a : ℕ) : Type 0 where
+  pub low : f.setup.section.layout.priv_from + 2 ≤ a
+  pub high : a + 2 ≤ f.setup.section.layout.priv_to
+  pub is_even : a % 2 ≡ 0
+
+-- an even word of it that holds no key
 pub record PrivateWord (f : Fixed) (a : ℕ) : Type 0 where
   pub low : f.setup.section.layout.priv_from + 2 ≤ a
   pub high : a + 2 ≤ f.setup.section.layout.priv_to
   pub is_even : a % 2 ≡ 0
+  pub shown : AreShown f.setup a 2
+
+pub place_of : {f : Fixed} {a : ℕ} → PrivateWord f a → PrivatePlace f a
+place_of p = record { low = p.low; high = p.high; is_even = p.is_even }
 
 -- this many bytes of it
 pub record PrivateRange (f : Fixed) (a n : ℕ) : Type 0 where

@@ -3,7 +3,7 @@ use Rattle.std.proofs.Common.{◌≡◌, ◌≢◌, ℕ, zero, suc, ◌+◌, ◌
 use Rattle.std.proofs.Common.{sym, ◌∙◌, ap, subst, arith, cond, slice_index, slice_set}
 use Rattle.std.proofs.lemmas.Bool.{and_from, cases_eq, cases_Bool, true≢false}
 use Rattle.std.proofs.lemmas.List.{get_or-set_same, get_or-set_other, length-set}
-use Rattle.std.specs.Prelude.{slice_get}
+use Rattle.std.specs.Prelude.{slice_get, Result}
 use Rattle.std.specs.List.{position_from}
 use Rattle.std.proofs.lemmas.Option.{none-some, same_Some}
 use Rattle.sx_bus.specs.declared.devices.Window.{Window}
@@ -16,12 +16,13 @@ use Rattle.sx_rules.specs.declared.access.Violation.TheVariants as bad
 use Rattle.sx_rules.specs.Access.{in_public, in_private, may}
 use Rattle.sx_machine.specs.declared.kinds.Event.{Event}
 use Rattle.sx_machine.specs.declared.kinds.Exchange.{Exchange}
-use Rattle.sx_machine.specs.Memory.{bytes_from, put_bytes}
+use Rattle.sx_machine.specs.Memory.{even, bytes_from, put_bytes}
 use Rattle.sx_machine.specs.Plan.{Plan, Done, Tell, Stop, Fetch, Load, Store, Need, Writable, Bytes, Put}
 use Rattle.sx_machine.specs.Run.{Moment, Outcome, Finished, Violated, Module, may_range, may_each, found, read_place, read_device, write_place, write_device}
 use Rattle.sx_machine.specs.Run.{load, store, after_read, after_write, exec}
 use Rattle.sx_tmpl.specs.Running.{sections_of, Fixed, Elsewhere, OutsideKept, cell}
-use Rattle.sx_tmpl.proofs.Running.MidRun.{Stands, refused, device_refusal, PrivateByte, PrivateWord, PrivateRange, put_cell}
+use Rattle.sx_tmpl.proofs.Running.MidRun.{Stands, refused, device_refusal, PrivateByte, PrivatePlace, PrivateWord, PrivateRange, place_of, put_cell}
+use Rattle.sx_tmpl.specs.Unseen.{AreShown, IsShown, PlanShowsNone}
 use Rattle.sx_tmpl.proofs.Running.Owned.{in_private_yes, may_read, may_write, written_not_public, public_bounds, public_not_private}
 use Rattle.sx_tmpl.proofs.Running.Mem.{length-put, get-put_other, bytes_put, even_is, word_is, put_word_is}
 
@@ -35,18 +36,32 @@ pub data Place (f : Fixed) (a : ℕ) : Type 0 where
 module _ (f : Fixed) (Q : List ℕ → List ℕ → Type 0) (T : List ℕ → Event → Exchange → List ℕ → Type 0) (B : Violation → Type 0) where
   abbrev pub Owes : Plan → List ℕ → Type 0
   Owes (Done regs) m = OutsideKept f m → Q regs m
-  Owes (Tell regs event exchange) m = OutsideKept f m → T regs event exchange m
+  Owes (Tell regs event exchange) m = ⊥
   Owes (Stop v) m = B v
   Owes (Fetch at k) m = ⊥
   Owes (Load true at k) m = (a : ℕ) × (at ≡ a) × PrivateWord f a × (v : ℕ) × (cell m a ≡ v) × Owes (k v) m
-  Owes (Load false at k) m = (a : ℕ) × (at ≡ a) × ((v : Violation) → refused f Read bad.Read a ≡ Some v → B v) × (refused f Read bad.Read a ≡ None → Owes (k (slice_index m a)) m)
+  Owes (Load false at k) m = (a : ℕ) × (at ≡ a) × IsShown f.setup a × ((v : Violation) → refused f Read bad.Read a ≡ Some v → B v)
+      × (refused f Read bad.Read a ≡ None → Owes (k (slice_index m a)) m)
   Owes (Store true at v k) m = (a : ℕ) × (at ≡ a) × PrivateWord f a × (w : ℕ) × (v ≡ w) × (w < 65536) × Owes k (put_cell m a w)
   Owes (Store false at v k) m = (a : ℕ) × (at ≡ a) × Place f a × ((w : Violation) → refused f Write bad.Write a ≡ Some w → B w) × (refused f Write bad.Write a ≡ None
       → Owes k (slice_set m a (v % 256)))
   Owes (Need b v k) m = (b ≡ false → B v) × (b ≡ true → Owes k m)
-  Owes (Writable at n k) m = PrivateRange f at n × Owes k m
-  Owes (Bytes at n k) m = PrivateRange f at n × Owes (k (bytes_from m at n)) m
-  Owes (Put at bs k) m = PrivateRange f at (length bs) × Owes k (put_bytes m at bs)
+  Owes (Writable at n k) m = ⊥
+  Owes (Bytes at n k) m = ⊥
+  Owes (Put at bs k) m = ⊥
+
+  -- what is owed by a module instruction
+  abbrev pub OwesSeal : Plan → List ℕ → Type 0
+  OwesSeal (Done regs) m = OutsideKept f m → Q regs m
+  OwesSeal (Tell regs event exchange) m = OutsideKept f m → T regs event exchange m
+  OwesSeal (Stop v) m = B v
+  OwesSeal (Fetch at k) m = ⊥
+  OwesSeal (Load wide at k) m = ⊥
+  OwesSeal (Store wide at v k) m = ⊥
+  OwesSeal (Need b v k) m = (b ≡ false → B v) × (b ≡ true → OwesSeal k m)
+  OwesSeal (Writable at n k) m = PrivateRange f at n × OwesSeal k m
+  OwesSeal (Bytes at n k) m = PrivateRange f at n × OwesSeal (k (bytes_from m at n)) m
+  OwesSeal (Put at bs k) m = PrivateRange f at (length bs) × OwesSeal k (put_bytes m at bs)
 
   -- the end of a plan is what was owed
   abbrev pub Met : Moment → Outcome → Type 0
@@ -69,7 +84,7 @@ module _ (f : Fixed) (st : Stands f) where
       k.elsewhere a (record { outside = public_not_private f st a p.0 p.1; beside = inr (inr shut) })
 
   -- a word written into the private section
-  pub kept_word : (m : List ℕ) (a v : ℕ) → OutsideKept f m → PrivateWord f a → v < 65536 → OutsideKept f (put_cell m a v)
+  pub kept_word : (m : List ℕ) (a v : ℕ) → OutsideKept f m → PrivatePlace f a → v < 65536 → OutsideKept f (put_cell m a v)
   kept_word m a v k p lt =
       let inside = in_private_yes f.setup.section a (omega (arith, p.low)) (omega (arith, p.high)) in
       let inside1 = in_private_yes f.setup.section (a + 1) (omega (arith, p.low)) (omega (arith, p.high)) in
@@ -104,7 +119,7 @@ module _ (f : Fixed) (st : Stands f) where
       beside : (b : ℕ) → Elsewhere f b → b ≢ a
       beside b o e = elim (o.beside) [ inl q ↦ omega arith | inr q ↦ elim q [ inl p ↦ omega arith | inr shut ↦ true≢false (sym h ∙ ap (may f.setup.live f.setup.section.id Write) (sym e) ∙ shut) ] ]
 
-  pub load_word : (at a : ℕ) (x : Moment) → at ≡ a → PrivateWord f a → ((b : ℕ) → device_at x.devices b ≡ device_at f.devices b) → load f.setup.live f.setup.section.id true at x ≡ Ok (cell x.mem a, x)
+  pub load_word : (at a : ℕ) (x : Moment) → at ≡ a → PrivatePlace f a → ((b : ℕ) → device_at x.devices b ≡ device_at f.devices b) → load f.setup.live f.setup.section.id true at x ≡ Ok (cell x.mem a, x)
   load_word at a x e p same =
       let inside = in_private_yes f.setup.section a (omega (arith, p.low)) (omega (arith, p.high)) in
       let e1 = even_is a p.is_even in
@@ -113,7 +128,7 @@ module _ (f : Fixed) (st : Stands f) where
       let d : device_at x.devices a ≡ None = same a ∙ st.private_plain a inside p.low in
       rw (e, e1, m1, m2, d) (ap (λ v. Ok (v, x)) (word_is x.mem a p.is_even))
 
-  pub store_word : (at a v : ℕ) (x : Moment) → at ≡ a → PrivateWord f a → ((b : ℕ) → device_at x.devices b ≡ device_at f.devices b)
+  pub store_word : (at a v : ℕ) (x : Moment) → at ≡ a → PrivatePlace f a → ((b : ℕ) → device_at x.devices b ≡ device_at f.devices b)
       → store f.setup.live f.setup.section.id true at v x ≡ Ok (record x { mem = put_cell x.mem a v })
   store_word at a v x e p same =
       let inside = in_private_yes f.setup.section a (omega (arith, p.low)) (omega (arith, p.high)) in
@@ -225,26 +240,26 @@ module _ (f : Fixed) (st : Stands f) (Q : List ℕ → List ℕ → Type 0) (T :
   -- a plan does what it owes
   pub owes_met : (p : Plan) (x : Moment) → ((b : ℕ) → device_at x.devices b ≡ device_at f.devices b) → OutsideKept f x.mem → Owes f Q T B p x.mem → M x (exec (sections_of f) f.setup.section.id p x)
   owes_met (Done regs) x same k h = (refl, k, h k)
-  owes_met (Tell regs event exchange) x same k h = (refl, k, refl, h k)
+  owes_met (Tell regs event exchange) x same k h = absurd h
   owes_met (Stop v) x same k h = h
   owes_met (Fetch at k) x same kept h = absurd h
   owes_met (Load true at k) x same kept h =
-      subst (λ r. M x (after_read r (λ v y. exec (sections_of f) f.setup.section.id (k v) y))) (sym (load_word f st at h.0 x h.1 h.2 same))
+      subst (λ r. M x (after_read r (λ v y. exec (sections_of f) f.setup.section.id (k v) y))) (sym (load_word f st at h.0 x h.1 (place_of h.2) same))
       (subst (λ (v : ℕ). M x (exec (sections_of f) f.setup.section.id (k v) x)) (sym h.4) (owes_met (k h.3) x same kept h.5))
   owes_met (Load false at k) x same kept h =
       subst (λ a. M x (after_read (load f.setup.live f.setup.section.id false a x) (λ v y. exec (sections_of f) f.setup.section.id (k v) y))) (sym h.1)
-      (byte (refused f Read bad.Read h.0) refl (λ e. owes_met (k (slice_index x.mem h.0)) x same kept (h.3 e)))
+      (byte (refused f Read bad.Read h.0) refl (λ e. owes_met (k (slice_index x.mem h.0)) x same kept (h.4 e)))
     where
       byte : (r : Option Violation) → refused f Read bad.Read h.0 ≡ r → (refused f Read bad.Read h.0 ≡ None → M x (exec (sections_of f) f.setup.section.id (k (slice_index x.mem h.0)) x))
           → M x (after_read (load f.setup.live f.setup.section.id false h.0 x) (λ v y. exec (sections_of f) f.setup.section.id (k v) y))
       byte None e go =
           subst (λ r. M x (after_read r (λ v y. exec (sections_of f) f.setup.section.id (k v) y))) (sym (load_byte f st h.0 x same None e)) (go e)
       byte (Some v) e go =
-          subst (λ r. M x (after_read r (λ v y. exec (sections_of f) f.setup.section.id (k v) y))) (sym (load_byte f st h.0 x same (Some v) e)) (h.2 v e)
+          subst (λ r. M x (after_read r (λ v y. exec (sections_of f) f.setup.section.id (k v) y))) (sym (load_byte f st h.0 x same (Some v) e)) (h.3 v e)
   owes_met (Store true at v k) x same kept h =
-      subst (λ r. M x (after_write r (λ y. exec (sections_of f) f.setup.section.id k y))) (sym (store_word f st at h.0 v x h.1 h.2 same))
+      subst (λ r. M x (after_write r (λ y. exec (sections_of f) f.setup.section.id k y))) (sym (store_word f st at h.0 v x h.1 (place_of h.2) same))
       (subst (λ (v : ℕ). M x (exec (sections_of f) f.setup.section.id k (record x { mem = put_cell x.mem h.0 v }))) (sym h.4)
-      (moved_on x (put_cell x.mem h.0 h.3) _ (owes_met k (record x { mem = put_cell x.mem h.0 h.3 }) same (kept_word f st x.mem h.0 h.3 kept h.2 h.5) h.6)))
+      (moved_on x (put_cell x.mem h.0 h.3) _ (owes_met k (record x { mem = put_cell x.mem h.0 h.3 }) same (kept_word f st x.mem h.0 h.3 kept (place_of h.2) h.5) h.6)))
   owes_met (Store false at v k) x same kept h =
       subst (λ a. M x (after_write (store f.setup.live f.setup.section.id false a v x) (λ y. exec (sections_of f) f.setup.section.id k y))) (sym h.1) (byte (refused f Write bad.Write h.0) refl
       (λ e. moved_on x (slice_set x.mem h.0 (v % 256)) _ (owes_met k (record x { mem = slice_set x.mem h.0 (v % 256) }) same (kept_byte f st x.mem h.0 v kept h.2 (let_through f st h.0 e)) (h.4 e))))
@@ -261,8 +276,110 @@ module _ (f : Fixed) (st : Stands f) (Q : List ℕ → List ℕ → Type 0) (T :
       need : (c : Bool) → b ≡ c → (b ≡ true → M x (exec (sections_of f) f.setup.section.id k x)) → M x (cond b (exec (sections_of f) f.setup.section.id k x) (Violated v))
       need true e go = rw e (go e)
       need false e go = rw e (h.0 e)
-  owes_met (Writable at n k) x same kept h = rw (range_write f st at n h.0) (owes_met k x same kept h.1)
-  owes_met (Bytes at n k) x same kept h = rw (range_read f st at n h.0) (owes_met (k (bytes_from x.mem at n)) x same kept h.1)
-  owes_met (Put at bs k) x same kept h =
+  owes_met (Writable at n k) x same kept h = absurd h
+  owes_met (Bytes at n k) x same kept h = absurd h
+  owes_met (Put at bs k) x same kept h = absurd h
+
+  -- a word of the private section is moved to another
+  pub moved_met : (at a to b v : ℕ) (regs : List ℕ) (x : Moment) → at ≡ a → PrivatePlace f a → cell x.mem a ≡ v → to ≡ b → PrivatePlace f b → v < 65536
+      → ((b : ℕ) → device_at x.devices b ≡ device_at f.devices b) → OutsideKept f x.mem → (OutsideKept f (put_cell x.mem b v) → Q regs (put_cell x.mem b v))
+      → M x (exec (sections_of f) f.setup.section.id (Load true at (λ d. Store true to d (Done regs))) x)
+  moved_met at a to b v regs x ea pa is eb pb lt same kept h =
+      subst (λ r. M x (after_read r (λ d y. exec (sections_of f) f.setup.section.id (Store true to d (Done regs)) y))) (sym (load_word f st at a x ea pa same))
+      (subst (λ (d : ℕ). M x (exec (sections_of f) f.setup.section.id (Store true to d (Done regs)) x)) (sym is)
+      (subst (λ r. M x (after_write r (λ y. exec (sections_of f) f.setup.section.id (Done regs) y))) (sym (store_word f st to b v x eb pb same))
+      (let k2 = kept_word f st x.mem b v kept pb lt in (refl, k2, h k2))))
+
+  -- so does a module instruction's
+  pub seal_met : (p : Plan) (x : Moment) → OutsideKept f x.mem → OwesSeal f Q T B p x.mem → M x (exec (sections_of f) f.setup.section.id p x)
+  seal_met (Done regs) x k h = (refl, k, h k)
+  seal_met (Tell regs event exchange) x k h = (refl, k, refl, h k)
+  seal_met (Stop v) x k h = h
+  seal_met (Fetch at k) x kept h = absurd h
+  seal_met (Load wide at k) x kept h = absurd h
+  seal_met (Store wide at v k) x kept h = absurd h
+  seal_met (Need b v k) x kept h = need b refl (λ e. seal_met k x kept (h.1 e))
+    where
+      need : (c : Bool) → b ≡ c → (b ≡ true → M x (exec (sections_of f) f.setup.section.id k x)) → M x (cond b (exec (sections_of f) f.setup.section.id k x) (Violated v))
+      need true e go = rw e (go e)
+      need false e go = rw e (h.0 e)
+  seal_met (Writable at n k) x kept h = rw (range_write f st at n h.0) (seal_met k x kept h.1)
+  seal_met (Bytes at n k) x kept h = rw (range_read f st at n h.0) (seal_met (k (bytes_from x.mem at n)) x kept h.1)
+  seal_met (Put at bs k) x kept h =
       rw (range_each f st bs at h.0)
-      (moved_on x (put_bytes x.mem at bs) _ (owes_met k (record x { mem = put_bytes x.mem at bs }) same (kept_bytes f st bs x.mem at kept h.0) h.1))
+      (moved_on x (put_bytes x.mem at bs) _ (seal_met k (record x { mem = put_bytes x.mem at bs }) (kept_bytes f st bs x.mem at kept h.0) h.1))
+
+-- what a read or a write gave
+abbrev value_of : Result (ℕ × Moment) Violation → ℕ
+value_of (Ok r) = r.0
+value_of (Err v) = 0
+
+abbrev moment_of : Moment → Result (ℕ × Moment) Violation → Moment
+moment_of x (Ok r) = r.1
+moment_of x (Err v) = x
+
+abbrev written_of : Moment → Result Moment Violation → Moment
+written_of x (Ok y) = y
+written_of x (Err v) = x
+
+err_ok : {T : Type 0} (v : Violation) (r : T) → ◌≡◌ {A = Result T Violation} (Err v) (Ok r) → ⊥
+err_ok v r e = cc
+
+module _ (f : Fixed) (st : Stands f) (Q : List ℕ → List ℕ → Type 0) (T : List ℕ → Event → Exchange → List ℕ → Type 0) (B : Violation → Type 0) where
+  abbrev Shows_none : Plan → Moment → Type 0
+  Shows_none p x = PlanShowsNone f.setup p x
+
+  -- where a read or a write went well
+  read_on : (k : ℕ → Plan) (r : Result (ℕ × Moment) Violation) (u v : ℕ) (x y : Moment) → r ≡ Ok (u, x) → r ≡ Ok (v, y) → Shows_none (k u) x → Shows_none (k v) y
+  read_on k r u v x y here there h =
+      let e = sym here ∙ there in
+      let ev : u ≡ v = ap value_of e in
+      let ey : x ≡ y = ap (moment_of x) e in
+      subst (λ (z : Moment). Shows_none (k v) z) ey (subst (λ (n : ℕ). Shows_none (k n) x) ev h)
+
+  written_on : (k : Plan) (r : Result Moment Violation) (x y : Moment) → r ≡ Ok x → r ≡ Ok y → Shows_none k x → Shows_none k y
+  written_on k r x y here there h = let e : x ≡ y = ap (written_of x) (sym here ∙ there) in subst (λ (z : Moment). Shows_none k z) e h
+
+  -- a plan that does what it owes shows no key
+  pub owes_shown : (p : Plan) (x : Moment) → ((b : ℕ) → device_at x.devices b ≡ device_at f.devices b) → OutsideKept f x.mem → Owes f Q T B p x.mem → PlanShowsNone f.setup p x
+  owes_shown (Done regs) x same kept h = tt
+  owes_shown (Tell regs event exchange) x same kept h = absurd h
+  owes_shown (Stop v) x same kept h = tt
+  owes_shown (Fetch at k) x same kept h = absurd h
+  owes_shown (Load true at k) x same kept h =
+      let ev : even at ≡ h.0 = ap even h.1 ∙ even_is h.0 h.2.is_even in
+      let here = load_word f st at h.0 x h.1 (place_of h.2) same in
+      inr (
+        subst (λ (a : ℕ). AreShown f.setup a 2) (sym ev) h.2.shown,
+        λ v y e. read_on k (load f.setup.live f.setup.section.id true at x) (cell x.mem h.0) v x y here e
+            (subst (λ (n : ℕ). PlanShowsNone f.setup (k n) x) (sym h.4) (owes_shown (k h.3) x same kept h.5)),
+      )
+  owes_shown (Load false at k) x same kept h = (
+    subst (λ (a : ℕ). IsShown f.setup a) (sym h.1) h.2,
+    λ v y e. byte (λ g. owes_shown (k (slice_index x.mem h.0)) x same kept (h.4 g)) (refused f Read bad.Read h.0) refl v y
+        (subst (λ (a : ℕ). load f.setup.live f.setup.section.id false a x ≡ Ok (v, y)) h.1 e),
+  )
+    where
+      byte : (refused f Read bad.Read h.0 ≡ None → PlanShowsNone f.setup (k (slice_index x.mem h.0)) x) → (r : Option Violation) → refused f Read bad.Read h.0 ≡ r
+          → (v : ℕ) (y : Moment) → load f.setup.live f.setup.section.id false h.0 x ≡ Ok (v, y) → PlanShowsNone f.setup (k v) y
+      byte on None e v y g =
+          read_on k (load f.setup.live f.setup.section.id false h.0 x) (slice_index x.mem h.0) v x y (load_byte f st h.0 x same None e) g (on e)
+      byte on (Some w) e v y g = absurd (err_ok w (v, y) (sym (load_byte f st h.0 x same (Some w) e) ∙ g))
+  owes_shown (Store true at v k) x same kept h =
+      let z = record x { mem = put_cell x.mem h.0 h.3 } in
+      let here : store f.setup.live f.setup.section.id true at v x ≡ Ok z = store_word f st at h.0 v x h.1 (place_of h.2) same
+      ∙ ap (λ (n : ℕ). Ok (record x { mem = put_cell x.mem h.0 n })) h.4 in
+      λ y e. written_on k (store f.setup.live f.setup.section.id true at v x) z y here e (owes_shown k z same (kept_word f st x.mem h.0 h.3 kept (place_of h.2) h.5) h.6)
+  owes_shown (Store false at v k) x same kept h =
+      λ y e. byte (λ g. owes_shown k (record x { mem = slice_set x.mem h.0 (v % 256) }) same (kept_byte f st x.mem h.0 v kept h.2 (let_through f st h.0 g)) (h.4 g))
+      (refused f Write bad.Write h.0) refl y (subst (λ (a : ℕ). store f.setup.live f.setup.section.id false a v x ≡ Ok y) h.1 e)
+    where
+      byte : (refused f Write bad.Write h.0 ≡ None → PlanShowsNone f.setup k (record x { mem = slice_set x.mem h.0 (v % 256) })) → (r : Option Violation)
+          → refused f Write bad.Write h.0 ≡ r → (y : Moment) → store f.setup.live f.setup.section.id false h.0 v x ≡ Ok y → PlanShowsNone f.setup k y
+      byte on None e y g =
+          written_on k (store f.setup.live f.setup.section.id false h.0 v x) (record x { mem = slice_set x.mem h.0 (v % 256) }) y (store_byte f st h.0 v x same None e) g (on e)
+      byte on (Some w) e y g = absurd (err_ok w y (sym (store_byte f st h.0 v x same (Some w) e) ∙ g))
+  owes_shown (Need b v k) x same kept h = λ e. owes_shown k x same kept (h.1 e)
+  owes_shown (Writable at n k) x same kept h = absurd h
+  owes_shown (Bytes at n k) x same kept h = absurd h
+  owes_shown (Put at bs k) x same kept h = absurd h

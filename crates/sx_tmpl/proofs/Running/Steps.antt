@@ -1,6 +1,6 @@
 -- One step of the module's own code: the instruction at PC is fetched, and it does what its plan owes.
-use Rattle.std.proofs.Common.{◌≡◌, ℕ, suc, ◌+◌, ◌*◌, ◌%◌, ◌<◌, ◌≤◌, true, false, ◌==◌, List, Some, None, Ok, refl, ◌∙◌, ap, arith, cond, slice_index}
-use Rattle.std.specs.Prelude.{slice_get}
+use Rattle.std.proofs.Common.{◌≡◌, ℕ, suc, ◌+◌, ◌*◌, ◌%◌, ◌<◌, ◌≤◌, true, false, ◌==◌, List, Some, None, Ok, refl, sym, ◌∙◌, ap, subst, arith, cond, slice_index}
+use Rattle.std.specs.Prelude.{slice_get, Result}
 use Rattle.std.proofs.lemmas.Bool.{and_from, eq-eqb, ne_eqb}
 use Rattle.std.proofs.lemmas.List.{append-nil}
 use Rattle.sx_reach.specs.Reach.{Stepped, Goes, Next, Ends}
@@ -17,14 +17,16 @@ use Rattle.sx_machine.specs.Registers.{onward, at_pc}
 use Rattle.sx_machine.specs.Plan.{Plan}
 use Rattle.sx_machine.specs.Run.{Moment, Outcome, Finished, Violated, Module, fetch, after_fetch, exec}
 use Rattle.sx_machine.specs.Rows.{row, row_of, with_words, program}
-use Rattle.sx_machine.specs.Step.{own_of, start, is_module_word, instruction, ordered, word_outside, attempt, settled_step}
+use Rattle.sx_machine.specs.State.{State}
+use Rattle.sx_machine.specs.Step.{pc_of, own_of, start, is_module_word, instruction, ordered, word_outside, attempt, settled_step}
 use Rattle.sx_invoke.specs.Marks.{Mark}
 use Rattle.sx_image.specs.Watched.{Watched, watch, watched_on, violation_of}
 use Rattle.sx_tmpl.specs.Running.{sections_of, Regs, regs16, Fixed, Data, running_after, running, OutsideKept, Safe, cell}
+use Rattle.sx_tmpl.specs.Unseen.{PlanShowsNone, StepShowsNone, WordShowsNone}
 use Rattle.sx_tmpl.proofs.Running.MidRun.{Stands, Runs}
 use Rattle.sx_tmpl.proofs.Running.Owned.{own_above, in_public_yes, run_outside, run_in_order, run_extends, run_holder}
 use Rattle.sx_tmpl.proofs.Running.Mem.{even_is, word_is}
-use Rattle.sx_tmpl.proofs.Running.Owes.{Owes, Met, owes_met, text_kept}
+use Rattle.sx_tmpl.proofs.Running.Owes.{Owes, Met, owes_met, owes_shown, text_kept}
 
 -- this word begins an instruction of n words
 pub record Reads (w n : ℕ) (i : ℕ → ℕ → Instr) : Type 0 where
@@ -91,10 +93,10 @@ module _ (f : Fixed) (st : Stands f) (all : List Mark) (B : Watched → Violatio
   by_outcome c o = watched_on c (settled_step c.node o) (violation_of (settled_step c.node o).shown.event)
 
   -- a step that is what was owed
-  pub from_met : (n : ℕ) (e : Event) (r : Regs) (d : Data) (o : Outcome) → Safe f all (running_after e f r d) → InText f r.pc → attempt f.setup.mac (running_after e f r d).node ≡ o
+  pub from_met : (n : ℕ) (e : Event) (r : Regs) (d : Data) (o : Outcome) → Safe f all (running_after e f r d) → StepShowsNone f.setup (running_after e f r d).node → InText f r.pc → attempt f.setup.mac (running_after e f r d).node ≡ o
       → Met f (Then n d) NoTell (B (running_after e f r d)) (start (running_after e f r d).node) o → R (suc n) (running_after e f r d)
   unfolding watch
-  from_met n e r d (Finished regs y) safe here at h =
+  from_met n e r d (Finished regs y) safe shown here at h =
       let c = running_after e f r d in
       let r2 = h.2.0 in
       let d2 : Data = record d { mem = y.mem } in
@@ -106,9 +108,9 @@ module _ (f : Fixed) (st : Stands f) (all : List Mark) (B : Watched → Violatio
       let ne : (f.setup.section.id == 0) ≡ false = ne_eqb f.setup.section.id 0 (omega (arith, own_above f st)) in
       let s : watch f.setup.mac c ≡ Goes (running f r2 d2) = ap (by_outcome c) (at ∙ is) ∙ rw (own, to, same, ne) (ap (λ l. Goes (running f r2 (record d2 { marks = l }))) (append-nil d.marks)) in
       let safe2 : Safe f all (running f r2 d2) = record { inside = to; sections = refl; memory = h.1; devices = safe.devices; marks = safe.marks } in
-      Next {k = n} safe s (omega arith) (h.2.3 safe2)
-  from_met n e r d (Violated v) safe here at h = Ends safe (rw at refl) (omega arith) h
-  from_met n e r d (Module regs y t event exchange) safe here at h = absurd h.3
+      Next {k = n} (safe, shown) s (omega arith) (h.2.3 safe2)
+  from_met n e r d (Violated v) safe shown here at h = Ends (safe, shown) (rw at refl) (omega arith) h
+  from_met n e r d (Module regs y t event exchange) safe shown here at h = absurd h.3
 
   -- an extension word of the text is fetched
   pub fetched : (at a w : ℕ) (x : Moment) → at ≡ a → f.setup.section.layout.pub_from ≤ a → a + 1 < f.setup.section.layout.pub_to → a % 2 ≡ 0
@@ -155,6 +157,51 @@ module _ (f : Fixed) (st : Stands f) (all : List Mark) (B : Watched → Violatio
       ∙ ap (λ r. after_fetch r (λ v. exec_own (row_of (instruction_at w u v) (at_pc regs (onward pc 2)) pc) x)) e2
       ∙ ap (λ o. exec_own (row_of o (at_pc regs (onward pc 2)) pc) x) y
 
+  -- and so does what it shows
+  pub shown_one : (w : ℕ) (i : ℕ → ℕ → Instr) (regs : List ℕ) (x : Moment) → Reads w 1 i
+      → PlanShowsNone f.setup (row (i 0 0) (at_pc regs (onward (slice_index regs 0) 2)) (onward (slice_index regs 0) 2)) x → PlanShowsNone f.setup (program w regs) x
+  unfolding program
+  shown_one w i regs x h shown =
+      let c = h.count in
+      let y = h.reads 0 0 in
+      rw (c, y) shown
+
+  got_same : (u v : ℕ) (r : Result ℕ Violation) → r ≡ Ok u → r ≡ Ok v → u ≡ v
+  got_same u v r h e = let is : ◌≡◌ {A = Result ℕ Violation} (Ok u) (Ok v) = sym h ∙ e in cc
+
+  pub shown_two : (w u : ℕ) (i : ℕ → ℕ → Instr) (regs : List ℕ) (x : Moment) → Reads w 2 i → fetch f.setup.live f.setup.section.id (onward (slice_index regs 0) 2) x ≡ Ok u
+      → PlanShowsNone f.setup (row (i u 0) (at_pc regs (onward (slice_index regs 0) 2)) (onward (slice_index regs 0) 4)) x → PlanShowsNone f.setup (program w regs) x
+  unfolding program
+  shown_two w u i regs x h e shown =
+      let c = h.count in
+      let pc = slice_index regs 0 in
+      subst (λ n. PlanShowsNone f.setup (with_words n w (at_pc regs (onward pc 2)) pc) x) (sym c) (λ v g.
+      let same = got_same u v (fetch f.setup.live f.setup.section.id (onward pc 2) x) e g in
+      let y = h.reads u 0 in
+      subst (λ (v : ℕ). PlanShowsNone f.setup (row_of (instruction_at w v 0) (at_pc regs (onward pc 2)) pc) x) same
+      (subst (λ o. PlanShowsNone f.setup (row_of o (at_pc regs (onward pc 2)) pc) x) (sym y) shown))
+
+  pub shown_three : (w u v : ℕ) (i : ℕ → ℕ → Instr) (regs : List ℕ) (x : Moment) → Reads w 3 i → fetch f.setup.live f.setup.section.id (onward (slice_index regs 0) 2) x ≡ Ok u
+      → fetch f.setup.live f.setup.section.id (onward (slice_index regs 0) 4) x ≡ Ok v
+      → PlanShowsNone f.setup (row (i u v) (at_pc regs (onward (slice_index regs 0) 2)) (onward (slice_index regs 0) 6)) x → PlanShowsNone f.setup (program w regs) x
+  unfolding program
+  shown_three w u v i regs x h e e2 shown =
+      let c = h.count in
+      let pc = slice_index regs 0 in
+      subst (λ n. PlanShowsNone f.setup (with_words n w (at_pc regs (onward pc 2)) pc) x) (sym c) (λ a g b g2.
+      let same = got_same u a (fetch f.setup.live f.setup.section.id (onward pc 2) x) e g in
+      let same2 = got_same v b (fetch f.setup.live f.setup.section.id (onward pc 4) x) e2 g2 in
+      let y = h.reads u v in
+      subst (λ (a : ℕ). PlanShowsNone f.setup (row_of (instruction_at w a b) (at_pc regs (onward pc 2)) pc) x) same
+      (subst (λ (b : ℕ). PlanShowsNone f.setup (row_of (instruction_at w u b) (at_pc regs (onward pc 2)) pc) x) same2
+      (subst (λ o. PlanShowsNone f.setup (row_of o (at_pc regs (onward pc 2)) pc) x) (sym y) shown)))
+
+  -- so a step whose plan shows no key shows none
+  pub step_shown : (s : State) (w : ℕ) → pc_of s % 2 ≡ 0 → cell s.mem (pc_of s) ≡ w → is_module_word w ≡ false → PlanShowsNone f.setup (program w s.regs) (start s) → StepShowsNone f.setup s
+  step_shown s w ev h plain shown =
+      let e1 : word s.mem (pc_of s) ≡ w = word_is s.mem (pc_of s) ev ∙ h in
+      subst (λ (z : ℕ). WordShowsNone f.setup s z (is_module_word z)) (sym e1) (subst (λ b. WordShowsNone f.setup s w b) (sym plain) shown)
+
   pub onward_to : (a b n : ℕ) → a + n ≡ b → b < 65536 → onward a n ≡ b
   onward_to a b n e h = omega arith
 
@@ -178,7 +225,10 @@ module _ (f : Fixed) (st : Stands f) (all : List Mark) (B : Watched → Violatio
       let is : cell d.mem r.pc ≡ w = text_word d.mem r.pc w safe.memory here ends (ap (cell f.entered) pc ∙ t.word k w has) in
       let at = tests_passed e r d safe here ends ev ∙ plain_instruction e r d w here ends ev is reads.plain ∙ program_one w i (regs16 f r) x reads
       ∙ ap (λ b. exec_own (row (i 0 0) (at_pc (regs16 f r) b) b) x) next in
-      from_met j e r d _ safe (record { from = here; to = omega arith }) at (owes_met f st (Then j d) NoTell (B (running_after e f r d)) _ x safe.devices safe.memory owed)
+      let p : ℕ → Plan = λ b. row (i 0 0) (at_pc (regs16 f r) b) b in
+      let shown = step_shown (running_after e f r d).node w ev is reads.plain (shown_one w i (regs16 f r) x reads (subst (λ b. PlanShowsNone f.setup (p b) x) (sym next)
+      (owes_shown f st (Then j d) NoTell (B (running_after e f r d)) (p (P + 2 * (k + 1))) x safe.devices safe.memory owed))) in
+      from_met j e r d _ safe shown (record { from = here; to = omega arith }) at (owes_met f st (Then j d) NoTell (B (running_after e f r d)) _ x safe.devices safe.memory owed)
 
   -- the same with an extension word
   pub two : {P n : ℕ} {ws : List ℕ} (t : Text f P n ws) (k w u : ℕ) (i : ℕ → ℕ → Instr) → slice_get ws k ≡ Some w → slice_get ws (k + 1) ≡ Some u → k + 2 ≤ n → Reads w 2 i
@@ -201,15 +251,20 @@ module _ (f : Fixed) (st : Stands f) (all : List Mark) (B : Watched → Violatio
       let got = fetched (onward r.pc 2) (P + 2 * (k + 1)) u x next (omega arith) (omega arith) (omega arith) safe.devices is1 in
       let at = tests_passed e r d safe here ends ev ∙ plain_instruction e r d w here ends ev is reads.plain ∙ program_two w u i (regs16 f r) x reads got
       ∙ ap (λ b. exec_own (row (i u 0) (at_pc (regs16 f r) b) (onward r.pc 4)) x) next ∙ ap (λ b. exec_own (row (i u 0) (at_pc (regs16 f r) (P + 2 * (k + 1))) b) x) next2 in
-      from_met j e r d _ safe (record { from = here; to = omega arith }) at (owes_met f st (Then j d) NoTell (B (running_after e f r d)) _ x safe.devices safe.memory owed)
+      let p : ℕ → ℕ → Plan = λ b c. row (i u 0) (at_pc (regs16 f r) b) c in
+      let shown = step_shown (running_after e f r d).node w ev is reads.plain (shown_two w u i (regs16 f r) x reads got (subst (λ b. PlanShowsNone f.setup (p b (onward r.pc 4)) x) (sym next)
+      (subst (λ c. PlanShowsNone f.setup (p (P + 2 * (k + 1)) c) x) (sym next2)
+      (owes_shown f st (Then j d) NoTell (B (running_after e f r d)) (p (P + 2 * (k + 1)) (P + 2 * (k + 2))) x safe.devices safe.memory owed)))) in
+      from_met j e r d _ safe shown (record { from = here; to = omega arith }) at (owes_met f st (Then j d) NoTell (B (running_after e f r d)) _ x safe.devices safe.memory owed)
 
   -- and with two
-  pub three : {P n : ℕ} {ws : List ℕ} (t : Text f P n ws) (k w u v : ℕ) (i : ℕ → ℕ → Instr) → slice_get ws k ≡ Some w → slice_get ws (k + 1) ≡ Some u → slice_get ws (k + 2) ≡ Some v → k + 3 ≤ n
+  pub three_met : {P n : ℕ} {ws : List ℕ} (t : Text f P n ws) (k w u v : ℕ) (i : ℕ → ℕ → Instr) → slice_get ws k ≡ Some w → slice_get ws (k + 1) ≡ Some u → slice_get ws (k + 2) ≡ Some v → k + 3 ≤ n
       → Reads w 3 i
       → (e : Event) (r : Regs) (d : Data) (j : ℕ) → r.pc ≡ P + 2 * k → Safe f all (running_after e f r d)
-      → Owes f (Then j d) NoTell (B (running_after e f r d)) (row (i u v) (at_pc (regs16 f r) (P + 2 * (k + 1))) (P + 2 * (k + 3))) d.mem
+      → Meets j e r d (exec_own (row (i u v) (at_pc (regs16 f r) (P + 2 * (k + 1))) (P + 2 * (k + 3))) (start (running_after e f r d).node))
+      → PlanShowsNone f.setup (row (i u v) (at_pc (regs16 f r) (P + 2 * (k + 1))) (P + 2 * (k + 3))) (start (running_after e f r d).node)
       → R (suc j) (running_after e f r d)
-  three {P = P} {n = n} t k w u v i has has1 has2 fits reads e r d j pc safe owed =
+  three_met {P = P} {n = n} t k w u v i has has1 has2 fits reads e r d j pc safe met none =
       let low = t.from in
       let high = t.to in
       let even = t.is_even in
@@ -228,4 +283,19 @@ module _ (f : Fixed) (st : Stands f) (all : List Mark) (B : Watched → Violatio
       let got2 = fetched (onward r.pc 4) (P + 2 * (k + 2)) v x next2 (omega arith) (omega arith) (omega arith) safe.devices is2 in
       let at = tests_passed e r d safe here ends ev ∙ plain_instruction e r d w here ends ev is reads.plain ∙ program_three w u v i (regs16 f r) x reads got got2
       ∙ ap (λ b. exec_own (row (i u v) (at_pc (regs16 f r) b) (onward r.pc 6)) x) next ∙ ap (λ b. exec_own (row (i u v) (at_pc (regs16 f r) (P + 2 * (k + 1))) b) x) next3 in
-      from_met j e r d _ safe (record { from = here; to = omega arith }) at (owes_met f st (Then j d) NoTell (B (running_after e f r d)) _ x safe.devices safe.memory owed)
+      let p : ℕ → ℕ → Plan = λ b c. row (i u v) (at_pc (regs16 f r) b) c in
+      let shown = step_shown (running_after e f r d).node w ev is reads.plain (shown_three w u v i (regs16 f r) x reads got got2 (subst (λ b. PlanShowsNone f.setup (p b (onward r.pc 6)) x) (sym next)
+      (subst (λ c. PlanShowsNone f.setup (p (P + 2 * (k + 1)) c) x) (sym next3) none))) in
+      from_met j e r d _ safe shown (record { from = here; to = omega arith }) at met
+
+  -- by what it owes
+  pub three : {P n : ℕ} {ws : List ℕ} (t : Text f P n ws) (k w u v : ℕ) (i : ℕ → ℕ → Instr) → slice_get ws k ≡ Some w → slice_get ws (k + 1) ≡ Some u → slice_get ws (k + 2) ≡ Some v → k + 3 ≤ n
+      → Reads w 3 i
+      → (e : Event) (r : Regs) (d : Data) (j : ℕ) → r.pc ≡ P + 2 * k → Safe f all (running_after e f r d)
+      → Owes f (Then j d) NoTell (B (running_after e f r d)) (row (i u v) (at_pc (regs16 f r) (P + 2 * (k + 1))) (P + 2 * (k + 3))) d.mem
+      → R (suc j) (running_after e f r d)
+  three {P = P} {n = n} t k w u v i has has1 has2 fits reads e r d j pc safe owed =
+      let x = start (running_after e f r d).node in
+      let p = row (i u v) (at_pc (regs16 f r) (P + 2 * (k + 1))) (P + 2 * (k + 3)) in
+      three_met t k w u v i has has1 has2 fits reads e r d j pc safe (owes_met f st (Then j d) NoTell (B (running_after e f r d)) p x safe.devices safe.memory owed)
+      (owes_shown f st (Then j d) NoTell (B (running_after e f r d)) p x safe.devices safe.memory owed)

@@ -16,7 +16,7 @@ use Rattle.sx_ir.specs.Conf as conf
 use Rattle.sx_ir.specs.declared.ir.Code.{Code}
 use Rattle.sx_ir.specs.declared.ir.Ir.{Ir}
 use Rattle.sx_ir.specs.Meaning.{no_count, OperationResult, op_count, op_step, part_from}
-use Rattle.sx_tmpl.specs.Performs.{IsNarrow, IsRegular, Never, ReturnsBehind, With}
+use Rattle.sx_tmpl.specs.Performs.{AreUnseen, IsNarrow, IsRegular, Never, ReturnsBehind, With}
 use Rattle.sx_tmpl.specs.Running.{Fixed, pieces_end}
 use Rattle.sx_tmpl.proofs.Running.Outcomes.{goes_same, goes_stops, stops_same}
 use Rattle.sx_tmpl.proofs.Running.MidRun.{Runs, Stands}
@@ -45,7 +45,7 @@ part_stops (p ∷ parts) (suc h) c w e = part_stops parts h c w e
 
 module _ (f : Fixed) (st : Stands f) (all : List Mark) (window : f.to ≡ pieces_end (is_bad_window f.setup f.from 384) f.from (made_bytes all)) (tag : IsTag f.setup.mac) (code : Code)
     (sound : AreSound code.ops.items code.parts.items f.setup.section.layout)
-    (narrow : (p : ℕ) (i : Ir) → slice_get code.ops.items p ≡ Some i → IsNarrow i) (text : (k : ℕ) → k < 2 * length (text_words f.setup.section.layout code)
+    (narrow : (p : ℕ) (i : Ir) → slice_get code.ops.items p ≡ Some i → IsNarrow i) (unseen : AreUnseen (length f.setup.ends) code.ops.items) (text : (k : ℕ) → k < 2 * length (text_words f.setup.section.layout code)
     → slice_index f.entered (f.setup.section.layout.pub_from + k) ≡ slice_index (bytes_of (text_words f.setup.section.layout code)) k) where
   abbrev ops : List Ir
   ops = code.ops.items
@@ -63,7 +63,7 @@ module _ (f : Fixed) (st : Stands f) (all : List Mark) (window : f.to ≡ pieces
   there = target f st code text sound.fits
 
   pub done : Emitted f a ops
-  done = code_emitted f st code text sound.fits
+  done = code_emitted f st code text sound.fits unseen
       (λ p i h. sound_op f st a parts ops sound (λ h. refl) there (packet_text f st code text sound.fits) (slots_text f st code text sound.fits) narrow p i h (sound.each p i h))
 
   -- a configuration that is regular is one that templates can run from

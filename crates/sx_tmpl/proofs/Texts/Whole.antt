@@ -45,7 +45,8 @@ use Rattle.sx_tmpl.proofs.Operations.MeetsOp.{meets_leads}
 use Rattle.sx_invoke.specs.Windows.{is_bad_window}
 use Rattle.sx_tmpl.proofs.Operations.SealOps.{SealsAt, seal_leads, open_leads}
 use Rattle.sx_tmpl.proofs.Operations.CopyOps.{Ending, Goes_to, Breaks_off, No_meaning, copy_in_ends, copy_out_ends}
-use Rattle.sx_tmpl.proofs.Running.Holding.{IsRange}
+use Rattle.sx_tmpl.proofs.Running.Holding.{IsRange, low_shown}
+use Rattle.sx_tmpl.specs.Unseen.{NamesNoKey}
 use Rattle.sx_bus.specs.Devices.{cleared}
 use Rattle.std.proofs.Common.{take, cond}
 use Rattle.sx_tag.specs.Wrap.{unwrapped}
@@ -95,6 +96,7 @@ pub record Emitted (f : Fixed) (a : Addresses) (code : List Ir) : Type 0 where
   pub stands : (p : ℕ) (i : Ir) → slice_get code p ≡ Some i → Text f (a.at p) (length (template f.setup.section.layout a p i)) (template f.setup.section.layout a p i)
   pub following : (p : ℕ) (i : Ir) → slice_get code p ≡ Some i → a.at (p + 1) ≡ a.at p + 2 * length (template f.setup.section.layout a p i)
   pub sound : (p : ℕ) (i : Ir) → slice_get code p ≡ Some i → IsSoundOp f a i
+  pub unseen : (p : ℕ) (i : Ir) → slice_get code p ≡ Some i → NamesNoKey (length f.setup.ends) i
 
 -- What holds of each configuration of the run: its marks are the first of all, the stack has room, its window is the caller's, a sensor's value is one, and a handler's part returns into the code.
 pub record Good (f : Fixed) (all : List Mark) (a : Addresses) (code : List Ir) (c : Conf) : Type 0 where
@@ -211,16 +213,16 @@ module _ (f : Fixed) (st : Stands f) (all : List Mark) (BV : Violation → List 
   ending_goes after G E t (Breaks_off v m is g) e = absurd (never (Violates v m) t (sym is ∙ e))
   ending_goes after G E t (No_meaning is) e = absurd (never Stuck t (sym is ∙ e))
 
-  open_goes : (k h hn b bn : ℕ) (c t : Conf) (result : Option (List ℕ)) → SealsAt k h hn b bn (size_of f)
+  open_goes : (k h hn b bn : ℕ) (c t : Conf) (result : Option (List ℕ)) → SealsAt k h hn b bn (size_of f) → NamesNoKey (length f.setup.ends) (ir.Open k h hn b bn)
       → unwrapped f.setup.mac (key_at f.setup c k) (bytes_from c.priv h hn) (bytes_from c.priv (h + hn) bn) (bytes_from c.priv (h + hn + bn) 16) ≡ result → HasPrefix all t.marks
       → opened c k (bytes_from c.priv h hn) b bn result ≡ Goes t → Runs_on (template f.setup.section.layout a c.place (ir.Open k h hn b bn)) 24 c t
-  open_goes k h hn b bn c t None ok is begins e =
+  open_goes k h hn b bn c t None ok u is begins e =
       let p = pushed_goes c t 0 e in
-      with_size _ 24 _ t (λ sz. lift _ 9 24 _ _ t (omega arith) p.1 (open_leads f st all B a.at c k h hn b bn None (subst (λ s. SealsAt k h hn b bn s) (size_is f c.priv sz) ok) p.0 is
+      with_size _ 24 _ t (λ sz. lift _ 9 24 _ _ t (omega arith) p.1 (open_leads f st all B a.at c k h hn b bn None (subst (λ s. SealsAt k h hn b bn s) (size_is f c.priv sz) ok) u p.0 is
       (subst (λ l. HasPrefix all l) (sym (ap (λ (c : Conf). c.marks) p.1)) begins)))
-  open_goes k h hn b bn c t (Some body) ok is begins e =
+  open_goes k h hn b bn c t (Some body) ok u is begins e =
       let p = pushed_goes (record c { priv = put_bytes c.priv b (take bn body); marks = c.marks ++ mark.Unwrapped (bytes_from c.priv h hn) (take bn body) (k == 0) ∷ [] }) t 1 e in
-      with_size _ 24 _ t (λ sz. lift _ 9 24 _ _ t (omega arith) p.1 (open_leads f st all B a.at c k h hn b bn (Some body) (subst (λ s. SealsAt k h hn b bn s) (size_is f c.priv sz) ok) p.0 is
+      with_size _ 24 _ t (λ sz. lift _ 9 24 _ _ t (omega arith) p.1 (open_leads f st all B a.at c k h hn b bn (Some body) (subst (λ s. SealsAt k h hn b bn s) (size_is f c.priv sz) ok) u p.0 is
       (subst (λ l. HasPrefix all l) (sym (ap (λ (c : Conf). c.marks) p.1)) begins)))
 
   sense_goes : (c t : Conf) (o : Option (ℕ × Window)) → own_window f.setup c.devices ≡ o → ((i : ℕ) (w : Window) → own_window f.setup c.devices ≡ Some (i, w) → w.value < 32768)
@@ -242,82 +244,82 @@ module _ (f : Fixed) (st : Stands f) (all : List Mark) (BV : Violation → List 
       kinds Actuator ek e = absurd (never Stuck t e)
       kinds Sensor ek e = either d.1.fresh refl ek e
 
-  pub op_goes : (i : Ir) (stack : List ℕ) (c t : Conf) → slice_get code c.place ≡ Some i → IsSoundOp f a i → Good f all a code (record c { stack = stack }) → HasPrefix all t.marks
+  pub op_goes : (i : Ir) (stack : List ℕ) (c t : Conf) → slice_get code c.place ≡ Some i → IsSoundOp f a i → NamesNoKey (length f.setup.ends) i → Good f all a code (record c { stack = stack }) → HasPrefix all t.marks
       → do_op f.setup handle i (record c { stack = stack }) ≡ Goes t → Op_goes i stack c t
-  op_goes (ir.Push n) stack c t here ok g gt e =
+  op_goes (ir.Push n) stack c t here ok u g gt e =
       let p = pushed_goes (record c { stack = stack }) t n e in
       lift _ 1 8 _ _ t (omega arith) p.1 (push_leads f st all B a.at (record c { stack = stack }) n ok p.0)
-  op_goes (ir.Load o) stack c t here ok g gt e =
+  op_goes (ir.Load o) stack c t here ok u g gt e =
       let p = pushed_goes (record c { stack = stack }) t (word c.priv o) e in
-      with_size _ 8 _ t (λ sz. lift _ 1 8 _ _ t (omega arith) p.1 (load_leads f st all B a.at (record c { stack = stack }) o ok.0 ok.1 (omega (arith, ok.2)) p.0))
-  op_goes (ir.Store o) [] c t here ok g gt e = absurd (never Stuck t e)
-  op_goes (ir.Store o) (x ∷ rest) c t here ok g gt e =
-      with_size _ 8 _ t (λ sz. lift _ 1 8 _ _ t (omega arith) (goes_same _ t e) (store_leads f st all B a.at c x rest o ok.0 ok.1 (omega (arith, ok.2))))
-  op_goes (ir.LoadAt o n) [] c t here ok g gt e = absurd (never Stuck t e)
-  op_goes (ir.LoadAt o n) (i ∷ rest) c t here ok g gt e =
-      with_size _ 8 _ t (λ sz. lift _ 6 8 _ _ t (omega arith) (goes_same _ t e) (load_at_leads f st all B a.at c o n i rest ok.0 (array_fits o n c.priv sz ok.1)))
-  op_goes (ir.StoreAt o n) [] c t here ok g gt e = absurd (never Stuck t e)
-  op_goes (ir.StoreAt o n) (v ∷ []) c t here ok g gt e = absurd (never Stuck t e)
-  op_goes (ir.StoreAt o n) (v ∷ i ∷ rest) c t here ok g gt e =
-      with_size _ 8 _ t (λ sz. lift _ 6 8 _ _ t (omega arith) (goes_same _ t e) (store_at_leads f st all B a.at c o n i v rest ok.0 (array_fits o n c.priv sz ok.1)))
-  op_goes (ir.Op h) stack c t here ok g gt e = lift _ (count_of (ir.Op h)) (count_of (ir.Op h) + 0) _ t t (omega arith) refl (operator_goes h stack c t e)
-  op_goes (ir.Jump q) stack c t here ok g gt e = lift _ 1 8 _ _ t (omega arith) (goes_same _ t e) (jump_leads f st all B a.at (record c { stack = stack }) q ok.0 ok.1)
-  op_goes (ir.JumpZero q) [] c t here ok g gt e = absurd (never Stuck t e)
-  op_goes (ir.JumpZero q) (zero ∷ rest) c t here ok g gt e = lift _ 4 8 _ _ t (omega arith) (goes_same _ t e) (jump_zero_leads f st all B a.at c q rest ok.0 ok.1)
-  op_goes (ir.JumpZero q) (suc v ∷ rest) c t here ok g gt e = lift _ 4 8 _ _ t (omega arith) (goes_same _ t e) (jump_not_leads f st all B a.at c q v rest)
-  op_goes (ir.Packet k) [] c t here ok g gt e = absurd (never Stuck t e)
-  op_goes (ir.Packet k) (v ∷ rest) c t here ok g gt e =
-      with_size _ 200 _ t (λ sz. lift _ 126 200 _ t t (omega arith) refl (packet_goes f st all B a.at tag c t k v (a.packet k) rest (omega (arith, ok.1)) g.stack ok.0 e gt g.from g.to))
-  op_goes ir.Drop [] c t here ok g gt e = absurd (never Stuck t e)
-  op_goes ir.Drop (x ∷ rest) c t here ok g gt e = lift _ 1 8 _ _ t (omega arith) (goes_same _ t e) (drop_leads f st all B a.at c x rest)
-  op_goes ir.Emit [] c t here ok g gt e = absurd (never Stuck t e)
-  op_goes ir.Emit (x ∷ rest) c t here ok g gt e = emit_goes c t x rest (own_window f.setup c.devices) refl gt e
-  op_goes ir.Stop stack c t here ok g gt e = stop_goes (record c { stack = stack }) t c.back refl g.back e
-  op_goes (ir.Saved r) stack c t here ok g gt e =
+      with_size _ 8 _ t (λ sz. lift _ 1 8 _ _ t (omega arith) p.1 (load_leads f st all B a.at (record c { stack = stack }) o ok.0 ok.1 u (omega (arith, ok.2)) p.0))
+  op_goes (ir.Store o) [] c t here ok u g gt e = absurd (never Stuck t e)
+  op_goes (ir.Store o) (x ∷ rest) c t here ok u g gt e =
+      with_size _ 8 _ t (λ sz. lift _ 1 8 _ _ t (omega arith) (goes_same _ t e) (store_leads f st all B a.at c x rest o ok.0 ok.1 u (omega (arith, ok.2))))
+  op_goes (ir.LoadAt o n) [] c t here ok u g gt e = absurd (never Stuck t e)
+  op_goes (ir.LoadAt o n) (i ∷ rest) c t here ok u g gt e =
+      with_size _ 8 _ t (λ sz. lift _ 6 8 _ _ t (omega arith) (goes_same _ t e) (load_at_leads f st all B a.at c o n i rest ok.0 (array_fits o n c.priv sz ok.1) u))
+  op_goes (ir.StoreAt o n) [] c t here ok u g gt e = absurd (never Stuck t e)
+  op_goes (ir.StoreAt o n) (v ∷ []) c t here ok u g gt e = absurd (never Stuck t e)
+  op_goes (ir.StoreAt o n) (v ∷ i ∷ rest) c t here ok u g gt e =
+      with_size _ 8 _ t (λ sz. lift _ 6 8 _ _ t (omega arith) (goes_same _ t e) (store_at_leads f st all B a.at c o n i v rest ok.0 (array_fits o n c.priv sz ok.1) u))
+  op_goes (ir.Op h) stack c t here ok u g gt e = lift _ (count_of (ir.Op h)) (count_of (ir.Op h) + 0) _ t t (omega arith) refl (operator_goes h stack c t e)
+  op_goes (ir.Jump q) stack c t here ok u g gt e = lift _ 1 8 _ _ t (omega arith) (goes_same _ t e) (jump_leads f st all B a.at (record c { stack = stack }) q ok.0 ok.1)
+  op_goes (ir.JumpZero q) [] c t here ok u g gt e = absurd (never Stuck t e)
+  op_goes (ir.JumpZero q) (zero ∷ rest) c t here ok u g gt e = lift _ 4 8 _ _ t (omega arith) (goes_same _ t e) (jump_zero_leads f st all B a.at c q rest ok.0 ok.1)
+  op_goes (ir.JumpZero q) (suc v ∷ rest) c t here ok u g gt e = lift _ 4 8 _ _ t (omega arith) (goes_same _ t e) (jump_not_leads f st all B a.at c q v rest)
+  op_goes (ir.Packet k) [] c t here ok u g gt e = absurd (never Stuck t e)
+  op_goes (ir.Packet k) (v ∷ rest) c t here ok u g gt e =
+      with_size _ 200 _ t (λ sz. lift _ 126 200 _ t t (omega arith) refl (packet_goes f st all B a.at tag c t k v (a.packet k) rest (omega (arith, ok.1)) u g.stack ok.0 e gt g.from g.to))
+  op_goes ir.Drop [] c t here ok u g gt e = absurd (never Stuck t e)
+  op_goes ir.Drop (x ∷ rest) c t here ok u g gt e = lift _ 1 8 _ _ t (omega arith) (goes_same _ t e) (drop_leads f st all B a.at c x rest)
+  op_goes ir.Emit [] c t here ok u g gt e = absurd (never Stuck t e)
+  op_goes ir.Emit (x ∷ rest) c t here ok u g gt e = emit_goes c t x rest (own_window f.setup c.devices) refl gt e
+  op_goes ir.Stop stack c t here ok u g gt e = stop_goes (record c { stack = stack }) t c.back refl g.back e
+  op_goes (ir.Saved r) stack c t here ok u g gt e =
       let q = when_goes (is_saved r) (pushed (record c { stack = stack }) (saved c r)) t e in
       let p = pushed_goes (record c { stack = stack }) t (saved c r) q.1 in
       let b = and_parts (nat_le 12 r) (nat_le r 15) q.0 in
       let lo : 12 ≤ r = leb-true 12 r b.0 in
       let hi : r ≤ 15 = leb-true r 15 b.1 in
       with_size _ 8 _ t (λ sz. lift _ 1 8 _ _ t (omega arith) p.1 (load_leads f st all B a.at (record c { stack = stack }) (working.saved_at r) (omega arith)
-      (record { low = omega arith; beside = inl (omega arith) }) (omega (arith, st.room)) p.0))
-  op_goes ir.Inside stack c t here ok g gt e = lift _ 6 16 _ t t (omega arith) refl (ending_goes _ _ _ t (inside_ends f st all B a.at (record c { stack = stack })) e)
-  op_goes (ir.Meets r n) stack c t here ok g gt e =
+      (record { low = omega arith; beside = inl (omega arith) }) (low_shown _ _ 2 (omega arith)) (omega (arith, st.room)) p.0))
+  op_goes ir.Inside stack c t here ok u g gt e = lift _ 6 16 _ t t (omega arith) refl (ending_goes _ _ _ t (inside_ends f st all B a.at (record c { stack = stack })) e)
+  op_goes (ir.Meets r n) stack c t here ok u g gt e =
       let c1 = record c { stack = stack } in
       let v = truth (is_bad_window f.setup (saved c r) n) in
       let q = when_goes (is_saved r) (pushed c1 v) t e in
       let p = pushed_goes c1 t v q.1 in
       let b = and_parts (nat_le 12 r) (nat_le r 15) q.0 in
       lift _ 9 24 _ _ t (omega arith) p.1 (meets_leads f st all B a.at c1 r n (leb-true 12 r b.0) (leb-true r 15 b.1) ok.0 ok.1 p.0)
-  op_goes (ir.CopyIn zero o) stack c t here ok g gt e = absurd (omega (arith, ok.0))
-  op_goes (ir.CopyIn (suc n) o) stack c t here ok g gt e =
+  op_goes (ir.CopyIn zero o) stack c t here ok u g gt e = absurd (omega (arith, ok.0))
+  op_goes (ir.CopyIn (suc n) o) stack c t here ok u g gt e =
       let c1 = record c { stack = stack } in
       with_size _ (16 + 8 * suc n + 0) _ t (λ sz. lift _ (7 + 4 * suc n) (16 + 8 * suc n + 0) _ t t (omega arith) refl
       (ending_goes (copy_in f.setup c1 (suc n) o) _ _ t (copy_in_ends f st all B a.at c1 n o (subst (λ s. IsRange o (suc n) s) (size_is f c.priv sz) ok.2) (omega (arith, ok.1))) e))
-  op_goes (ir.CopyOut zero o) stack c t here ok g gt e = absurd (omega (arith, ok.0))
-  op_goes (ir.CopyOut (suc n) o) [] c t here ok g gt e = absurd (never Stuck t e)
-  op_goes (ir.CopyOut (suc n) o) (v ∷ rest) c t here ok g gt e =
+  op_goes (ir.CopyOut zero o) stack c t here ok u g gt e = absurd (omega (arith, ok.0))
+  op_goes (ir.CopyOut (suc n) o) [] c t here ok u g gt e = absurd (never Stuck t e)
+  op_goes (ir.CopyOut (suc n) o) (v ∷ rest) c t here ok u g gt e =
       let b = and_parts (has_out_window f.setup c) (has_copy_room c v (suc n)) (when_goes (has_out_window f.setup c && has_copy_room c v (suc n)) _ t e).0 in
       let to = copy_ends f all a code (record c { stack = v ∷ rest }) v (suc n) b.0 b.1 g in
       let from = g.from in
       let w : (f.from ≤ saved c 14 + v) × (saved c 14 + v + suc n ≤ f.to) = (omega (arith, from), omega (arith, from, to)) in
       with_size _ (16 + 8 * suc n + 0) _ t (λ sz. lift _ (8 + 4 * suc n) (16 + 8 * suc n + 0) _ t t (omega arith) refl
       (ending_goes (copy_out f.setup (record c { stack = v ∷ rest }) (suc n) o v rest) _ _ t (copy_out_ends f st all B a.at c v rest n o (subst (λ s. IsRange o (suc n) s) (size_is f c.priv sz) ok.2)
-      (omega (arith, ok.1)) w.0 w.1) e))
-  op_goes (ir.Seal k h hn b bn) stack c t here ok g gt e =
+      u (omega (arith, ok.1)) w.0 w.1) e))
+  op_goes (ir.Seal k h hn b bn) stack c t here ok u g gt e =
       let same = goes_same _ t e in
       with_size _ 16 _ t (λ sz. lift _ 9 16 _ _ t (omega arith) same
-      (seal_leads f st all B a.at tag (record c { stack = stack }) k h hn b bn (subst (λ s. SealsAt k h hn b bn s) (size_is f c.priv sz) ok)
+      (seal_leads f st all B a.at tag (record c { stack = stack }) k h hn b bn (subst (λ s. SealsAt k h hn b bn s) (size_is f c.priv sz) ok) u
       (subst (λ l. HasPrefix all l) (sym (ap (λ (c : Conf). c.marks) same)) gt)))
-  op_goes (ir.Open k h hn b bn) stack c t here ok g gt e = open_goes k h hn b bn (record c { stack = stack }) t
-      (unwrapped f.setup.mac (key_at f.setup c k) (bytes_from c.priv h hn) (bytes_from c.priv (h + hn) bn) (bytes_from c.priv (h + hn + bn) 16)) ok refl gt e
-  op_goes (ir.SetEnd k) stack c t here ok g gt e = with_size _ 32 _ t
-      (λ sz. lift _ 14 32 _ _ t (omega arith) (goes_same _ t e) (set_end_leads f st all B a.at (record c { stack = stack }) k a.slots ok.0 (omega (arith, ok.1)) g.stack))
-  op_goes ir.Sense stack c t here ok g gt e = sense_goes (record c { stack = stack }) t (own_window f.setup c.devices) refl g.sensor gt e
-  op_goes (ir.Handler h) stack c t here ok g gt e =
+  op_goes (ir.Open k h hn b bn) stack c t here ok u g gt e = open_goes k h hn b bn (record c { stack = stack }) t
+      (unwrapped f.setup.mac (key_at f.setup c k) (bytes_from c.priv h hn) (bytes_from c.priv (h + hn) bn) (bytes_from c.priv (h + hn + bn) 16)) ok u refl gt e
+  op_goes (ir.SetEnd k) stack c t here ok u g gt e = with_size _ 32 _ t
+      (λ sz. lift _ 14 32 _ _ t (omega arith) (goes_same _ t e) (set_end_leads f st all B a.at (record c { stack = stack }) k a.slots ok.0 (omega (arith, ok.1)) u g.stack))
+  op_goes ir.Sense stack c t here ok u g gt e = sense_goes (record c { stack = stack }) t (own_window f.setup c.devices) refl g.sensor gt e
+  op_goes (ir.Handler h) stack c t here ok u g gt e =
       with_size _ (8 + given h) _ t (λ sz. lift _ 3 (8 + given h) _ _ t (omega arith) (parts h (record c { stack = stack; priv = put_word c.priv 4 0 }) t e)
       (handler_leads f st all B a.at (record c { stack = stack }) (a.part h) ok.0 ok.1 (omega (arith, st.room))))
-  op_goes ir.Leave stack c t here ok g gt e = absurd (never Stuck t e)
+  op_goes ir.Leave stack c t here ok u g gt e = absurd (never Stuck t e)
 
 -- what stops an operation that has no violation is that it has no meaning
 goes_never : (a : Conf) (h : Halt) → ◌≡◌ {A = OperationResult} (Goes a) (Stops h) → ⊥
@@ -425,69 +427,69 @@ module _ (f : Fixed) (st : Stands f) (all : List Mark) (BV : Violation → List 
   no_meaning : (stack : List ℕ) (c : Conf) (w : Halt) → Stuck ≡ w → OnViolation BV (record c { stack = stack }) w → ⊥
   no_meaning stack c w e b = subst (λ w. OnViolation BV (record c { stack = stack }) w) (sym e) b
 
-  packet_stops : (k v : ℕ) (rest : List ℕ) (c : Conf) (w : Halt) → slice_get code c.place ≡ Some (ir.Packet k) → IsSoundOp f a (ir.Packet k) → Good f all a code (record c { stack = v ∷ rest })
+  packet_stops : (k v : ℕ) (rest : List ℕ) (c : Conf) (w : Halt) → slice_get code c.place ≡ Some (ir.Packet k) → IsSoundOp f a (ir.Packet k) → k < length f.setup.ends → Good f all a code (record c { stack = v ∷ rest })
       → send f.setup (record c { stack = v ∷ rest }) k v (end_state c.priv k) ≡ Stops w → OnViolation BV (record c { stack = v ∷ rest }) w → Op_stops (ir.Packet k) (v ∷ rest) c
-  packet_stops k v rest c Stuck here ok g e b r d tx on sh safe = absurd b
-  packet_stops k v rest c (Violates x marks) here ok g e b r d tx on sh safe =
+  packet_stops k v rest c Stuck here ok u g e b r d tx on sh safe = absurd b
+  packet_stops k v rest c (Violates x marks) here ok u g e b r d tx on sh safe =
       let sz = sh.holds.size in
-      later f all Bw (λ _. ⊥) 126 200 (running f r d) (omega arith) (packet_breaks f st all Bw a.at tag c k v (a.packet k) rest x marks (omega (arith, ok.1)) g.stack ok.0 e
+      later f all Bw (λ _. ⊥) 126 200 (running f r d) (omega arith) (packet_breaks f st all Bw a.at tag c k v (a.packet k) rest x marks (omega (arith, ok.1)) u g.stack ok.0 e
       (begins x marks b) g.from g.to r d tx on sh safe (λ u m. subst (λ l. BV x l) (sym m) b))
 
-  pub op_stops : (i : Ir) (stack : List ℕ) (c : Conf) (w : Halt) → slice_get code c.place ≡ Some i → IsSoundOp f a i → Good f all a code (record c { stack = stack })
+  pub op_stops : (i : Ir) (stack : List ℕ) (c : Conf) (w : Halt) → slice_get code c.place ≡ Some i → IsSoundOp f a i → NamesNoKey (length f.setup.ends) i → Good f all a code (record c { stack = stack })
       → do_op f.setup handle i (record c { stack = stack }) ≡ Stops w → OnViolation BV (record c { stack = stack }) w → Op_stops i stack c
-  op_stops (ir.Push n) stack c w here ok g e b = absurd (no_meaning stack c w (pushed_stops (record c { stack = stack }) _ w e) b)
-  op_stops (ir.Load o) stack c w here ok g e b = absurd (no_meaning stack c w (pushed_stops (record c { stack = stack }) _ w e) b)
-  op_stops (ir.Store o) [] c w here ok g e b = absurd (no_meaning [] c w (stuck_is w e) b)
-  op_stops (ir.Store o) (x ∷ rest) c w here ok g e b = absurd (goes_never _ w e)
-  op_stops (ir.LoadAt o n) [] c w here ok g e b = absurd (no_meaning [] c w (stuck_is w e) b)
-  op_stops (ir.LoadAt o n) (i ∷ rest) c w here ok g e b = absurd (goes_never _ w e)
-  op_stops (ir.StoreAt o n) [] c w here ok g e b = absurd (no_meaning [] c w (stuck_is w e) b)
-  op_stops (ir.StoreAt o n) (v ∷ []) c w here ok g e b = absurd (no_meaning (v ∷ []) c w (stuck_is w e) b)
-  op_stops (ir.StoreAt o n) (v ∷ i ∷ rest) c w here ok g e b = absurd (goes_never _ w e)
-  op_stops (ir.Op h) stack c w here ok g e b = absurd (no_meaning stack c w (operator_stops h stack c w e) b)
-  op_stops (ir.Jump q) stack c w here ok g e b = absurd (goes_never _ w e)
-  op_stops (ir.JumpZero q) [] c w here ok g e b = absurd (no_meaning [] c w (stuck_is w e) b)
-  op_stops (ir.JumpZero q) (zero ∷ rest) c w here ok g e b = absurd (goes_never _ w e)
-  op_stops (ir.JumpZero q) (suc v ∷ rest) c w here ok g e b = absurd (goes_never _ w e)
-  op_stops (ir.Packet k) [] c w here ok g e b = absurd (no_meaning [] c w (stuck_is w e) b)
-  op_stops (ir.Packet k) (v ∷ rest) c w here ok g e b = packet_stops k v rest c w here ok g e b
-  op_stops ir.Drop [] c w here ok g e b = absurd (no_meaning [] c w (stuck_is w e) b)
-  op_stops ir.Drop (x ∷ rest) c w here ok g e b = absurd (goes_never _ w e)
-  op_stops ir.Emit [] c w here ok g e b = absurd (no_meaning [] c w (stuck_is w e) b)
-  op_stops ir.Emit (x ∷ rest) c w here ok g e b = absurd (no_meaning (x ∷ rest) c w (emit_stops (record c { stack = x ∷ rest }) x rest (own_window f.setup c.devices) w e) b)
-  op_stops ir.Stop stack c w here ok g e b = absurd (no_meaning stack c w (stop_stops (record c { stack = stack }) c.back w e) b)
-  op_stops (ir.Saved r) stack c w here ok g e b = absurd (no_meaning stack c w (when_stops (is_saved r) _ w e (λ x. pushed_stops (record c { stack = stack }) _ w x)) b)
-  op_stops ir.Inside stack c Stuck here ok g e b = absurd b
-  op_stops ir.Inside stack c (Violates v m) here ok g e b = λ r d tx on sh safe. later f all Bw (λ _. ⊥) 6 16 (running f r d) (omega arith)
+  op_stops (ir.Push n) stack c w here ok u g e b = absurd (no_meaning stack c w (pushed_stops (record c { stack = stack }) _ w e) b)
+  op_stops (ir.Load o) stack c w here ok u g e b = absurd (no_meaning stack c w (pushed_stops (record c { stack = stack }) _ w e) b)
+  op_stops (ir.Store o) [] c w here ok u g e b = absurd (no_meaning [] c w (stuck_is w e) b)
+  op_stops (ir.Store o) (x ∷ rest) c w here ok u g e b = absurd (goes_never _ w e)
+  op_stops (ir.LoadAt o n) [] c w here ok u g e b = absurd (no_meaning [] c w (stuck_is w e) b)
+  op_stops (ir.LoadAt o n) (i ∷ rest) c w here ok u g e b = absurd (goes_never _ w e)
+  op_stops (ir.StoreAt o n) [] c w here ok u g e b = absurd (no_meaning [] c w (stuck_is w e) b)
+  op_stops (ir.StoreAt o n) (v ∷ []) c w here ok u g e b = absurd (no_meaning (v ∷ []) c w (stuck_is w e) b)
+  op_stops (ir.StoreAt o n) (v ∷ i ∷ rest) c w here ok u g e b = absurd (goes_never _ w e)
+  op_stops (ir.Op h) stack c w here ok u g e b = absurd (no_meaning stack c w (operator_stops h stack c w e) b)
+  op_stops (ir.Jump q) stack c w here ok u g e b = absurd (goes_never _ w e)
+  op_stops (ir.JumpZero q) [] c w here ok u g e b = absurd (no_meaning [] c w (stuck_is w e) b)
+  op_stops (ir.JumpZero q) (zero ∷ rest) c w here ok u g e b = absurd (goes_never _ w e)
+  op_stops (ir.JumpZero q) (suc v ∷ rest) c w here ok u g e b = absurd (goes_never _ w e)
+  op_stops (ir.Packet k) [] c w here ok u g e b = absurd (no_meaning [] c w (stuck_is w e) b)
+  op_stops (ir.Packet k) (v ∷ rest) c w here ok u g e b = packet_stops k v rest c w here ok u g e b
+  op_stops ir.Drop [] c w here ok u g e b = absurd (no_meaning [] c w (stuck_is w e) b)
+  op_stops ir.Drop (x ∷ rest) c w here ok u g e b = absurd (goes_never _ w e)
+  op_stops ir.Emit [] c w here ok u g e b = absurd (no_meaning [] c w (stuck_is w e) b)
+  op_stops ir.Emit (x ∷ rest) c w here ok u g e b = absurd (no_meaning (x ∷ rest) c w (emit_stops (record c { stack = x ∷ rest }) x rest (own_window f.setup c.devices) w e) b)
+  op_stops ir.Stop stack c w here ok u g e b = absurd (no_meaning stack c w (stop_stops (record c { stack = stack }) c.back w e) b)
+  op_stops (ir.Saved r) stack c w here ok u g e b = absurd (no_meaning stack c w (when_stops (is_saved r) _ w e (λ x. pushed_stops (record c { stack = stack }) _ w x)) b)
+  op_stops ir.Inside stack c Stuck here ok u g e b = absurd b
+  op_stops ir.Inside stack c (Violates v m) here ok u g e b = λ r d tx on sh safe. later f all Bw (λ _. ⊥) 6 16 (running f r d) (omega arith)
       (ending_stops _ _ _ v m (inside_ends f st all Bw a.at (record c { stack = stack })) e r d tx on sh safe (λ u k. subst (λ l. BV v l) (sym k) b))
-  op_stops (ir.Meets r n) stack c w here ok g e b = absurd (no_meaning stack c w (when_stops (is_saved r) _ w e (λ x. pushed_stops (record c { stack = stack }) _ w x)) b)
-  op_stops (ir.CopyIn zero o) stack c w here ok g e b = absurd (omega (arith, ok.0))
-  op_stops (ir.CopyIn (suc n) o) stack c Stuck here ok g e b = absurd b
-  op_stops (ir.CopyIn (suc n) o) stack c (Violates v m) here ok g e b = λ r d tx on sh safe.
+  op_stops (ir.Meets r n) stack c w here ok u g e b = absurd (no_meaning stack c w (when_stops (is_saved r) _ w e (λ x. pushed_stops (record c { stack = stack }) _ w x)) b)
+  op_stops (ir.CopyIn zero o) stack c w here ok u g e b = absurd (omega (arith, ok.0))
+  op_stops (ir.CopyIn (suc n) o) stack c Stuck here ok u g e b = absurd b
+  op_stops (ir.CopyIn (suc n) o) stack c (Violates v m) here ok u g e b = λ r d tx on sh safe.
       let c1 = record c { stack = stack } in
       later f all Bw (λ _. ⊥) (7 + 4 * suc n) (16 + 8 * suc n + 0) (running f r d) (omega arith)
       (ending_stops (copy_in f.setup c1 (suc n) o) _ _ v m (copy_in_ends f st all Bw a.at c1 n o (subst (λ s. IsRange o (suc n) s) (size_is f c.priv sh.holds.size) ok.2)
       (omega (arith, ok.1))) e r d tx on sh safe (λ u k. subst (λ l. BV v l) (sym k) b))
-  op_stops (ir.CopyOut zero o) stack c w here ok g e b = absurd (omega (arith, ok.0))
-  op_stops (ir.CopyOut (suc n) o) [] c w here ok g e b = absurd (no_meaning [] c w (stuck_is w e) b)
-  op_stops (ir.CopyOut (suc n) o) (v ∷ rest) c Stuck here ok g e b = absurd b
-  op_stops (ir.CopyOut (suc n) o) (v ∷ rest) c (Violates x m) here ok g e b = λ r d tx on sh safe.
+  op_stops (ir.CopyOut zero o) stack c w here ok u g e b = absurd (omega (arith, ok.0))
+  op_stops (ir.CopyOut (suc n) o) [] c w here ok u g e b = absurd (no_meaning [] c w (stuck_is w e) b)
+  op_stops (ir.CopyOut (suc n) o) (v ∷ rest) c Stuck here ok u g e b = absurd b
+  op_stops (ir.CopyOut (suc n) o) (v ∷ rest) c (Violates x m) here ok u g e b = λ r d tx on sh safe.
       let t = and_parts (has_out_window f.setup c) (has_copy_room c v (suc n)) (when_violates (has_out_window f.setup c && has_copy_room c v (suc n)) _ x m e) in
       let to = copy_ends f all a code (record c { stack = v ∷ rest }) v (suc n) t.0 t.1 g in
       let from = g.from in
       let w : (f.from ≤ saved c 14 + v) × (saved c 14 + v + suc n ≤ f.to) = (omega (arith, from), omega (arith, from, to)) in
       later f all Bw (λ _. ⊥) (8 + 4 * suc n) (16 + 8 * suc n + 0) (running f r d) (omega arith) (ending_stops (copy_out f.setup (record c { stack = v ∷ rest }) (suc n) o v rest) _ _ x m
-      (copy_out_ends f st all Bw a.at c v rest n o (subst (λ s. IsRange o (suc n) s) (size_is f c.priv sh.holds.size) ok.2) (omega (arith, ok.1)) w.0 w.1) e r d tx on sh safe
+      (copy_out_ends f st all Bw a.at c v rest n o (subst (λ s. IsRange o (suc n) s) (size_is f c.priv sh.holds.size) ok.2) u (omega (arith, ok.1)) w.0 w.1) e r d tx on sh safe
       (λ u k. subst (λ l. BV x l) (sym k) b))
-  op_stops (ir.Seal k h hn x xn) stack c w here ok g e b = absurd (goes_never _ w e)
-  op_stops (ir.Open k h hn x xn) stack c w here ok g e b = absurd
+  op_stops (ir.Seal k h hn x xn) stack c w here ok u g e b = absurd (goes_never _ w e)
+  op_stops (ir.Open k h hn x xn) stack c w here ok u g e b = absurd
       (no_meaning stack c w
       (open_stops (record c { stack = stack }) k (bytes_from c.priv h hn) x xn (unwrapped f.setup.mac (key_at f.setup c k) (bytes_from c.priv h hn) (bytes_from c.priv (h + hn) xn)
       (bytes_from c.priv (h + hn + xn) 16)) w e) b)
-  op_stops (ir.SetEnd k) stack c w here ok g e b = absurd (goes_never _ w e)
-  op_stops ir.Sense stack c w here ok g e b = absurd (no_meaning stack c w (sense_stops (record c { stack = stack }) (own_window f.setup c.devices) w e) b)
-  op_stops (ir.Handler h) stack c w here ok g e b = absurd (no_meaning stack c w (no_end h _ w e) b)
-  op_stops ir.Leave stack c w here ok g e b = absurd (no_meaning stack c w (stuck_is w e) b)
+  op_stops (ir.SetEnd k) stack c w here ok u g e b = absurd (goes_never _ w e)
+  op_stops ir.Sense stack c w here ok u g e b = absurd (no_meaning stack c w (sense_stops (record c { stack = stack }) (own_window f.setup c.devices) w e) b)
+  op_stops (ir.Handler h) stack c w here ok u g e b = absurd (no_meaning stack c w (no_end h _ w e) b)
+  op_stops ir.Leave stack c w here ok u g e b = absurd (no_meaning stack c w (stuck_is w e) b)
 
   abbrev pub Rep : Conf → Watched → Type 0
   Rep c w = Stood f all a.at c w
@@ -503,7 +505,7 @@ module _ (f : Fixed) (st : Stands f) (all : List Mark) (BV : Violation → List 
           let e2 : do_op f.setup handle i c ≡ Goes t = ap (λ o. do_at f.setup handle o c) (sym here) ∙ e in
           subst (λ o. Runs f all Bw (Rep t) (count_at given o) w) (sym here)
           (subst (λ w. Runs f all Bw (Rep t) (count_of i + handler_count given i) w) (sym rep.state)
-          (op_goes f st all BV tag a code emitted_ handle parts given i c.stack c t here (emitted_.sound c.place i here) g gt e2 rep.regs rep.rest (emitted_.stands c.place i here)
+          (op_goes f st all BV tag a code emitted_ handle parts given i c.stack c t here (emitted_.sound c.place i here) (emitted_.unseen c.place i here) g gt e2 rep.regs rep.rest (emitted_.stands c.place i here)
           (emitted_.following c.place i here) rep.shows (subst (λ w. Safe f all w) rep.state rep.safe)))
 
   pub step_stops : (c : Conf) (h : Halt) (w : Watched) → Rep c w → Good f all a code c → op_step f.setup handle code c ≡ Stops h → OnViolation BV c h → Runs f all Bw (λ _. ⊥) (op_count given code c) w
@@ -516,5 +518,5 @@ module _ (f : Fixed) (st : Stands f) (all : List Mark) (BV : Violation → List 
           let e2 : do_op f.setup handle i c ≡ Stops h = ap (λ o. do_at f.setup handle o c) (sym here) ∙ e in
           subst (λ o. Runs f all Bw (λ _. ⊥) (count_at given o) w) (sym here)
           (subst (λ w. Runs f all Bw (λ _. ⊥) (count_of i + handler_count given i) w) (sym rep.state)
-          (op_stops i c.stack c h here (emitted_.sound c.place i here) g e2 b rep.regs rep.rest (emitted_.stands c.place i here) (emitted_.following c.place i here) rep.shows
+          (op_stops i c.stack c h here (emitted_.sound c.place i here) (emitted_.unseen c.place i here) g e2 b rep.regs rep.rest (emitted_.stands c.place i here) (emitted_.following c.place i here) rep.shows
           (subst (λ w. Safe f all w) rep.state rep.safe)))

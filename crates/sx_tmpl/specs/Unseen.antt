@@ -1,0 +1,111 @@
+-- Steps of a module that show no key of its ends. What such a step reads where a key may be is
+-- stored where a key may be, or is the key of a wrap or an unwrap. So nodes that differ in these
+-- bytes alone do the same, step by step, if wraps and unwraps under these keys do. Nobody has to
+-- believe this file for what an image realizes.
+use Rattle.std.specs.Prelude.{◌≡◌, ◌⊎◌, ℕ, ◌+◌, ◌*◌, ◌<◌, ◌≤◌, Bool, true, false, List, length}
+use Rattle.std.specs.Prelude.{slice_index, Result, Ok}
+use Rattle.sx_mean.specs.Offsets.{end_key_at}
+use Rattle.sx_mean.specs.Working.{plain_at}
+use Rattle.sx_rules.specs.Access.{in_private}
+use Rattle.sx_machine.specs.Memory.{even, word}
+use Rattle.sx_machine.specs.Plan.{Plan, Done, Tell, Stop, Fetch, Load, Store, Need, Writable, Bytes}
+use Rattle.sx_machine.specs.Plan.{Put}
+use Rattle.sx_machine.specs.Rows.{program}
+use Rattle.sx_machine.specs.Run.{Moment, fetch, load, store}
+use Rattle.sx_machine.specs.State.{State}
+use Rattle.sx_machine.specs.Step.{is_module_word, pc_of, start}
+use Rattle.sx_invoke.specs.Protocol.{key_size}
+use Rattle.sx_invoke.specs.Pieces.{tag_size}
+use Rattle.sx_invoke.specs.Setup.{Setup}
+use Rattle.sx_ir.specs.declared.ir.Ir.{Ir}
+use Rattle.sx_ir.specs.declared.ir.Ir.TheVariants as ir
+
+-- None of n bytes from an offset of the private section on may be a key's, where there are this
+-- many ends: neither in the copied packet's plain body nor in the key of a slot.
+pub record HoldsNoKey (ends o n : ℕ) : Type 0 where
+  pub plain : (o + n ≤ plain_at) ⊎ (plain_at + key_size ≤ o)
+  pub slots : (k : ℕ) → k < ends → (o + n ≤ end_key_at k) ⊎ (end_key_at k + key_size ≤ o)
+
+-- a word in the key of a slot
+pub record InSlotKey (ends o : ℕ) : Type 0 where
+  pub slot : ℕ
+  pub one : slot < ends
+  pub from : end_key_at slot ≤ o
+  pub to : o + 2 ≤ end_key_at slot + key_size
+
+-- these bytes of the private section hold no key
+abbrev pub AreShown : Setup → ℕ → ℕ → Type 0
+AreShown s a n = (o : ℕ) × (a ≡ s.section.layout.priv_from + o) × HoldsNoKey (length s.ends) o n
+
+-- a byte of no private section, or one that holds no key
+abbrev pub IsShown : Setup → ℕ → Type 0
+IsShown s a = (in_private s.section a ≡ false) ⊎ AreShown s a 1
+
+-- what was read is only stored, in a slot's key
+pub record StoresInKey (s : Setup) (k : ℕ → Plan) : Type 0 where
+  pub at : ℕ
+  pub o : ℕ
+  pub regs : List ℕ
+  pub is : (v : ℕ) → k v ≡ Store true at v (Done regs)
+  pub place : at ≡ s.section.layout.priv_from + o
+  pub key : InSlotKey (length s.ends) o
+
+-- a plain instruction's plan, run at this moment, shows no key
+abbrev pub PlanShowsNone : Setup → Plan → Moment → Type 0
+PlanShowsNone s (Done regs) x = Unit {0}
+PlanShowsNone s (Tell regs event exchange) x = ⊥
+PlanShowsNone s (Stop v) x = Unit {0}
+PlanShowsNone s (Fetch at k) x =
+    (w : ℕ) → fetch s.live s.section.id at x ≡ Ok w → PlanShowsNone s (k w) x
+PlanShowsNone s (Load true at k) x = StoresInKey s k ⊎ (AreShown s (even at) 2
+    × ((v : ℕ) (y : Moment) → load s.live s.section.id true at x ≡ Ok (v, y)
+    → PlanShowsNone s (k v) y))
+PlanShowsNone s (Load false at k) x = IsShown s at
+    × ((v : ℕ) (y : Moment) → load s.live s.section.id false at x ≡ Ok (v, y)
+    → PlanShowsNone s (k v) y)
+PlanShowsNone s (Store wide at v k) x =
+    (y : Moment) → store s.live s.section.id wide at v x ≡ Ok y → PlanShowsNone s k y
+PlanShowsNone s (Need b v k) x = b ≡ true → PlanShowsNone s k x
+PlanShowsNone s (Writable at n k) x = ⊥
+PlanShowsNone s (Bytes at n k) x = ⊥
+PlanShowsNone s (Put at bs k) x = ⊥
+
+-- A wrap or an unwrap uses the module's own key, or that in a slot; its header, its body or cipher
+-- and the tag that it compares hold no key.
+pub record SealShowsNone (s : Setup) (w : ℕ) (regs : List ℕ) : Type 0 where
+  pub seals : (w ≡ 0x1384) ⊎ (w ≡ 0x1385)
+  pub key : (slice_index regs 9 ≡ 0) ⊎ ((k : ℕ) × (k < length s.ends)
+      × (slice_index regs 9 ≡ s.section.layout.priv_from + end_key_at k))
+  pub header : AreShown s (slice_index regs 10) (slice_index regs 11)
+  pub text : AreShown s (slice_index regs 12) (slice_index regs 13)
+  pub tag : w ≡ 0x1385 → AreShown s (slice_index regs 15) tag_size
+
+-- the next step, of an instruction with this first word, shows no key
+abbrev pub WordShowsNone : Setup → State → ℕ → Bool → Type 0
+WordShowsNone s n w true = SealShowsNone s w n.regs
+WordShowsNone s n w false = PlanShowsNone s (program w n.regs) (start n)
+
+-- the next step of the node shows no key
+abbrev pub StepShowsNone : Setup → State → Type 0
+StepShowsNone s n =
+    let w = word n.mem (pc_of n) in WordShowsNone s n w (is_module_word w)
+
+-- where the key of a wrap or an unwrap lies: the module's own at 0, or in a slot
+abbrev pub IsKeyPlace : ℕ → ℕ → Type 0
+IsKeyPlace ends at = (at ≡ 0) ⊎ ((k : ℕ) × (k < ends) × (at ≡ end_key_at k))
+
+-- An operation names no byte that may be a key's but as the key of a wrap or an unwrap, where there
+-- are this many ends.
+abbrev pub NamesNoKey : ℕ → Ir → Type 0
+NamesNoKey ends (ir.Load o) = HoldsNoKey ends o 2
+NamesNoKey ends (ir.Store o) = HoldsNoKey ends o 2
+NamesNoKey ends (ir.LoadAt o n) = HoldsNoKey ends o (2 * n)
+NamesNoKey ends (ir.StoreAt o n) = HoldsNoKey ends o (2 * n)
+NamesNoKey ends (ir.Packet k) = k < ends
+NamesNoKey ends (ir.CopyOut n o) = HoldsNoKey ends o n
+NamesNoKey ends (ir.Seal k h hn b bn) =
+    IsKeyPlace ends k × HoldsNoKey ends h hn × HoldsNoKey ends b bn
+NamesNoKey ends (ir.Open k h hn b bn) =
+    IsKeyPlace ends k × HoldsNoKey ends h (hn + bn + tag_size)
+NamesNoKey ends (ir.SetEnd k) = k < ends
+NamesNoKey ends i = Unit {0}
