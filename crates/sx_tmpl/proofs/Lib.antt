@@ -4,3 +4,5 @@ pub mod Running
 pub mod Operations
 pub mod Texts
 pub mod Putting
+pub mod Twins
+pub mod Abreast

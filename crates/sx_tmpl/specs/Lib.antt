@@ -4,6 +4,7 @@
 pub mod Scratch
 pub mod Running
 pub mod Unseen
+pub mod Steady
 pub mod Shows
 pub mod Template
 pub mod Text

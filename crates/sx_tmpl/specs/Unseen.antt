@@ -3,7 +3,9 @@
 -- bytes alone do the same, step by step, if wraps and unwraps under these keys do. Nobody has to
 -- believe this file for what an image realizes.
 use Rattle.std.specs.Prelude.{◌≡◌, ◌⊎◌, ℕ, ◌+◌, ◌*◌, ◌<◌, ◌≤◌, Bool, true, false, List, length}
-use Rattle.std.specs.Prelude.{slice_index, Result, Ok}
+use Rattle.std.specs.Prelude.{slice_index, None, Result, Ok}
+use Rattle.sx_bus.specs.declared.devices.Window.{Window}
+use Rattle.sx_bus.specs.Devices.{device_at}
 use Rattle.sx_mean.specs.Offsets.{end_key_at}
 use Rattle.sx_mean.specs.Working.{plain_at}
 use Rattle.sx_rules.specs.Access.{in_private}
@@ -41,13 +43,15 @@ AreShown s a n = (o : ℕ) × (a ≡ s.section.layout.priv_from + o) × HoldsNoK
 abbrev pub IsShown : Setup → ℕ → Type 0
 IsShown s a = (in_private s.section a ≡ false) ⊎ AreShown s a 1
 
--- what was read is only stored, in a slot's key
-pub record StoresInKey (s : Setup) (k : ℕ → Plan) : Type 0 where
+-- what was read at this place is only stored, in a slot's key, where none of these devices is
+pub record MovesKey (s : Setup) (devices : List Window) (read : ℕ) (k : ℕ → Plan) : Type 0 where
+  pub from : device_at devices read ≡ None
   pub at : ℕ
   pub o : ℕ
   pub regs : List ℕ
   pub is : (v : ℕ) → k v ≡ Store true at v (Done regs)
-  pub place : at ≡ s.section.layout.priv_from + o
+  pub place : even at ≡ s.section.layout.priv_from + o
+  pub free : device_at devices at ≡ None
   pub key : InSlotKey (length s.ends) o
 
 -- a plain instruction's plan, run at this moment, shows no key
@@ -57,7 +61,7 @@ PlanShowsNone s (Tell regs event exchange) x = ⊥
 PlanShowsNone s (Stop v) x = Unit {0}
 PlanShowsNone s (Fetch at k) x =
     (w : ℕ) → fetch s.live s.section.id at x ≡ Ok w → PlanShowsNone s (k w) x
-PlanShowsNone s (Load true at k) x = StoresInKey s k ⊎ (AreShown s (even at) 2
+PlanShowsNone s (Load true at k) x = MovesKey s x.devices at k ⊎ (AreShown s (even at) 2
     × ((v : ℕ) (y : Moment) → load s.live s.section.id true at x ≡ Ok (v, y)
     → PlanShowsNone s (k v) y))
 PlanShowsNone s (Load false at k) x = IsShown s at

@@ -2,15 +2,15 @@
 use Rattle.sx_isa.specs.Assembly.{##◌, #◌, &◌, ◌⟨◌⟩, call, clr, mov, pc, pop, r12}
 use Rattle.sx_tmpl.proofs.Running.Instructions.{step}
 use Rattle.sx_tmpl.specs.Template.{slot_words}
-use Rattle.std.proofs.Common.{◌≡◌, ℕ, zero, suc, ◌+◌, ◌-◌, ◌*◌, ◌/◌, ◌%◌, ◌<◌, ◌≤◌, inl, inr, List, [], ◌∷◌, ◌++◌, length, Option, Some, refl, sym, ◌∙◌, ap, subst, arith, slice_index}
+use Rattle.std.proofs.Common.{◌≡◌, ℕ, zero, suc, ◌+◌, ◌-◌, ◌*◌, ◌/◌, ◌%◌, ◌<◌, ◌≤◌, inl, inr, List, [], ◌∷◌, ◌++◌, length, Option, None, Some, refl, sym, ◌∙◌, ap, subst, arith, slice_index}
 use Rattle.sx_reach.specs.Reach.{Here}
 use Rattle.sx_isa.specs.Spelling.{spelling}
 use Rattle.sx_isa.specs.Standing.{words_of}
 use Rattle.sx_rules.specs.declared.access.Violation.{Violation}
 use Rattle.sx_machine.specs.declared.kinds.Event.TheVariants as event
 use Rattle.std.specs.Prelude.{slice_set, drop, take}
-use Rattle.sx_tmpl.proofs.Running.Mem.{cell-put_other, put_word_is, word_is, length-put}
-use Rattle.sx_machine.specs.Memory.{bytes_from, put_bytes, word, put_word}
+use Rattle.sx_tmpl.proofs.Running.Mem.{even_is, cell-put_other, put_word_is, word_is, length-put}
+use Rattle.sx_machine.specs.Memory.{even, bytes_from, put_bytes, word, put_word}
 use Rattle.sx_mean.specs.Offsets as offsets
 use Rattle.sx_tmpl.proofs.Running.Flags.{flags_stay}
 use Rattle.sx_invoke.specs.Marks.{Mark}
@@ -26,6 +26,8 @@ use Rattle.sx_tmpl.proofs.Running.Instructions.{reads_of, word_there}
 use Rattle.sx_isa.specs.declared.instruction.Instr.{Instr}
 use Rattle.sx_isa.specs.Instructions.{first_word}
 use Rattle.sx_machine.specs.Step.{start}
+use Rattle.sx_bus.specs.Devices.{device_at}
+use Rattle.sx_tmpl.proofs.Running.Owned.{in_private_yes}
 use Rattle.std.specs.Prelude.{slice_get}
 use Rattle.sx_tmpl.specs.Unseen.{HoldsNoKey, InSlotKey}
 use Rattle.sx_tmpl.proofs.Operations.Plain.{inside, Leads}
@@ -168,6 +170,10 @@ module _ (f : Fixed) (st : Stands f) (all : List Mark) (B : Watched → Violatio
       let lv = subst (λ (n : ℕ). n < 65536) is (cell_below f st d.mem (base_of f + s) safe.memory) in
       let w = first_word (mov (& 0) (0 ⟨ r12 ⟩)) in
       let ii : ℕ → ℕ → Instr = λ x z. mov (& x) (z ⟨ r12 ⟩) in
+      let no_device : device_at d.devices (base_of f + o) ≡ None = safe.devices (base_of f + o)
+      ∙ st.private_plain (base_of f + o) (in_private_yes f.setup.section (base_of f + o) (omega arith) (omega (arith, po.high))) po.low in
+      let read_free_ : device_at d.devices (base_of f + s) ≡ None = safe.devices (base_of f + s)
+      ∙ st.private_plain (base_of f + s) (in_private_yes f.setup.section (base_of f + s) (omega arith) (omega (arith, ps.high))) ps.low in
       let r1 = record r { pc = P + 2 * i } in
       let r2 = record r { pc = P + 2 * (i + 3) } in
       let x0 = start (running f r1 d).node in
@@ -182,7 +188,7 @@ module _ (f : Fixed) (st : Stands f) (all : List Mark) (B : Watched → Violatio
         inside t (i + 3) le,
         after (put_cell d.mem (base_of f + o) v) (holds_store f st at back stack priv outside r.sp d.mem o v safe.memory h oe (record { low = omega arith; beside = inr o1 }) fits),
       )))
-      (inl (record { at = (r.r12 + y) % 65536; o = o; regs = _; is = λ v. refl; place = place; key = inside_key }))
+      (inl (record { from = read_free_; at = (r.r12 + y) % 65536; o = o; regs = _; is = λ v. refl; place = ap even place ∙ even_is (base_of f + o) po.is_even; free = ap (device_at d.devices) place ∙ no_device; key = inside_key }))
 
 module _ (f : Fixed) (st : Stands f) (all : List Mark) (B : Watched → Violation → Type 0) (at : ℕ → ℕ) where
   pub set_end_leads : (c : Conf) (k A : ℕ) → Text f A 32 (slot_words (base_of f)) → offsets.end_at k + 24 ≤ length c.priv → k < length f.setup.ends → length c.stack ≤ 160
