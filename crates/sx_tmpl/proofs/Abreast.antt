@@ -83,7 +83,7 @@ same_self (mark.Unwrapped ad body false) = refl
 same_self (mark.Sampled k v) = refl
 same_self (mark.Actuated k v) = refl
 
-same_all : (ms : List Mark) → SameMarks ms ms
+pub same_all : (ms : List Mark) → SameMarks ms ms
 same_all [] = tt
 same_all (m ∷ ms) = (same_self m, same_all ms)
 

@@ -6,3 +6,4 @@ pub mod Texts
 pub mod Putting
 pub mod Twins
 pub mod Abreast
+pub mod Seals

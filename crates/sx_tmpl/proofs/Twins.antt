@@ -39,7 +39,7 @@ module _ (free : ℕ → Type 0) where
   read_agree false m n at h p = h.same at p
 
   -- the same byte written to both
-  set_agree : (m n : List ℕ) (i v : ℕ) → AgreeAt free m n → AgreeAt free (slice_set m i v) (slice_set n i v)
+  pub set_agree : (m n : List ℕ) (i v : ℕ) → AgreeAt free m n → AgreeAt free (slice_set m i v) (slice_set n i v)
   set_agree m n i v h = record {
     size = length-set m i v ∙ h.size ∙ sym (length-set n i v);
     same = λ k p.
@@ -55,7 +55,7 @@ module _ (free : ℕ → Type 0) where
   }
 
   -- two bytes at a place that doesn't count
-  set_apart : (m n : List ℕ) (i v w : ℕ) → (free i → ⊥) → AgreeAt free m n → AgreeAt free (slice_set m i v) (slice_set n i w)
+  pub set_apart : (m n : List ℕ) (i v w : ℕ) → (free i → ⊥) → AgreeAt free m n → AgreeAt free (slice_set m i v) (slice_set n i w)
   set_apart m n i v w off h = record {
     size = length-set m i v ∙ h.size ∙ sym (length-set n i w);
     same = λ k p.

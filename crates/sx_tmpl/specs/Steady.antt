@@ -1,14 +1,15 @@
 -- What it means that a module's turn is steady: two nodes that differ in keys, and in bytes that
 -- may hold one, take the same steps. Nobody has to believe this file for what an image realizes.
-use Rattle.std.specs.Prelude.{◌≡◌, ◌⊎◌, ℕ, ◌+◌, ◌<◌, ◌==◌, List, [], ◌∷◌, length, map}
+use Rattle.std.specs.Prelude.{◌≡◌, ◌⊎◌, ℕ, ◌+◌, ◌<◌, List, [], ◌∷◌, length, map}
 use Rattle.std.specs.Prelude.{if◌then◌else◌, slice_index, true, Option, Some, None}
 use Rattle.sx_rules.specs.declared.access.Access.TheVariants.{Read}
 use Rattle.sx_rules.specs.declared.access.Violation.{Violation}
 use Rattle.sx_rules.specs.declared.section.Section.{Section}
-use Rattle.sx_rules.specs.Access.{extends, may, outside_private}
+use Rattle.sx_rules.specs.Access.{extends, may, outside_private, section_of}
 use Rattle.sx_tag.specs.Mac.{Mac}
 use Rattle.sx_tag.specs.Wrap.{wrapped, unwrapped}
 use Rattle.sx_machine.specs.Memory.{bytes_from, word}
+use Rattle.sx_machine.specs.ModuleRows.{own_key}
 use Rattle.sx_machine.specs.State.{State}
 use Rattle.sx_machine.specs.Step.{own_of, pc_of}
 use Rattle.sx_reach.specs.Reach.{Stepped, Goes, Stops}
@@ -50,16 +51,18 @@ pub record Twins (places : ℕ → Type 0) (n m : State) : Type 0 where
 
 -- the key that a wrap or an unwrap of this module's code uses
 abbrev pub key_used : Section → State → List ℕ
-key_used own n = let at = slice_index n.regs 9 in
-    if at == 0 then own.key else bytes_from n.mem at key_size
+key_used own n =
+    if own_key n.regs then own.key else bytes_from n.mem (slice_index n.regs 9) key_size
 
--- bytes that were unwrapped in both nodes: the same ones, or as many that none of these places gets
-abbrev pub SameOpened : (ℕ → Type 0) → ℕ → Option (List ℕ) → Option (List ℕ) → Type 0
-SameOpened places out None None = Unit {0}
-SameOpened places out (Some xs) (Some ys) = (ys ≡ xs) ⊎ ((length ys ≡ length xs)
-    × ((k : ℕ) → k < length xs → places (out + k) → ⊥))
-SameOpened places out None (Some ys) = ⊥
-SameOpened places out (Some xs) None = ⊥
+-- What was unwrapped in both nodes: the same bytes; or under the module's own key others, as many,
+-- that none of these places gets.
+abbrev pub SameOpened : (ℕ → Type 0) → List ℕ → Option (List ℕ) → Option (List ℕ) → Type 0
+SameOpened places regs None None = Unit {0}
+SameOpened places regs (Some xs) (Some ys) = (ys ≡ xs) ⊎ ((own_key regs ≡ true)
+    × (length ys ≡ length xs)
+    × ((k : ℕ) → k < slice_index regs 13 → places (slice_index regs 14 + k) → ⊥))
+SameOpened places regs None (Some ys) = ⊥
+SameOpened places regs (Some xs) None = ⊥
 
 -- If the next step is a wrap or an unwrap, it gives the same in both nodes.
 pub record SealsAlike (s : Setup) (nac : Mac) (other : Section) (places : ℕ → Type 0) (n m : State) :
@@ -72,7 +75,7 @@ pub record SealsAlike (s : Setup) (nac : Mac) (other : Section) (places : ℕ �
       → (let header = bytes_from n.mem (slice_index n.regs 10) (slice_index n.regs 11) in
       let cipher = bytes_from n.mem (slice_index n.regs 12) (slice_index n.regs 13) in
       let tag = bytes_from n.mem (slice_index n.regs 15) tag_size in
-      SameOpened places (slice_index n.regs 14)
+      SameOpened places n.regs
       (unwrapped s.mac (key_used s.section n) header cipher tag)
       (unwrapped nac (key_used other m) header cipher tag))
 
@@ -105,7 +108,8 @@ StepAbreast places (Stops x) (Goes v) = ⊥
 -- leaves nodes that go side by side.
 abbrev pub StepsSteady : Setup → (ℕ → Type 0) → Type 0
 StepsSteady s places = (nac : Mac) (other : Section) (w v : Watched)
-    → keyless other ≡ keyless s.section → AreOpen s places → w.node.sections.live ≡ s.live
-    → own_of w.node ≡ s.section.id → StepShowsNone s w.node → Abreast places w v
+    → AreOpen s places → w.node.sections.live ≡ s.live → own_of w.node ≡ s.section.id
+    → section_of w.node.sections.live s.section.id ≡ Some s.section
+    → section_of v.node.sections.live s.section.id ≡ Some other → StepShowsNone s w.node → Abreast places w v
     → SealsAlike s nac other places w.node v.node
     → StepAbreast places (watch s.mac w) (watch nac v)
