@@ -10,8 +10,8 @@ use Rattle.sx_rules.specs.declared.access.Access.TheVariants.{Read, Write}
 use Rattle.sx_rules.specs.declared.access.Violation.{Violation}
 use Rattle.sx_rules.specs.declared.access.Violation.TheVariants as bad
 use Rattle.sx_rules.specs.declared.section.Section.{Section}
-use Rattle.sx_rules.specs.Access.{Sections, may, section_of}
-use Rattle.sx_bus.specs.Devices.{places_of}
+use Rattle.sx_rules.specs.Access.{Sections, holder, in_order, may, outside_private, section_of}
+use Rattle.sx_bus.specs.Devices.{device_at, places_of}
 use Rattle.sx_tag.specs.Mac.{Mac}
 use Rattle.sx_tag.specs.Wrap.{padded, unwrapped, wrapped}
 use Rattle.sx_tag.specs.Wrap as wraps
@@ -19,21 +19,25 @@ use Rattle.sx_machine.specs.declared.kinds.Event.{Event}
 use Rattle.sx_machine.specs.declared.kinds.Event.TheVariants as event
 use Rattle.sx_machine.specs.declared.kinds.Exchange.{Exchange}
 use Rattle.sx_machine.specs.Given.{Given, concluded}
-use Rattle.sx_machine.specs.Memory.{bytes_from, put_bytes}
-use Rattle.sx_machine.specs.ModuleRows.{answer, buffers, exchanged, opened, own_key, tested, unwrap, with_inputs, with_key, wrap}
+use Rattle.sx_machine.specs.Memory.{even, bytes_from, put_bytes, word}
+use Rattle.sx_machine.specs.ModuleRows.{module_row, within, answer, buffers, exchanged, opened, own_key, tested, unwrap, with_inputs, with_key, wrap}
 use Rattle.sx_machine.specs.Plan.{Plan, Need, Tell, Bytes, Put, Writable}
 use Rattle.sx_machine.specs.Ranges.{passes_end, meets_device}
+use Rattle.sx_machine.specs.Rows.{program}
+use Rattle.sx_machine.specs.State.{State}
+use Rattle.sx_machine.specs.Step.{attempt, entered_from, given_at_pc, instruction, is_module_word, ordered, own_of, pc_of, settled_step, start, word_outside}
+use Rattle.sx_machine.specs.Modules.{module_instruction}
 use Rattle.sx_machine.specs.Run.{Moment, Outcome, Finished, Violated, Module, exec, may_each, may_range}
 use Rattle.sx_machine.proofs.PlanGuard.{with_mem}
 use Rattle.sx_invoke.specs.Marks.{Mark}
 use Rattle.sx_invoke.specs.Marks as mark
 use Rattle.sx_invoke.specs.Setup.{Setup}
-use Rattle.sx_image.specs.Watched.{marks_of_event, violation_of}
-use Rattle.sx_tmpl.specs.Unseen.{AreShown}
-use Rattle.sx_tmpl.specs.Steady.{AgreeAt, AreOpen, SameMarks, SameOpened}
+use Rattle.sx_image.specs.Watched.{Watched, marks_of_event, marks_of_touches, violation_of, watch, watched_on}
+use Rattle.sx_tmpl.specs.Unseen.{AreShown, SealShowsNone, WordShowsNone}
+use Rattle.sx_tmpl.specs.Steady.{AgreeAt, AreOpen, SameMarks, SameOpened, SealsAlike, StepAbreast, StepsSteady, keyless}
 use Rattle.sx_tmpl.proofs.Running.Holding.{are_part}
 use Rattle.sx_tmpl.proofs.Twins.{SameMoments, set_agree, set_apart}
-use Rattle.sx_tmpl.proofs.Abreast.{same_all}
+use Rattle.sx_tmpl.proofs.Abreast.{holder_keyless, live_keyless, may_keyless, order_keyless, outside_keyless, plain_abreast, same_all, same_more}
 
 put_agree : (free : ℕ → Type 0) (bs m n : List ℕ) (at : ℕ) → AgreeAt free m n → AgreeAt free (put_bytes m at bs) (put_bytes n at bs)
 put_agree free [] m n at h = h
@@ -147,3 +151,269 @@ module _ (s : Setup) (t u : Sections) (live : t.live ≡ s.live) (places : ℕ �
   puts x n at bs p q h f =
       ifs_same (may_each t.live own Write at bs) (may_each u.live own Write at bs) (exec t own p (record x { mem = put_bytes x.mem at bs }))
       (exec u own q (record (with_mem x n) { mem = put_bytes n at bs })) bad.Write (each_may Write at bs) (λ e. f (put_agree places bs x.mem n at h))
+
+  -- other bytes, where places don't count
+  each_len : (at : ℕ) (bs cs : List ℕ) → length cs ≡ length bs → may_each t.live own Write at cs ≡ may_each t.live own Write at bs
+  each_len at [] [] e = refl
+  each_len at [] (c ∷ cs) e = absurd (omega (arith, e))
+  each_len at (b ∷ bs) [] e = absurd (omega (arith, e))
+  each_len at (b ∷ bs) (c ∷ cs) e = ap (λ z. may t.live own Write at && z) (each_len (at + 1) bs cs (omega (arith, e)))
+
+  -- The module's instruction in both.
+  module _ (mac nac : Mac) (g : Given) (caller : ℕ) (base : List ℕ) (exchange : Exchange) (a b : Section) (x : Moment) (n : List ℕ) (agree : AgreeAt places x.mem n)
+      (header_shown : AreShown s (slice_index g.regs 10) (slice_index g.regs 11)) (text_shown : AreShown s (slice_index g.regs 12) (slice_index g.regs 13)) where
+    abbrev h : Given
+    h = record g { sections = u; caller = caller; base = base; exchange = exchange }
+
+    abbrev at : ℕ → ℕ
+    at r = slice_index g.regs r
+
+    abbrev key : List ℕ
+    key = cond (own_key g.regs) a.key (bytes_from x.mem (at 9) 16)
+
+    abbrev key2 : List ℕ
+    key2 = cond (own_key g.regs) b.key (bytes_from n (at 9) 16)
+
+    abbrev ad : List ℕ
+    ad = bytes_from x.mem (at 10) (at 11)
+
+    abbrev text : List ℕ
+    text = bytes_from x.mem (at 12) (at 13)
+
+    inputs_ : (rest rest2 : List ℕ → List ℕ → List ℕ → Plan) → Alike (rest key ad text) (rest2 key2 ad text) x n → Alike (with_inputs g a rest) (with_inputs h b rest2) x n
+    inputs_ rest rest2 z =
+        need_ x n agree (nat_le (at 11) 32 && nat_le (at 13) 32) bad.Range (tested g (buffers g.regs) (with_key g a (λ k. Bytes (at 10) (at 11) (λ ad. Bytes (at 12) (at 13) (λ text. rest k ad text)))))
+        (tested h (buffers g.regs) (with_key h b (λ k. Bytes (at 10) (at 11) (λ ad. Bytes (at 12) (at 13) (λ text. rest2 k ad text)))))
+        (tested_ x n agree g h (buffers g.regs) (with_key g a (λ k. Bytes (at 10) (at 11) (λ ad. Bytes (at 12) (at 13) (λ text. rest k ad text))))
+        (with_key h b (λ k. Bytes (at 10) (at 11) (λ ad. Bytes (at 12) (at 13) (λ text. rest2 k ad text)))) refl
+        (key_ x n agree g.regs g h a b (λ k. Bytes (at 10) (at 11) (λ ad. Bytes (at 12) (at 13) (λ text. rest k ad text)))
+        (λ k. Bytes (at 10) (at 11) (λ ad. Bytes (at 12) (at 13) (λ text. rest2 k ad text))) refl refl
+        (bytes_ x n agree (at 10) (at 11) (λ ad. Bytes (at 12) (at 13) (λ text. rest key ad text)) (λ ad. Bytes (at 12) (at 13) (λ text. rest2 key2 ad text)) header_shown
+        (bytes_ x n agree (at 12) (at 13) (λ text. rest key ad text) (λ text. rest2 key2 ad text) text_shown z))))
+
+    pub wrap_alike : wrapped nac key2 ad text ≡ wrapped mac key ad text → Alike (wrap mac g a) (wrap nac h b) x n
+    wrap_alike e =
+        let told : Plan = Tell (concluded g.regs 1) (event.Wrapped g.own) (exchanged g.regs ad text) in
+        let w = wrapped mac key ad text in
+        inputs_
+        (λ k ad text. Put (at 14) (wrapped mac k ad text).cipher (Put (at 15) (wrapped mac k ad text).tag (Tell (concluded g.regs 1) (event.Wrapped g.own) (exchanged g.regs ad text))))
+        (λ k ad text. Put (at 14) (wrapped nac k ad text).cipher (Put (at 15) (wrapped nac k ad text).tag (Tell (concluded g.regs 1) (event.Wrapped g.own) (exchanged g.regs ad text))))
+        (subst (λ (z : wraps.Wrapped). Alike (Put (at 14) w.cipher (Put (at 15) w.tag told)) (Put (at 14) z.cipher (Put (at 15) z.tag told)) x n) (sym e)
+        (puts x n (at 14) w.cipher (Put (at 15) w.tag told) (Put (at 15) w.tag told) agree (λ g1.
+        puts (record x { mem = put_bytes x.mem (at 14) w.cipher }) (put_bytes n (at 14) w.cipher) (at 15) w.tag told told g1 (λ g2.
+        (refl, record { rest = refl; mem = g2 }, refl, refl, refl, refl, same_all (marks_of_event (event.Wrapped g.own) (exchanged g.regs ad text)))))))
+
+    opened_alike : (o p : Option (List ℕ)) → SameOpened places g.regs o p → Alike (opened g ad o) (opened h ad p) x n
+    opened_alike None None z = (refl, record { rest = refl; mem = agree }, refl, refl, refl, refl, tt)
+    opened_alike None (Some ys) z = absurd z
+    opened_alike (Some xs) None z = absurd z
+    opened_alike (Some xs) (Some ys) (inl e) =
+        let plain = take (at 13) xs in
+        let told : Plan = Tell (concluded g.regs 1) (event.Unwrapped g.own) (exchanged g.regs ad plain) in
+        subst (λ (z : List ℕ). Alike (opened g ad (Some xs)) (opened h ad (Some z)) x n) (sym e)
+        (puts x n (at 14) plain told told agree (λ g1.
+        (refl, record { rest = refl; mem = g1 }, refl, refl, refl, refl, same_all (marks_of_event (event.Unwrapped g.own) (exchanged g.regs ad plain)))))
+    opened_alike (Some xs) (Some ys) (inr z) =
+        let plain = take (at 13) xs in
+        let plain2 = take (at 13) ys in
+        let lx = length-take (at 13) xs in
+        let ly = length-take (at 13) ys in
+        let lens = z.1 in
+        let len : length plain2 ≡ length plain = omega (arith, lx, ly, lens) in
+        let told : Plan = Tell (concluded g.regs 1) (event.Unwrapped g.own) (exchanged g.regs ad plain) in
+        let told2 : Plan = Tell (concluded g.regs 1) (event.Unwrapped g.own) (exchanged g.regs ad plain2) in
+        ifs_same (may_each t.live own Write (at 14) plain) (may_each u.live own Write (at 14) plain2) (exec t own told (record x { mem = put_bytes x.mem (at 14) plain }))
+        (exec u own told2 (record (with_mem x n) { mem = put_bytes n (at 14) plain2 })) bad.Write (each_may Write (at 14) plain2 ∙ each_len (at 14) plain plain2 len) (λ e. (
+          refl,
+          record {
+            rest = refl;
+            mem = put_apart places plain plain2 x.mem n (at 14) len (λ k p q c. z.2 (k - at 14) (omega (arith, lx, p, q)) (subst places (place k p) c)) agree;
+          },
+          refl,
+          refl,
+          refl,
+          refl,
+          (
+            subst (λ (o : Bool). Rattle.sx_tmpl.specs.Steady.SameMark (mark.Unwrapped (take (length ad) (padded ad)) (take (length plain) (padded plain)) o)
+                (mark.Unwrapped (take (length ad) (padded ad)) (take (length plain2) (padded plain2)) o)) (sym z.0) (take (length plain2) (padded plain2), refl),
+            tt,
+          ),
+        ))
+      where
+        place : (k : ℕ) → slice_index g.regs 14 ≤ k → k ≡ slice_index g.regs 14 + (k - slice_index g.regs 14)
+        place k p = omega arith
+
+    pub unwrap_alike : AreShown s (at 15) 16 → SameOpened places g.regs (unwrapped mac key ad text (bytes_from x.mem (at 15) 16)) (unwrapped nac key2 ad text (bytes_from x.mem (at 15) 16))
+        → Alike (unwrap mac g a) (unwrap nac h b) x n
+    unwrap_alike tag_shown z =
+        let tag = bytes_from x.mem (at 15) 16 in
+        inputs_
+        (λ k ad text. Bytes (at 15) 16 (λ tag. Writable (at 14) (at 13) (opened g ad (unwrapped mac k ad text tag))))
+        (λ k ad text. Bytes (at 15) 16 (λ tag. Writable (at 14) (at 13) (opened h ad (unwrapped nac k ad text tag))))
+        (bytes_ x n agree (at 15) 16 (λ tag. Writable (at 14) (at 13) (opened g ad (unwrapped mac key ad text tag))) (λ tag. Writable (at 14) (at 13) (opened h ad (unwrapped nac key2 ad text tag))) tag_shown
+        (ifs_same (may_range t.live own Write (at 14) (at 13)) (may_range u.live own Write (at 14) (at 13)) (exec t own (opened g ad (unwrapped mac key ad text tag)) x)
+        (exec u own (opened h ad (unwrapped nac key2 ad text tag)) (with_mem x n)) bad.Write (range_same Write (at 14) (at 13)) (λ e.
+        opened_alike (unwrapped mac key ad text tag) (unwrapped nac key2 ad text tag) z)))
+
+-- Two nodes, at a wrap or an unwrap of the module's code.
+module _ (nac : Mac) (s : Setup) (n : State) (mem : List ℕ) (u : Sections) (key : List ℕ) (exchange : Exchange) (places : ℕ → Type 0) (fit : AreOpen s places) (live : n.sections.live ≡ s.live)
+    (same : map keyless u.live ≡ map keyless n.sections.live) (next : u.next ≡ n.sections.next) (agree : AgreeAt places n.mem mem) (own : own_of n ≡ s.section.id) (other : Section)
+    (found : section_of n.sections.live s.section.id ≡ Some s.section) (found2 : section_of u.live s.section.id ≡ Some other) where
+  abbrev m : State
+  m = record n { mem = mem; sections = u; key = key; exchange = exchange }
+
+  abbrev Told : Outcome → Outcome → Type 0
+  Told o p = SameTold s n.sections u live places fit (λ access at. may_keyless n.sections.live u.live same s.section.id access at) o p
+
+  own_twin : own_of m ≡ own_of n
+  own_twin = holder_keyless n.sections.live u.live same (pc_of n)
+
+  abbrev g : Given
+  g = record (given_at_pc s.mac n) { own = s.section.id }
+
+  abbrev g2 : Given
+  g2 = record (given_at_pc nac m) { own = s.section.id }
+
+  abbrev at_word : Mac → ℕ → State → Outcome
+  at_word mac w a = cond (is_module_word w) (module_instruction mac (w - 0x1380) (given_at_pc mac a) a.mem) (exec a.sections (own_of a) (program w a.regs) (start a))
+
+  wrap_one : word n.mem (pc_of n) ≡ 0x1384 → instruction s.mac n ≡ exec n.sections s.section.id (wrap s.mac g s.section) (start n)
+  unfolding module_row
+  wrap_one e =
+      ap (λ w. at_word s.mac w n) e ∙ ap (λ (o : ℕ). exec n.sections o (module_row s.mac 4 (record (given_at_pc s.mac n) { own = o })) (start n)) own
+      ∙ ap (λ o. exec n.sections s.section.id (within g (wrap s.mac g) o) (start n)) found
+
+  wrap_two : word mem (pc_of n) ≡ 0x1384 → instruction nac m ≡ exec u s.section.id (wrap nac g2 other) (start m)
+  unfolding module_row
+  wrap_two e =
+      ap (λ w. at_word nac w m) e ∙ ap (λ (o : ℕ). exec u o (module_row nac 4 (record (given_at_pc nac m) { own = o })) (start m)) (own_twin ∙ own)
+      ∙ ap (λ o. exec u s.section.id (within g2 (wrap nac g2) o) (start m)) found2
+
+  unwrap_one : word n.mem (pc_of n) ≡ 0x1385 → instruction s.mac n ≡ exec n.sections s.section.id (unwrap s.mac g s.section) (start n)
+  unfolding module_row
+  unwrap_one e =
+      ap (λ w. at_word s.mac w n) e ∙ ap (λ (o : ℕ). exec n.sections o (module_row s.mac 5 (record (given_at_pc s.mac n) { own = o })) (start n)) own
+      ∙ ap (λ o. exec n.sections s.section.id (within g (unwrap s.mac g) o) (start n)) found
+
+  unwrap_two : word mem (pc_of n) ≡ 0x1385 → instruction nac m ≡ exec u s.section.id (unwrap nac g2 other) (start m)
+  unfolding module_row
+  unwrap_two e =
+      ap (λ w. at_word nac w m) e ∙ ap (λ (o : ℕ). exec u o (module_row nac 5 (record (given_at_pc nac m) { own = o })) (start m)) (own_twin ∙ own)
+      ∙ ap (λ o. exec u s.section.id (within g2 (unwrap nac g2) o) (start m)) found2
+
+  seal_same : (w : ℕ) → word n.mem (pc_of n) ≡ w → SealShowsNone s w n.regs → SealsAlike s nac other places n m → word mem (pc_of n) ≡ word n.mem (pc_of n)
+      → Told (instruction s.mac n) (instruction nac m)
+  seal_same w here shown alike e =
+      elim (shown.seals) [
+        | inl q ↦
+            let z = alike.wraps (here ∙ q) in
+            subst (λ (o : Outcome). Told o (instruction nac m)) (sym (wrap_one (here ∙ q))) (subst (λ (o : Outcome). Told (exec n.sections s.section.id (wrap s.mac g s.section) (start n)) o)
+            (sym (wrap_two (e ∙ here ∙ q)))
+            (wrap_alike s n.sections u live places fit (λ access at. may_keyless n.sections.live u.live same s.section.id access at) s.mac nac g g2.caller g2.base exchange s.section other (start n) mem agree
+            shown.header shown.text z))
+        | inr q ↦
+            let z = alike.opens (here ∙ q) in
+            subst (λ (o : Outcome). Told o (instruction nac m)) (sym (unwrap_one (here ∙ q))) (subst (λ (o : Outcome). Told (exec n.sections s.section.id (unwrap s.mac g s.section) (start n)) o)
+            (sym (unwrap_two (e ∙ here ∙ q)))
+            (unwrap_alike s n.sections u live places fit (λ access at. may_keyless n.sections.live u.live same s.section.id access at) s.mac nac g g2.caller g2.base exchange s.section other (start n) mem agree
+            shown.header shown.text (shown.tag q) z))
+      ]
+
+  ifs_told : (b c : Bool) (o p : Outcome) (v : Violation) → c ≡ b → (b ≡ true → Told o p) → Told (cond b o (Violated v)) (cond c p (Violated v))
+  ifs_told = ifs_same s n.sections u live places fit (λ access at. may_keyless n.sections.live u.live same s.section.id access at)
+
+  word_twin : word_outside n.sections.live (pc_of n) ≡ true → word mem (pc_of n) ≡ word n.mem (pc_of n)
+  word_twin e =
+      let p = and_parts (outside_private n.sections.live (even (pc_of n))) (outside_private n.sections.live (even (pc_of n) + 1)) e in
+      let lo = agree.same (even (pc_of n)) (fit.outside (even (pc_of n)) (sym (ap (λ (l : List Section). outside_private l (even (pc_of n))) live) ∙ p.0)) in
+      let hi = agree.same (even (pc_of n) + 1) (fit.outside (even (pc_of n) + 1) (sym (ap (λ (l : List Section). outside_private l (even (pc_of n) + 1)) live) ∙ p.1)) in
+      cc
+
+  attempt_told : SealShowsNone s (word n.mem (pc_of n)) n.regs → SealsAlike s nac other places n m → Told (attempt s.mac n) (attempt nac m)
+  attempt_told shown alike =
+      ifs_told (word_outside n.sections.live (pc_of n)) (word_outside u.live (pc_of n)) (ordered s.mac n (device_at n.devices (pc_of n))) (ordered nac m (device_at n.devices (pc_of n))) bad.Fetch
+      (ap₂ (λ b c. b && c) (outside_keyless n.sections.live u.live same (even (pc_of n))) (outside_keyless n.sections.live u.live same (even (pc_of n) + 1)))
+      (λ e. by (device_at n.devices (pc_of n)) (word_twin e))
+    where
+      by : (d : Option ℕ) → word mem (pc_of n) ≡ word n.mem (pc_of n) → Told (ordered s.mac n d) (ordered nac m d)
+      by (Some device) e = refl
+      by None e =
+          ifs_told (in_order n.sections.live n.cur (pc_of n)) (in_order u.live n.cur (pc_of n)) (instruction s.mac n) (instruction nac m) bad.Order
+          (order_keyless n.sections.live u.live same n.cur (pc_of n)) (λ o. seal_same (word n.mem (pc_of n)) refl shown alike e)
+
+  entered_same : entered_from m (own_of n) ≡ entered_from n (own_of n)
+  entered_same = ap (λ (b : Bool). cond (own_of n == n.cur) n.caller (cond b n.last 0)) (live_keyless n.sections.live u.live same n.last)
+
+  module _ (w v : Watched) (here : w.node ≡ n) (there : v.node ≡ m) (marks : SameMarks w.marks v.marks) where
+    abbrev S : Outcome → Outcome → Type 0
+    S o p = StepAbreast places (watched_on w (settled_step n o) (violation_of (settled_step n o).shown.event)) (watched_on v (settled_step m p) (violation_of (settled_step m p).shown.event))
+
+    told : (r : List ℕ) (x : Moment) (e : Event) (c d : Exchange) (after : List ℕ) → AgreeAt places x.mem after → violation_of e ≡ None → SameMarks (marks_of_event e c) (marks_of_event e d)
+        → S (Module r x n.sections e c) (Module r (record x { mem = after }) u e d)
+    told r x e c d after agreed none told_marks =
+        subst (λ (o : Option Violation). StepAbreast places (watched_on w (settled_step n (Module r x n.sections e c)) o)
+        (watched_on v (settled_step m (Module r (record x { mem = after }) u e d)) o)) (sym none) (record {
+          nodes = record { rest = nodes; mem = agreed; live = same; next = next };
+          event = refl;
+          marks = same_more w.marks v.marks _ _ marks (same_more (marks_of_touches x.touches) (marks_of_touches x.touches) (marks_of_event e c) (marks_of_event e d)
+              (same_all (marks_of_touches x.touches)) told_marks);
+        })
+      where
+        nodes : (settled_step m (Module r (record x { mem = after }) u e d)).state
+            ≡ record (settled_step n (Module r x n.sections e c)).state { mem = after; sections = u; key = key; exchange = d }
+        nodes =
+            ap (λ (o : ℕ). record (settled_step m (Module r (record x { mem = after }) u e d)).state {
+              cur = cond (holder u.live (slice_index r 0) == o) o 0;
+              last = o;
+              caller = entered_from m o;
+            }) own_twin
+            ∙ ap₂ (λ (h c : ℕ). record (settled_step n (Module r x n.sections e d)).state {
+              mem = after;
+              sections = u;
+              key = key;
+              exchange = d;
+              cur = cond (h == own_of n) (own_of n) 0;
+              caller = c;
+            }) (holder_keyless n.sections.live u.live same (slice_index r 0)) entered_same
+
+    outcome : (o p : Outcome) → Told o p → S o p
+    outcome (Module r x t e c) (Module q y b f d) h =
+        subst (λ (z : List ℕ). S (Module r x t e c) (Module z y b f d)) (sym h.0)
+        (subst (λ (z : Moment). S (Module r x t e c) (Module r z b f d)) (sym h.1.rest)
+        (subst (λ (z : Sections). S (Module r x z e c) (Module r (record x { mem = y.mem }) b f d)) (sym h.2)
+        (subst (λ (z : Sections). S (Module r x n.sections e c) (Module r (record x { mem = y.mem }) z f d)) (sym h.3)
+        (subst (λ (z : Event). S (Module r x n.sections e c) (Module r (record x { mem = y.mem }) u z d)) (sym h.4)
+        (told r x e c d y.mem h.1.mem h.5 (subst (λ (z : Event). SameMarks (marks_of_event e c) (marks_of_event z d)) h.4 h.6))))))
+    outcome (Violated a) (Violated b) h = h
+    outcome (Finished r x) p h = absurd h
+    outcome (Violated a) (Finished q y) h = absurd h
+    outcome (Violated a) (Module q y b f d) h = absurd h
+    outcome (Module r x t e c) (Finished q y) h = absurd h
+    outcome (Module r x t e c) (Violated b) h = absurd h
+
+    -- a wrap or an unwrap is the same step in both
+    pub seal_abreast : SealShowsNone s (word n.mem (pc_of n)) n.regs → SealsAlike s nac other places n m → StepAbreast places (watch s.mac w) (watch nac v)
+    unfolding watch
+    seal_abreast shown alike =
+        subst (λ (z : State). StepAbreast places (watched_on w (settled_step z (attempt s.mac z)) (violation_of (settled_step z (attempt s.mac z)).shown.event)) (watch nac v)) (sym here)
+        (subst (λ (z : State). StepAbreast places (watched_on w (settled_step n (attempt s.mac n)) (violation_of (settled_step n (attempt s.mac n)).shown.event))
+        (watched_on v (settled_step z (attempt nac z)) (violation_of (settled_step z (attempt nac z)).shown.event))) (sym there)
+        (outcome (attempt s.mac n) (attempt nac m) (attempt_told shown alike)))
+
+-- A step of the module's code that shows no key is the same in both nodes.
+pub steps_steady : (s : Setup) (places : ℕ → Type 0) → StepsSteady s places
+steps_steady s places nac other w v fit live own found found2 shown abreast alike =
+    let n = w.node in
+    let k = abreast.nodes in
+    let m : State = record n { mem = v.node.mem; sections = v.node.sections; key = v.node.key; exchange = v.node.exchange } in
+    by (is_module_word (word n.mem (pc_of n))) refl shown (subst (λ (z : State). SealsAlike s nac other places n z) k.rest alike)
+  where
+    by : (b : Bool) → is_module_word (word w.node.mem (pc_of w.node)) ≡ b → WordShowsNone s w.node (word w.node.mem (pc_of w.node)) b
+        → SealsAlike s nac other places w.node (record w.node { mem = v.node.mem; sections = v.node.sections; key = v.node.key; exchange = v.node.exchange })
+        → StepAbreast places (watch s.mac w) (watch nac v)
+    by true e told same =
+        seal_abreast nac s w.node v.node.mem v.node.sections v.node.key v.node.exchange places fit live abreast.nodes.live abreast.nodes.next abreast.nodes.mem own other found found2 w v refl
+        abreast.nodes.rest abreast.marks told same
+    by false e plain same =
+        plain_abreast s.mac nac s w.node v.node.mem v.node.sections v.node.key v.node.exchange places fit live abreast.nodes.live abreast.nodes.next abreast.nodes.mem own w v refl abreast.nodes.rest
+        abreast.marks e plain
