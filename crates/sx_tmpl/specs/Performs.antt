@@ -94,6 +94,10 @@ pub record LeftFrom (s : Setup) (before : State) (status count : ℕ) (t : Conf)
   pub sections : w.node.sections ≡ before.sections
   pub marks : w.marks ≡ t.marks
 
+-- the operation at a configuration's place names no byte that may be a key's
+abbrev pub NamesNoKeyAt : ℕ → List Ir → Conf → Type 0
+NamesNoKeyAt ends ops c = (i : Ir) → slice_get ops c.place ≡ Some i → NamesNoKey ends i c.stack
+
 -- The node does the code, where `StandsFor` says that it stands for a configuration: from the entry
 -- it comes to the first one; from one whose operation goes on, to the next one, within the
 -- template's count; where the operation breaks, to its violation, after its marks; and from `Leave`
@@ -104,11 +108,13 @@ pub record Performs (s : Setup) (code : Code) (before : State) (result : Invoked
       (begins before)
   pub goes : (c t : Conf) (w : Watched) → StandsFor c w
       → IsRegular code.ops.items (call_at before) (marks_in result) c
+      → NamesNoKeyAt (length s.ends) code.ops.items c
       → HasPrefix (marks_in result) t.marks
       → op_step s (part_from code.parts.items) code.ops.items c ≡ Goes t
       → NodeRuns s result before Never (StandsFor t) (op_count no_count code.ops.items c) w
   pub stops : (c : Conf) (v : Violation) (marks : List Mark) (w : Watched) → StandsFor c w
       → IsRegular code.ops.items (call_at before) (marks_in result) c
+      → NamesNoKeyAt (length s.ends) code.ops.items c
       → HasPrefix (marks_in result) marks
       → op_step s (part_from code.parts.items) code.ops.items c ≡ Stops (Violates v marks)
       → NodeRuns s result before (With v marks) (λ w. ⊥) (op_count no_count code.ops.items c) w
@@ -137,17 +143,13 @@ IsNarrow i = Unit {0}
 abbrev pub AreNarrow : List Ir → Type 0
 AreNarrow ops = (p : ℕ) (i : Ir) → slice_get ops p ≡ Some i → IsNarrow i
 
--- no operation of a code names a byte that may be a key's
-abbrev pub AreUnseen : ℕ → List Ir → Type 0
-AreUnseen ends ops = (p : ℕ) (i : Ir) → slice_get ops p ≡ Some i → NamesNoKey ends i
-
 -- A text does sound code: wherever an image begins with the text and a call enters the module, the
 -- node does the code, for every end of the invocation whose pieces are those that its marks make.
 abbrev pub DoesCode : Mac → Code → Layout → List ℕ → Type 0
 DoesCode mac code l text =
     (tree : ModuleTree) (ends : List End) (image : Image) (section : Section) (n : State)
     (result : Invoked) (rest : List ℕ) → image.layout ≡ l → image.text ≡ text ++ rest
-    → AreNarrow code.ops.items → AreUnseen (length ends) code.ops.items → Enters tree image section n
+    → AreNarrow code.ops.items → Enters tree image section n
     → bytes_in (pieces_in result) ≡ made_bytes (marks_in result)
     → (let s = setup_at mac tree ends section n in
     Performs s code n result (Stood (fixed_at s n result) (marks_in result) (addresses l code).at))

@@ -2,7 +2,7 @@
 -- stored where a key may be, or is the key of a wrap or an unwrap. So nodes that differ in these
 -- bytes alone do the same, step by step, if wraps and unwraps under these keys do. Nobody has to
 -- believe this file for what an image realizes.
-use Rattle.std.specs.Prelude.{◌≡◌, ◌⊎◌, ℕ, ◌+◌, ◌*◌, ◌<◌, ◌≤◌, Bool, true, false, List, length}
+use Rattle.std.specs.Prelude.{◌≡◌, ◌⊎◌, ℕ, ◌+◌, ◌*◌, ◌<◌, ◌≤◌, Bool, true, false, List, ◌∷◌, length}
 use Rattle.std.specs.Prelude.{slice_index, None, Result, Ok}
 use Rattle.sx_bus.specs.declared.devices.Window.{Window}
 use Rattle.sx_bus.specs.Devices.{device_at}
@@ -98,18 +98,18 @@ StepShowsNone s n =
 abbrev pub IsKeyPlace : ℕ → ℕ → Type 0
 IsKeyPlace ends at = (at ≡ 0) ⊎ ((k : ℕ) × (k < ends) × (at ≡ end_key_at k))
 
--- An operation names no byte that may be a key's but as the key of a wrap or an unwrap, where there
--- are this many ends.
-abbrev pub NamesNoKey : ℕ → Ir → Type 0
-NamesNoKey ends (ir.Load o) = HoldsNoKey ends o 2
-NamesNoKey ends (ir.Store o) = HoldsNoKey ends o 2
-NamesNoKey ends (ir.LoadAt o n) = HoldsNoKey ends o (2 * n)
-NamesNoKey ends (ir.StoreAt o n) = HoldsNoKey ends o (2 * n)
-NamesNoKey ends (ir.Packet k) = k < ends
-NamesNoKey ends (ir.CopyOut n o) = HoldsNoKey ends o n
-NamesNoKey ends (ir.Seal k h hn b bn) =
+-- An operation, with this stack, names no byte that may be a key's but as the key of a wrap or an
+-- unwrap, where there are this many ends.
+abbrev pub NamesNoKey : ℕ → Ir → List ℕ → Type 0
+NamesNoKey ends (ir.Load o) stack = HoldsNoKey ends o 2
+NamesNoKey ends (ir.Store o) stack = HoldsNoKey ends o 2
+NamesNoKey ends (ir.LoadAt o n) (i ∷ rest) = i < n → HoldsNoKey ends (o + 2 * i) 2
+NamesNoKey ends (ir.StoreAt o n) (v ∷ i ∷ rest) = i < n → HoldsNoKey ends (o + 2 * i) 2
+NamesNoKey ends (ir.Packet k) stack = k < ends
+NamesNoKey ends (ir.CopyOut n o) stack = HoldsNoKey ends o n
+NamesNoKey ends (ir.Seal k h hn b bn) stack =
     IsKeyPlace ends k × HoldsNoKey ends h hn × HoldsNoKey ends b bn
-NamesNoKey ends (ir.Open k h hn b bn) =
+NamesNoKey ends (ir.Open k h hn b bn) stack =
     IsKeyPlace ends k × HoldsNoKey ends h (hn + bn + tag_size)
-NamesNoKey ends (ir.SetEnd k) = k < ends
-NamesNoKey ends i = Unit {0}
+NamesNoKey ends (ir.SetEnd k) stack = k < ends
+NamesNoKey ends i stack = Unit {0}

@@ -19,7 +19,7 @@ use Rattle.sx_tmpl.specs.Unseen.{HoldsNoKey}
 use Rattle.sx_tmpl.proofs.Running.Flags.{flags_after, no_borrow, borrow}
 use Rattle.std.proofs.lemmas.Bool.{cases_lt, lt-ltb, le-ltb}
 use Rattle.sx_tmpl.proofs.Operations.Plain.{inside, Leads, stood}
-use Rattle.sx_tmpl.proofs.Running.Holding.{part_shown, stack_word, data_word, holds_push, holds_pop, holds_store, holds_word, cell_below}
+use Rattle.sx_tmpl.proofs.Running.Holding.{stack_word, data_word, holds_push, holds_pop, holds_store, holds_word, cell_below}
 
 -- an array of the data: its offset and length in words
 pub record IsArray (o n size : ℕ) : Type 0 where
@@ -66,7 +66,7 @@ module _ (f : Fixed) (st : Stands f) (all : List Mark) (B : Watched → Violatio
       )
 
   -- an element that is there
-  load_element : (c : Conf) (o n i : ℕ) (rest : List ℕ) → n < 65536 → IsArray o n (length c.priv) → HoldsNoKey (length f.setup.ends) o (2 * n) → i < n
+  load_element : (c : Conf) (o n i : ℕ) (rest : List ℕ) → n < 65536 → IsArray o n (length c.priv) → HoldsNoKey (length f.setup.ends) (o + 2 * i) 2 → i < n
       → L 9 (load_words o n) 6 (record c { stack = i ∷ rest }) (next c (word c.priv (o + 2 * i) ∷ rest))
   load_element c o n i rest ln a shown lt r d t on sh safe =
       let h = sh.holds in
@@ -79,7 +79,7 @@ module _ (f : Fixed) (st : Stands f) (all : List Mark) (B : Watched → Violatio
       let sp = r.sp + 2 in
       let p1 = stack_word f st r.sp (length (i ∷ rest)) h.top (omega arith) (omega (arith, h.room)) in
       let dat = element_data o n (length c.priv) i a lt in
-      let po = data_word f st (o + 2 * i) (part_shown _ o (2 * n) (2 * i) 2 shown (omega arith)) dat.low (omega arith) (omega arith) in
+      let po = data_word f st (o + 2 * i) shown dat.low (omega arith) (omega arith) in
       let v = word c.priv (o + 2 * i) in
       let is = holds_word f st at c.back (i ∷ rest) c.priv c.mem r.sp d.mem (o + 2 * i) h (omega arith) dat (omega arith) in
       let lv = subst (λ (n : ℕ). n < 65536) is (cell_below f st d.mem (base_of f + (o + 2 * i)) safe.memory) in
@@ -184,10 +184,10 @@ module _ (f : Fixed) (st : Stands f) (all : List Mark) (B : Watched → Violatio
             ),
       )))
 
-  pub load_at_leads : (c : Conf) (o n i : ℕ) (rest : List ℕ) → n < 65536 → IsArray o n (length c.priv) → HoldsNoKey (length f.setup.ends) o (2 * n) → L 9 (load_words o n) 6 (record c { stack = i ∷ rest }) (next c (element c.priv o n i ∷ rest))
+  pub load_at_leads : (c : Conf) (o n i : ℕ) (rest : List ℕ) → n < 65536 → IsArray o n (length c.priv) → (i < n → HoldsNoKey (length f.setup.ends) (o + 2 * i) 2) → L 9 (load_words o n) 6 (record c { stack = i ∷ rest }) (next c (element c.priv o n i ∷ rest))
   load_at_leads c o n i rest ln a shown = elim (cases_lt i n) [
     | inl h ↦ subst (λ v. L 9 (load_words o n) 6 (record c { stack = i ∷ rest }) (next c (v ∷ rest))) (sym (ap (λ b. cond b (word c.priv (o + 2 * i)) 0) (lt-ltb i n h)))
-        (load_element c o n i rest ln a shown h)
+        (load_element c o n i rest ln a (shown h) h)
     | inr h ↦ subst (λ v. L 9 (load_words o n) 6 (record c { stack = i ∷ rest }) (next c (v ∷ rest))) (sym (ap (λ b. cond b (word c.priv (o + 2 * i)) 0) (le-ltb i n h))) (load_past c o n i rest ln h)
   ]
 
@@ -241,7 +241,7 @@ module _ (f : Fixed) (st : Stands f) (all : List Mark) (B : Watched → Violatio
   popped_twice c v i sp rest m h =
       subst (λ s. MemoryHolds f at c.back rest c.priv c.mem s m) (omega arith) (holds_pop f st at c.back i rest c.priv c.mem (sp + 2) m (holds_pop f st at c.back v (i ∷ rest) c.priv c.mem sp m h))
 
-  store_element : (c : Conf) (o n i v : ℕ) (rest : List ℕ) → n < 65536 → IsArray o n (length c.priv) → HoldsNoKey (length f.setup.ends) o (2 * n) → i < n
+  store_element : (c : Conf) (o n i v : ℕ) (rest : List ℕ) → n < 65536 → IsArray o n (length c.priv) → HoldsNoKey (length f.setup.ends) (o + 2 * i) 2 → i < n
       → L 8 (store_words o n) 6 (record c { stack = v ∷ i ∷ rest }) (record c { place = c.place + 1; stack = rest; priv = put_word c.priv (o + 2 * i) v })
   store_element c o n i v rest ln a shown lt r d t on sh safe =
       let h = sh.holds in
@@ -252,7 +252,7 @@ module _ (f : Fixed) (st : Stands f) (all : List Mark) (B : Watched → Violatio
       let even = a.is_even in
       let lv : v < 65536 = subst (λ (n : ℕ). n < 65536) h.words.0 (cell_below f st d.mem r.sp safe.memory) in
       let dat = element_data o n (length c.priv) i a lt in
-      let po = data_word f st (o + 2 * i) (part_shown _ o (2 * n) (2 * i) 2 shown (omega arith)) dat.low (omega arith) (omega arith) in
+      let po = data_word f st (o + 2 * i) shown dat.low (omega arith) (omega arith) in
       let sr3 = flags_after op2.Cmp (n % 65536) (i % 65536) (flags_after op2.Mov 0 0 (flags_after op2.Mov 0 0 r.sr)) in
       let j = borrow (n % 65536) (i % 65536) (flags_after op2.Mov 0 0 (flags_after op2.Mov 0 0 r.sr)) (omega arith) (omega arith) in
       let twice : (i % 65536 + i % 65536 + 0) % 65536 ≡ 2 * i = omega arith in
@@ -315,11 +315,11 @@ module _ (f : Fixed) (st : Stands f) (all : List Mark) (B : Watched → Violatio
             stood f st all B at (next c rest) r4 d.mem d 2 s4 (omega (arith, on)) (popped_twice c v i r.sp rest d.mem h) sh.devices sh.marks,
       )))
 
-  pub store_at_leads : (c : Conf) (o n i v : ℕ) (rest : List ℕ) → n < 65536 → IsArray o n (length c.priv) → HoldsNoKey (length f.setup.ends) o (2 * n)
+  pub store_at_leads : (c : Conf) (o n i v : ℕ) (rest : List ℕ) → n < 65536 → IsArray o n (length c.priv) → (i < n → HoldsNoKey (length f.setup.ends) (o + 2 * i) 2)
       → L 8 (store_words o n) 6 (record c { stack = v ∷ i ∷ rest }) (record c { place = c.place + 1; stack = rest; priv = with_element c.priv o n i v })
   store_at_leads c o n i v rest ln a shown = elim (cases_lt i n) [
     | inl h ↦ subst (λ p. L 8 (store_words o n) 6 (record c { stack = v ∷ i ∷ rest }) (record c { place = c.place + 1; stack = rest; priv = p }))
-        (sym (ap (λ b. cond b (put_word c.priv (o + 2 * i) v) c.priv) (lt-ltb i n h))) (store_element c o n i v rest ln a shown h)
+        (sym (ap (λ b. cond b (put_word c.priv (o + 2 * i) v) c.priv) (lt-ltb i n h))) (store_element c o n i v rest ln a (shown h) h)
     | inr h ↦ subst (λ p. L 8 (store_words o n) 6 (record c { stack = v ∷ i ∷ rest }) (record c { place = c.place + 1; stack = rest; priv = p }))
         (sym (ap (λ b. cond b (put_word c.priv (o + 2 * i) v) c.priv) (le-ltb i n h))) (store_past c o n i v rest ln h)
   ]

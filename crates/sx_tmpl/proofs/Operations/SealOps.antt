@@ -110,7 +110,7 @@ module _ (f : Fixed) (st : Stands f) (all : List Mark) (B : Watched → Violatio
       }
 
   -- wrap, and a plain instruction after it
-  pub seal_leads : IsTag f.setup.mac → (c : Conf) (k h hn b bn : ℕ) → SealsAt k h hn b bn (length c.priv) → NamesNoKey (length f.setup.ends) (ir.Seal k h hn b bn)
+  pub seal_leads : IsTag f.setup.mac → (c : Conf) (k h hn b bn : ℕ) → SealsAt k h hn b bn (length c.priv) → NamesNoKey (length f.setup.ends) (ir.Seal k h hn b bn) []
       → (let w = wrapped f.setup.mac (key_at f.setup c k) (bytes_from c.priv h hn) (bytes_from c.priv b bn) in
       let marks = c.marks ++ mark.Wrapped (bytes_from c.priv h hn) (bytes_from c.priv b bn) (k == 0) ∷ [] in
       HasPrefix all marks → Leads f st all B at 16 (sealing_words (base_of f) k h hn b bn) 9 c
@@ -225,7 +225,7 @@ module _ (f : Fixed) (st : Stands f) (all : List Mark) (B : Watched → Violatio
         ),
       )
 
-  pub open_leads : (c : Conf) (k h hn b bn : ℕ) (result : Option (List ℕ)) → SealsAt k h hn b bn (length c.priv) → NamesNoKey (length f.setup.ends) (ir.Open k h hn b bn) → length c.stack < 160
+  pub open_leads : (c : Conf) (k h hn b bn : ℕ) (result : Option (List ℕ)) → SealsAt k h hn b bn (length c.priv) → NamesNoKey (length f.setup.ends) (ir.Open k h hn b bn) [] → length c.stack < 160
       → unwrapped f.setup.mac (key_at f.setup c k) (bytes_from c.priv h hn) (bytes_from c.priv (h + hn) bn) (bytes_from c.priv (h + hn + bn) 16) ≡ result
       → HasPrefix all (after_open c k (bytes_from c.priv h hn) b bn result).marks
       → Leads f st all B at 16 (opening_words (base_of f) k h hn b bn) 9 c (after_open c k (bytes_from c.priv h hn) b bn result)

@@ -25,7 +25,7 @@ use Rattle.sx_ir.specs.declared.ir.Ir.{Ir}
 use Rattle.sx_ir.specs.declared.ir.Ir.TheVariants as ir
 use Rattle.sx_ir.specs.Meaning.{no_count, Leaving, op_count, op_step, part_from, saved}
 use Rattle.sx_ir.specs.Sound.{is_sound}
-use Rattle.sx_tmpl.specs.Performs.{AreUnseen, DoesCode, HasRoom, IsNarrow, IsRegular, LeftFrom, Never, Performs, With}
+use Rattle.sx_tmpl.specs.Performs.{NamesNoKeyAt, DoesCode, HasRoom, IsNarrow, IsRegular, LeftFrom, Never, Performs, With}
 use Rattle.sx_tmpl.specs.Performs as upper
 use Rattle.sx_tmpl.specs.Running.{Fixed, running, fixed_at, Safe}
 use Rattle.sx_tmpl.proofs.Running.MidRun.{Held, Runs, Stands}
@@ -43,7 +43,7 @@ use Rattle.sx_tmpl.proofs.Texts.Going as going
 use Rattle.sx_tmpl.proofs.Texts.Whole.{Emitted}
 
 module _ (s : Setup) (n : State) (result : Invoked) (e : Ready s n) (sizes : bytes_in (pieces_in result) ≡ made_bytes (marks_in result)) (tag : IsTag s.mac) (code : Code)
-    (sound : AreSound code.ops.items code.parts.items s.section.layout) (narrow : (p : ℕ) (i : Ir) → slice_get code.ops.items p ≡ Some i → IsNarrow i) (unseen : AreUnseen (length s.ends) code.ops.items)
+    (sound : AreSound code.ops.items code.parts.items s.section.layout) (narrow : (p : ℕ) (i : Ir) → slice_get code.ops.items p ≡ Some i → IsNarrow i)
     (text : (k : ℕ) → k < 2 * length (text_words s.section.layout code) → slice_index n.mem (s.section.layout.pub_from + k) ≡ slice_index (bytes_of (text_words s.section.layout code)) k) where
   abbrev f : Fixed
   f = fixed_at s n result
@@ -67,20 +67,20 @@ module _ (s : Setup) (n : State) (result : Invoked) (e : Ready s n) (sizes : byt
   st = stands s n result e
 
   done : Emitted f a ops
-  done = going.done f st all refl tag code sound narrow unseen text
+  done = going.done f st all refl tag code sound narrow text
 
-  goes : (c t : Conf) (w : Watched) → Sim c w → IsRegular ops (call_at n) all c → HasPrefix all t.marks → op_step s (part_from parts) ops c ≡ Goes t
+  goes : (c t : Conf) (w : Watched) → Sim c w → IsRegular ops (call_at n) all c → NamesNoKeyAt (length s.ends) ops c → HasPrefix all t.marks → op_step s (part_from parts) ops c ≡ Goes t
       → upper.NodeRuns s result n Never (Sim t) (op_count no_count ops c) w
-  goes c t w x h begins is =
+  goes c t w x h unseen begins is =
       weak s n result e sizes Never Never (Sim t) (Sim t) (op_count no_count ops c) w (λ w v x. x) (λ w x. x)
-      (going.op_goes_on f st all refl tag code sound narrow unseen text (call_at n) c t w refl x h begins is)
+      (going.op_goes_on f st all refl tag code sound narrow text (call_at n) c t w refl x h unseen begins is)
 
-  stops : (c : Conf) (v : Violation) (marks : List Mark) (w : Watched) → Sim c w → IsRegular ops (call_at n) all c → HasPrefix all marks
+  stops : (c : Conf) (v : Violation) (marks : List Mark) (w : Watched) → Sim c w → IsRegular ops (call_at n) all c → NamesNoKeyAt (length s.ends) ops c → HasPrefix all marks
       → op_step s (part_from parts) ops c ≡ Stops (conf.Violates v marks)
       → upper.NodeRuns s result n (With v marks) (λ x. ⊥) (op_count no_count ops c) w
-  stops c v marks w x h begins is =
+  stops c v marks w x h unseen begins is =
       weak s n result e sizes (With v marks) (With v marks) (λ x. ⊥) (λ x. ⊥) (op_count no_count ops c) w (λ w v x. x) (λ w x. x)
-      (going.op_breaks f st all refl tag code sound narrow unseen text (call_at n) c v marks w refl x h begins is)
+      (going.op_breaks f st all refl tag code sound narrow text (call_at n) c v marks w refl x h unseen begins is)
 
   exit : Text f (a.at a.exit) 17 (Rattle.sx_tmpl.specs.Template.leave_words (base_of f))
   exit = exit_text f (stands s n result e) code text sound.fits
@@ -142,7 +142,7 @@ module _ (s : Setup) (n : State) (result : Invoked) (e : Ready s n) (sizes : byt
 
 -- wherever the text of sound code stands
 pub text_does : (mac : Mac) (code : Code) (l : Layout) → IsTag mac → HasRoom l → is_sound code.ops.items code.parts.items l ≡ true → DoesCode mac code l (bytes_of (text_words l code))
-text_does mac code l tag room sound tree ends image section n result rest same is narrow unseen enters sizes =
+text_does mac code l tag room sound tree ends image section n result rest same is narrow enters sizes =
     let s = setup_at mac tree ends section n in
     let here : section.layout ≡ l = enters.stands.layout ∙ same in
     let ok : is_sound code.ops.items code.parts.items section.layout ≡ true = ap (λ (l : Layout). is_sound code.ops.items code.parts.items l) here ∙ sound in
@@ -163,6 +163,6 @@ text_does mac code l tag room sound tree ends image section n result rest same i
     let size = text_size section.layout code in
     let words = length-bytes (text_words section.layout code) in
     subst (λ (l : Layout). Performs s code n result (Stood (fixed_at s n result) (marks_in result) (addresses l code).at)) here
-    (performs s n result ready sizes tag code all_sound narrow unseen (λ k lt.
+    (performs s n result ready sizes tag code all_sound narrow (λ k lt.
     sym (bytes_from_get n.mem section.layout.pub_from (section.layout.pub_to - section.layout.pub_from) k (omega (arith, lt, fits, size, words)))
     ∙ ap (λ (t : List ℕ). slice_index t k) there ∙ get_or_append_left (bytes_of (text_words section.layout code)) rest 0 k (omega (arith, lt, words))))

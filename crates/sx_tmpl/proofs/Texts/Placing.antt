@@ -9,7 +9,6 @@ use Rattle.sx_tmpl.specs.Shows.{WordsAt}
 use Rattle.sx_tmpl.specs.Template.{Addresses, template}
 use Rattle.sx_tmpl.specs.Text.{words_of}
 use Rattle.sx_tmpl.proofs.Texts.Whole.{Emitted, IsSoundOp}
-use Rattle.sx_tmpl.specs.Performs.{AreUnseen}
 
 pub words_front : (m : List ℕ) (b : ℕ) (ws vs : List ℕ) → WordsAt m b (ws ++ vs) → WordsAt m b ws
 words_front m b [] vs h = tt
@@ -74,8 +73,8 @@ module _ (l : Layout) (a : Addresses) where
 -- code whose words stand in the text from an even address on, with a word after them, is emitted there
 pub emitted : (f : Fixed) (a : Addresses) (code : List Ir) (start : ℕ) → ((p : ℕ) → p ≤ length code → a.at p ≡ start + 2 * length (words_of f.setup.section.layout a 0 (take p code)))
     → f.setup.section.layout.pub_from ≤ start → start % 2 ≡ 0 → start + 2 * length (words_of f.setup.section.layout a 0 code) < f.setup.section.layout.pub_to
-    → WordsAt f.entered start (words_of f.setup.section.layout a 0 code) → ((p : ℕ) (i : Ir) → slice_get code p ≡ Some i → IsSoundOp f a i) → AreUnseen (length f.setup.ends) code → Emitted f a code
-emitted f a code start places low ev high stand sound unseen = record {
+    → WordsAt f.entered start (words_of f.setup.section.layout a 0 code) → ((p : ℕ) (i : Ir) → slice_get code p ≡ Some i → IsSoundOp f a i) → Emitted f a code
+emitted f a code start places low ev high stand sound = record {
   stands = λ p i e.
       let l = f.setup.section.layout in
       let here = places p (let lt = got_short code p i e in omega (arith, lt)) in
@@ -94,5 +93,4 @@ emitted f a code start places low ev high stand sound unseen = record {
       let there : a.at (p + 1) ≡ start + 2 * length (words_of l a 0 (take (suc p) code)) = ap a.at (omega arith) ∙ places (suc p) (got_short code p i e) in
       omega arith;
   sound = sound;
-  unseen = unseen;
 }

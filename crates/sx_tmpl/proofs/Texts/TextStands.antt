@@ -17,7 +17,6 @@ use Rattle.sx_tmpl.proofs.Running.Steps.{Text}
 use Rattle.sx_tmpl.proofs.Texts.TextBytes.{code_size, packets_size}
 use Rattle.sx_tmpl.proofs.Texts.TextPlaces.{bytes_within, exit_is, has_one, place_is, routine_within}
 use Rattle.sx_tmpl.proofs.Texts.Whole.{Emitted, IsSoundOp, IsTarget}
-use Rattle.sx_tmpl.specs.Performs.{AreUnseen}
 
 -- memory with a text's bytes has its words
 words_in : (m : List ℕ) (b : ℕ) (ws rest : List ℕ) → ((k : ℕ) → k < 2 * length ws → slice_index m (b + k) ≡ slice_index (bytes_of ws ++ rest) k) → WordsAt m b ws
@@ -150,9 +149,9 @@ module _ (f : Fixed) (st : Stands f) (code : Code) (text : (k : ℕ) → k < 2 *
       let y = at_is q le in
       (record { from = omega (arith, y); to = omega (arith, room, x, y) }, omega (arith, e, c, y))
 
-  pub code_emitted : AreUnseen (length f.setup.ends) ops → ((p : ℕ) (i : Ir) → slice_get ops p ≡ Some i → IsSoundOp f a i) → Emitted f a ops
-  code_emitted unseen sound =
+  pub code_emitted : ((p : ℕ) (i : Ir) → slice_get ops p ≡ Some i → IsSoundOp f a i) → Emitted f a ops
+  code_emitted sound =
       let e = st.from_even in
       let c = code_size l a 0 ops in
       emitted f a ops start (λ p le. let x = at_is p le in let y = code_size l a 0 (take p ops) in
-      omega (arith, x, y)) (omega arith) (omega (arith, e)) (omega (arith, room, c)) (words_front f.entered start (words_of l a 0 ops) tail code_words) sound unseen
+      omega (arith, x, y)) (omega arith) (omega (arith, e)) (omega (arith, room, c)) (words_front f.entered start (words_of l a 0 ops) tail code_words) sound

@@ -46,6 +46,7 @@ use Rattle.sx_invoke.specs.Windows.{is_bad_window}
 use Rattle.sx_tmpl.proofs.Operations.SealOps.{SealsAt, seal_leads, open_leads}
 use Rattle.sx_tmpl.proofs.Operations.CopyOps.{Ending, Goes_to, Breaks_off, No_meaning, copy_in_ends, copy_out_ends}
 use Rattle.sx_tmpl.proofs.Running.Holding.{IsRange, low_shown}
+use Rattle.sx_tmpl.specs.Performs.{NamesNoKeyAt}
 use Rattle.sx_tmpl.specs.Unseen.{NamesNoKey}
 use Rattle.sx_bus.specs.Devices.{cleared}
 use Rattle.std.proofs.Common.{take, cond}
@@ -96,7 +97,6 @@ pub record Emitted (f : Fixed) (a : Addresses) (code : List Ir) : Type 0 where
   pub stands : (p : ℕ) (i : Ir) → slice_get code p ≡ Some i → Text f (a.at p) (length (template f.setup.section.layout a p i)) (template f.setup.section.layout a p i)
   pub following : (p : ℕ) (i : Ir) → slice_get code p ≡ Some i → a.at (p + 1) ≡ a.at p + 2 * length (template f.setup.section.layout a p i)
   pub sound : (p : ℕ) (i : Ir) → slice_get code p ≡ Some i → IsSoundOp f a i
-  pub unseen : (p : ℕ) (i : Ir) → slice_get code p ≡ Some i → NamesNoKey (length f.setup.ends) i
 
 -- What holds of each configuration of the run: its marks are the first of all, the stack has room, its window is the caller's, a sensor's value is one, and a handler's part returns into the code.
 pub record Good (f : Fixed) (all : List Mark) (a : Addresses) (code : List Ir) (c : Conf) : Type 0 where
@@ -213,7 +213,7 @@ module _ (f : Fixed) (st : Stands f) (all : List Mark) (BV : Violation → List 
   ending_goes after G E t (Breaks_off v m is g) e = absurd (never (Violates v m) t (sym is ∙ e))
   ending_goes after G E t (No_meaning is) e = absurd (never Stuck t (sym is ∙ e))
 
-  open_goes : (k h hn b bn : ℕ) (c t : Conf) (result : Option (List ℕ)) → SealsAt k h hn b bn (size_of f) → NamesNoKey (length f.setup.ends) (ir.Open k h hn b bn)
+  open_goes : (k h hn b bn : ℕ) (c t : Conf) (result : Option (List ℕ)) → SealsAt k h hn b bn (size_of f) → NamesNoKey (length f.setup.ends) (ir.Open k h hn b bn) []
       → unwrapped f.setup.mac (key_at f.setup c k) (bytes_from c.priv h hn) (bytes_from c.priv (h + hn) bn) (bytes_from c.priv (h + hn + bn) 16) ≡ result → HasPrefix all t.marks
       → opened c k (bytes_from c.priv h hn) b bn result ≡ Goes t → Runs_on (template f.setup.section.layout a c.place (ir.Open k h hn b bn)) 24 c t
   open_goes k h hn b bn c t None ok u is begins e =
@@ -244,7 +244,7 @@ module _ (f : Fixed) (st : Stands f) (all : List Mark) (BV : Violation → List 
       kinds Actuator ek e = absurd (never Stuck t e)
       kinds Sensor ek e = either d.1.fresh refl ek e
 
-  pub op_goes : (i : Ir) (stack : List ℕ) (c t : Conf) → slice_get code c.place ≡ Some i → IsSoundOp f a i → NamesNoKey (length f.setup.ends) i → Good f all a code (record c { stack = stack }) → HasPrefix all t.marks
+  pub op_goes : (i : Ir) (stack : List ℕ) (c t : Conf) → slice_get code c.place ≡ Some i → IsSoundOp f a i → NamesNoKey (length f.setup.ends) i stack → Good f all a code (record c { stack = stack }) → HasPrefix all t.marks
       → do_op f.setup handle i (record c { stack = stack }) ≡ Goes t → Op_goes i stack c t
   op_goes (ir.Push n) stack c t here ok u g gt e =
       let p = pushed_goes (record c { stack = stack }) t n e in
@@ -435,7 +435,7 @@ module _ (f : Fixed) (st : Stands f) (all : List Mark) (BV : Violation → List 
       later f all Bw (λ _. ⊥) 126 200 (running f r d) (omega arith) (packet_breaks f st all Bw a.at tag c k v (a.packet k) rest x marks (omega (arith, ok.1)) u g.stack ok.0 e
       (begins x marks b) g.from g.to r d tx on sh safe (λ u m. subst (λ l. BV x l) (sym m) b))
 
-  pub op_stops : (i : Ir) (stack : List ℕ) (c : Conf) (w : Halt) → slice_get code c.place ≡ Some i → IsSoundOp f a i → NamesNoKey (length f.setup.ends) i → Good f all a code (record c { stack = stack })
+  pub op_stops : (i : Ir) (stack : List ℕ) (c : Conf) (w : Halt) → slice_get code c.place ≡ Some i → IsSoundOp f a i → NamesNoKey (length f.setup.ends) i stack → Good f all a code (record c { stack = stack })
       → do_op f.setup handle i (record c { stack = stack }) ≡ Stops w → OnViolation BV (record c { stack = stack }) w → Op_stops i stack c
   op_stops (ir.Push n) stack c w here ok u g e b = absurd (no_meaning stack c w (pushed_stops (record c { stack = stack }) _ w e) b)
   op_stops (ir.Load o) stack c w here ok u g e b = absurd (no_meaning stack c w (pushed_stops (record c { stack = stack }) _ w e) b)
@@ -494,9 +494,9 @@ module _ (f : Fixed) (st : Stands f) (all : List Mark) (BV : Violation → List 
   abbrev pub Rep : Conf → Watched → Type 0
   Rep c w = Stood f all a.at c w
 
-  pub step_goes : (c t : Conf) (w : Watched) → Rep c w → Good f all a code c → op_step f.setup handle code c ≡ Goes t → HasPrefix all t.marks → Runs f all Bw (Rep t) (op_count given code c) w
+  pub step_goes : (c t : Conf) (w : Watched) → Rep c w → Good f all a code c → NamesNoKeyAt (length f.setup.ends) code c → op_step f.setup handle code c ≡ Goes t → HasPrefix all t.marks → Runs f all Bw (Rep t) (op_count given code c) w
   unfolding op_step op_count
-  step_goes c t w rep g e gt = by_op (slice_get code c.place) refl (refl) e
+  step_goes c t w rep g unseen e gt = by_op (slice_get code c.place) refl (refl) e
     where
       by_op : (o : Option Ir) → slice_get code c.place ≡ o → slice_get code c.place ≡ slice_get code c.place → do_at f.setup handle (slice_get code c.place) c ≡ Goes t
           → Runs f all Bw (Rep t) (count_at given (slice_get code c.place)) w
@@ -505,12 +505,12 @@ module _ (f : Fixed) (st : Stands f) (all : List Mark) (BV : Violation → List 
           let e2 : do_op f.setup handle i c ≡ Goes t = ap (λ o. do_at f.setup handle o c) (sym here) ∙ e in
           subst (λ o. Runs f all Bw (Rep t) (count_at given o) w) (sym here)
           (subst (λ w. Runs f all Bw (Rep t) (count_of i + handler_count given i) w) (sym rep.state)
-          (op_goes f st all BV tag a code emitted_ handle parts given i c.stack c t here (emitted_.sound c.place i here) (emitted_.unseen c.place i here) g gt e2 rep.regs rep.rest (emitted_.stands c.place i here)
+          (op_goes f st all BV tag a code emitted_ handle parts given i c.stack c t here (emitted_.sound c.place i here) (unseen i here) g gt e2 rep.regs rep.rest (emitted_.stands c.place i here)
           (emitted_.following c.place i here) rep.shows (subst (λ w. Safe f all w) rep.state rep.safe)))
 
-  pub step_stops : (c : Conf) (h : Halt) (w : Watched) → Rep c w → Good f all a code c → op_step f.setup handle code c ≡ Stops h → OnViolation BV c h → Runs f all Bw (λ _. ⊥) (op_count given code c) w
+  pub step_stops : (c : Conf) (h : Halt) (w : Watched) → Rep c w → Good f all a code c → NamesNoKeyAt (length f.setup.ends) code c → op_step f.setup handle code c ≡ Stops h → OnViolation BV c h → Runs f all Bw (λ _. ⊥) (op_count given code c) w
   unfolding op_step op_count
-  step_stops c h w rep g e b = by_op (slice_get code c.place) refl e
+  step_stops c h w rep g unseen e b = by_op (slice_get code c.place) refl e
     where
       by_op : (o : Option Ir) → slice_get code c.place ≡ o → do_at f.setup handle (slice_get code c.place) c ≡ Stops h → Runs f all Bw (λ _. ⊥) (count_at given (slice_get code c.place)) w
       by_op None here e = let s : Stuck ≡ h = stuck_is h (rw here at e) in absurd (subst (λ h. OnViolation BV c h) (sym s) b)
@@ -518,5 +518,5 @@ module _ (f : Fixed) (st : Stands f) (all : List Mark) (BV : Violation → List 
           let e2 : do_op f.setup handle i c ≡ Stops h = ap (λ o. do_at f.setup handle o c) (sym here) ∙ e in
           subst (λ o. Runs f all Bw (λ _. ⊥) (count_at given o) w) (sym here)
           (subst (λ w. Runs f all Bw (λ _. ⊥) (count_of i + handler_count given i) w) (sym rep.state)
-          (op_stops i c.stack c h here (emitted_.sound c.place i here) (emitted_.unseen c.place i here) g e2 b rep.regs rep.rest (emitted_.stands c.place i here) (emitted_.following c.place i here) rep.shows
+          (op_stops i c.stack c h here (emitted_.sound c.place i here) (unseen i here) g e2 b rep.regs rep.rest (emitted_.stands c.place i here) (emitted_.following c.place i here) rep.shows
           (subst (λ w. Safe f all w) rep.state rep.safe)))
