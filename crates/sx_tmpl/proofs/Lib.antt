@@ -7,3 +7,4 @@ pub mod Putting
 pub mod Twins
 pub mod Abreast
 pub mod Seals
+pub mod Turns
