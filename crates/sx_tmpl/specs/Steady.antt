@@ -40,8 +40,8 @@ pub record AreOpen (s : Setup) (places : ℕ → Type 0) : Type 0 where
 abbrev pub keyless : Section → Section
 keyless x = record x { key = [] }
 
--- The nodes differ in keys, in bytes elsewhere than at these places, and in what was last wrapped or
--- unwrapped, alone.
+-- The nodes differ in keys, in bytes elsewhere than at these places, and in what was last wrapped
+-- or unwrapped, alone.
 pub record Twins (places : ℕ → Type 0) (n m : State) : Type 0 where
   pub rest : m
       ≡ record n { mem = m.mem; sections = m.sections; key = m.key; exchange = m.exchange }
@@ -65,8 +65,8 @@ SameOpened places regs None (Some ys) = ⊥
 SameOpened places regs (Some xs) None = ⊥
 
 -- If the next step is a wrap or an unwrap, it gives the same in both nodes.
-pub record SealsAlike (s : Setup) (nac : Mac) (other : Section) (places : ℕ → Type 0) (n m : State) :
-    Type 0 where
+pub record SealsAlike (s : Setup) (nac : Mac) (other : Section) (places : ℕ → Type 0)
+    (n m : State) : Type 0 where
   pub wraps : word n.mem (pc_of n) ≡ 0x1384
       → (let header = bytes_from n.mem (slice_index n.regs 10) (slice_index n.regs 11) in
       let body = bytes_from n.mem (slice_index n.regs 12) (slice_index n.regs 13) in
@@ -104,13 +104,14 @@ StepAbreast places (Stops x) (Stops y) = y ≡ x
 StepAbreast places (Goes w) (Stops y) = ⊥
 StepAbreast places (Stops x) (Goes v) = ⊥
 
--- A step of the module's code that shows no key is the same in both nodes: it shows the same, and it
--- leaves nodes that go side by side.
+-- A step of the module's code that shows no key is the same in both nodes: it shows the same, and
+-- it leaves nodes that go side by side.
 abbrev pub StepsSteady : Setup → (ℕ → Type 0) → Type 0
 StepsSteady s places = (nac : Mac) (other : Section) (w v : Watched)
     → AreOpen s places → w.node.sections.live ≡ s.live → own_of w.node ≡ s.section.id
     → section_of w.node.sections.live s.section.id ≡ Some s.section
-    → section_of v.node.sections.live s.section.id ≡ Some other → StepShowsNone s w.node → Abreast places w v
+    → section_of v.node.sections.live s.section.id ≡ Some other
+    → StepShowsNone s w.node → Abreast places w v
     → SealsAlike s nac other places w.node v.node
     → StepAbreast places (watch s.mac w) (watch nac v)
 
@@ -124,8 +125,8 @@ pub data SideBySide (mac nac : Mac) (places : ℕ → Type 0) (B : Watched → V
   Ends : {w v : Watched} {x : Violation} → Abreast places w v → watch mac w ≡ Stops x
       → watch nac v ≡ Stops x → B w x → SideBySide mac nac places B Q 1 w v
 
--- What a step of the module's code is to meet, in a run of which `Between` holds: the module's
--- sections are there, and a wrap or an unwrap gives the same in both.
+-- Two nodes are at the same instruction of the module's code: its section stands in both, and a
+-- wrap or an unwrap gives the same in both.
 pub record Meets (s : Setup) (nac : Mac) (other : Section) (places : ℕ → Type 0) (w v : Watched) :
     Type 0 where
   pub live : w.node.sections.live ≡ s.live
@@ -134,7 +135,8 @@ pub record Meets (s : Setup) (nac : Mac) (other : Section) (places : ℕ → Typ
   pub second : section_of v.node.sections.live s.section.id ≡ Some other
   pub seals : SealsAlike s nac other places w.node v.node
 
--- A turn whose steps show no key: wherever it comes to, a node beside it comes to with it.
+-- A turn whose steps show no key takes the same steps in a node beside it, where P holds in the one
+-- and what is given holds between the two, from step to step.
 abbrev pub TurnsSteady : Setup → (ℕ → Type 0) → (Watched → Type 0) → (Watched → Watched → Type 0)
     → (Watched → Violation → Type 0) → (Watched → Type 0) → Type 0
 TurnsSteady s places P Between B Q = (nac : Mac) (other : Section) → AreOpen s places
