@@ -3,7 +3,7 @@ use Rattle.std.proofs.Common.{◌≡◌, ℕ, zero, suc, ◌+◌, ◌-◌, ◌%�
 use Rattle.std.proofs.Common.{refl, sym, ◌∙◌, ap, ap₂, subst, arith, map}
 use Rattle.std.specs.Prelude.{nat_le}
 use Rattle.std.specs.List.{list_any}
-use Rattle.std.proofs.lemmas.Bool.{and_parts, cases_lt}
+use Rattle.std.proofs.lemmas.Bool.{and_parts, cases_lt, eqb-true}
 use Rattle.std.proofs.lemmas.List.{length-take}
 use Rattle.sx_rules.specs.declared.access.Access.{Access}
 use Rattle.sx_rules.specs.declared.access.Access.TheVariants.{Read, Write}
@@ -31,6 +31,7 @@ use Rattle.sx_machine.specs.Run.{Moment, Outcome, Finished, Violated, Module, ex
 use Rattle.sx_machine.proofs.PlanGuard.{with_mem}
 use Rattle.sx_invoke.specs.Marks.{Mark}
 use Rattle.sx_invoke.specs.Marks as mark
+use Rattle.sx_mean.specs.Working.{plain_at}
 use Rattle.sx_invoke.specs.Setup.{Setup}
 use Rattle.sx_image.specs.Watched.{Watched, marks_of_event, marks_of_touches, violation_of, watch, watched_on}
 use Rattle.sx_tmpl.specs.Unseen.{AreShown, SealShowsNone, WordShowsNone}
@@ -203,22 +204,24 @@ module _ (s : Setup) (t u : Sections) (live : t.live ≡ s.live) (places : ℕ �
         puts (record x { mem = put_bytes x.mem (at 14) w.cipher }) (put_bytes n (at 14) w.cipher) (at 15) w.tag told told g1 (λ g2.
         (refl, record { rest = refl; mem = g2 }, refl, refl, refl, refl, same_all (marks_of_event (event.Wrapped g.own) (exchanged g.regs ad text)))))))
 
-    opened_alike : (o p : Option (List ℕ)) → SameOpened places g.regs o p → Alike (opened g ad o) (opened h ad p) x n
-    opened_alike None None z = (refl, record { rest = refl; mem = agree }, refl, refl, refl, refl, tt)
-    opened_alike None (Some ys) z = absurd z
-    opened_alike (Some xs) None z = absurd z
-    opened_alike (Some xs) (Some ys) (inl e) =
+    opened_alike : (own_key g.regs ≡ true → (at 14 ≡ s.section.layout.priv_from + plain_at) × (at 13 ≤ 16)) → (o p : Option (List ℕ)) → SameOpened g.regs o p → Alike (opened g ad o) (opened h ad p) x n
+    opened_alike to None None z = (refl, record { rest = refl; mem = agree }, refl, refl, refl, refl, tt)
+    opened_alike to None (Some ys) z = absurd z
+    opened_alike to (Some xs) None z = absurd z
+    opened_alike to (Some xs) (Some ys) (inl e) =
         let plain = take (at 13) xs in
         let told : Plan = Tell (concluded g.regs 1) (event.Unwrapped g.own) (exchanged g.regs ad plain) in
         subst (λ (z : List ℕ). Alike (opened g ad (Some xs)) (opened h ad (Some z)) x n) (sym e)
         (puts x n (at 14) plain told told agree (λ g1.
         (refl, record { rest = refl; mem = g1 }, refl, refl, refl, refl, same_all (marks_of_event (event.Unwrapped g.own) (exchanged g.regs ad plain)))))
-    opened_alike (Some xs) (Some ys) (inr z) =
+    opened_alike to (Some xs) (Some ys) (inr z) =
         let plain = take (at 13) xs in
         let plain2 = take (at 13) ys in
         let lx = length-take (at 13) xs in
         let ly = length-take (at 13) ys in
         let lens = z.1 in
+        let there = (to z.0).0 in
+        let small = (to z.0).1 in
         let len : length plain2 ≡ length plain = omega (arith, lx, ly, lens) in
         let told : Plan = Tell (concluded g.regs 1) (event.Unwrapped g.own) (exchanged g.regs ad plain) in
         let told2 : Plan = Tell (concluded g.regs 1) (event.Unwrapped g.own) (exchanged g.regs ad plain2) in
@@ -227,7 +230,7 @@ module _ (s : Setup) (t u : Sections) (live : t.live ≡ s.live) (places : ℕ �
           refl,
           record {
             rest = refl;
-            mem = put_apart places plain plain2 x.mem n (at 14) len (λ k p q c. z.2 (k - at 14) (omega (arith, lx, p, q)) (subst places (place k p) c)) agree;
+            mem = put_apart places plain plain2 x.mem n (at 14) len (λ k p q c. fit.plain (k - at 14) (omega (arith, lx, p, q, small)) (subst places (place k p ∙ ap (λ a. a + (k - at 14)) there) c)) agree;
           },
           refl,
           refl,
@@ -243,9 +246,9 @@ module _ (s : Setup) (t u : Sections) (live : t.live ≡ s.live) (places : ℕ �
         place : (k : ℕ) → slice_index g.regs 14 ≤ k → k ≡ slice_index g.regs 14 + (k - slice_index g.regs 14)
         place k p = omega arith
 
-    pub unwrap_alike : AreShown s (at 15) 16 → SameOpened places g.regs (unwrapped mac key ad text (bytes_from x.mem (at 15) 16)) (unwrapped nac key2 ad text (bytes_from x.mem (at 15) 16))
+    pub unwrap_alike : AreShown s (at 15) 16 → (own_key g.regs ≡ true → (at 14 ≡ s.section.layout.priv_from + plain_at) × (at 13 ≤ 16)) → SameOpened g.regs (unwrapped mac key ad text (bytes_from x.mem (at 15) 16)) (unwrapped nac key2 ad text (bytes_from x.mem (at 15) 16))
         → Alike (unwrap mac g a) (unwrap nac h b) x n
-    unwrap_alike tag_shown z =
+    unwrap_alike tag_shown to z =
         let tag = bytes_from x.mem (at 15) 16 in
         inputs_
         (λ k ad text. Bytes (at 15) 16 (λ tag. Writable (at 14) (at 13) (opened g ad (unwrapped mac k ad text tag))))
@@ -253,7 +256,7 @@ module _ (s : Setup) (t u : Sections) (live : t.live ≡ s.live) (places : ℕ �
         (bytes_ x n agree (at 15) 16 (λ tag. Writable (at 14) (at 13) (opened g ad (unwrapped mac key ad text tag))) (λ tag. Writable (at 14) (at 13) (opened h ad (unwrapped nac key2 ad text tag))) tag_shown
         (ifs_same (may_range t.live own Write (at 14) (at 13)) (may_range u.live own Write (at 14) (at 13)) (exec t own (opened g ad (unwrapped mac key ad text tag)) x)
         (exec u own (opened h ad (unwrapped nac key2 ad text tag)) (with_mem x n)) bad.Write (range_same Write (at 14) (at 13)) (λ e.
-        opened_alike (unwrapped mac key ad text tag) (unwrapped nac key2 ad text tag) z)))
+        opened_alike to (unwrapped mac key ad text tag) (unwrapped nac key2 ad text tag) z)))
 
 -- Two nodes, at a wrap or an unwrap of the module's code.
 module _ (nac : Mac) (s : Setup) (n : State) (mem : List ℕ) (u : Sections) (key : List ℕ) (exchange : Exchange) (places : ℕ → Type 0) (fit : AreOpen s places) (live : n.sections.live ≡ s.live)
@@ -301,7 +304,7 @@ module _ (nac : Mac) (s : Setup) (n : State) (mem : List ℕ) (u : Sections) (ke
       ap (λ w. at_word nac w m) e ∙ ap (λ (o : ℕ). exec u o (module_row nac 5 (record (given_at_pc nac m) { own = o })) (start m)) (own_twin ∙ own)
       ∙ ap (λ o. exec u s.section.id (within g2 (unwrap nac g2) o) (start m)) found2
 
-  seal_same : (w : ℕ) → word n.mem (pc_of n) ≡ w → SealShowsNone s w n.regs → SealsAlike s nac other places n m → word mem (pc_of n) ≡ word n.mem (pc_of n)
+  seal_same : (w : ℕ) → word n.mem (pc_of n) ≡ w → SealShowsNone s w n.regs → SealsAlike s nac other n m → word mem (pc_of n) ≡ word n.mem (pc_of n)
       → Told (instruction s.mac n) (instruction nac m)
   seal_same w here shown alike e =
       elim (shown.seals) [
@@ -316,7 +319,7 @@ module _ (nac : Mac) (s : Setup) (n : State) (mem : List ℕ) (u : Sections) (ke
             subst (λ (o : Outcome). Told o (instruction nac m)) (sym (unwrap_one (here ∙ q))) (subst (λ (o : Outcome). Told (exec n.sections s.section.id (unwrap s.mac g s.section) (start n)) o)
             (sym (unwrap_two (e ∙ here ∙ q)))
             (unwrap_alike s n.sections u live places fit (λ access at. may_keyless n.sections.live u.live same s.section.id access at) s.mac nac g g2.caller g2.base exchange s.section other (start n) mem agree
-            shown.header shown.text (shown.tag q) z))
+            shown.header shown.text (shown.tag q) (λ o. shown.opened q (eqb-true (slice_index n.regs 9) 0 o)) z))
       ]
 
   ifs_told : (b c : Bool) (o p : Outcome) (v : Violation) → c ≡ b → (b ≡ true → Told o p) → Told (cond b o (Violated v)) (cond c p (Violated v))
@@ -329,7 +332,7 @@ module _ (nac : Mac) (s : Setup) (n : State) (mem : List ℕ) (u : Sections) (ke
       let hi = agree.same (even (pc_of n) + 1) (fit.outside (even (pc_of n) + 1) (sym (ap (λ (l : List Section). outside_private l (even (pc_of n) + 1)) live) ∙ p.1)) in
       cc
 
-  attempt_told : SealShowsNone s (word n.mem (pc_of n)) n.regs → SealsAlike s nac other places n m → Told (attempt s.mac n) (attempt nac m)
+  attempt_told : SealShowsNone s (word n.mem (pc_of n)) n.regs → SealsAlike s nac other n m → Told (attempt s.mac n) (attempt nac m)
   attempt_told shown alike =
       ifs_told (word_outside n.sections.live (pc_of n)) (word_outside u.live (pc_of n)) (ordered s.mac n (device_at n.devices (pc_of n))) (ordered nac m (device_at n.devices (pc_of n))) bad.Fetch
       (ap₂ (λ b c. b && c) (outside_keyless n.sections.live u.live same (even (pc_of n))) (outside_keyless n.sections.live u.live same (even (pc_of n) + 1)))
@@ -392,7 +395,7 @@ module _ (nac : Mac) (s : Setup) (n : State) (mem : List ℕ) (u : Sections) (ke
     outcome (Module r x t e c) (Violated b) h = absurd h
 
     -- a wrap or an unwrap is the same step in both
-    pub seal_abreast : SealShowsNone s (word n.mem (pc_of n)) n.regs → SealsAlike s nac other places n m → StepAbreast places (watch s.mac w) (watch nac v)
+    pub seal_abreast : SealShowsNone s (word n.mem (pc_of n)) n.regs → SealsAlike s nac other n m → StepAbreast places (watch s.mac w) (watch nac v)
     unfolding watch
     seal_abreast shown alike =
         subst (λ (z : State). StepAbreast places (watched_on w (settled_step z (attempt s.mac z)) (violation_of (settled_step z (attempt s.mac z)).shown.event)) (watch nac v)) (sym here)
@@ -406,10 +409,10 @@ steps_steady s places nac other w v fit live own found found2 shown abreast alik
     let n = w.node in
     let k = abreast.nodes in
     let m : State = record n { mem = v.node.mem; sections = v.node.sections; key = v.node.key; exchange = v.node.exchange } in
-    by (is_module_word (word n.mem (pc_of n))) refl shown (subst (λ (z : State). SealsAlike s nac other places n z) k.rest alike)
+    by (is_module_word (word n.mem (pc_of n))) refl shown (subst (λ (z : State). SealsAlike s nac other n z) k.rest alike)
   where
     by : (b : Bool) → is_module_word (word w.node.mem (pc_of w.node)) ≡ b → WordShowsNone s w.node (word w.node.mem (pc_of w.node)) b
-        → SealsAlike s nac other places w.node (record w.node { mem = v.node.mem; sections = v.node.sections; key = v.node.key; exchange = v.node.exchange })
+        → SealsAlike s nac other w.node (record w.node { mem = v.node.mem; sections = v.node.sections; key = v.node.key; exchange = v.node.exchange })
         → StepAbreast places (watch s.mac w) (watch nac v)
     by true e told same =
         seal_abreast nac s w.node v.node.mem v.node.sections v.node.key v.node.exchange places fit live abreast.nodes.live abreast.nodes.next abreast.nodes.mem own other found found2 w v refl

@@ -15,6 +15,7 @@ use Rattle.sx_machine.specs.Step.{own_of, pc_of}
 use Rattle.sx_reach.specs.Reach.{Comes, Stepped, Goes, Stops}
 use Rattle.sx_invoke.specs.Marks.{Mark}
 use Rattle.sx_invoke.specs.Marks as mark
+use Rattle.sx_mean.specs.Working.{plain_at}
 use Rattle.sx_invoke.specs.Pieces.{tag_size}
 use Rattle.sx_invoke.specs.Protocol.{key_size}
 use Rattle.sx_invoke.specs.Setup.{Setup}
@@ -27,7 +28,7 @@ pub record AgreeAt (places : ℕ → Type 0) (m n : List ℕ) : Type 0 where
   pub same : (k : ℕ) → places k → slice_index m k ≡ slice_index n k
 
 -- These places hold whatever the module may read that holds no key, its text too, and no byte of
--- the key in a slot.
+-- the key in a slot or of the copied packet's plain body.
 pub record AreOpen (s : Setup) (places : ℕ → Type 0) : Type 0 where
   pub read : (a : ℕ) → may s.live s.section.id Read a ≡ true → IsShown s a → places a
   pub fetched : (a : ℕ) → extends s.live s.section.id a ≡ true → places a
@@ -35,6 +36,7 @@ pub record AreOpen (s : Setup) (places : ℕ → Type 0) : Type 0 where
   pub key : (o : ℕ) → InSlotKey (length s.ends) o → places (s.section.layout.priv_from + o) → ⊥
   pub key_high : (o : ℕ) → InSlotKey (length s.ends) o
       → places (s.section.layout.priv_from + o + 1) → ⊥
+  pub plain : (o : ℕ) → o < key_size → places (s.section.layout.priv_from + plain_at + o) → ⊥
 
 -- a section without its key
 abbrev pub keyless : Section → Section
@@ -54,19 +56,16 @@ abbrev pub key_used : Section → State → List ℕ
 key_used own n =
     if own_key n.regs then own.key else bytes_from n.mem (slice_index n.regs 9) key_size
 
--- What was unwrapped in both nodes: the same bytes; or under the module's own key others, as many,
--- that none of these places gets.
-abbrev pub SameOpened : (ℕ → Type 0) → List ℕ → Option (List ℕ) → Option (List ℕ) → Type 0
-SameOpened places regs None None = Unit {0}
-SameOpened places regs (Some xs) (Some ys) = (ys ≡ xs) ⊎ ((own_key regs ≡ true)
-    × (length ys ≡ length xs)
-    × ((k : ℕ) → k < slice_index regs 13 → places (slice_index regs 14 + k) → ⊥))
-SameOpened places regs None (Some ys) = ⊥
-SameOpened places regs (Some xs) None = ⊥
+-- what was unwrapped in both nodes: the same bytes, or under the module's own key others, as many
+abbrev pub SameOpened : List ℕ → Option (List ℕ) → Option (List ℕ) → Type 0
+SameOpened regs None None = Unit {0}
+SameOpened regs (Some xs) (Some ys) =
+    (ys ≡ xs) ⊎ ((own_key regs ≡ true) × (length ys ≡ length xs))
+SameOpened regs None (Some ys) = ⊥
+SameOpened regs (Some xs) None = ⊥
 
 -- If the next step is a wrap or an unwrap, it gives the same in both nodes.
-pub record SealsAlike (s : Setup) (nac : Mac) (other : Section) (places : ℕ → Type 0)
-    (n m : State) : Type 0 where
+pub record SealsAlike (s : Setup) (nac : Mac) (other : Section) (n m : State) : Type 0 where
   pub wraps : word n.mem (pc_of n) ≡ 0x1384
       → (let header = bytes_from n.mem (slice_index n.regs 10) (slice_index n.regs 11) in
       let body = bytes_from n.mem (slice_index n.regs 12) (slice_index n.regs 13) in
@@ -75,7 +74,7 @@ pub record SealsAlike (s : Setup) (nac : Mac) (other : Section) (places : ℕ �
       → (let header = bytes_from n.mem (slice_index n.regs 10) (slice_index n.regs 11) in
       let cipher = bytes_from n.mem (slice_index n.regs 12) (slice_index n.regs 13) in
       let tag = bytes_from n.mem (slice_index n.regs 15) tag_size in
-      SameOpened places n.regs
+      SameOpened n.regs
       (unwrapped s.mac (key_used s.section n) header cipher tag)
       (unwrapped nac (key_used other m) header cipher tag))
 
@@ -112,7 +111,7 @@ StepsSteady s places = (nac : Mac) (other : Section) (w v : Watched)
     → section_of w.node.sections.live s.section.id ≡ Some s.section
     → section_of v.node.sections.live s.section.id ≡ Some other
     → StepShowsNone s w.node → Abreast places w v
-    → SealsAlike s nac other places w.node v.node
+    → SealsAlike s nac other w.node v.node
     → StepAbreast places (watch s.mac w) (watch nac v)
 
 -- The two nodes take the same number of steps, side by side, to a goal or to the same violation.
@@ -127,20 +126,19 @@ pub data SideBySide (mac nac : Mac) (places : ℕ → Type 0) (B : Watched → V
 
 -- Two nodes are at the same instruction of the module's code: its section stands in both, and a
 -- wrap or an unwrap gives the same in both.
-pub record Meets (s : Setup) (nac : Mac) (other : Section) (places : ℕ → Type 0) (w v : Watched) :
-    Type 0 where
+pub record Meets (s : Setup) (nac : Mac) (other : Section) (w v : Watched) : Type 0 where
   pub live : w.node.sections.live ≡ s.live
   pub own : own_of w.node ≡ s.section.id
   pub found : section_of w.node.sections.live s.section.id ≡ Some s.section
   pub second : section_of v.node.sections.live s.section.id ≡ Some other
-  pub seals : SealsAlike s nac other places w.node v.node
+  pub seals : SealsAlike s nac other w.node v.node
 
 -- A turn whose steps show no key takes the same steps in a node beside it, where P holds in the one
 -- and what is given holds between the two, from step to step.
 abbrev pub TurnsSteady : Setup → (ℕ → Type 0) → (Watched → Type 0) → (Watched → Watched → Type 0)
     → (Watched → Violation → Type 0) → (Watched → Type 0) → Type 0
 TurnsSteady s places P Between B Q = (nac : Mac) (other : Section) → AreOpen s places
-    → ((w v : Watched) → P w → Between w v → Meets s nac other places w v)
+    → ((w v : Watched) → P w → Between w v → Meets s nac other w v)
     → ((w v x y : Watched) → P w → Between w v → watch s.mac w ≡ Goes x → watch nac v ≡ Goes y
     → Abreast places x y → Between x y)
     → (n : ℕ) (w v : Watched) → Abreast places w v → Between w v

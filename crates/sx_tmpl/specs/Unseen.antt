@@ -75,7 +75,8 @@ PlanShowsNone s (Bytes at n k) x = ⊥
 PlanShowsNone s (Put at bs k) x = ⊥
 
 -- A wrap or an unwrap uses the module's own key, or that in a slot; its header, its body or cipher
--- and the tag that it compares hold no key.
+-- and the tag that it compares hold no key. What is unwrapped under the own key may be a key, and
+-- goes where one may be.
 pub record SealShowsNone (s : Setup) (w : ℕ) (regs : List ℕ) : Type 0 where
   pub seals : (w ≡ 0x1384) ⊎ (w ≡ 0x1385)
   pub key : (slice_index regs 9 ≡ 0) ⊎ ((k : ℕ) × (k < length s.ends)
@@ -83,6 +84,9 @@ pub record SealShowsNone (s : Setup) (w : ℕ) (regs : List ℕ) : Type 0 where
   pub header : AreShown s (slice_index regs 10) (slice_index regs 11)
   pub text : AreShown s (slice_index regs 12) (slice_index regs 13)
   pub tag : w ≡ 0x1385 → AreShown s (slice_index regs 15) tag_size
+  pub opened : w ≡ 0x1385 → slice_index regs 9 ≡ 0
+      → (slice_index regs 14 ≡ s.section.layout.priv_from + plain_at)
+      × (slice_index regs 13 ≤ key_size)
 
 -- the next step, of an instruction with this first word, shows no key
 abbrev pub WordShowsNone : Setup → State → ℕ → Bool → Type 0
@@ -111,5 +115,6 @@ NamesNoKey ends (ir.Seal k h hn b bn) stack =
     IsKeyPlace ends k × HoldsNoKey ends h hn × HoldsNoKey ends b bn
 NamesNoKey ends (ir.Open k h hn b bn) stack =
     IsKeyPlace ends k × HoldsNoKey ends h (hn + bn + tag_size)
+    × (k ≡ 0 → (b ≡ plain_at) × (bn ≤ key_size))
 NamesNoKey ends (ir.SetEnd k) stack = k < ends
 NamesNoKey ends i stack = Unit {0}

@@ -88,6 +88,10 @@ module _ (f : Fixed) (st : Stands f) (all : List Mark) (B : Watched → Violatio
   key_is_own zero = refl
   key_is_own (suc k) = ne_eqb (base_of f + suc k) 0 (omega arith) ∙ sym (ne_eqb (suc k) 0 (omega arith))
 
+  none_own : (k : ℕ) → key_place f k ≡ 0 → k ≡ 0
+  none_own zero e = refl
+  none_own (suc k) e = absurd (omega (arith, e))
+
   key_small : (c : Conf) (k : ℕ) → base_of f + length c.priv ≡ f.setup.section.layout.priv_to → (k ≡ 0) ⊎ IsRange k 16 (length c.priv) → key_place f k < 65536
   key_small c zero sz h = omega arith
   key_small c (suc k) sz h = elim h [ inl z ↦ absurd (omega arith) | inr g ↦ omega (arith, g.fits, st.beneath) ]
@@ -255,6 +259,7 @@ module _ (f : Fixed) (st : Stands f) (all : List Mark) (B : Watched → Violatio
       ap (λ a. unwrapped f.setup.mac key a (bytes_from d.mem (base + (h + hn)) bn) (bytes_from d.mem (base + (h + hn + bn)) 16)) ea
       ∙ ap (λ x. unwrapped f.setup.mac key ad x (bytes_from d.mem (base + (h + hn + bn)) 16)) ec ∙ ap (λ x. unwrapped f.setup.mac key ad (bytes_from c.priv (h + hn) bn) x) et ∙ is in
       let ls = key_small c k sz ok.key in
+      let to_plain : key_place f k ≡ 0 → (base + b ≡ base + 56) × (bn ≤ 16) = λ z. (ap (λ (o : ℕ). base + o) (unseen.2 (none_own k z)).0, (unseen.2 (none_own k z)).1) in
       let at0 : h + 0 ≡ h = omega arith in
       let header = subst (λ (o : ℕ). HoldsNoKey (length f.setup.ends) o hn) at0 (part_shown (length f.setup.ends) h (hn + bn + 16) 0 hn unseen.1 (omega arith)) in
       let at_tag : h + (hn + bn) ≡ h + hn + bn = omega arith in
@@ -266,7 +271,7 @@ module _ (f : Fixed) (st : Stands f) (all : List Mark) (B : Watched → Violatio
       (ls, (omega arith, (omega arith, (omega arith, (omega arith, (omega arith, (omega arith, tt))))))) r d 2 r.pc (omega (arith, sh.pc)) safe (λ sL.
       unwrap_step f st all B Q t 14 refl (omega arith) event.Quiet rL d key 1 result refl sL (buffers_here c k h hn b bn rL sz ok refl refl header
       (h + hn, refl, part_shown (length f.setup.ends) h (hn + bn + 16) hn bn unseen.1 (omega arith)) (private_range (h + hn) bn c.priv sz rc)
-      (private_range b bn c.priv sz bdy) refl refl) (h + hn + bn, refl, last) (key_here c k c.stack r.sp rL d.mem ok.key unseen.0 hold refl) same
+      (private_range b bn c.priv sz bdy) refl refl) (h + hn + bn, refl, last) to_plain (key_here c k c.stack r.sp rL d.mem ok.key unseen.0 hold refl) same
       (λ er s2. subst (λ o. Runs f all B (Stood f all at (after_open c k ad b bn o)) 1 (running f (record rL { pc = at c.place + 30; r15 = 0 }) d)) (sym er)
       (answer_pushed (next c (0 ∷ c.stack)) 0 t refl (omega arith) event.Quiet (record rL { pc = at c.place + 30; r15 = 0 }) d c.stack c.priv c.mem c.back 0 refl s2 hold room refl
       (omega arith) on refl refl refl refl sh.devices sh.marks))

@@ -37,6 +37,7 @@ use Rattle.sx_tmpl.proofs.Running.Owes.{OwesSeal, Met, seal_met}
 use Rattle.sx_tmpl.specs.Shows.{base_of}
 use Rattle.sx_tmpl.specs.Unseen.{AreShown, SealShowsNone, StepShowsNone, WordShowsNone}
 use Rattle.sx_mean.specs.Offsets.{end_key_at}
+use Rattle.sx_mean.specs.Working.{plain_at}
 use Rattle.sx_tmpl.proofs.Running.Mem.{word_is}
 use Rattle.sx_tmpl.proofs.Running.Steps.{Text, InText, text_word, tests_passed, by_outcome}
 use Rattle.sx_machine.proofs.Lengths.{length-bytes_from}
@@ -231,9 +232,9 @@ module _ (f : Fixed) (st : Stands f) (all : List Mark) (B : Watched → Violatio
 
   -- what it shows
   seal_shown : {P n : ℕ} {ws : List ℕ} (t : Text f P n ws) (k w : ℕ) → slice_get ws k ≡ Some w → k + 1 ≤ n → (e : Event) (r : Regs) (d : Data) (key : List ℕ) → r.pc ≡ P + 2 * k
-      → Safe f all (running_after e f r d) → is_module_word w ≡ true → (w ≡ 0x1384) ⊎ (w ≡ 0x1385) → Buffers f r → KeyAt f r d.mem key → (w ≡ 0x1385 → AreShown f.setup r.r15 16)
+      → Safe f all (running_after e f r d) → is_module_word w ≡ true → (w ≡ 0x1384) ⊎ (w ≡ 0x1385) → Buffers f r → KeyAt f r d.mem key → (w ≡ 0x1385 → AreShown f.setup r.r15 16) → (w ≡ 0x1385 → r.r9 ≡ 0 → (r.r14 ≡ base_of f + plain_at) × (r.r13 ≤ 16))
       → StepShowsNone f.setup (running_after e f r d).node
-  seal_shown t k w has fits e r d key pc safe module_ seals bs key_at tag =
+  seal_shown t k w has fits e r d key pc safe module_ seals bs key_at tag opened_ =
       let low = t.from in
       let high = t.to in
       let even = t.is_even in
@@ -244,7 +245,7 @@ module _ (f : Fixed) (st : Stands f) (all : List Mark) (B : Watched → Violatio
       let is : cell d.mem r.pc ≡ w = text_word f st all B Q d.mem r.pc w safe.memory here ends (ap (cell f.entered) pc ∙ t.word k w has) in
       let e1 : word d.mem r.pc ≡ w = word_is d.mem r.pc ev ∙ is in
       subst (λ (z : ℕ). WordShowsNone f.setup a z (is_module_word z)) (sym e1) (subst (λ b. WordShowsNone f.setup a w b) (sym module_)
-      (record { seals = seals; key = key_in key_at; header = bs.header_shown; text = bs.text_shown; tag = tag }))
+      (record { seals = seals; key = key_in key_at; header = bs.header_shown; text = bs.text_shown; tag = tag; opened = opened_ }))
     where
       key_in : KeyAt f r d.mem key → (r.r9 ≡ 0) ⊎ ((i : ℕ) × (i < length f.setup.ends) × (r.r9 ≡ f.setup.section.layout.priv_from + end_key_at i))
       key_in (OwnKey z is) = inl z
@@ -304,7 +305,7 @@ module _ (f : Fixed) (st : Stands f) (all : List Mark) (B : Watched → Violatio
       ) in
       let owed : OwesSeal f (NoDone f st all B Q) (Tells f st all B Q j d) (B (running_after e f r d)) (module_row f.setup.mac 4 g) d.mem =
       subst (λ o. OwesSeal f (NoDone f st all B Q) (Tells f st all B Q j d) (B (running_after e f r d)) (within g (wrap f.setup.mac g) o) d.mem) (sym found) row in
-      from_told f st all B Q j e r d _ safe (seal_shown t k 0x1384 has fits e r d key pc safe refl (inl refl) bs key_at (λ x. absurd (omega (arith, x))))
+      from_told f st all B Q j e r d _ safe (seal_shown t k 0x1384 has fits e r d key pc safe refl (inl refl) bs key_at (λ x. absurd (omega (arith, x))) (λ x. absurd (omega (arith, x))))
       (record { from = omega (arith, t.from); to = omega (arith, t.to) }) (module_fetched t k 0x1384 4 has fits e r d pc safe (λ a. refl))
       (seal_met f st (NoDone f st all B Q) (Tells f st all B Q j d) (B (running_after e f r d)) (module_row f.setup.mac 4 g) (start (running_after e f r d).node) safe.memory owed)
 
@@ -314,7 +315,7 @@ module _ (f : Fixed) (st : Stands f) (all : List Mark) (B : Watched → Violatio
   -- unwrap: where the tag is wrong only R15 tells it
   pub unwrap_step : {P n : ℕ} {ws : List ℕ} (t : Text f P n ws) (k : ℕ) → slice_get ws k ≡ Some 0x1385 → k + 1 ≤ n
       → (e : Event) (r : Regs) (d : Data) (key : List ℕ) (j : ℕ) (result : Option (List ℕ)) → r.pc ≡ P + 2 * k → Safe f all (running_after e f r d)
-      → Buffers f r → AreShown f.setup r.r15 16 → KeyAt f r d.mem key → unsealed r d key ≡ result
+      → Buffers f r → AreShown f.setup r.r15 16 → (r.r9 ≡ 0 → (r.r14 ≡ base_of f + plain_at) × (r.r13 ≤ 16)) → KeyAt f r d.mem key → unsealed r d key ≡ result
       → (result ≡ None → Safe f all (running_after event.Quiet f (record r { pc = P + 2 * (k + 1); r15 = 0 }) d)
       → Runs f all B Q j (running_after event.Quiet f (record r { pc = P + 2 * (k + 1); r15 = 0 }) d))
       → ((plain : List ℕ) → result ≡ Some plain → HasPrefix all (d.marks ++ mark.Unwrapped (bytes_from d.mem r.r10 r.r11) (take r.r13 plain) (r.r9 == 0) ∷ []))
@@ -323,7 +324,7 @@ module _ (f : Fixed) (st : Stands f) (all : List Mark) (B : Watched → Violatio
       Safe f all (running_after (event.Unwrapped f.setup.section.id) f r2 d2) → Runs f all B Q j (running_after (event.Unwrapped f.setup.section.id) f r2 d2))
       → Runs f all B Q (suc j) (running_after e f r d)
   unfolding module_row
-  unwrap_step {P = P} t k has fits e r d key j result pc safe bs tag_shown key_at is failed marks after =
+  unwrap_step {P = P} t k has fits e r d key j result pc safe bs tag_shown out_plain key_at is failed marks after =
       let g = given_own f st all B Q e r d in
       let found : own_section g ≡ Some f.setup.section = own_found f st in
       let row : OwesSeal f (NoDone f st all B Q) (Tells f st all B Q j d) (B (running_after e f r d)) (unwrap f.setup.mac g f.setup.section) d.mem =
@@ -338,7 +339,7 @@ module _ (f : Fixed) (st : Stands f) (all : List Mark) (B : Watched → Violatio
       ) in
       let owed : OwesSeal f (NoDone f st all B Q) (Tells f st all B Q j d) (B (running_after e f r d)) (module_row f.setup.mac 5 g) d.mem =
       subst (λ o. OwesSeal f (NoDone f st all B Q) (Tells f st all B Q j d) (B (running_after e f r d)) (within g (unwrap f.setup.mac g) o) d.mem) (sym found) row in
-      from_told f st all B Q j e r d _ safe (seal_shown t k 0x1385 has fits e r d key pc safe refl (inr refl) bs key_at (λ x. tag_shown))
+      from_told f st all B Q j e r d _ safe (seal_shown t k 0x1385 has fits e r d key pc safe refl (inr refl) bs key_at (λ x. tag_shown) (λ x. out_plain))
       (record { from = omega (arith, t.from); to = omega (arith, t.to) }) (module_fetched t k 0x1385 5 has fits e r d pc safe (λ a. refl))
       (seal_met f st (NoDone f st all B Q) (Tells f st all B Q j d) (B (running_after e f r d)) (module_row f.setup.mac 5 g) (start (running_after e f r d).node) safe.memory owed)
     where
