@@ -96,7 +96,7 @@ module _ (n ops parts : ℕ) (few : n ≤ 16) where
   slot_fit : (k : ℕ) → nat_lt k 65536 ≡ true → Fit (slot_word n k)
   slot_fit k small = and_from _ _ small (one (ir.LoadAt 512 (12 * n)) (le-leb (12 * n) (12 * n) (omega arith)))
 
-  key_fits : (k : ℕ) → k < n → Fit (ir.Open (512 + 24 * k + 8) 16 6 56 2 ∷ [])
+  key_fits : (k : ℕ) → k < n → Fit (ir.Open (512 + 24 * k + 8) 16 6 2 2 ∷ [])
   key_fits k lt =
       ap (λ (b : Bool). (b && true) && true)
       (or_right ((512 + 24 * k + 8) == 0) _ (and_from _ _ (le-leb 512 (512 + 24 * k + 8) (omega arith)) (le-leb (512 + 24 * k + 8 + 16) (512 + 24 * n) (omega (arith, lt)))))
@@ -142,11 +142,11 @@ module _ (tree : ModuleTree) (ends : List End) (ops : ℕ) (few : length ends �
 
   take_fit : (place k : ℕ) (e : End) → k < length ends → place + length (take_event tree place k e) < ops → Fits (take_event tree place k e)
   take_fit place k e lt short =
-      let rest = ir.Load 56 ∷ ir.Store 2 ∷ handled_by (number_of tree (event.Input e.port 0)) in
+      let rest = handled_by (number_of tree (event.Input e.port 0)) in
       let store = ir.Store (512 + 24 * k + 2) ∷ [] in
       let raise = ir.Load 20 ∷ ir.Push 1 ∷ ir.Op op.Add ∷ [] in
       let refuse = refuse_if (place + 1) is_opened_not other_tag in
-      join (ir.Open (512 + 24 * k + 8) 16 6 56 2 ∷ []) (refuse ++ (raise ++ (store ++ rest))) (key_fits (length ends) ops (length tree.handlers) few k lt)
+      join (ir.Open (512 + 24 * k + 8) 16 6 2 2 ∷ []) (refuse ++ (raise ++ (store ++ rest))) (key_fits (length ends) ops (length tree.handlers) few k lt)
       (join refuse (raise ++ (store ++ rest)) (refuses (place + 1) is_opened_not other_tag refl (omega (arith, short)) refl)
       (join raise (store ++ rest) refl (join store rest (number_fits (length ends) ops (length tree.handlers) few k lt) (handled (event.Input e.port 0)))))
 

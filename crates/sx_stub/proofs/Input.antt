@@ -129,7 +129,7 @@ module _ (s : Setup) (call : Call) (handle : ℕ → Conf → OperationResult) (
   takes : (packet body : List ℕ) (j : ℕ) (e : End) (place : ℕ) (c : Conf) → length packet ≡ 24 → AllBytes packet
       → AllBytes body → length body ≡ 32 → j < length s.ends → c.back ≡ None → second_in packet ≢ 65535
       → ShowsCall s call (progress_mark p (mark.Unwrapped (header_in packet) (take 2 body) false)) c
-      → word c.priv 20 ≡ second_in packet → word c.priv 56 ≡ word body 0 → end_state c.priv j ≡ end_of p.state.ends j
+      → word c.priv 20 ≡ second_in packet → word c.priv 2 ≡ word body 0 → end_state c.priv j ≡ end_of p.state.ends j
       → At code place (taken_code s.tree j e)
       → Invokes s call handle given code (finished (handled s call (event.Input e.port (word body 0)) (number_taken j packet (take 2 body) (end_of p.state.ends j) p))) (cost + 100) (at c place [])
   takes packet body j e place c len h isb len32 lt back last shows second value state a =
@@ -149,17 +149,9 @@ module _ (s : Setup) (call : Call) (handle : ℕ → Conf → OperationResult) (
       (AllBytes-put_word c.priv (end_at j + 2) v (omega (arith, small, last)) shows.bytes)
       (λ i o. get-put_other c.priv (end_at j + 2) v i (omega arith) (apart i o 0 (end_at j + 2) (omega arith) (omega arith)) (apart i o 1 (end_at j + 2 + 1) (omega arith) (omega arith)))
       (number_end c.priv j v (omega (arith, size, lt)) ∙ ap (λ (x : EndState). record x { number = v }) state) in
-      let value5 : word priv5 56 ≡ word body 0 = word-put_other c.priv (end_at j + 2) v 56 (omega arith) refl (omega arith) ∙ value in
-      let w = word body 0 in
-      let smallw : w < 65536 = word_lt body 0 isb in
-      let priv6 = put_word priv5 2 w in
-      let c6 = with_priv c priv6 (place + 6) [] in
-      let size5 = shows5.size in
-      let shows6 : ShowsCall s call p2 c6 = shows_priv s call p2 c5 priv6 (place + 6) [] shows5 (length-put_word priv5 2 w) (AllBytes-put_word priv5 2 w smallw shows5.bytes)
-      (λ i kept. get-put_other priv5 2 w i refl (kept_high i kept 2 (omega arith)) (kept_high i kept 3 (omega arith))) in
-      let ready : Ready s call ev p2 c6 = record {
-        shows = shows6;
-        value = word-put_same priv5 2 w refl (omega (arith, size5));
+      let ready : Ready s call ev p2 c5 = record {
+        shows = shows5;
+        value = word-put_other c.priv (end_at j + 2) v 2 (omega arith) refl (omega arith) ∙ value;
         pieces = none;
         stack = refl;
         back = back;
@@ -171,16 +163,8 @@ module _ (s : Setup) (call : Call) (handle : ℕ → Conf → OperationResult) (
       (goes_on s call handle given code r (ir.Store (end_number_at j)) (at c (place + 3) (v ∷ [])) (at c5 (place + 3 + 1) []) (cost + 76) (cost + 68) (ap (slice_get code) (omega arith)
       ∙ a.1.1.1.0) refl refl (omega arith)
       (subst (λ (x : ℕ). Invokes s call handle given code r (cost + 68) (at c5 x [])) (omega arith)
-      (runs_on s call handle given code r (ir.Load 56 ∷ []) c5 (place + 4) (place + 5) [] (w ∷ []) (cost + 68) (cost + 60) (
-        ap (slice_get code) (omega arith)
-            ∙ a.1.1.1.1.0,
-        tt,
-      ) (ap (λ (x : ℕ). Some (x ∷ [])) value5) (omega arith) (omega arith)
-      (goes_on s call handle given code r (ir.Store 2) (at c5 (place + 5) (w ∷ [])) (at c6 (place + 5 + 1) []) (cost + 60) (cost + 52) (ap (slice_get code) (omega arith)
-      ∙ a.1.1.1.1.1.0) refl refl (omega arith)
-      (subst (λ (x : ℕ). Invokes s call handle given code r (cost + 52) (at c6 x [])) (omega arith)
-      (within s call handle given code r (cost + 52) (cost + 16) (at c6 (place + 6) []) (omega arith)
-      (handles s call handle given code ev p2 c6 (place + 6) cost ready (λ x n. does ev x n) (subst (λ (x : ℕ). At code x (handled_by (number_of s.tree ev))) (omega arith) a.1.1.1.1.1.1))))))))
+      (within s call handle given code r (cost + 68) (cost + 16) (at c5 (place + 4) []) (omega arith)
+      (handles s call handle given code ev p2 c5 (place + 4) cost ready (λ x n. does ev x n) (subst (λ (x : ℕ). At code x (handled_by (number_of s.tree ev))) (omega arith) a.1.1.1.1)))))
     where
       apart : (i : ℕ) → (i < end_at j) ⊎ (end_at j + 24 ≤ i) → (d b : ℕ) → b ≡ end_at j + 2 + d → d < 2 → i ≢ b
       apart i (inl x) d b e lt = omega (arith, x, e, lt)
@@ -204,19 +188,19 @@ module _ (s : Setup) (call : Call) (handle : ℕ → Conf → OperationResult) (
       let tg : bytes_from c.priv 24 16 ≡ drop 8 packet = holds_part c.priv packet 8 16 (omega (arith, len)) holds ∙ take_all 16 (drop 8 packet) (omega (arith, len, d8)) in
       let isc : AllBytes (take 2 (drop 6 packet)) = subst AllBytes ci (AllBytes-bytes_from c.priv 22 2 shows.bytes) in
       let u = unwrapped s.mac st.key (header_in packet) (take 2 (drop 6 packet)) (drop 8 packet) in
-      let does1 : do_op s handle (ir.Open k 16 6 56 2) (at c place []) ≡ opened (at c place []) k (header_in packet) 56 2 u =
-      ap (λ (x : List ℕ). opened (at c place []) k (bytes_from c.priv 16 6) 56 2 (unwrapped s.mac x (bytes_from c.priv 16 6) (bytes_from c.priv 22 2) (bytes_from c.priv 24 16))) key
-      ∙ ap (λ (x : List ℕ). opened (at c place []) k x 56 2 (unwrapped s.mac st.key x (bytes_from c.priv 22 2) (bytes_from c.priv 24 16))) ad
-      ∙ ap (λ (x : List ℕ). opened (at c place []) k (header_in packet) 56 2 (unwrapped s.mac st.key (header_in packet) x (bytes_from c.priv 24 16))) ci
-      ∙ ap (λ (x : List ℕ). opened (at c place []) k (header_in packet) 56 2 (unwrapped s.mac st.key (header_in packet) (take 2 (drop 6 packet)) x)) tg in
+      let does1 : do_op s handle (ir.Open k 16 6 2 2) (at c place []) ≡ opened (at c place []) k (header_in packet) 2 2 u =
+      ap (λ (x : List ℕ). opened (at c place []) k (bytes_from c.priv 16 6) 2 2 (unwrapped s.mac x (bytes_from c.priv 16 6) (bytes_from c.priv 22 2) (bytes_from c.priv 24 16))) key
+      ∙ ap (λ (x : List ℕ). opened (at c place []) k x 2 2 (unwrapped s.mac st.key x (bytes_from c.priv 22 2) (bytes_from c.priv 24 16))) ad
+      ∙ ap (λ (x : List ℕ). opened (at c place []) k (header_in packet) 2 2 (unwrapped s.mac st.key (header_in packet) x (bytes_from c.priv 24 16))) ci
+      ∙ ap (λ (x : List ℕ). opened (at c place []) k (header_in packet) 2 2 (unwrapped s.mac st.key (header_in packet) (take 2 (drop 6 packet)) x)) tg in
       by_tag u (opened_body s.mac st.key (header_in packet) (take 2 (drop 6 packet)) (drop 8 packet) tag (omega (arith, t2)) isc) does1
     where
       by_tag : (u : Option (List ℕ)) → IsOpened u
-          → do_op s handle (ir.Open (end_at j + 8) 16 6 56 2) (at c place []) ≡ opened (at c place []) (end_at j + 8) (header_in packet) 56 2 u
+          → do_op s handle (ir.Open (end_at j + 8) 16 6 2 2) (at c place []) ≡ opened (at c place []) (end_at j + 8) (header_in packet) 2 2 u
           → Invokes s call handle given code (event_opened s call (j, e) packet u p) (cost + 200) (at c place [])
       by_tag None g d =
           let r = Returns other_tag p in
-          goes_on s call handle given code r (ir.Open (end_at j + 8) 16 6 56 2) (at c place []) (at c (place + 1) (0 ∷ [])) (cost + 200) (cost + 170) a.0 d refl (omega arith)
+          goes_on s call handle given code r (ir.Open (end_at j + 8) 16 6 2 2) (at c place []) (at c (place + 1) (0 ∷ [])) (cost + 200) (cost + 170) a.0 d refl (omega arith)
           (refuse_does s call handle given code true is_opened_not other_tag 1 c (place + 1) (place + 6) (cost + 170) (cost + 100) (0 ∷ []) r p
           (at_front code (place + 1) (refuse_if (place + 1) is_opened_not other_tag) (taken_code s.tree j e) a.1) refl refl shows none (omega arith) (omega arith) (λ x. absurd (true≢false x)))
       by_tag (Some body) g d =
@@ -228,29 +212,29 @@ module _ (s : Setup) (call : Call) (handle : ℕ → Conf → OperationResult) (
           let r = finished (handled s call (event.Input e.port (word body 0)) (number_taken j packet value (end_of p.state.ends j) p)) in
           let size = shows.size in
           let len2 : length value ≡ 2 = omega (arith, lv, g.0) in
-          let priv4 = put_bytes c.priv 56 value in
+          let priv4 = put_bytes c.priv 2 value in
           let c4 = with_mark (with_priv c priv4 (place + 1) (1 ∷ [])) m in
           let shows4 : ShowsCall s call p1 c4 = shows_mark s call p (with_priv c priv4 (place + 1) (1 ∷ [])) m
-          (shows_priv s call p c priv4 (place + 1) (1 ∷ []) shows (length-put_bytes c.priv 56 value) (AllBytes-put_bytes c.priv 56 value shows.bytes)
-          (λ i kept. get-put_bytes_other c.priv 56 value i (apart i kept (length value) len2))) in
+          (shows_priv s call p c priv4 (place + 1) (1 ∷ []) shows (length-put_bytes c.priv 2 value) (AllBytes-put_bytes c.priv 2 value shows.bytes)
+          (λ i kept. get-put_bytes_other c.priv 2 value i (apart i kept (length value) len2))) in
           let own : (end_at j + 8 == 0) ≡ false = ne_eqb (end_at j + 8) 0 (omega arith) in
-          let d2 : do_op s handle (ir.Open (end_at j + 8) 16 6 56 2) (at c place []) ≡ Goes c4 = d
+          let d2 : do_op s handle (ir.Open (end_at j + 8) 16 6 2 2) (at c place []) ≡ Goes c4 = d
           ∙ ap (λ (b : Bool). Goes (with_mark (with_priv c priv4 (place + 1) (1 ∷ [])) (mark.Unwrapped (header_in packet) value b))) own in
-          let second4 : word priv4 20 ≡ second_in packet = word_same c.priv priv4 20 20 refl refl (get-put_bytes_other c.priv 56 value 20 (inl (omega arith)))
-          (get-put_bytes_other c.priv 56 value 21 (inl (omega arith))) ∙ holds_word c.priv packet 4 refl (omega (arith, len)) holds in
-          let value4 : word priv4 56 ≡ word body 0 = word_same body priv4 0 56 refl refl
-          (get-put_bytes_in c.priv 56 value 0 isv (omega (arith, len2)) (omega (arith, len2, size)) ∙ get_or-take 2 body 0 0 (omega arith))
-          (get-put_bytes_in c.priv 56 value 1 isv (omega (arith, len2)) (omega (arith, len2, size)) ∙ get_or-take 2 body 1 0 (omega arith)) in
-          let state4 : end_state priv4 j ≡ end_of p.state.ends j = end_same c.priv priv4 j (λ i le. get-put_bytes_other c.priv 56 value i (inr (omega (arith, le, len2))))
+          let second4 : word priv4 20 ≡ second_in packet = word_same c.priv priv4 20 20 refl refl (get-put_bytes_other c.priv 2 value 20 (inr (omega (arith, len2))))
+          (get-put_bytes_other c.priv 2 value 21 (inr (omega (arith, len2)))) ∙ holds_word c.priv packet 4 refl (omega (arith, len)) holds in
+          let value4 : word priv4 2 ≡ word body 0 = word_same body priv4 0 2 refl refl
+          (get-put_bytes_in c.priv 2 value 0 isv (omega (arith, len2)) (omega (arith, len2, size)) ∙ get_or-take 2 body 0 0 (omega arith))
+          (get-put_bytes_in c.priv 2 value 1 isv (omega (arith, len2)) (omega (arith, len2, size)) ∙ get_or-take 2 body 1 0 (omega arith)) in
+          let state4 : end_state priv4 j ≡ end_of p.state.ends j = end_same c.priv priv4 j (λ i le. get-put_bytes_other c.priv 2 value i (inr (omega (arith, le, len2))))
           ∙ sym (end_in_slot s call p c j shows lt) in
-          goes_on s call handle given code r (ir.Open (end_at j + 8) 16 6 56 2) (at c place []) c4 (cost + 200) (cost + 170) a.0 d2 refl (omega arith)
+          goes_on s call handle given code r (ir.Open (end_at j + 8) 16 6 2 2) (at c place []) c4 (cost + 200) (cost + 170) a.0 d2 refl (omega arith)
           (refuse_does s call handle given code false is_opened_not other_tag 0 c4 (place + 1) (place + 6) (cost + 170) (cost + 100) (1 ∷ []) r p1
           (at_front code (place + 1) (refuse_if (place + 1) is_opened_not other_tag) (taken_code s.tree j e) a.1) refl refl shows4 none (omega arith) (omega arith)
           (λ x. takes packet body j e (place + 6) c4 len h g.1 g.0 lt back last shows4 second4 value4 state4 (at_back code (place + 1) (place + 6) (refuse_if (place + 1) is_opened_not other_tag)
           (taken_code s.tree j e) (omega arith) a.1)))
         where
-          apart : (i : ℕ) → IsKept i → (n : ℕ) → n ≡ 2 → (i < 56) ⊎ (56 + n ≤ i)
-          apart i (inl k) n e = inl (omega (arith, k.1))
+          apart : (i : ℕ) → IsKept i → (n : ℕ) → n ≡ 2 → (i < 2) ⊎ (2 + n ≤ i)
+          apart i (inl k) n e = inr (omega (arith, k.0, e))
           apart i (inr k) n e = inr (omega (arith, k, e))
 
   -- from the end that was found on, its index kept

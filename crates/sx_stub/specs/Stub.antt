@@ -211,17 +211,16 @@ abbrev pub wanted_receiving : List Ir
 wanted_receiving =
     ir.Load field_at ∷ ir.Push 255 ∷ ir.Op op.And ∷ ir.Push 256 ∷ ir.Op op.Add ∷ []
 
--- the next number is above the packet's, and the handler runs with its value
+-- the next number is above the packet's, and the handler runs
 abbrev pub taken_code : ModuleTree → ℕ → End → List Ir
 taken_code tree k e =
     ir.Load second_at ∷ ir.Push 1 ∷ ir.Op op.Add ∷ ir.Store (offsets.end_number_at k)
-    ∷ ir.Load working.plain_at ∷ ir.Store working.event_at
     ∷ handled_by (number_of tree (event.Input e.port 0))
 
--- the packet is unwrapped and taken
+-- the packet's value is unwrapped to where a handler finds it, and taken
 abbrev pub take_event : ModuleTree → ℕ → ℕ → End → List Ir
 take_event tree place k e =
-    ir.Open (offsets.end_key_at k) working.packet_at header_size working.plain_at value_size
+    ir.Open (offsets.end_key_at k) working.packet_at header_size working.event_at value_size
     ∷ (refuse_if (place + 1) is_opened_not other_tag ++ taken_code tree k e)
 
 -- the receiving end that was found takes the packet

@@ -22,7 +22,7 @@ use sx_ir::{Ir, IrOp};
 use sx_lang::sides::Side;
 use sx_lang::tree::Module;
 use sx_mean::events::End;
-use sx_mean::offsets::{EVENT, PACKET, PLAIN, end_key_at, end_number_at};
+use sx_mean::offsets::{EVENT, PACKET, end_key_at, end_number_at};
 
 /// The number of operations of the entry of input.
 pub const INPUT_LENGTH: u16 = 15;
@@ -77,8 +77,6 @@ fn put_taken(code: &mut Vec<Ir>, tree: &Module, k: u8, e: &End) -> Result<(), Al
         Ir::Push(1),
         Ir::Op(IrOp::Add),
         Ir::Store(end_number_at(k)),
-        Ir::Load(PLAIN),
-        Ir::Store(EVENT),
     ];
     put_all(code, &ops)?;
     put_handled(code, input_handler(tree, e.port))
@@ -92,7 +90,7 @@ fn put_take(code: &mut Vec<Ir>, tree: &Module, k: u8, e: &End) -> Result<(), All
 {
     put(
         code,
-        Ir::Open(end_key_at(k), PACKET, HEADER_SIZE, PLAIN, VALUE_SIZE),
+        Ir::Open(end_key_at(k), PACKET, HEADER_SIZE, EVENT, VALUE_SIZE),
     )?;
     put_refuse(code, &[Ir::Op(IrOp::Not)], OTHER_TAG)?;
     put_taken(code, tree, k, e)
@@ -103,7 +101,7 @@ fn take_len(tree: &Module, e: &End) -> u16
     ensures len { result ≡ length (take_event (module_of tree.now) 0 0 e.now) }
     ensures small { result ≤ 16 }
 {
-    12 + handled_len(input_handler(tree, e.port))
+    10 + handled_len(input_handler(tree, e.port))
 }
 
 fn case_len(tree: &Module, e: &End) -> u16

@@ -15,6 +15,6 @@ returns c =
     let z = c.put_taken.new.code.items in
     let last = taken_code (module_of c.args.tree.now) c.args.k c.args.e.now in
     let refused : ℕ → List Ir = λ p. refuse_if p is_opened_not other_tag in
-    let first = c.in_ok-put.ensures ∙ ap (λ o. x ++ ir.Open o 16 header_size 56 value_size ∷ []) c.end_key_at.ensures in
-    behind c.put_taken.result x y z (ir.Open (512 + 24 * c.args.k + 8) 16 header_size 56 value_size ∷ []) (λ p. refused p ++ last) (length x + 1) first refl
+    let first = c.in_ok-put.ensures ∙ ap (λ o. x ++ ir.Open o 16 header_size 2 value_size ∷ []) c.end_key_at.ensures in
+    behind c.put_taken.result x y z (ir.Open (512 + 24 * c.args.k + 8) 16 header_size 2 value_size ∷ []) (λ p. refused p ++ last) (length x + 1) first refl
     (behind c.put_taken.result y w z (refused (length y)) (λ p. last) (length y + 5) c.in_ok-put_refuse.ensures refl c.put_taken.ensures)
