@@ -1,2 +1,3 @@
 -- One file: the bytes of operations that follow others.
 pub mod Appended
+pub mod Shown

@@ -1,6 +1,7 @@
 -- What each operation of stack code does.
-use Rattle.std.specs.Prelude.{◌≡◌, ℕ, zero, suc, ◌+◌, ◌*◌, ◌==◌, nat_lt, nat_le, Bool, false, ◌&&◌}
-use Rattle.std.specs.Prelude.{not, if◌then◌else◌, List, [], ◌∷◌, ◌++◌, length, take, slice_get}
+use Rattle.std.specs.Prelude.{◌≡◌, ℕ, zero, suc, ◌+◌, ◌-◌, ◌*◌, ◌%◌, ◌==◌, nat_lt, nat_le, Bool}
+use Rattle.std.specs.Prelude.{true, false, ◌&&◌, ◌||◌, not, if◌then◌else◌, List, [], ◌∷◌, ◌++◌}
+use Rattle.std.specs.Prelude.{length, take, slice_get}
 use Rattle.std.specs.Prelude.{Option, Some, None, Result, Ok, Err}
 use Rattle.sx_lang.specs.declared.tree.UnOp.TheVariants as unary
 use Rattle.sx_lang.specs.declared.tree.BinOp.TheVariants as binary
@@ -291,10 +292,48 @@ do_op s handle ir.Sense c = sense c (own_window s c.devices)
 do_op s handle (ir.Handler h) c = handle h (record c { priv = put_word c.priv working.pieces_at 0 })
 do_op s handle ir.Leave c = stuck
 
--- the operation at the place, where there is one
+-- None of n bytes from an offset on may be a key's, where there are this many ends: neither in the
+-- copied packet's plain body nor in the key of a slot, which is all of a slot but its first 8 bytes.
+abbrev pub is_shown : ℕ → ℕ → ℕ → Bool
+is_shown ends o n =
+    (nat_le (o + n) working.plain_at || nat_le (working.plain_at + key_size) o)
+    && (nat_le (o + n) (offsets.end_key_at 0) || (nat_le (offsets.end_at ends) o
+    || nat_le ((o - offsets.end_at 0) % 24 + n) 8))
+
+-- an element of an array holds no key, where there is one at this index
+abbrev pub is_shown_element : ℕ → ℕ → ℕ → ℕ → Bool
+is_shown_element ends o n i = not (nat_lt i n) || is_shown ends (o + 2 * i) 2
+
+-- a key lies there, for a wrap or an unwrap: the module's own at 0, or one in a slot
+abbrev pub is_key_place : ℕ → ℕ → Bool
+is_key_place ends k = (k == 0) || (nat_le (offsets.end_key_at 0) k
+    && (nat_lt k (offsets.end_at ends) && ((k - offsets.end_key_at 0) % 24 == 0)))
+
+-- what is unwrapped under the own key may be a key, and goes where one may be
+abbrev pub is_body_place : ℕ → ℕ → ℕ → Bool
+is_body_place k b bn = not (k == 0) || ((b == working.plain_at) && nat_le bn key_size)
+
+-- An operation, with this stack, names no byte that may be a key's but as the key of a wrap or an
+-- unwrap, where there are this many ends.
+abbrev pub names_no_key : ℕ → Ir → List ℕ → Bool
+names_no_key ends (ir.Load o) stack = is_shown ends o 2
+names_no_key ends (ir.Store o) stack = is_shown ends o 2
+names_no_key ends (ir.LoadAt o n) (i ∷ rest) = is_shown_element ends o n i
+names_no_key ends (ir.StoreAt o n) (v ∷ i ∷ rest) = is_shown_element ends o n i
+names_no_key ends (ir.Packet k) stack = nat_lt k ends
+names_no_key ends (ir.CopyOut n o) stack = is_shown ends o n
+names_no_key ends (ir.Seal k h hn b bn) stack =
+    is_key_place ends k && (is_shown ends h hn && is_shown ends b bn)
+names_no_key ends (ir.Open k h hn b bn) stack =
+    is_key_place ends k && (is_shown ends h (hn + bn + tag_size) && is_body_place k b bn)
+names_no_key ends (ir.SetEnd k) stack = nat_lt k ends
+names_no_key ends i stack = true
+
+-- the operation at the place, where there is one that names no key
 abbrev pub do_at : Setup → (ℕ → Conf → OperationResult) → Option Ir → Conf → OperationResult
 do_at s handle None c = stuck
-do_at s handle (Some i) c = do_op s handle i c
+do_at s handle (Some i) c =
+    when (names_no_key (length s.ends) i c.stack) (do_op s handle i c)
 
 -- one operation
 unfoldable pub op_step : Setup → (ℕ → Conf → OperationResult) → List Ir → Conf → OperationResult

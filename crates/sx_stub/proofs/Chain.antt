@@ -9,13 +9,13 @@ use Rattle.sx_reach.specs.Reach.{Goes}
 use Rattle.sx_invoke.specs.Setup.{Setup, Call}
 use Rattle.sx_invoke.specs.Progress.{Invoked}
 use Rattle.sx_ir.specs.Conf.{Conf}
-use Rattle.sx_ir.specs.Meaning.{OperationResult}
+use Rattle.sx_ir.specs.Meaning.{OperationResult, is_shown}
 use Rattle.sx_ir.specs.declared.ir.IrOp.TheVariants as op
 use Rattle.sx_ir.specs.declared.ir.Ir.{Ir}
 use Rattle.sx_ir.specs.declared.ir.Ir.TheVariants as ir
 use Rattle.sx_stub.specs.Stub.{Cases, cases}
 use Rattle.sx_stub.specs.Invokes.{Invokes}
-use Rattle.sx_stub.proofs.Straight.{At, at, at_front, at_back, pure}
+use Rattle.sx_stub.proofs.Straight.{At, at, at_front, at_back, after_pure, pure}
 use Rattle.sx_stub.proofs.Refuse.{sub_zero, goes_on, runs_on, within}
 
 -- the first end that passes, with its place
@@ -37,7 +37,8 @@ AreWords cs k [] = Unit {0}
 AreWords cs k (e ∷ es) = (cs.number k e < 65536) × AreWords cs (k + 1) es
 
 module _ (s : Setup) (call : Call) (handle : ℕ → Conf → OperationResult) (given : ℕ
-    → ℕ) (code : List Ir) (result : Invoked) (cs : Cases) (v : ℕ) (c : Conf) (here : word c.priv cs.offset ≡ v) (small : v < 65536) where
+    → ℕ) (code : List Ir) (result : Invoked) (cs : Cases) (v : ℕ) (c : Conf) (here : word c.priv cs.offset ≡ v) (small : v < 65536)
+    (shown : is_shown (length s.ends) cs.offset 2 ≡ true) where
   abbrev Goal : ℕ → ℕ → Type 0
   Goal n p = Invokes s call handle given code result n (at c p [])
 
@@ -54,7 +55,9 @@ module _ (s : Setup) (call : Call) (handle : ℕ → Conf → OperationResult) (
       let number = cs.number k e in
       let body = cs.body (p + 5) k e in
       let d = (v + (65536 - number)) % 65536 in
-      let test : pure s c.priv (ir.Load cs.offset ∷ ir.Push number ∷ ir.Op op.Sub ∷ []) [] ≡ Some (d ∷ []) = ap (λ (x : ℕ). Some ((x + (65536 - number)) % 65536 ∷ [])) here in
+      let test : pure s c.priv (ir.Load cs.offset ∷ ir.Push number ∷ ir.Op op.Sub ∷ []) [] ≡ Some (d ∷ []) =
+      ap (λ (b : Bool). after_pure (if b then Some (word c.priv cs.offset ∷ []) else None) (pure s c.priv (ir.Push number ∷ ir.Op op.Sub ∷ []))) shown
+      ∙ ap (λ (x : ℕ). Some ((x + (65536 - number)) % 65536 ∷ [])) here in
       runs_on s call handle given code result (ir.Load cs.offset ∷ ir.Push number ∷ ir.Op op.Sub ∷ []) c p (p + 3) [] (d ∷ []) n (16 + m) (a.0, (a.1.0, (a.1.1.0, tt))) test refl (omega (arith, le))
       (jumps d (v == number) (sub_zero v number small is_word) hit miss (ap (slice_get code) (omega arith) ∙ a.1.1.1.0) (ap (slice_get code) (omega arith)
       ∙ a.1.1.1.1.0) (subst (λ (x : ℕ). At code x body) (omega arith) (at_front code (p + 1 + 1 + 1 + 1 + 1) body _ a.1.1.1.1.1)))

@@ -1,6 +1,6 @@
 -- Which end a packet is for, as the cases find it.
-use Rattle.std.proofs.Common.{◌≡◌, ◌≢◌, ℕ, suc, ◌+◌, ◌*◌, ◌%◌, ◌<◌, ◌≤◌, ◌⊎◌, inl, inr, Bool, true, false, ◌&&◌, ◌==◌, List, [], ◌∷◌, length, Option, Some, None, refl, ap, ◌∙◌, subst, arith}
-use Rattle.std.specs.Prelude.{if◌then◌else◌, bit_and, All}
+use Rattle.std.proofs.Common.{◌≡◌, ◌≢◌, ℕ, suc, ◌+◌, ◌*◌, ◌%◌, ◌<◌, ◌≤◌, ◌⊎◌, inl, inr, Bool, true, false, ◌&&◌, ◌==◌, List, [], ◌∷◌, ◌++◌, length, Option, Some, None, refl, sym, ap, ◌∙◌, subst, arith}
+use Rattle.std.specs.Prelude.{if◌then◌else◌, bit_and, nat_lt, All}
 use Rattle.std.proofs.lemmas.Bool.{lt-ltb, eq-eqb, ne_eqb, and_right}
 use Rattle.std.proofs.lemmas.Bool.Decides.{eqb_tells}
 use Rattle.sx_lang.specs.declared.sides.Side.{Side}
@@ -10,8 +10,14 @@ use Rattle.sx_mean.specs.Ends.{same_side}
 use Rattle.sx_mean.specs.Offsets.{end_at}
 use Rattle.sx_machine.specs.Memory.{word}
 use Rattle.sx_invoke.specs.Entries.{end_is, end_found}
-use Rattle.sx_ir.specs.Meaning.{element}
-use Rattle.sx_stub.specs.Stub.{Cases, find_any, is_to}
+use Rattle.sx_ir.specs.Meaning.{element, is_shown, is_shown_element}
+use Rattle.sx_ir.specs.declared.ir.IrOp.TheVariants as op
+use Rattle.sx_ir.specs.declared.ir.Ir.{Ir}
+use Rattle.sx_ir.specs.declared.ir.Ir.TheVariants as ir
+use Rattle.sx_ir.proofs.Shown.{element_shown, slot_shown}
+use Rattle.sx_invoke.specs.Setup.{Setup}
+use Rattle.sx_stub.specs.Stub.{Cases, find_any, is_to, slot_word}
+use Rattle.sx_stub.proofs.Straight.{after_pure, pure}
 use Rattle.sx_stub.proofs.Chain.{found_by, case_test, AreWords}
 use Rattle.sx_lists.specs.Truth.{truth}
 use Rattle.sx_lists.proofs.Truths.{truth_small}
@@ -104,13 +110,30 @@ index_found t cs (d ∷ es) k j e few number has h = go (t k d) refl h (λ h. in
         rw miss (again h)
 
 -- a word of a slot, by the end's place
-pub slot_value : (priv : List ℕ) (ends j n : ℕ) → ends ≤ 16 → j < ends → n ≤ 2
+slot_value : (priv : List ℕ) (ends j n : ℕ) → ends ≤ 16 → j < ends → n ≤ 2
     → element priv 512 (12 * ends) ((12 * j + n) % 65536) ≡ word priv (end_at j + 2 * n)
 slot_value priv ends j n few lt le =
     let i : (12 * j + n) % 65536 ≡ 12 * j + n = omega (arith, few, lt, le) in
     ap (element priv 512 (12 * ends)) i
     ∙ ap (λ (b : Bool). if b then word priv (512 + 2 * (12 * j + n)) else 0) (lt-ltb (12 * j + n) (12 * ends) (omega (arith, lt, le)))
     ∙ ap (word priv) (omega arith)
+
+-- the code that puts a word of the slot of the end that was found on the stack
+pub slot_pure : (s : Setup) (priv : List ℕ) (ends j n : ℕ) (rest : List Ir) (stack : List ℕ) → ends ≤ 16 → j < ends → n ≤ 2 → word priv 74 ≡ 12 * j
+    → nat_lt (length stack) 160 ≡ true → nat_lt (suc (length stack)) 160 ≡ true
+    → pure s priv (slot_word ends n ++ rest) stack ≡ pure s priv rest (word priv (end_at j + 2 * n) ∷ stack)
+slot_pure s priv ends j n rest stack few lt le index room more =
+    let i = (word priv 74 + n) % 65536 in
+    let load = ir.LoadAt 512 (12 * ends) ∷ rest in
+    let add = ir.Op op.Add ∷ load in
+    let is : i ≡ 12 * j + n = ap (λ (x : ℕ). (x + n) % 65536) index ∙ omega (arith, few, lt, le) in
+    let at : 512 + 2 * i ≡ end_at j + 2 * n = omega (arith, is) in
+    let shown : is_shown_element (length s.ends) 512 (12 * ends) i ≡ true = element_shown (length s.ends) 512 (12 * ends) i
+    (subst (λ (o : ℕ). is_shown (length s.ends) o 2 ≡ true) (sym at) (slot_shown (length s.ends) j (2 * n) 2 (omega (arith, le)))) in
+    ap (λ (b : Bool). after_pure (if b then Some (word priv 74 ∷ stack) else None) (pure s priv (ir.Push n ∷ add))) room
+    ∙ ap (λ (b : Bool). after_pure (if b then Some (n ∷ word priv 74 ∷ stack) else None) (pure s priv add)) more
+    ∙ ap (λ (b : Bool). after_pure (if b then Some (element priv 512 (12 * ends) i ∷ stack) else None) (pure s priv rest)) shown
+    ∙ ap (λ (v : ℕ). pure s priv rest (v ∷ stack)) (ap (λ (x : ℕ). element priv 512 (12 * ends) ((x + n) % 65536)) index ∙ slot_value priv ends j n few lt le)
 
 pub and_truth : (a b : Bool) → bit_and (truth a) (truth b) ≡ truth (a && b)
 and_truth true true = refl

@@ -4,7 +4,7 @@ use Rattle.std.proofs.Common.{take, drop, Option, Some, None, refl, sym, ap, ◌
 use Rattle.std.specs.Prelude.{slice_get, if◌then◌else◌, nat_lt, bit_and}
 use Rattle.std.proofs.lemmas.List.{length-take, length-drop, take_all, get_or-take}
 use Rattle.std.proofs.lemmas.List.Elements.{All-take}
-use Rattle.std.proofs.lemmas.Bool.{true≢false, ne_eqb, eqb-false, eqb-true}
+use Rattle.std.proofs.lemmas.Bool.{true≢false, and_from, ne_eqb, eqb-false, eqb-true}
 use Rattle.sx_lang.specs.declared.sides.Side.{Side}
 use Rattle.sx_lang.specs.declared.sides.Side.TheVariants.{From, To}
 use Rattle.sx_mean.specs.declared.events.End.{End}
@@ -27,10 +27,11 @@ use Rattle.sx_invoke.specs.Acts.{handled}
 use Rattle.sx_invoke.specs.Entries.{input, input_at, event_numbered, event_opened, number_taken, field_in, second_in, header_in, end_found, with_received}
 use Rattle.sx_invoke.specs.Devices.{HasDevices}
 use Rattle.sx_ir.specs.Conf.{Conf}
-use Rattle.sx_ir.specs.Meaning.{OperationResult, do_op, element, opened, key_at}
+use Rattle.sx_ir.specs.Meaning.{OperationResult, do_at, do_op, is_body_place, is_key_place, opened, key_at, names_no_key, when}
 use Rattle.sx_ir.specs.declared.ir.Ir.{Ir}
 use Rattle.sx_ir.specs.declared.ir.Ir.TheVariants as ir
 use Rattle.sx_ir.specs.declared.ir.IrOp.TheVariants as op
+use Rattle.sx_ir.proofs.Shown.{slot_body, slot_key, slot_shown}
 use Rattle.sx_stub.specs.Stub.{input_code, input_found, key_found, key_place, search_code, refuse_if, cases, find_any, take_receiving, take_event, taken_code}
 use Rattle.sx_stub.specs.Stub.{is_receiving, is_to, is_wrong_kind, wanted_receiving, is_closed_code, is_other_epoch, is_past_number, is_last_number}
 use Rattle.sx_stub.specs.Stub.{is_opened_not, handled_by}
@@ -44,7 +45,7 @@ use Rattle.sx_stub.proofs.Chain.{found_by, case_test, chain_does}
 use Rattle.sx_stub.proofs.Receive.{receive_does, copied_shows}
 use Rattle.sx_stub.proofs.Attest.{with_mark, progress_mark, shows_mark}
 use Rattle.sx_stub.proofs.Packets.{Holds, holds_copied, holds_put, holds_word, holds_part, upper, lower, upper_eq, IsOpened, opened_body}
-use Rattle.sx_stub.proofs.Ends.{FewLinks, any_same, found_in, index_found, index_words, slot_value}
+use Rattle.sx_stub.proofs.Ends.{FewLinks, any_same, found_in, index_found, index_words, slot_pure}
 use Rattle.sx_stub.proofs.Search.{shows_kept_word, some_place, some_none, search_does, found_at, both_at}
 use Rattle.sx_stub.proofs.SetKey.{shows_slot}
 use Rattle.sx_stub.proofs.Handling.{handles}
@@ -52,10 +53,6 @@ use Rattle.sx_machine.proofs.Lengths.{length-put_word}
 use Rattle.sx_lists.specs.Truth.{truth}
 
 -- Tests of the end that was found, on words.
-
-slot_is : (priv : List ℕ) (ends j n : ℕ) → ends ≤ 16 → j < ends → n ≤ 2 → word priv 74 ≡ 12 * j
-    → element priv 512 (12 * ends) ((word priv 74 + n) % 65536) ≡ word priv (end_at j + 2 * n)
-slot_is priv ends j n few lt le index = ap (λ (x : ℕ). element priv 512 (12 * ends) ((x + n) % 65536)) index ∙ slot_value priv ends j n few lt le
 
 state_is : (priv : List ℕ) (j : ℕ)
     → end_state priv j ≡ end_with (word priv (end_at j + 4)) (word priv (end_at j)) (word priv (end_at j + 2)) (bytes_from priv (end_at j + 8) 16)
@@ -68,7 +65,7 @@ truth_twice false = refl
 closed_word : (s : Setup) (priv : List ℕ) (ends j : ℕ) → ends ≤ 16 → j < ends → word priv 74 ≡ 12 * j
     → pure s priv (is_closed_code ends) [] ≡ Some (truth (not (end_state priv j).is_open) ∷ [])
 closed_word s priv ends j few lt index =
-    ap (λ (x : ℕ). Some (truth (x == 0) ∷ [])) (slot_is priv ends j 2 few lt (omega arith) index)
+    slot_pure s priv ends j 2 (ir.Push 0 ∷ ir.Op op.Eq ∷ []) [] few lt (omega arith) index refl refl
     ∙ ap (λ (x : ℕ). Some (x ∷ [])) (truth_twice (word priv (end_at j + 4) == 0))
     ∙ sym (ap (λ (x : EndState). Some (truth (not x.is_open) ∷ [])) (state_is priv j))
 
@@ -77,8 +74,9 @@ epoch_word : (s : Setup) (priv : List ℕ) (ends j field : ℕ) → AllBytes pri
     → pure s priv (is_other_epoch ends) [] ≡ Some ((epoch_of (end_state priv j).field * 256 + (65536 - epoch_of field * 256)) % 65536 ∷ [])
 epoch_word s priv ends j field h few lt index is small =
     let f = word priv (end_at j) in
-    let e : element priv 512 (12 * ends) ((word priv 74 + 0) % 65536) ≡ f = slot_is priv ends j 0 few lt (omega arith) index ∙ ap (word priv) (omega arith) in
-    ap (λ (x : ℕ). Some ((bit_and x 0xFF00 + (65536 - bit_and (word priv 18) 0xFF00)) % 65536 ∷ [])) e
+    let last = ir.Push 0xFF00 ∷ ir.Op op.And ∷ ir.Load 18 ∷ ir.Push 0xFF00 ∷ ir.Op op.And ∷ ir.Op op.Sub ∷ [] in
+    slot_pure s priv ends j 0 last [] few lt (omega arith) index refl refl
+    ∙ ap (λ (x : ℕ). Some ((bit_and (word priv x) 0xFF00 + (65536 - bit_and (word priv 18) 0xFF00)) % 65536 ∷ [])) (omega arith)
     ∙ ap (λ (x : ℕ). Some ((bit_and f 0xFF00 + (65536 - bit_and x 0xFF00)) % 65536 ∷ [])) is
     ∙ ap (λ (x : ℕ). Some ((x + (65536 - bit_and field 0xFF00)) % 65536 ∷ [])) (upper f (word_lt priv (end_at j) h))
     ∙ ap (λ (x : ℕ). Some ((epoch_of f * 256 + (65536 - x)) % 65536 ∷ [])) (upper field small)
@@ -91,7 +89,7 @@ number_word : (s : Setup) (priv : List ℕ) (ends j second : ℕ) → ends ≤ 1
     → word priv 20 ≡ second
     → pure s priv (is_past_number ends) [] ≡ Some (truth (nat_lt second (end_state priv j).number) ∷ [])
 number_word s priv ends j second few lt index is =
-    ap (λ (x : ℕ). Some (truth (nat_lt (word priv 20) x) ∷ [])) (slot_is priv ends j 1 few lt (omega arith) index)
+    slot_pure s priv ends j 1 (ir.Op op.Lt ∷ []) (word priv 20 ∷ []) few lt (omega arith) index refl refl
     ∙ ap (λ (x : ℕ). Some (truth (nat_lt x (word priv (end_at j + 2 * 1))) ∷ [])) is
     ∙ ap (λ (x : ℕ). Some (truth (nat_lt second (word priv x)) ∷ [])) (omega arith)
     ∙ sym (ap (λ (x : EndState). Some (truth (nat_lt second x.number) ∷ [])) (state_is priv j))
@@ -161,7 +159,7 @@ module _ (s : Setup) (call : Call) (handle : ℕ → Conf → OperationResult) (
       } in
       runs_on s call handle given code r (ir.Load 20 ∷ ir.Push 1 ∷ ir.Op op.Add ∷ []) c place (place + 3) [] (v ∷ []) (cost + 100) (cost + 76) (a.0, (a.1.0, (a.1.1.0, tt))) sum refl (omega arith)
       (goes_on s call handle given code r (ir.Store (end_number_at j)) (at c (place + 3) (v ∷ [])) (at c5 (place + 3 + 1) []) (cost + 76) (cost + 68) (ap (slice_get code) (omega arith)
-      ∙ a.1.1.1.0) refl refl (omega arith)
+      ∙ a.1.1.1.0) (ap (λ (b : Bool). when b (do_op s handle (ir.Store (end_number_at j)) (at c (place + 3) (v ∷ [])))) (slot_shown (length s.ends) j 2 2 (omega arith))) refl (omega arith)
       (subst (λ (x : ℕ). Invokes s call handle given code r (cost + 68) (at c5 x [])) (omega arith)
       (within s call handle given code r (cost + 68) (cost + 16) (at c5 (place + 4) []) (omega arith)
       (handles s call handle given code ev p2 c5 (place + 4) cost ready (λ x n. does ev x n) (subst (λ (x : ℕ). At code x (handled_by (number_of s.tree ev))) (omega arith) a.1.1.1.1)))))
@@ -188,7 +186,10 @@ module _ (s : Setup) (call : Call) (handle : ℕ → Conf → OperationResult) (
       let tg : bytes_from c.priv 24 16 ≡ drop 8 packet = holds_part c.priv packet 8 16 (omega (arith, len)) holds ∙ take_all 16 (drop 8 packet) (omega (arith, len, d8)) in
       let isc : AllBytes (take 2 (drop 6 packet)) = subst AllBytes ci (AllBytes-bytes_from c.priv 22 2 shows.bytes) in
       let u = unwrapped s.mac st.key (header_in packet) (take 2 (drop 6 packet)) (drop 8 packet) in
-      let does1 : do_op s handle (ir.Open k 16 6 2 2) (at c place []) ≡ opened (at c place []) k (header_in packet) 2 2 u =
+      let named : names_no_key (length s.ends) (ir.Open k 16 6 2 2) [] ≡ true = and_from (is_key_place (length s.ends) k) (is_body_place k 2 2) (slot_key (length s.ends) j lt)
+      (slot_body k 2 2 (omega arith)) in
+      let does1 : do_at s handle (Some (ir.Open k 16 6 2 2)) (at c place []) ≡ opened (at c place []) k (header_in packet) 2 2 u =
+      ap (λ (b : Bool). when b (do_op s handle (ir.Open k 16 6 2 2) (at c place []))) named ∙
       ap (λ (x : List ℕ). opened (at c place []) k (bytes_from c.priv 16 6) 2 2 (unwrapped s.mac x (bytes_from c.priv 16 6) (bytes_from c.priv 22 2) (bytes_from c.priv 24 16))) key
       ∙ ap (λ (x : List ℕ). opened (at c place []) k x 2 2 (unwrapped s.mac st.key x (bytes_from c.priv 22 2) (bytes_from c.priv 24 16))) ad
       ∙ ap (λ (x : List ℕ). opened (at c place []) k (header_in packet) 2 2 (unwrapped s.mac st.key (header_in packet) x (bytes_from c.priv 24 16))) ci
@@ -196,7 +197,7 @@ module _ (s : Setup) (call : Call) (handle : ℕ → Conf → OperationResult) (
       by_tag u (opened_body s.mac st.key (header_in packet) (take 2 (drop 6 packet)) (drop 8 packet) tag (omega (arith, t2)) isc) does1
     where
       by_tag : (u : Option (List ℕ)) → IsOpened u
-          → do_op s handle (ir.Open (end_at j + 8) 16 6 2 2) (at c place []) ≡ opened (at c place []) (end_at j + 8) (header_in packet) 2 2 u
+          → do_at s handle (Some (ir.Open (end_at j + 8) 16 6 2 2)) (at c place []) ≡ opened (at c place []) (end_at j + 8) (header_in packet) 2 2 u
           → Invokes s call handle given code (event_opened s call (j, e) packet u p) (cost + 200) (at c place [])
       by_tag None g d =
           let r = Returns other_tag p in
@@ -218,7 +219,7 @@ module _ (s : Setup) (call : Call) (handle : ℕ → Conf → OperationResult) (
           (shows_priv s call p c priv4 (place + 1) (1 ∷ []) shows (length-put_bytes c.priv 2 value) (AllBytes-put_bytes c.priv 2 value shows.bytes)
           (λ i kept. get-put_bytes_other c.priv 2 value i (apart i kept (length value) len2))) in
           let own : (end_at j + 8 == 0) ≡ false = ne_eqb (end_at j + 8) 0 (omega arith) in
-          let d2 : do_op s handle (ir.Open (end_at j + 8) 16 6 2 2) (at c place []) ≡ Goes c4 = d
+          let d2 : do_at s handle (Some (ir.Open (end_at j + 8) 16 6 2 2)) (at c place []) ≡ Goes c4 = d
           ∙ ap (λ (b : Bool). Goes (with_mark (with_priv c priv4 (place + 1) (1 ∷ [])) (mark.Unwrapped (header_in packet) value b))) own in
           let second4 : word priv4 20 ≡ second_in packet = word_same c.priv priv4 20 20 refl refl (get-put_bytes_other c.priv 2 value 20 (inr (omega (arith, len2))))
           (get-put_bytes_other c.priv 2 value 21 (inr (omega (arith, len2)))) ∙ holds_word c.priv packet 4 refl (omega (arith, len)) holds in
@@ -286,7 +287,7 @@ module _ (s : Setup) (call : Call) (handle : ℕ → Conf → OperationResult) (
       (if second == 65535 then Returns past_number p else rest) p (at_front code (q + 24) (refuse_if (q + 24) (is_past_number n) 6) r3 a2) number refl shows3 none (omega arith) (omega arith)
       (λ x3. refuse_does s call handle given code (second == 65535) is_last_number 6 (truth (second == 65535)) c3 (q + 34) (q + 41) (cost + 1100) (cost + 1000) [] rest p
       (at_front code (q + 34) (refuse_if (q + 34) is_last_number 6) r4 a3) final refl shows3 none (omega arith) (omega arith)
-      (λ x4. chain_does s call handle given code rest (take_receiving s.tree) (12 * j) c3 index3 (omega (arith, few, lt)) s.ends 0 (q + 41) (q + 41 + length r4) (cost + 1000) (cost + 200)
+      (λ x4. chain_does s call handle given code rest (take_receiving s.tree) (12 * j) c3 index3 (omega (arith, few, lt)) refl s.ends 0 (q + 41) (q + 41 + length r4) (cost + 1000) (cost + 200)
       (index_words (take_receiving s.tree) s.ends 0 (λ i d. refl) (omega (arith, few))) a4 refl (omega (arith, few))
       (λ j2 e2 place found2 a5.
       let again = sym found2 ∙ index_found t (take_receiving s.tree) s.ends 0 j e links (λ i d. refl) receives found in

@@ -10,7 +10,7 @@ use Rattle.sx_invoke.specs.Setup.{Setup, Call}
 use Rattle.sx_invoke.specs.Progress.{Progress, Invoked, Returns}
 use Rattle.sx_ir.specs.Conf.{Conf, Violates}
 use Rattle.sx_ir.specs.Counts.{count_of}
-use Rattle.sx_ir.specs.Meaning.{OperationResult, do_op, handler_count}
+use Rattle.sx_ir.specs.Meaning.{OperationResult, do_at, handler_count}
 use Rattle.sx_ir.specs.declared.ir.Ir.{Ir}
 use Rattle.sx_ir.specs.declared.ir.Ir.TheVariants as ir
 use Rattle.sx_stub.specs.Stub.{returns, refuse_if}
@@ -30,14 +30,14 @@ module _ (s : Setup) (call : Call) (handle : ℕ → Conf → OperationResult) (
 
   -- by one operation that goes on
   pub goes_on : (r : Invoked) (i : Ir) (c t : Conf) (n m : ℕ) → slice_get code c.place ≡ Some i
-      → do_op s handle i c ≡ Goes t
+      → do_at s handle (Some i) c ≡ Goes t
       → handler_count given i ≡ 0 → count_of i + m ≤ n → Goal r m t → Goal r n c
   goes_on r = goes s handle given code (EndsSo r) (LeavesSo s call code r)
 
   -- by one that ends in its violation
   pub breaks : (r : Invoked) (i : Ir) (c : Conf) (v : Violation) (marks : List Mark) (n : ℕ)
       → slice_get code c.place ≡ Some i
-      → do_op s handle i c ≡ Stops (Violates v marks) → handler_count given i ≡ 0 → count_of i ≤ n → EndsSo r v marks
+      → do_at s handle (Some i) c ≡ Stops (Violates v marks) → handler_count given i ≡ 0 → count_of i ≤ n → EndsSo r v marks
       → Goal r n c
   breaks r = halts s handle given code (EndsSo r) (LeavesSo s call code r)
 

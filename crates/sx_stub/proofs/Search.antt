@@ -88,7 +88,7 @@ module _ (s : Setup) (call : Call) (handle : ℕ → Conf → OperationResult) (
       let a2 = found_at s.tree s.ends code q a in
       let size = shows.size in
       within s call handle given code r n (700 + m) (at c q []) le
-      (chain_does s call handle given code r (find_any found) v c here small s.ends 0 q (q + length search) (700 + m) (40 + m) (named_words found s.ends 0 links) (at_front code q search rest a) refl
+      (chain_does s call handle given code r (find_any found) v c here small refl s.ends 0 q (q + length search) (700 + m) (40 + m) (named_words found s.ends 0 links) (at_front code q search rest a) refl
       (omega (arith, few))
       (λ j e place f a3.
       let inside = found_in (case_test (find_any found) v) s.ends 0 j e f in

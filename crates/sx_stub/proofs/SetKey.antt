@@ -22,12 +22,13 @@ use Rattle.sx_invoke.specs.Windows.{is_bad_window}
 use Rattle.sx_invoke.specs.Progress.{Progress, Invoked, Returns}
 use Rattle.sx_invoke.specs.Entries.{set_key, set_key_at, key_opened, end_keyed, is_keyed, field_in, second_in, header_in, end_on, side_of, with_received}
 use Rattle.sx_ir.specs.Conf.{Conf}
-use Rattle.sx_ir.specs.Meaning.{OperationResult, do_op, element, opened}
+use Rattle.sx_ir.specs.Meaning.{OperationResult, do_op, do_at, opened, when}
 use Rattle.sx_ir.specs.Meaning as meaning
+use Rattle.sx_ir.specs.declared.ir.IrOp.TheVariants as op
 use Rattle.sx_ir.specs.declared.ir.Ir.{Ir}
 use Rattle.sx_ir.specs.declared.ir.Ir.TheVariants as ir
 use Rattle.sx_stub.specs.Stub.{set_key_code, key_found, key_place, search_code, refuse_if, cases, find_any, open_any, open_end, is_wrong_kind, is_no_side}
-use Rattle.sx_stub.specs.Stub.{wanted_end, is_keyed_code, is_opened_not, is_to}
+use Rattle.sx_stub.specs.Stub.{wanted_end, is_keyed_code, is_opened_not, is_to, slot_word}
 use Rattle.sx_stub.specs.Invokes.{ShowsCall, Invokes}
 use Rattle.sx_stub.proofs.Mem.{AllBytes, word_lt, word_same, word-put_same, word-put_other, get-put_other, length-put_bytes, AllBytes-put_word}
 use Rattle.sx_stub.proofs.Mem.{AllBytes-put_bytes, get-put_bytes_other, bytes_from_put, AllBytes-bytes_from}
@@ -38,7 +39,7 @@ use Rattle.sx_stub.proofs.Chain.{found_by, case_test, chain_does}
 use Rattle.sx_stub.proofs.Receive.{receive_does, copied_shows, truth_not}
 use Rattle.sx_stub.proofs.Attest.{with_mark, progress_mark, shows_mark}
 use Rattle.sx_stub.proofs.Packets.{Holds, holds_copied, holds_put, holds_word, holds_part, upper, lower, upper_lt, IsOpened, opened_body}
-use Rattle.sx_stub.proofs.Ends.{FewLinks, any_same, found_in, index_found, index_words, slot_value, and_truth}
+use Rattle.sx_stub.proofs.Ends.{FewLinks, any_same, found_in, index_found, index_words, slot_pure, and_truth}
 use Rattle.sx_stub.proofs.Search.{shows_kept_word, some_place, some_none, search_does, found_at, key_at}
 use Rattle.sx_machine.proofs.Lengths.{length-put_word}
 use Rattle.sx_lists.specs.Truth.{truth}
@@ -50,16 +51,14 @@ pub keyed_word : (priv : List ℕ) (ends j : ℕ) (field : ℕ) → AllBytes pri
     → pure s priv (is_keyed_code ends) [] ≡ Some (truth (is_keyed (end_state priv j) field) ∷ [])
 keyed_word priv ends j field h few lt index is small s =
     let at_end = word priv (end_at j) in
-    let e2 : element priv 512 (12 * ends) ((word priv 74 + 2) % 65536) ≡ word priv (end_at j + 4) = ap (λ (x : ℕ). element priv 512 (12 * ends) ((x + 2) % 65536)) index
-    ∙ slot_value priv ends j 2 few lt (omega arith) in
-    let e0 : element priv 512 (12 * ends) ((word priv 74 + 0) % 65536) ≡ at_end = ap (λ (x : ℕ). element priv 512 (12 * ends) ((x + 0) % 65536)) index ∙ slot_value priv ends j 0 few lt (omega arith)
-    ∙ ap (word priv) (omega arith) in
+    let last = ir.Push 0xFF00 ∷ ir.Op op.And ∷ ir.Load 18 ∷ ir.Push 0xFF00 ∷ ir.Op op.And ∷ ir.Op op.Lt ∷ ir.Op op.Not ∷ ir.Op op.And ∷ [] in
+    let first = ir.Push 0 ∷ ir.Op op.Eq ∷ ir.Op op.Not ∷ (slot_word ends 0 ++ last) in
     let a : bit_and at_end 0xFF00 ≡ epoch_of at_end * 256 = upper at_end (word_lt priv (end_at j) h) in
     let b : bit_and field 0xFF00 ≡ epoch_of field * 256 = upper field small in
     let opened = word priv (end_at j + 4) in
-    ap (λ (x : ℕ). Some (bit_and (truth (truth (x == 0) == 0))
-    (truth (truth (nat_lt (bit_and (element priv 512 (12 * ends) ((word priv 74 + 0) % 65536)) 0xFF00) (bit_and (word priv 18) 0xFF00)) == 0)) ∷ [])) e2
-    ∙ ap (λ (x : ℕ). Some (bit_and (truth (truth (opened == 0) == 0)) (truth (truth (nat_lt (bit_and x 0xFF00) (bit_and (word priv 18) 0xFF00)) == 0)) ∷ [])) e0
+    slot_pure s priv ends j 2 first [] few lt (omega arith) index refl refl
+    ∙ slot_pure s priv ends j 0 last (truth (truth (opened == 0) == 0) ∷ []) few lt (omega arith) index refl refl
+    ∙ ap (λ (x : ℕ). Some (bit_and (truth (truth (opened == 0) == 0)) (truth (truth (nat_lt (bit_and (word priv x) 0xFF00) (bit_and (word priv 18) 0xFF00)) == 0)) ∷ [])) (omega arith)
     ∙ ap (λ (x : ℕ). Some (bit_and (truth (truth (opened == 0) == 0)) (truth (truth (nat_lt (bit_and at_end 0xFF00) (bit_and x 0xFF00)) == 0)) ∷ [])) is
     ∙ ap (λ (x : ℕ). Some (bit_and (truth (truth (opened == 0) == 0)) (truth (truth (nat_lt x (bit_and field 0xFF00)) == 0)) ∷ [])) a
     ∙ ap (λ (x : ℕ). Some (bit_and (truth (truth (opened == 0) == 0)) (truth (truth (nat_lt (epoch_of at_end * 256) x) == 0)) ∷ [])) b
@@ -164,8 +163,9 @@ module _ (s : Setup) (call : Call) (handle : ℕ → Conf → OperationResult) (
       let shows5 : ShowsCall s call (end_keyed j packet key p) (with_priv c priv (place + 1) []) =
       shows_slot s call (progress_mark p m) c priv (place + 1) [] j new shows lt (l4 ∙ l3 ∙ l2
       ∙ l1) bytes5 (λ i o. keyed_other c.priv key j (field_in packet) i len o) (keyed_end c.priv key j (field_in packet) isb len (omega (arith, lt, room))) in
-      let does : do_op s handle (ir.SetEnd j) (at c place []) ≡ Goes (with_priv c priv (place + 1) []) =
-      ap (λ (x : ℕ). Goes (with_priv c (meaning.slot_keyed c.priv j x (bytes_from c.priv 56 16)) (place + 1) [])) field
+      let does : do_at s handle (Some (ir.SetEnd j)) (at c place []) ≡ Goes (with_priv c priv (place + 1) []) =
+      ap (λ (b : Bool). when b (do_op s handle (ir.SetEnd j) (at c place []))) (lt-ltb j (length s.ends) lt)
+      ∙ ap (λ (x : ℕ). Goes (with_priv c (meaning.slot_keyed c.priv j x (bytes_from c.priv 56 16)) (place + 1) [])) field
       ∙ ap (λ (x : List ℕ). Goes (with_priv c (meaning.slot_keyed c.priv j (field_in packet) x) (place + 1) [])) read in
       goes_on s call handle given code r (ir.SetEnd j) (at c place []) (with_priv c priv (place + 1) []) 60 16 a.0 does refl (omega arith)
       (runs_on s call handle given code r (ir.Push 1 ∷ ir.Push 0 ∷ []) (with_priv c priv (place + 1) []) (place + 1) (place + 1 + 1 + 1) [] (0 ∷ 1 ∷ []) 16 0 (a.1.0, (a.1.1.0, tt)) refl
@@ -254,7 +254,7 @@ module _ (s : Setup) (call : Call) (handle : ℕ → Conf → OperationResult) (
               (subst (λ (x : ℕ). Invokes s call handle given code r 860 (at c4 x (1 ∷ []))) (omega arith)
               (refuse_does s call handle given code false is_opened_not other_tag 0 c4 (q + 24) (q + 29) 860 780 (1 ∷ []) r p1
               (at_front code (q + 24) (refuse_if (q + 24) is_opened_not other_tag) (cases open_any (q + 29) 0 s.ends) all) refl refl shows4 none (omega arith) (omega arith)
-              (λ x. chain_does s call handle given code r open_any (12 * j) c4 index4 (omega (arith, few, lt)) s.ends 0 (q + 29) (q + 29 + length (cases open_any (q + 29) 0 s.ends)) 780 60
+              (λ x. chain_does s call handle given code r open_any (12 * j) c4 index4 (omega (arith, few, lt)) refl s.ends 0 (q + 29) (q + 29 + length (cases open_any (q + 29) 0 s.ends)) 780 60
               (index_words open_any s.ends 0 (λ i d. refl) (omega (arith, few))) (at_back code (q + 24) (q + 29) (refuse_if (q + 24) is_opened_not other_tag) (cases open_any (q + 29) 0 s.ends)
               (omega arith) all) refl (omega (arith, few))
               (λ j2 e2 place found2 a2.

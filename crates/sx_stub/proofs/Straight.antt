@@ -14,7 +14,7 @@ use Rattle.sx_invoke.specs.Setup.{Setup}
 use Rattle.sx_invoke.specs.Windows.{is_bad_window}
 use Rattle.sx_ir.specs.Conf.{Conf, Violates}
 use Rattle.sx_ir.specs.Counts.{count_of}
-use Rattle.sx_ir.specs.Meaning.{OperationResult, do_op, do_at, op_step, op_count, count_at, handler_count, CodeReaches, element, is_saved, next, pushed, when, on_top, saved, operated}
+use Rattle.sx_ir.specs.Meaning.{OperationResult, do_op, do_at, op_step, op_count, count_at, handler_count, CodeReaches, element, is_saved, names_no_key, next, pushed, when, on_top, saved, operated}
 use Rattle.sx_ir.specs.declared.ir.IrOp.{IrOp}
 use Rattle.sx_ir.specs.declared.ir.IrOp.TheVariants as op
 use Rattle.sx_ir.specs.declared.ir.Ir.{Ir}
@@ -95,9 +95,13 @@ abbrev pub after_pure : Option (List ℕ) → (List ℕ → Option (List ℕ)) �
 after_pure None rest = None
 after_pure (Some stack) rest = rest stack
 
+-- where it names no key
+abbrev pub pure_at : Setup → List ℕ → Ir → List ℕ → Option (List ℕ)
+pure_at s priv i stack = if names_no_key (length s.ends) i stack then pure_op s priv i stack else None
+
 abbrev pub pure : Setup → List ℕ → List Ir → List ℕ → Option (List ℕ)
 pure s priv [] stack = Some stack
-pure s priv (i ∷ ops) stack = after_pure (pure_op s priv i stack) (pure s priv ops)
+pure s priv (i ∷ ops) stack = after_pure (pure_at s priv i stack) (pure s priv ops)
 
 -- the instructions of operations
 abbrev pub counts : List Ir → ℕ
@@ -170,7 +174,15 @@ module _ (s : Setup) (handle : ℕ → Conf → OperationResult) where
   pure_does (ir.Handler x) c st h = absurd (none-some st h)
   pure_does ir.Leave c st h = absurd (none-some st h)
 
-  pub pure_count : (given : ℕ → ℕ) (i : Ir) (priv stack st : List ℕ) → pure_op s priv i stack ≡ Some st
+  pub pure_done : (i : Ir) (c : Conf) (st : List ℕ) → pure_at s c.priv i c.stack ≡ Some st
+      → do_at s handle (Some i) c ≡ Goes (next c st)
+  pure_done i c st h = go (names_no_key (length s.ends) i c.stack) h
+    where
+      go : (b : Bool) → (if b then pure_op s c.priv i c.stack else None) ≡ Some st → when b (do_op s handle i c) ≡ Goes (next c st)
+      go true h = pure_does i c st h
+      go false h = absurd (none-some st h)
+
+  pub pure_count : (given : ℕ → ℕ) (i : Ir) (priv stack st : List ℕ) → pure_at s priv i stack ≡ Some st
       → handler_count given i ≡ 0
   pure_count given (ir.Handler x) priv stack st h = absurd (none-some st h)
   pure_count given i priv stack st h = refl
@@ -185,7 +197,7 @@ module _ (s : Setup) (handle : ℕ → Conf → OperationResult) (given : ℕ �
   wider n m c le (Ends x y z r) = Ends x y (omega arith) r
 
   -- one operation that goes on
-  pub goes : (i : Ir) (c t : Conf) (n m : ℕ) → slice_get code c.place ≡ Some i → do_op s handle i c ≡ Goes t
+  pub goes : (i : Ir) (c t : Conf) (n m : ℕ) → slice_get code c.place ≡ Some i → do_at s handle (Some i) c ≡ Goes t
       → handler_count given i ≡ 0 → count_of i + m ≤ n → Runs m t → Runs n c
   unfolding op_step op_count
   goes i c t n m e d z le r =
@@ -195,7 +207,7 @@ module _ (s : Setup) (handle : ℕ → Conf → OperationResult) (given : ℕ �
 
   -- one that ends in a violation
   pub halts : (i : Ir) (c : Conf) (v : Violation) (marks : List Mark) (n : ℕ) → slice_get code c.place ≡ Some i
-      → do_op s handle i c ≡ Stops (Violates v marks) → handler_count given i ≡ 0 → count_of i ≤ n → B v marks
+      → do_at s handle (Some i) c ≡ Stops (Violates v marks) → handler_count given i ≡ 0 → count_of i ≤ n → B v marks
       → Runs n c
   unfolding op_step op_count
   halts i c v marks n e d z le b =
@@ -212,11 +224,11 @@ module _ (s : Setup) (handle : ℕ → Conf → OperationResult) (given : ℕ �
       let h = same_Some stack st e in
       wider n m (at c p stack) (omega (arith, le)) (subst (λ (p : ℕ). Runs m (at c p stack)) (sym g) (subst (λ (st : List ℕ). Runs m (at c q st)) (sym h) r))
   runs (i ∷ ops) c p q stack st n m a e f le r =
-      first (pure_op s c.priv i stack) refl e (λ st1 x. runs ops c (p + 1) q st1 st (counts ops + m) m a.1 x (omega (arith, f)) (omega arith) r)
+      first (pure_at s c.priv i stack) refl e (λ st1 x. runs ops c (p + 1) q st1 st (counts ops + m) m a.1 x (omega (arith, f)) (omega arith) r)
     where
-      first : (o : Option (List ℕ)) → pure_op s c.priv i stack ≡ o → after_pure o (pure s c.priv ops) ≡ Some st
+      first : (o : Option (List ℕ)) → pure_at s c.priv i stack ≡ o → after_pure o (pure s c.priv ops) ≡ Some st
           → ((st1 : List ℕ) → pure s c.priv ops st1 ≡ Some st → Runs (counts ops + m) (at c (p + 1) st1))
           → Runs n (at c p stack)
       first None h x f = absurd (none-some st x)
       first (Some st1) h x f =
-          goes i (at c p stack) (at c (p + 1) st1) n (counts ops + m) a.0 (pure_does s handle i (at c p stack) st1 h) (pure_count s handle given i c.priv stack st1 h) (omega (arith, le)) (f st1 x)
+          goes i (at c p stack) (at c (p + 1) st1) n (counts ops + m) a.0 (pure_done s handle i (at c p stack) st1 h) (pure_count s handle given i c.priv stack st1 h) (omega (arith, le)) (f st1 x)

@@ -1,0 +1,38 @@
+-- Places that hold no key of the module's ends.
+use Rattle.std.proofs.Common.{◌≡◌, ℕ, ◌+◌, ◌-◌, ◌*◌, ◌%◌, ◌<◌, ◌≤◌, true, nat_le, nat_lt, arith}
+use Rattle.std.specs.Prelude.{◌==◌, ◌||◌, ◌&&◌, not}
+use Rattle.std.proofs.lemmas.Bool.{and_from, eq-eqb, le-leb, lt-ltb, ne_eqb, not_from_false, or_left, or_right}
+use Rattle.sx_ir.specs.Meaning.{is_body_place, is_key_place, is_shown, is_shown_element}
+
+-- behind the copied packet's plain body, and before the key of the first slot
+pub middle_shown : (ends o n : ℕ) → 72 ≤ o → o + n ≤ 520 → is_shown ends o n ≡ true
+middle_shown ends o n from to =
+    and_from _ _ (or_right (nat_le (o + n) 56) (nat_le 72 o) (le-leb 72 o from))
+    (or_left (nat_le (o + n) 520) _ (le-leb (o + n) 520 to))
+
+-- behind the slots
+pub cell_shown : (ends o n : ℕ) → 512 + 24 * ends ≤ o → is_shown ends o n ≡ true
+cell_shown ends o n from =
+    and_from _ _ (or_right (nat_le (o + n) 56) (nat_le 72 o) (le-leb 72 o (omega (arith, from))))
+    (or_right (nat_le (o + n) 520) _ (or_left (nat_le (512 + 24 * ends) o) _ (le-leb (512 + 24 * ends) o from)))
+
+-- in the first 8 bytes of a slot
+pub slot_shown : (ends k d n : ℕ) → d + n ≤ 8 → is_shown ends (512 + 24 * k + d) n ≡ true
+slot_shown ends k d n few =
+    let o = 512 + 24 * k + d in
+    and_from _ _ (or_right (nat_le (o + n) 56) (nat_le 72 o) (le-leb 72 o (omega arith)))
+    (or_right (nat_le (o + n) 520) _ (or_right (nat_le (512 + 24 * ends) o) _ (le-leb ((o - 512) % 24 + n) 8 (omega (arith, few)))))
+
+pub element_shown : (ends o n i : ℕ) → is_shown ends (o + 2 * i) 2 ≡ true → is_shown_element ends o n i ≡ true
+element_shown ends o n i e = or_right (not (nat_lt i n)) (is_shown ends (o + 2 * i) 2) e
+
+-- the key in a slot
+pub slot_key : (ends k : ℕ) → k < ends → is_key_place ends (512 + 24 * k + 8) ≡ true
+slot_key ends k one =
+    let o = 512 + 24 * k + 8 in
+    or_right (o == 0) _ (and_from _ _ (le-leb 520 o (omega arith))
+    (and_from _ _ (lt-ltb o (512 + 24 * ends) (omega (arith, one))) (eq-eqb ((o - 520) % 24) 0 (omega arith))))
+
+-- what is unwrapped under a slot's key may go anywhere
+pub slot_body : (k b bn : ℕ) → 0 < k → is_body_place k b bn ≡ true
+slot_body k b bn other = or_left (not (k == 0)) _ (not_from_false (k == 0) (ne_eqb k 0 (omega (arith, other))))
