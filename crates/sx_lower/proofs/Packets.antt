@@ -2,7 +2,7 @@
 use Rattle.std.proofs.Common.{◌≡◌, ◌≢◌, ℕ, ◌+◌, ◌*◌, ◌<◌, ◌≤◌, Bool, true, false, ◌&&◌, not, if◌then◌else◌, List, [], ◌∷◌, ◌++◌, length, Some, nat_lt}
 use Rattle.std.proofs.Common.{nat_le, refl, sym, ap, ◌∙◌, subst, arith, length-append}
 use Rattle.std.specs.Prelude.{slice_get, Result, Ok, Err}
-use Rattle.std.proofs.lemmas.Bool.{le-leb, ltb-true, and_parts}
+use Rattle.std.proofs.lemmas.Bool.{le-leb, lt-ltb, ltb-true, and_parts}
 use Rattle.std.proofs.lemmas.Bool.Decides.{nat_tests}
 use Rattle.sx_lang.specs.declared.tree.Decl.{Decl}
 use Rattle.sx_lang.specs.Sizes.{module_data_size}
@@ -26,14 +26,14 @@ use Rattle.sx_mean.specs.Ends.{is_sending}
 use Rattle.sx_mean.specs.EndLaws.{senders}
 use Rattle.sx_mean.proofs.Ends.{senders-cons}
 use Rattle.sx_ir.specs.Conf.{Conf}
-use Rattle.sx_ir.specs.Meaning.{OperationResult, do_op, send_open, copied_out, packed, sealed_event, has_out_window, pieces, saved, when}
+use Rattle.sx_ir.specs.Meaning.{OperationResult, do_at, send_open, copied_out, packed, sealed_event, has_out_window, pieces, saved, when}
 use Rattle.sx_ir.specs.declared.ir.Ir.{Ir}
 use Rattle.sx_ir.specs.declared.ir.Ir.TheVariants as ir
 use Rattle.sx_lower.specs.Lowered.{packets_code}
 use Rattle.sx_lower.proofs.Bytes.{word-put_same, word-put_other}
 use Rattle.sx_lower.proofs.Slots.{end_among, ends_number, ends_other}
 use Rattle.sx_lower.proofs.Holds.{Holds, holds_other}
-use Rattle.sx_lower.proofs.Run.{HasAt, at, do_one, do_last, weaker, Comes_to}
+use Rattle.sx_lower.proofs.Run.{HasAt, at, do_one, do_last, passed, weaker, Comes_to}
 use Rattle.sx_machine.proofs.Lengths.{length-put_word}
 
 -- The private section, the memory outside, the devices and the marks show an invocation's progress, but for the cells.
@@ -163,8 +163,9 @@ module _ (s : Setup) (handle : ℕ → Conf → OperationResult) (given : ℕ �
           → Comes_to s handle given code B Q n (at p (v ∷ stack) c)
       by_open false shut is =
           let e = end_state c.priv k in
-          let stays : do_op s handle (ir.Packet k) (at p (v ∷ stack) c) ≡ Goes (at (p + 1) (v ∷ stack) c) =
-          ap (λ b. when b (if e.is_open && nat_lt e.number 65535 then send_open s (at p (v ∷ stack) c) k v e else Goes (at (p + 1) (v ∷ stack) c))) (has_window c progress shown)
+          let stays : do_at s handle (Some (ir.Packet k)) (at p (v ∷ stack) c) ≡ Goes (at (p + 1) (v ∷ stack) c) =
+          passed s handle given code B _ _ (lt-ltb k (length s.ends) inside)
+          ∙ ap (λ b. when b (if e.is_open && nat_lt e.number 65535 then send_open s (at p (v ∷ stack) c) k v e else Goes (at (p + 1) (v ∷ stack) c))) (has_window c progress shown)
           ∙ ap (λ b. if b then send_open s (at p (v ∷ stack) c) k v e else Goes (at (p + 1) (v ∷ stack) c)) shut in
           do_one s handle given code B Q (ir.Packet k) (at p (v ∷ stack) c) (at (p + 1) (v ∷ stack) c) m n has stays (omega (arith, le))
           (goes progress c.priv c.mem c.marks (packet_closed s call v k progress e is shut) (omega arith) h shown)
@@ -173,9 +174,10 @@ module _ (s : Setup) (handle : ℕ → Conf → OperationResult) (given : ℕ �
           let to : call.output + 24 * length progress.pieces ≡ saved c 14 + 24 * pieces c = omega (arith, shown.output, shown.count) in
           let course = packet_open s call v k progress e (saved c 14 + 24 * pieces c) c.devices c.mem is open_ to (sym shown.windows) (sym shown.outside) in
           let small = ltb-true e.number 65535 (and_parts e.is_open (nat_lt e.number 65535) open_).1 in
-          let does : do_op s handle (ir.Packet k) (at p (v ∷ stack) c) ≡ copied_out (write_bytes s c.devices c.mem (saved c 14 + 24 * pieces c) (event_packet s e v))
+          let does : do_at s handle (Some (ir.Packet k)) (at p (v ∷ stack) c) ≡ copied_out (write_bytes s c.devices c.mem (saved c 14 + 24 * pieces c) (event_packet s e v))
           (sealed_event (at p (v ∷ stack) c) e v) (packed (sealed_event (at p (v ∷ stack) c) e v) k e) =
-          ap (λ b. when b (if e.is_open && nat_lt e.number 65535 then send_open s (at p (v ∷ stack) c) k v e else Goes (at (p + 1) (v ∷ stack) c))) (has_window c progress shown)
+          passed s handle given code B _ _ (lt-ltb k (length s.ends) inside)
+          ∙ ap (λ b. when b (if e.is_open && nat_lt e.number 65535 then send_open s (at p (v ∷ stack) c) k v e else Goes (at (p + 1) (v ∷ stack) c))) (has_window c progress shown)
           ∙ ap (λ b. if b then send_open s (at p (v ∷ stack) c) k v e else Goes (at (p + 1) (v ∷ stack) c)) open_
           ∙ ap (λ b. when b (copied_out (write_bytes s c.devices c.mem (saved c 14 + 24 * pieces c) (event_packet s e v)) (sealed_event (at p (v ∷ stack) c) e v)
           (packed (sealed_event (at p (v ∷ stack) c) e v) k e)))
@@ -183,7 +185,7 @@ module _ (s : Setup) (handle : ℕ → Conf → OperationResult) (given : ℕ �
           by_write (write_bytes s c.devices c.mem (saved c 14 + 24 * pieces c) (event_packet s e v)) course does small
         where
           by_write : (w : Result (List ℕ) Violation) → with_packet s call v k progress ≡ copied_to w (packet_made s k (end_state c.priv k) v progress)
-              → do_op s handle (ir.Packet k) (at p (v ∷ stack) c) ≡ copied_out w (sealed_event (at p (v ∷ stack) c) (end_state c.priv k) v)
+              → do_at s handle (Some (ir.Packet k)) (at p (v ∷ stack) c) ≡ copied_out w (sealed_event (at p (v ∷ stack) c) (end_state c.priv k) v)
               (packed (sealed_event (at p (v ∷ stack) c) (end_state c.priv k) v) k (end_state c.priv k))
               → (end_state c.priv k).number < 65535 → Comes_to s handle given code B Q n (at p (v ∷ stack) c)
           by_write (Ok mem2) course does small =

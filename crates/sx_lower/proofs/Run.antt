@@ -1,9 +1,9 @@
 -- Operations one by one, and expressions.
-use Rattle.std.proofs.Common.{◌≡◌, ℕ, ◌+◌, ◌%◌, ◌<◌, ◌≤◌, Bool, true, false, if◌then◌else◌, List, [], ◌∷◌, ◌++◌, length, Some, nat_lt, refl, sym, ap, ◌∙◌, subst, arith, length-append, append_assoc}
+use Rattle.std.proofs.Common.{◌≡◌, ℕ, ◌+◌, ◌*◌, ◌%◌, ◌<◌, ◌≤◌, Bool, true, false, if◌then◌else◌, List, [], ◌∷◌, ◌++◌, length, Some, nat_lt, refl, sym, ap, ◌∙◌, subst, arith, length-append, append_assoc}
 use Rattle.std.specs.Prelude.{slice_get}
 use Rattle.std.proofs.Math.Seq.{get_or-append_seam}
 use Rattle.std.proofs.lemmas.Option.{slice_get-get_or}
-use Rattle.std.proofs.lemmas.Bool.{lt-ltb}
+use Rattle.std.proofs.lemmas.Bool.{lt-ltb, ltb-true}
 use Rattle.sx_lang.specs.declared.tree.Decl.{Decl}
 use Rattle.sx_lang.specs.declared.tree.UnOp.{UnOp}
 use Rattle.sx_lang.specs.declared.tree.UnOp.TheVariants as unary
@@ -24,7 +24,7 @@ use Rattle.sx_mean.specs.Offsets.{cell_at}
 use Rattle.sx_mean.specs.Working.{stack_words, local_at}
 use Rattle.sx_ir.specs.Conf.{Conf, Halt, Violates}
 use Rattle.sx_ir.specs.Counts.{count_of}
-use Rattle.sx_ir.specs.Meaning.{OperationResult, do_op, op_step, op_count, handler_count, count_at, do_at, OnViolation, CodeReaches, when}
+use Rattle.sx_ir.specs.Meaning.{OperationResult, op_step, is_shown, is_shown_element, op_count, handler_count, count_at, do_at, OnViolation, CodeReaches, when}
 use Rattle.sx_ir.specs.declared.ir.Ir.{Ir}
 use Rattle.sx_ir.specs.declared.ir.Ir.TheVariants as ir
 use Rattle.sx_ir.specs.declared.ir.IrOp.TheVariants as op
@@ -32,6 +32,7 @@ use Rattle.sx_mean.specs.Scope.{index_of}
 use Rattle.sx_mean.specs.Variables.{first_value, IsKnown, FineExpression}
 use Rattle.sx_lower.specs.Lowered.{variable_code, unary_op, is_turned, operator_code, expression_code}
 use Rattle.sx_mean.proofs.Words.{not_equal, at_most}
+use Rattle.sx_ir.proofs.Shown.{cell_shown, element_shown, middle_shown}
 use Rattle.sx_lower.proofs.Holds.{Holds, read_local, read_cell, read_element}
 
 -- the operations stand in the code from this place on
@@ -69,13 +70,13 @@ module _ (s : Setup) (handle : ℕ → Conf → OperationResult) (given : ℕ �
   Comes_to Q n c = CodeReaches s handle given code B Q n c
 
   -- one operation, and what follows
-  pub do_one : (Q : Conf → Type 0) (i : Ir) (c t : Conf) (k n : ℕ) → slice_get code c.place ≡ Some i → do_op s handle i c ≡ Goes t → count_of i + handler_count given i + k ≤ n → Comes_to Q k t
+  pub do_one : (Q : Conf → Type 0) (i : Ir) (c t : Conf) (k n : ℕ) → slice_get code c.place ≡ Some i → do_at s handle (Some i) c ≡ Goes t → count_of i + handler_count given i + k ≤ n → Comes_to Q k t
       → Comes_to Q n c
   unfolding op_step op_count
   do_one Q i c t k n has e le r = Next {k = k} {t = t} tt (ap (λ o. do_at s handle o c) has ∙ e) (subst (λ o. count_at given o + k ≤ n) (sym has) le) r
 
   -- an operation that ends the run with a violation
-  pub do_last : (Q : Conf → Type 0) (i : Ir) (c : Conf) (n : ℕ) (v : Violation) (marks : List Mark) → slice_get code c.place ≡ Some i → do_op s handle i c ≡ Stops (Violates v marks)
+  pub do_last : (Q : Conf → Type 0) (i : Ir) (c : Conf) (n : ℕ) (v : Violation) (marks : List Mark) → slice_get code c.place ≡ Some i → do_at s handle (Some i) c ≡ Stops (Violates v marks)
       → count_of i + handler_count given i ≤ n → B v marks → Comes_to Q n c
   unfolding op_step op_count
   do_last Q i c n v marks has e le b = Ends {v = Violates v marks} tt (ap (λ o. do_at s handle o c) has ∙ e) (subst (λ o. count_at given o ≤ n) (sym has) le) b
@@ -96,11 +97,15 @@ module _ (s : Setup) (handle : ℕ → Conf → OperationResult) (given : ℕ �
   pub to : (Q : Conf → Type 0) (n p q : ℕ) (stack : List ℕ) (c : Conf) → p ≡ q → Comes_to Q n (at q stack c) → Comes_to Q n (at p stack c)
   to Q n p q stack c e r = subst (λ p. Comes_to Q n (at p stack c)) (sym e) r
 
+  -- where a test is passed
+  pub passed : (b : Bool) (a : OperationResult) → b ≡ true → when b a ≡ a
+  passed b a e = ap (λ b. when b a) e
+
   pub room : (stack : List ℕ) (a : OperationResult) → length stack < stack_words → when (nat_lt (length stack) stack_words) a ≡ a
   room stack a h = ap (λ b. when b a) (lt-ltb (length stack) stack_words h)
 
   -- one operation of at most 8 instructions
-  pub step : (Q : Conf → Type 0) (i : Ir) (c t : Conf) (k n : ℕ) → slice_get code c.place ≡ Some i → do_op s handle i c ≡ Goes t → count_of i + handler_count given i ≤ 8 → 8 + k ≤ n → Comes_to Q k t
+  pub step : (Q : Conf → Type 0) (i : Ir) (c t : Conf) (k n : ℕ) → slice_get code c.place ≡ Some i → do_at s handle (Some i) c ≡ Goes t → count_of i + handler_count given i ≤ 8 → 8 + k ≤ n → Comes_to Q k t
       → Comes_to Q n c
   step Q i c t k n has e small le r = do_one Q i c t k n has e (omega (arith, small)) r
 
@@ -137,7 +142,15 @@ module _ (s : Setup) (handle : ℕ → Conf → OperationResult) (given : ℕ �
   unary_reach unary.Inv a p stack c has = do_one _ (ir.Op op.Inv) _ _ 0 _ has.0 refl (omega arith) (Here refl)
   unary_reach unary.Not a p stack c has = do_one _ (ir.Op op.Not) _ _ 0 _ has.0 refl (omega arith) (Here refl)
 
-  module _ (ds : List Decl) (n : ℕ) (names : List (List ℕ)) (st : HandlerState) where
+  module _ (ds : List Decl) (n : ℕ) (names : List (List ℕ)) (st : HandlerState) (all : length s.ends ≡ n) where
+    -- neither locals nor cells hold a key
+
+    local_is_shown : (i : ℕ) → i < length names → length names ≤ 16 → is_shown (length s.ends) (local_at i) 2 ≡ true
+    local_is_shown i lt few = middle_shown (length s.ends) (local_at i) 2 (omega arith) (omega (arith, lt, few))
+
+    element_is_shown : (x : List ℕ) (i : ℕ) → is_shown_element (length s.ends) (cell_at n (place ds x)) (array_length ds x) i ≡ true
+    element_is_shown x i = element_shown (length s.ends) (cell_at n (place ds x)) (array_length ds x) i (cell_shown (length s.ends) (cell_at n (place ds x) + 2 * i) 2 (omega (arith, all)))
+
     variable_reach : (x : List ℕ) (p : ℕ) (stack : List ℕ) (c : Conf) → Holds ds n names st c.priv → IsKnown ds names x → length stack + 1 < stack_words → HasAt code p (variable_code ds n names x)
         → Gives (at p stack c) (at (p + length (variable_code ds n names x)) (word ds st x ∷ stack) c) 32
     variable_reach x p stack c h known space has = go (nat_lt (index_of names x) (length names)) refl has
@@ -147,13 +160,15 @@ module _ (s : Setup) (handle : ℕ → Conf → OperationResult) (given : ℕ �
             → Gives (at p stack c) (at (p + length (if b then ir.Load (local_at (index_of names x)) ∷ [] else ir.Load (cell_at n (place ds x)) ∷ ir.Push (first_value ds x) ∷ ir.Op op.Add ∷ []))
             (word ds st x ∷ stack) c) 32
         go true e has =
-            do_one _ (ir.Load (local_at (index_of names x))) _ (at (p + 1) (memory.word c.priv (local_at (index_of names x)) ∷ stack) c) 0 _ has.0 (room stack _ (omega (arith, space))) (omega arith)
+            do_one _ (ir.Load (local_at (index_of names x))) _ (at (p + 1) (memory.word c.priv (local_at (index_of names x)) ∷ stack) c) 0 _ has.0
+            (passed _ _ (local_is_shown (index_of names x) (ltb-true (index_of names x) (length names) e) h.few) ∙ room stack _ (omega (arith, space))) (omega arith)
             (Here (ap (λ v. at (p + 1) (v ∷ stack) c) (read_local ds n names st c.priv h x e)))
         go false e has =
             let w = memory.word c.priv (cell_at n (place ds x)) in
             let f = first_value ds x in
             let q : p + 1 + 1 + 1 ≡ p + 3 = omega arith in
-            do_one _ (ir.Load (cell_at n (place ds x))) _ (at (p + 1) (w ∷ stack) c) 16 _ has.0 (room stack _ (omega (arith, space))) (omega arith)
+            do_one _ (ir.Load (cell_at n (place ds x))) _ (at (p + 1) (w ∷ stack) c) 16 _ has.0
+            (passed _ _ (cell_shown (length s.ends) (cell_at n (place ds x)) 2 (omega (arith, all))) ∙ room stack _ (omega (arith, space))) (omega arith)
             (do_one _ (ir.Push f) _ (at (p + 1 + 1) (f ∷ w ∷ stack) c) 8 _ has.1.0 (room (w ∷ stack) _ (omega (arith, space))) (omega arith)
             (do_one _ (ir.Op op.Add) _ (at (p + 1 + 1 + 1) ((w + f) % 65536 ∷ stack) c) 0 _ has.1.1.0 refl (omega arith)
             (Here (ap (λ v. at (p + 1 + 1 + 1) (v ∷ stack) c) (read_cell ds n names st c.priv h x e (known e)) ∙ ap (λ p. at p (word ds st x ∷ stack) c) q))))
@@ -181,7 +196,7 @@ module _ (s : Setup) (handle : ℕ → Conf → OperationResult) (given : ℕ �
         let load = ir.LoadAt (cell_at n (place ds x)) (array_length ds x) in
         let len : p + length ce + 1 ≡ p + length (ce ++ load ∷ []) = omega (arith, length-append ce (load ∷ [])) in
         after _ _ _ (expression_cost e) 64 _ (omega arith) (expression_reach e p stack c h fine (omega (arith, space)) (has_front code p ce _ has))
-        (do_one _ load _ (at (p + length ce + 1) (_ ∷ stack) c) 0 _ (has_back code p ce _ has).0 refl (omega arith)
+        (do_one _ load _ (at (p + length ce + 1) (_ ∷ stack) c) 0 _ (has_back code p ce _ has).0 (passed _ _ (element_is_shown x i)) (omega arith)
         (Here (ap (λ v. at (p + length ce + 1) (v ∷ stack) c) (read_element ds n names st c.priv h x i) ∙ ap (λ p. at p (element ds st x i ∷ stack) c) len)))
     expression_reach (Applied o e) p stack c h fine space has =
         let ce = expression_code ds n names e in
