@@ -1,4 +1,5 @@
 -- From the operations to the whole text of a code, and to nodes on which it stands.
+pub mod Named
 pub mod Whole
 pub mod Placing
 pub mod TextBytes

@@ -30,7 +30,7 @@ use Rattle.sx_ir.specs.Meaning.{Leaving, no_count, op_count, op_step, part_from,
 use Rattle.sx_tmpl.specs.Shows.{Stood}
 use Rattle.sx_tmpl.specs.Running.{fixed_at}
 use Rattle.sx_tmpl.specs.Text.{addresses}
-use Rattle.sx_tmpl.specs.Unseen.{NamesNoKey, StepShowsNone}
+use Rattle.sx_tmpl.specs.Unseen.{StepShowsNone}
 
 -- the node comes from here to Q, or is reset with B, within this many instructions, and each moment
 -- before is one of the invocation whose step shows no key
@@ -94,10 +94,6 @@ pub record LeftFrom (s : Setup) (before : State) (status count : ℕ) (t : Conf)
   pub sections : w.node.sections ≡ before.sections
   pub marks : w.marks ≡ t.marks
 
--- the operation at a configuration's place names no byte that may be a key's
-abbrev pub NamesNoKeyAt : ℕ → List Ir → Conf → Type 0
-NamesNoKeyAt ends ops c = (i : Ir) → slice_get ops c.place ≡ Some i → NamesNoKey ends i c.stack
-
 -- The node does the code, where `StandsFor` says that it stands for a configuration: from the entry
 -- it comes to the first one; from one whose operation goes on, to the next one, within the
 -- template's count; where the operation breaks, to its violation, after its marks; and from `Leave`
@@ -108,13 +104,11 @@ pub record Performs (s : Setup) (code : Code) (before : State) (result : Invoked
       (begins before)
   pub goes : (c t : Conf) (w : Watched) → StandsFor c w
       → IsRegular code.ops.items (call_at before) (marks_in result) c
-      → NamesNoKeyAt (length s.ends) code.ops.items c
       → HasPrefix (marks_in result) t.marks
       → op_step s (part_from code.parts.items) code.ops.items c ≡ Goes t
       → NodeRuns s result before Never (StandsFor t) (op_count no_count code.ops.items c) w
   pub stops : (c : Conf) (v : Violation) (marks : List Mark) (w : Watched) → StandsFor c w
       → IsRegular code.ops.items (call_at before) (marks_in result) c
-      → NamesNoKeyAt (length s.ends) code.ops.items c
       → HasPrefix (marks_in result) marks
       → op_step s (part_from code.parts.items) code.ops.items c ≡ Stops (Violates v marks)
       → NodeRuns s result before (With v marks) (λ w. ⊥) (op_count no_count code.ops.items c) w

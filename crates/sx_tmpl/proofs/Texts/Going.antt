@@ -16,7 +16,7 @@ use Rattle.sx_ir.specs.Conf as conf
 use Rattle.sx_ir.specs.declared.ir.Code.{Code}
 use Rattle.sx_ir.specs.declared.ir.Ir.{Ir}
 use Rattle.sx_ir.specs.Meaning.{no_count, OperationResult, op_count, op_step, part_from}
-use Rattle.sx_tmpl.specs.Performs.{NamesNoKeyAt, IsNarrow, IsRegular, Never, ReturnsBehind, With}
+use Rattle.sx_tmpl.specs.Performs.{IsNarrow, IsRegular, Never, ReturnsBehind, With}
 use Rattle.sx_tmpl.specs.Running.{Fixed, pieces_end}
 use Rattle.sx_tmpl.proofs.Running.Outcomes.{goes_same, goes_stops, stops_same}
 use Rattle.sx_tmpl.proofs.Running.MidRun.{Runs, Stands}
@@ -92,14 +92,14 @@ module _ (f : Fixed) (st : Stands f) (all : List Mark) (window : f.to ≡ pieces
           (record { from = omega (arith, z, next, from); to = omega (arith, z, next, to) }, omega (arith, z, next, ev))
 
   -- an operation that goes on
-  pub op_goes_on : (call : Call) (c t : Conf) (w : Watched) → call.output ≡ f.from → Sim c w → IsRegular ops call all c → NamesNoKeyAt (length f.setup.ends) ops c → HasPrefix all t.marks → op_step f.setup (part_from parts) ops c ≡ Goes t
+  pub op_goes_on : (call : Call) (c t : Conf) (w : Watched) → call.output ≡ f.from → Sim c w → IsRegular ops call all c → HasPrefix all t.marks → op_step f.setup (part_from parts) ops c ≡ Goes t
       → Runs f all Never (Sim t) (op_count no_count ops c) w
-  op_goes_on call c t w out x h unseen begins is = step_goes f st all (λ v m. ⊥) (λ v m b. absurd b) tag a ops done (part_from parts) (part_goes parts) (part_stops parts) no_count c t w x
-      (good call c out h) unseen is begins
+  op_goes_on call c t w out x h begins is = step_goes f st all (λ v m. ⊥) (λ v m b. absurd b) tag a ops done (part_from parts) (part_goes parts) (part_stops parts) no_count c t w x
+      (good call c out h) is begins
 
   -- an operation that breaks
-  pub op_breaks : (call : Call) (c : Conf) (v : Violation) (marks : List Mark) (w : Watched) → call.output ≡ f.from → Sim c w → IsRegular ops call all c → NamesNoKeyAt (length f.setup.ends) ops c → HasPrefix all marks
+  pub op_breaks : (call : Call) (c : Conf) (v : Violation) (marks : List Mark) (w : Watched) → call.output ≡ f.from → Sim c w → IsRegular ops call all c → HasPrefix all marks
       → op_step f.setup (part_from parts) ops c ≡ Stops (conf.Violates v marks) → Runs f all (With v marks) (λ x. ⊥) (op_count no_count ops c) w
-  op_breaks call c v marks w out x h unseen begins is =
+  op_breaks call c v marks w out x h begins is =
       step_stops f st all (λ u m. (u ≡ v) × (m ≡ marks)) (λ u m b. subst (λ l. HasPrefix all l) (sym b.1) begins) tag a ops done (part_from parts) (part_goes parts) (part_stops parts) no_count c
-      (conf.Violates v marks) w x (good call c out h) unseen is (refl, refl)
+      (conf.Violates v marks) w x (good call c out h) is (refl, refl)

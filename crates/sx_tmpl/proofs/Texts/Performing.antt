@@ -25,7 +25,7 @@ use Rattle.sx_ir.specs.declared.ir.Ir.{Ir}
 use Rattle.sx_ir.specs.declared.ir.Ir.TheVariants as ir
 use Rattle.sx_ir.specs.Meaning.{no_count, Leaving, op_count, op_step, part_from, saved}
 use Rattle.sx_ir.specs.Sound.{is_sound}
-use Rattle.sx_tmpl.specs.Performs.{NamesNoKeyAt, DoesCode, HasRoom, IsNarrow, IsRegular, LeftFrom, Never, Performs, With}
+use Rattle.sx_tmpl.specs.Performs.{DoesCode, HasRoom, IsNarrow, IsRegular, LeftFrom, Never, Performs, With}
 use Rattle.sx_tmpl.specs.Performs as upper
 use Rattle.sx_tmpl.specs.Running.{Fixed, running, fixed_at, Safe}
 use Rattle.sx_tmpl.proofs.Running.MidRun.{Held, Runs, Stands}
@@ -69,18 +69,18 @@ module _ (s : Setup) (n : State) (result : Invoked) (e : Ready s n) (sizes : byt
   done : Emitted f a ops
   done = going.done f st all refl tag code sound narrow text
 
-  goes : (c t : Conf) (w : Watched) → Sim c w → IsRegular ops (call_at n) all c → NamesNoKeyAt (length s.ends) ops c → HasPrefix all t.marks → op_step s (part_from parts) ops c ≡ Goes t
+  goes : (c t : Conf) (w : Watched) → Sim c w → IsRegular ops (call_at n) all c → HasPrefix all t.marks → op_step s (part_from parts) ops c ≡ Goes t
       → upper.NodeRuns s result n Never (Sim t) (op_count no_count ops c) w
-  goes c t w x h unseen begins is =
+  goes c t w x h begins is =
       weak s n result e sizes Never Never (Sim t) (Sim t) (op_count no_count ops c) w (λ w v x. x) (λ w x. x)
-      (going.op_goes_on f st all refl tag code sound narrow text (call_at n) c t w refl x h unseen begins is)
+      (going.op_goes_on f st all refl tag code sound narrow text (call_at n) c t w refl x h begins is)
 
-  stops : (c : Conf) (v : Violation) (marks : List Mark) (w : Watched) → Sim c w → IsRegular ops (call_at n) all c → NamesNoKeyAt (length s.ends) ops c → HasPrefix all marks
+  stops : (c : Conf) (v : Violation) (marks : List Mark) (w : Watched) → Sim c w → IsRegular ops (call_at n) all c → HasPrefix all marks
       → op_step s (part_from parts) ops c ≡ Stops (conf.Violates v marks)
       → upper.NodeRuns s result n (With v marks) (λ x. ⊥) (op_count no_count ops c) w
-  stops c v marks w x h unseen begins is =
+  stops c v marks w x h begins is =
       weak s n result e sizes (With v marks) (With v marks) (λ x. ⊥) (λ x. ⊥) (op_count no_count ops c) w (λ w v x. x) (λ w x. x)
-      (going.op_breaks f st all refl tag code sound narrow text (call_at n) c v marks w refl x h unseen begins is)
+      (going.op_breaks f st all refl tag code sound narrow text (call_at n) c v marks w refl x h begins is)
 
   exit : Text f (a.at a.exit) 17 (Rattle.sx_tmpl.specs.Template.leave_words (base_of f))
   exit = exit_text f (stands s n result e) code text sound.fits

@@ -31,7 +31,7 @@ use Rattle.sx_ir.specs.declared.ir.IrOp.TheVariants as op
 use Rattle.sx_ir.specs.declared.ir.Ir.{Ir}
 use Rattle.sx_ir.specs.declared.ir.Ir.TheVariants as ir
 use Rattle.sx_ir.specs.Counts.{count_of}
-use Rattle.sx_ir.specs.Meaning.{op_step, op_count, count_at, handler_count, OnViolation, send}
+use Rattle.sx_ir.specs.Meaning.{op_step, op_count, count_at, handler_count, names_no_key, OnViolation, send}
 use Rattle.sx_tmpl.specs.Template.{Addresses, operator_words, template, slot_words, routine_words}
 use Rattle.sx_tmpl.proofs.Operations.Branch.{jump_leads, jump_zero_leads, jump_not_leads, lt_leads, eq_leads}
 use Rattle.sx_tmpl.proofs.Operations.Arrays.{IsArray, load_at_leads, store_at_leads}
@@ -46,7 +46,7 @@ use Rattle.sx_invoke.specs.Windows.{is_bad_window}
 use Rattle.sx_tmpl.proofs.Operations.SealOps.{SealsAt, seal_leads, open_leads}
 use Rattle.sx_tmpl.proofs.Operations.CopyOps.{Ending, Goes_to, Breaks_off, No_meaning, copy_in_ends, copy_out_ends}
 use Rattle.sx_tmpl.proofs.Running.Holding.{IsRange, low_shown}
-use Rattle.sx_tmpl.specs.Performs.{NamesNoKeyAt}
+use Rattle.sx_tmpl.proofs.Texts.Named.{names_none}
 use Rattle.sx_tmpl.specs.Unseen.{NamesNoKey}
 use Rattle.sx_bus.specs.Devices.{cleared}
 use Rattle.std.proofs.Common.{take, cond}
@@ -491,32 +491,39 @@ module _ (f : Fixed) (st : Stands f) (all : List Mark) (BV : Violation → List 
   op_stops (ir.Handler h) stack c w here ok u g e b = absurd (no_meaning stack c w (no_end h _ w e) b)
   op_stops ir.Leave stack c w here ok u g e b = absurd (no_meaning stack c w (stuck_is w e) b)
 
+  -- an operation that ends a run with a violation has a meaning
+  when_ends : (b : Bool) (x : OperationResult) (c : Conf) (h : Halt) → when b x ≡ Stops h → OnViolation BV c h → (b ≡ true) × (x ≡ Stops h)
+  when_ends true x c h e v = (refl, e)
+  when_ends false x c h e v = absurd (no_meaning c.stack c h (stuck_is h e) v)
+
   abbrev pub Rep : Conf → Watched → Type 0
   Rep c w = Stood f all a.at c w
 
-  pub step_goes : (c t : Conf) (w : Watched) → Rep c w → Good f all a code c → NamesNoKeyAt (length f.setup.ends) code c → op_step f.setup handle code c ≡ Goes t → HasPrefix all t.marks → Runs f all Bw (Rep t) (op_count given code c) w
+  pub step_goes : (c t : Conf) (w : Watched) → Rep c w → Good f all a code c → op_step f.setup handle code c ≡ Goes t → HasPrefix all t.marks → Runs f all Bw (Rep t) (op_count given code c) w
   unfolding op_step op_count
-  step_goes c t w rep g unseen e gt = by_op (slice_get code c.place) refl (refl) e
+  step_goes c t w rep g e gt = by_op (slice_get code c.place) refl (refl) e
     where
       by_op : (o : Option Ir) → slice_get code c.place ≡ o → slice_get code c.place ≡ slice_get code c.place → do_at f.setup handle (slice_get code c.place) c ≡ Goes t
           → Runs f all Bw (Rep t) (count_at given (slice_get code c.place)) w
       by_op None here _ e = absurd (never Stuck t (rw here at e))
       by_op (Some i) here _ e =
-          let e2 : do_op f.setup handle i c ≡ Goes t = ap (λ o. do_at f.setup handle o c) (sym here) ∙ e in
+          let named = when_goes (names_no_key (length f.setup.ends) i c.stack) (do_op f.setup handle i c) t (ap (λ o. do_at f.setup handle o c) (sym here) ∙ e) in
+          let unseen = names_none (length f.setup.ends) i c.stack named.0 in
           subst (λ o. Runs f all Bw (Rep t) (count_at given o) w) (sym here)
           (subst (λ w. Runs f all Bw (Rep t) (count_of i + handler_count given i) w) (sym rep.state)
-          (op_goes f st all BV tag a code emitted_ handle parts given i c.stack c t here (emitted_.sound c.place i here) (unseen i here) g gt e2 rep.regs rep.rest (emitted_.stands c.place i here)
+          (op_goes f st all BV tag a code emitted_ handle parts given i c.stack c t here (emitted_.sound c.place i here) unseen g gt named.1 rep.regs rep.rest (emitted_.stands c.place i here)
           (emitted_.following c.place i here) rep.shows (subst (λ w. Safe f all w) rep.state rep.safe)))
 
-  pub step_stops : (c : Conf) (h : Halt) (w : Watched) → Rep c w → Good f all a code c → NamesNoKeyAt (length f.setup.ends) code c → op_step f.setup handle code c ≡ Stops h → OnViolation BV c h → Runs f all Bw (λ _. ⊥) (op_count given code c) w
+  pub step_stops : (c : Conf) (h : Halt) (w : Watched) → Rep c w → Good f all a code c → op_step f.setup handle code c ≡ Stops h → OnViolation BV c h → Runs f all Bw (λ _. ⊥) (op_count given code c) w
   unfolding op_step op_count
-  step_stops c h w rep g unseen e b = by_op (slice_get code c.place) refl e
+  step_stops c h w rep g e b = by_op (slice_get code c.place) refl e
     where
       by_op : (o : Option Ir) → slice_get code c.place ≡ o → do_at f.setup handle (slice_get code c.place) c ≡ Stops h → Runs f all Bw (λ _. ⊥) (count_at given (slice_get code c.place)) w
       by_op None here e = let s : Stuck ≡ h = stuck_is h (rw here at e) in absurd (subst (λ h. OnViolation BV c h) (sym s) b)
       by_op (Some i) here e =
-          let e2 : do_op f.setup handle i c ≡ Stops h = ap (λ o. do_at f.setup handle o c) (sym here) ∙ e in
+          let named = when_ends (names_no_key (length f.setup.ends) i c.stack) (do_op f.setup handle i c) c h (ap (λ o. do_at f.setup handle o c) (sym here) ∙ e) b in
+          let unseen = names_none (length f.setup.ends) i c.stack named.0 in
           subst (λ o. Runs f all Bw (λ _. ⊥) (count_at given o) w) (sym here)
           (subst (λ w. Runs f all Bw (λ _. ⊥) (count_of i + handler_count given i) w) (sym rep.state)
-          (op_stops i c.stack c h here (emitted_.sound c.place i here) (unseen i here) g e2 b rep.regs rep.rest (emitted_.stands c.place i here) (emitted_.following c.place i here) rep.shows
+          (op_stops i c.stack c h here (emitted_.sound c.place i here) unseen g named.1 b rep.regs rep.rest (emitted_.stands c.place i here) (emitted_.following c.place i here) rep.shows
           (subst (λ w. Safe f all w) rep.state rep.safe)))
