@@ -26,7 +26,7 @@ use Rattle.sx_ir.specs.Sizes.{bytes}
 use Rattle.sx_ir.specs.Sound.{is_sound, is_sound_op}
 use Rattle.sx_stub.specs.Joined.{PartsDo}
 use Rattle.sx_stub.proofs.JoinedInvokes.{joined_invokes}
-use Rattle.sx_tmpl.specs.Performs.{HasRoom, IsNarrow, Performs, entry_conf}
+use Rattle.sx_tmpl.specs.Performs.{HasRoom, IsNarrow, NodeRuns, Performs, entry_conf}
 use Rattle.sx_tmpl.specs.Running.{fixed_at}
 use Rattle.sx_tmpl.specs.Shows.{Stood}
 use Rattle.sx_tmpl.specs.Text.{addresses, addresses_of, bytes_of, text_words, text_words_of}
@@ -34,9 +34,9 @@ use Rattle.sx_tmpl.proofs.Texts.Performing.{text_does}
 use Rattle.sx_tmpl.proofs.Texts.TextBytes.{text_size}
 use Rattle.sx_lower.specs.Lowering.{IsLowerable}
 use Rattle.sx_compile.specs.Compiled.{HasSections, IsCompiled, compiled_image, compiled_ops, compiled_parts, compiled_text, padded_to}
-use Rattle.sx_compile.specs.Laws.{CompiledRealizes}
+use Rattle.sx_compile.specs.Laws.{CompiledRealizes, CompiledShowsNoKey}
 use Rattle.sx_compile.proofs.Begun.{begun_at}
-use Rattle.sx_compile.proofs.Does.{does_invocation}
+use Rattle.sx_compile.proofs.Does.{Unseen, does_invocation}
 use Rattle.sx_compile.proofs.FewPieces.{few_pieces}
 use Rattle.sx_compile.proofs.Narrow.{AreBelow, all_narrow, bytes_below, ops_below}
 use Rattle.sx_compile.proofs.Parts.{parts_do, starts}
@@ -121,8 +121,9 @@ module _ (mac : Mac) (tree : ModuleTree) (ends : List End) (l : Layout) (provide
         let size : l.priv_to - l.priv_from ≡ module_data_size tree (length ends) = omega (arith, private) in
         ap (λ (l : Layout). l.priv_to - l.priv_from) enters.stands.layout ∙ size
 
-    pub does : DoesInvocation s n
-    does =
+    -- the invocation is done, and no step shows a key
+    pub shows : NodeRuns s result n (Aborted result) (Exited s result n) (4096 + module_cost tree) (begins n)
+    shows =
         let memory = enters.node.memory in
         let begun = begun_at mac tree ends (compiled_image l provider tree ends) section n enters (All-from_get_or (λ b. b < 256) n.mem 0 (λ i lt. memory.bytes i)) tag able.few_ends links data_size in
         let cost = module_cost tree in
@@ -134,10 +135,16 @@ module _ (mac : Mac) (tree : ModuleTree) (ends : List End) (l : Layout) (provide
         ap (λ (ops : List Ir). list_all (is_sound_op (length (compiled_ops tree ends)) (length (compiled_parts tree ends)) (module_data_size tree (length ends))) ops) is.ops
         ∙ ops_sound tree ends able links in
         let Sim = Stood (fixed_at s n result) (marks_in result) (addresses l code).at in
-        weaken Watched Violation (watch mac) (λ w. 1) (Underway s result n) (Underway s result n) (Aborted result) (Aborted result) (Exited s result n) (Exited s result n) (6 + (3316 + cost) + 16)
+        weaken Watched Violation (watch mac) (λ w. 1) (Unseen s result n) (Unseen s result n) (Aborted result) (Aborted result) (Exited s result n) (Exited s result n) (6 + (3316 + cost) + 16)
         (4096 + cost) (begins n) (omega arith) (λ w x. x) (λ w v x. x) (λ w x. x)
         (does_invocation s code n Sim (length (compiled_ops tree ends)) (length (compiled_parts tree ends)) (module_data_size tree (length ends)) (3316 + cost) performs sound begun run memory.size
         (few_pieces s (call_at n) (progress_at s n) able refl) data_size)
+
+    pub does : DoesInvocation s n
+    does =
+        let cost = 4096 + module_cost tree in
+        weaken Watched Violation (watch mac) (λ w. 1) (Unseen s result n) (Underway s result n) (Aborted result) (Aborted result) (Exited s result n) (Exited s result n) cost cost
+        (begins n) (omega arith) (λ w x. x.0) (λ w v x. x) (λ w x. x) shows
 
 -- The image of a module realizes it.
 pub compiled_realizes : CompiledRealizes
@@ -146,6 +153,11 @@ compiled_realizes mac tree ends l provider code tag able links room is = record 
   zeros = zeros_initial tree ends (module_data_size tree (length ends)) able.words;
   runs = λ section n enters. does mac tree ends l provider code tag able links room is section n enters;
 }
+
+-- No step of an invocation of it shows a key.
+pub compiled_shows_no_key : CompiledShowsNoKey
+compiled_shows_no_key mac tree ends l provider code tag able links room is =
+    record { runs = λ section n enters. shows mac tree ends l provider code tag able links room is section n enters }
 
 -- A text of the code, with zeros up to the end of its section, is the module's.
 pub image_is : (tree : ModuleTree) (ends : List End) (l : Layout) (provider : ℕ) (code : Code) (words text : List ℕ) → HasSections tree ends l → IsCompiled tree ends code

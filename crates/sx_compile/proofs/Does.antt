@@ -27,12 +27,17 @@ use Rattle.sx_ir.specs.Conf as conf
 use Rattle.sx_ir.specs.Meaning.{no_count, op_step, op_count, part_from, OnViolation}
 use Rattle.sx_ir.specs.Sound.{is_sound_op}
 use Rattle.sx_stub.specs.Invokes.{CallBegun, EndsSo, Invokes, LeavesSo, ShowsCall}
+use Rattle.sx_tmpl.specs.Unseen.{StepShowsNone}
 use Rattle.sx_tmpl.specs.Performs.{IsRegular, LeftFrom, Never, Performs, NodeRuns, With, entry_conf}
 use Rattle.sx_compile.proofs.Begun.{state_in_memory}
 use Rattle.sx_compile.proofs.Regular.{runs_regular}
 use Rattle.sx_tmpl.proofs.Texts.Entering.{outside_window}
 use Rattle.sx_compile.proofs.Written.{Written, returns_written, stand_same}
 use Rattle.sx_compile.proofs.Returning.{violates_returns, returns_same}
+
+-- a moment of the invocation, whose step shows no key
+abbrev pub Unseen : Setup → Invoked → State → Watched → Type 0
+Unseen s result before w = Underway s result before w × StepShowsNone s w.node
 
 module _ (s : Setup) (code : Code) (before : State) (result : Invoked) (Sim : Conf → Watched → Type 0) (performs : Performs s code before result Sim) (B : Violation → List Mark → Type 0) (Q : Conf
     → Type 0)
@@ -58,15 +63,15 @@ module _ (s : Setup) (code : Code) (before : State) (result : Invoked) (Sim : Co
   follows : (n : ℕ) (c : Conf) (w : Watched) → Run n c → Sim c w → NodeRuns s result before Ended Came n w
   follows n c w (Here q) x = Here (c, x, q)
   follows n c w (Next {k = k} {t = t} p e le r) x =
-      and_then Watched Violation (watch s.mac) (λ w. 1) (Underway s result before) Ended (Sim t) Came (op_count no_count code.ops.items c) k n w le
-      (weaken Watched Violation (watch s.mac) (λ w. 1) (Underway s result before) (Underway s result before) Never Ended (Sim t) (Sim t) (op_count no_count code.ops.items c)
+      and_then Watched Violation (watch s.mac) (λ w. 1) (Unseen s result before) Ended (Sim t) Came (op_count no_count code.ops.items c) k n w le
+      (weaken Watched Violation (watch s.mac) (λ w. 1) (Unseen s result before) (Unseen s result before) Never Ended (Sim t) (Sim t) (op_count no_count code.ops.items c)
       (op_count no_count code.ops.items c) w (omega arith) (λ w x. x) (λ w v x. absurd x) (λ w x. x) (performs.goes c t w x p (marks_of_run k t r) e))
       (λ u y. follows k t u r y)
   follows n c w (Ends {v = v} p e le b) x = ends v e b
     where
       ends : (v : Halt) → op_step s (part_from code.parts.items) code.ops.items c ≡ Stops v → OnViolation B c v → NodeRuns s result before Ended Came n w
       ends (conf.Violates v marks) e b =
-          weaken Watched Violation (watch s.mac) (λ w. 1) (Underway s result before) (Underway s result before) (With v marks) Ended (λ y. ⊥) Came (op_count no_count code.ops.items c) n w le
+          weaken Watched Violation (watch s.mac) (λ w. 1) (Unseen s result before) (Unseen s result before) (With v marks) Ended (λ y. ⊥) Came (op_count no_count code.ops.items c) n w le
           (λ w x. x)
           (λ y u z. (marks, subst (λ (u : Violation). B u marks) (sym z.0) b, z.1)) (λ y z. absurd z) (performs.stops c v marks w x p (at_end v marks b) e)
       ends conf.Stuck e b = absurd b
@@ -157,7 +162,7 @@ module _ (s : Setup) (code : Code) (before : State) (Sim : Conf → Watched → 
   exits performs tag size few private (Returns status q) e u t x y =
       let prefix : HasPrefix (marks_in result) t.marks = subst (λ (r : Invoked). HasPrefix (marks_in r) t.marks) (sym e) (same_prefix t.marks q.marks y.0.marks) in
       let short : length q.pieces ≤ 16 = subst (λ (r : Invoked). length (pieces_in r) ≤ 16) e few in
-      weaken Watched Violation (watch s.mac) (λ w. 1) (Underway s result before) (Underway s result before) Never (Aborted result) (LeftFrom s before status (length q.pieces) t)
+      weaken Watched Violation (watch s.mac) (λ w. 1) (Unseen s result before) (Unseen s result before) Never (Aborted result) (LeftFrom s before status (length q.pieces) t)
       (Exited s result before) 16 16 u (omega arith) (λ w x. x) (λ w v x. absurd x)
       (λ w left. exited status q t w e tag size short private y.0 left)
       (performs.leaves t u status (length q.pieces) x prefix y.1 y.0.back (returns_out s call (progress_at s before) q status e))
@@ -174,12 +179,12 @@ module _ (s : Setup) (code : Code) (before : State) (Sim : Conf → Watched → 
       let regular = runs_regular s code.ops.items code.parts.items n m size sound call (marks_in result) (EndsSo result) After (λ t q. exit_prefix s call code.ops.items result t q)
       (λ v marks e. end_prefix result v marks e) cost first
       begun.shows.output (omega arith) tt begun.samples run in
-      and_then Watched Violation (watch s.mac) (λ w. 1) (Underway s result before) (Aborted result) (Sim first) (Exited s result before) 6 (cost + 16) (6 + cost + 16) (begins before) (omega arith)
-      (weaken Watched Violation (watch s.mac) (λ w. 1) (Underway s result before) (Underway s result before) Never (Aborted result) (Sim first) (Sim first) 6 6 (begins before) (omega arith)
+      and_then Watched Violation (watch s.mac) (λ w. 1) (Unseen s result before) (Aborted result) (Sim first) (Exited s result before) 6 (cost + 16) (6 + cost + 16) (begins before) (omega arith)
+      (weaken Watched Violation (watch s.mac) (λ w. 1) (Unseen s result before) (Unseen s result before) Never (Aborted result) (Sim first) (Sim first) 6 6 (begins before) (omega arith)
       (λ w x. x) (λ w v x. absurd x) (λ w x. x) performs.enters)
       (λ w x.
-      and_then Watched Violation (watch s.mac) (λ w. 1) (Underway s result before) (Aborted result) (λ w. (t : Conf) × Sim t w × After t) (Exited s result before) cost 16 (cost + 16) w (omega arith)
-      (weaken Watched Violation (watch s.mac) (λ w. 1) (Underway s result before) (Underway s result before) (λ w v. (marks : List Mark) × EndsSo result v marks × (w.marks ≡ marks)) (Aborted result)
+      and_then Watched Violation (watch s.mac) (λ w. 1) (Unseen s result before) (Aborted result) (λ w. (t : Conf) × Sim t w × After t) (Exited s result before) cost 16 (cost + 16) w (omega arith)
+      (weaken Watched Violation (watch s.mac) (λ w. 1) (Unseen s result before) (Unseen s result before) (λ w v. (marks : List Mark) × EndsSo result v marks × (w.marks ≡ marks)) (Aborted result)
       (λ w. (t : Conf) × Sim t w × After t) (λ w. (t : Conf) × Sim t w × After t) cost cost w (omega arith) (λ w x. x) (λ w v x. aborts result w v x) (λ w x. x)
       (follows s code before result Sim performs (EndsSo result) After (λ t q. exit_prefix s call code.ops.items result t q) (λ v marks e. end_prefix result v marks e) cost first w regular.1 x))
       (λ u y. exits performs begun.tag whole few private result refl u y.0 y.1 y.2))

@@ -36,7 +36,7 @@ use Rattle.sx_tmpl.specs.Running.{Fixed, Safe, pieces_end}
 use Rattle.sx_tmpl.specs.Shows.{Stood}
 use Rattle.sx_tmpl.specs.Text.{addresses, bytes_of, text_words}
 use Rattle.sx_tmpl.proofs.Texts.Going.{op_breaks, op_goes_on}
-use Rattle.sx_tmpl.proofs.Running.MidRun.{Runs, Stands}
+use Rattle.sx_tmpl.proofs.Running.MidRun.{Held, Runs, Stands}
 use Rattle.sx_tmpl.proofs.Texts.SoundOps.{AreSound, are_sound}
 use Rattle.sx_invoke.specs.Windows.{is_bad_window}
 use Rattle.sx_compile.specs.Body.{BeginsHandler, Handling, HasHandled, course_at, kept_on}
@@ -88,8 +88,8 @@ module _ (f : Fixed) (st : Stands f) (all : List Mark) (window : f.to ≡ pieces
   pub follows : (n : ℕ) (c : Conf) (w : Watched) → Run n c → Sim c w → Runs f all Ended Came n w
   follows n c w (Here q) x = Here (c, x, q)
   follows n c w (Next {k = k} {t = t} p e le r) x =
-      and_then Watched Violation (watch f.setup.mac) (λ w. 1) (Safe f all) Ended (Sim t) Came (op_count no_count code.ops.items c) k n w le
-      (weaken Watched Violation (watch f.setup.mac) (λ w. 1) (Safe f all) (Safe f all) Never Ended (Sim t) (Sim t) (op_count no_count code.ops.items c) (op_count no_count code.ops.items c) w
+      and_then Watched Violation (watch f.setup.mac) (λ w. 1) (Held f all) Ended (Sim t) Came (op_count no_count code.ops.items c) k n w le
+      (weaken Watched Violation (watch f.setup.mac) (λ w. 1) (Held f all) (Held f all) Never Ended (Sim t) (Sim t) (op_count no_count code.ops.items c) (op_count no_count code.ops.items c) w
       (omega arith) (λ w x. x) (λ w v x. absurd x) (λ w x. x)
       (op_goes_on f st all window tag code sound narrow text call c t w out x p (marks_of_run k t r) e))
       (λ u y. follows k t u r y)
@@ -97,7 +97,7 @@ module _ (f : Fixed) (st : Stands f) (all : List Mark) (window : f.to ≡ pieces
     where
       ends : (v : Halt) → op_step f.setup (part_from code.parts.items) code.ops.items c ≡ Stops v → OnViolation B c v → Runs f all Ended Came n w
       ends (conf.Violates v marks) e b =
-          weaken Watched Violation (watch f.setup.mac) (λ w. 1) (Safe f all) (Safe f all) (With v marks) Ended (λ y. ⊥) Came (op_count no_count code.ops.items c) n w le (λ w x. x)
+          weaken Watched Violation (watch f.setup.mac) (λ w. 1) (Held f all) (Held f all) (With v marks) Ended (λ y. ⊥) Came (op_count no_count code.ops.items c) n w le (λ w x. x)
           (λ y u z. (marks, subst (λ (u : Violation). B u marks) (sym z.0) b, z.1)) (λ y z. absurd z) (op_breaks f st all window tag code sound narrow text call c v marks w out x p
           (at_end v marks b) e)
       ends conf.Stuck e b = absurd b
@@ -272,8 +272,9 @@ module _ (mac : Mac) (tree : ModuleTree) (ends : List End) (code : Code) (tag : 
               marks = ap (λ (w : Watched). w.marks) x.state ∙ x.shows.marks ∙ represents.marks;
             }
 
-    moment : (w : Watched) → Safe f all w → Handling s call.output course n w
-    moment w x = record { inside = x.inside; sections = x.sections; outside = outside_kept s n call.output all resumes (pieces_in (finished course)) w tallied x; marks = x.marks }
+    moment : (w : Watched) → Held f all w → Handling s call.output course n w
+    moment w x = let safe = x.0 in
+        record { inside = safe.inside; sections = safe.sections; outside = outside_kept s n call.output all resumes (pieces_in (finished course)) w tallied safe; marks = safe.marks }
 
     pub does_handler : Comes Watched Violation (watch mac) (λ w. 1) (Handling s call.output course n) (Aborted (finished course)) (HasHandled s call.output course n (offset ops (to - 1)))
         (handler_cost h) (begins n)
@@ -287,7 +288,7 @@ module _ (mac : Mac) (tree : ModuleTree) (ends : List End) (code : Code) (tag : 
         let at_end = λ (v : Violation) (marks : List Mark) (y : CourseBreaks course v marks). breaks_prefix course v marks y in
         let regular = runs_regular s ops parts (length ops) (length parts) (module_data_size tree (length ends)) low.does.fits.sound call all (CourseBreaks course) After_ at_exit at_end
         (handler_cost h) first refl (omega arith) tt b.node.samples run in
-        weaken Watched Violation (watch mac) (λ w. 1) (Safe f all) (Handling s call.output course n) (λ w v. (marks : List Mark) × CourseBreaks course v marks
+        weaken Watched Violation (watch mac) (λ w. 1) (Held f all) (Handling s call.output course n) (λ w v. (marks : List Mark) × CourseBreaks course v marks
         × (w.marks ≡ marks)) (Aborted (finished course)) (λ w. (t : Conf) × Stood f all at t w × After_ t) (HasHandled s call.output course n (offset ops (to - 1)))
         (handler_cost h) (handler_cost h) (begins n) (omega arith) moment (λ w v y. breaks_aborts course w v y.0 y.1 y.2) handled_at
         (follows f stands_ all refl tag code sound narrow stands_text call refl (CourseBreaks course) After_ at_exit at_end (handler_cost h) first (begins n) regular.1 stood)

@@ -32,7 +32,7 @@ use Rattle.sx_ir.specs.declared.ir.IrOp.{IrOp}
 use Rattle.sx_ir.specs.declared.ir.IrOp.TheVariants as op
 use Rattle.sx_ir.specs.Conf.{Conf, Violates, Stuck}
 use Rattle.sx_ir.specs.Meaning as m
-use Rattle.sx_ir.specs.Meaning.{OperationResult, saved, do_op, next, when, on_top, pushed, pieces}
+use Rattle.sx_ir.specs.Meaning.{OperationResult, saved, do_at, do_op, names_no_key, next, when, on_top, pushed, pieces}
 use Rattle.sx_ir.specs.Sound.{are_sealed, is_even, is_free, is_sound_op, may_change}
 use Rattle.sx_stub.proofs.Mem.{word_same, get-put_bytes_other}
 use Rattle.sx_lists.specs.Truth.{truth}
@@ -282,7 +282,7 @@ module _ (s : Setup) (handle : ℕ → Conf → OperationResult) (handles : (h :
   through c priv (Stops Stuck) e k = tt
 
   -- sound operations keep it
-  pub op_kept : (ops parts size : ℕ) (i : Ir) (c : Conf) → is_sound_op ops parts size i ≡ true → KeptAfter c (do_op s handle i c)
+  op_kept : (ops parts size : ℕ) (i : Ir) (c : Conf) → is_sound_op ops parts size i ≡ true → KeptAfter c (do_op s handle i c)
   op_kept ops parts size (ir.Push n) c ok = push_kept c n
   op_kept ops parts size (ir.Load o) c ok = push_kept c (word c.priv o)
   op_kept ops parts size (ir.Store o) c ok =
@@ -321,3 +321,6 @@ module _ (s : Setup) (handle : ℕ → Conf → OperationResult) (handles : (h :
   op_kept ops parts size (ir.Handler h) c ok = through c (put_word c.priv 4 0) (handle h (record c { priv = put_word c.priv 4 0 })) (word_kept c.priv 4 0 (inl (omega arith)))
       (handles h (record c { priv = put_word c.priv 4 0 }))
   op_kept ops parts size ir.Leave c ok = tt
+
+  pub some_kept : (ops parts size : ℕ) (i : Ir) (c : Conf) → is_sound_op ops parts size i ≡ true → KeptAfter c (do_at s handle (Some i) c)
+  some_kept ops parts size i c ok = when_kept c (names_no_key (length s.ends) i c.stack) (do_op s handle i c) (λ x. op_kept ops parts size i c ok)

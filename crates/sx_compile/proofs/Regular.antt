@@ -9,11 +9,11 @@ use Rattle.sx_invoke.specs.Marks.{Mark, HasPrefix}
 use Rattle.sx_invoke.specs.Setup.{Call, Setup}
 use Rattle.sx_ir.specs.declared.ir.Ir.{Ir}
 use Rattle.sx_ir.specs.Conf.{Conf, Halt, Violates, Stuck}
-use Rattle.sx_ir.specs.Meaning.{OperationResult, saved, do_at, do_op, no_count, op_step, op_count, part_from, CodeReaches, OnViolation}
+use Rattle.sx_ir.specs.Meaning.{OperationResult, saved, do_at, no_count, op_step, op_count, part_from, CodeReaches, OnViolation}
 use Rattle.sx_ir.specs.Sound.{is_sound_op}
 use Rattle.sx_tmpl.specs.Performs.{IsRegular, ReturnsBehind}
 use Rattle.sx_tmpl.proofs.Texts.SoundOps.{one_of}
-use Rattle.sx_compile.proofs.Kept.{Kept, KeptAfter, ReturnsFrom, op_kept, prefix_same, prefix_trans}
+use Rattle.sx_compile.proofs.Kept.{Kept, KeptAfter, ReturnsFrom, some_kept, prefix_same, prefix_trans}
 
 -- the beginning of a part keeps it
 part_kept : (parts : List (ℕ × ℕ)) (h : ℕ) (c : Conf) → KeptAfter c (part_from parts h c)
@@ -44,7 +44,7 @@ module _ (s : Setup) (ops : List Ir) (parts : List (ℕ × ℕ)) (n m size : ℕ
 
       go : (o : Option Ir) → slice_get ops c.place ≡ o → HasBack (do_at s (part_from parts) o c)
       go None e = tt
-      go (Some i) e = of i e (do_op s (part_from parts) i c) (op_kept s (part_from parts) (part_kept parts) n m size i c (one_of (is_sound_op n m size) ops c.place i sound e))
+      go (Some i) e = of i e (do_at s (part_from parts) (Some i) c) (some_kept s (part_from parts) (part_kept parts) n m size i c (one_of (is_sound_op n m size) ops c.place i sound e))
 
   step_kept : (c : Conf) → KeptAfter c (op_step s (part_from parts) ops c)
   unfolding op_step
@@ -52,7 +52,7 @@ module _ (s : Setup) (ops : List Ir) (parts : List (ℕ × ℕ)) (n m size : ℕ
     where
       go : (o : Option Ir) → slice_get ops c.place ≡ o → KeptAfter c (do_at s (part_from parts) o c)
       go None e = tt
-      go (Some i) e = op_kept s (part_from parts) (part_kept parts) n m size i c (one_of (is_sound_op n m size) ops c.place i sound e)
+      go (Some i) e = some_kept s (part_from parts) (part_kept parts) n m size i c (one_of (is_sound_op n m size) ops c.place i sound e)
 
   -- the run, regular at every moment
   abbrev pub RegularRun : ℕ → Conf → Type 0

@@ -1,11 +1,16 @@
 //! What holds of compiled modules. Each law is a function that does nothing: its contract is the
 //! law.
 
-ghost use Rattle.sx_compile.specs.Laws.{CompiledRealizes, FewPieces, ZerosInitial};
+ghost use Rattle.sx_compile.specs.Laws.{CompiledRealizes, CompiledShowsNoKey, FewPieces, ZerosInitial};
 
 /// The image of a module realizes it.
 pub fn compiled_realizes()
     ensures { CompiledRealizes }
+{}
+
+/// No step of an invocation of it shows a key of the module's ends.
+pub fn compiled_shows_no_key()
+    ensures { CompiledShowsNoKey }
 {}
 
 /// An invocation of a module makes at most 16 pieces.
