@@ -1,8 +1,8 @@
--- Places that hold no key of the module's ends.
+-- Places that hold no key of the module's ends, and those that are in no slot.
 use Rattle.std.proofs.Common.{◌≡◌, ℕ, ◌+◌, ◌-◌, ◌*◌, ◌%◌, ◌<◌, ◌≤◌, true, nat_le, nat_lt, arith}
 use Rattle.std.specs.Prelude.{◌==◌, ◌||◌, ◌&&◌, not}
 use Rattle.std.proofs.lemmas.Bool.{and_from, eq-eqb, le-leb, lt-ltb, ne_eqb, not_from_false, or_left, or_right}
-use Rattle.sx_ir.specs.Meaning.{is_body_place, is_key_place, is_shown, is_shown_element}
+use Rattle.sx_ir.specs.Meaning.{is_body_place, is_key_place, is_shown, is_shown_element, spares_slots}
 
 -- behind the copied packet's plain body, and before the key of the first slot
 pub middle_shown : (ends o n : ℕ) → 72 ≤ o → o + n ≤ 520 → is_shown ends o n ≡ true
@@ -36,3 +36,17 @@ slot_key ends k one =
 -- what is unwrapped under a slot's key may go anywhere
 pub slot_body : (k b bn : ℕ) → 0 < k → is_body_place k b bn ≡ true
 slot_body k b bn other = or_left (not (k == 0)) _ (not_from_false (k == 0) (ne_eqb k 0 (omega (arith, other))))
+
+-- before the slots
+pub low_spared : (ends o n : ℕ) → o + n ≤ 512 → spares_slots ends o n ≡ true
+low_spared ends o n to = or_left (nat_le (o + n) 512) _ (le-leb (o + n) 512 to)
+
+-- behind them
+pub cell_spared : (ends o n : ℕ) → 512 + 24 * ends ≤ o → spares_slots ends o n ≡ true
+cell_spared ends o n from = or_right (nat_le (o + n) 512) _ (or_left (nat_le (512 + 24 * ends) o) _ (le-leb (512 + 24 * ends) o from))
+
+-- the number in a slot
+pub number_spared : (ends k : ℕ) → spares_slots ends (512 + 24 * k + 2) 2 ≡ true
+number_spared ends k =
+    let o = 512 + 24 * k + 2 in
+    or_right (nat_le (o + 2) 512) _ (or_right (nat_le (512 + 24 * ends) o) _ (and_from _ _ (eq-eqb ((o - 512) % 24) 2 (omega arith)) (le-leb 2 2 (omega arith))))

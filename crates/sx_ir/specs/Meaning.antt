@@ -2,6 +2,7 @@
 use Rattle.std.specs.Prelude.{◌≡◌, ℕ, zero, suc, ◌+◌, ◌-◌, ◌*◌, ◌%◌, ◌==◌, nat_lt, nat_le, Bool}
 use Rattle.std.specs.Prelude.{true, false, ◌&&◌, ◌||◌, not, if◌then◌else◌, List, [], ◌∷◌, ◌++◌}
 use Rattle.std.specs.Prelude.{length, take, slice_get}
+use Rattle.std.specs.List.{list_any}
 use Rattle.std.specs.Prelude.{Option, Some, None, Result, Ok, Err}
 use Rattle.sx_lang.specs.declared.tree.UnOp.TheVariants as unary
 use Rattle.sx_lang.specs.declared.tree.BinOp.TheVariants as binary
@@ -329,11 +330,47 @@ names_no_key ends (ir.Open k h hn b bn) stack =
 names_no_key ends (ir.SetEnd k) stack = nat_lt k ends
 names_no_key ends i stack = true
 
--- the operation at the place, where there is one that names no key
+-- None of n bytes from an offset on is in a slot but in its number, where there are this many ends.
+abbrev pub spares_slots : ℕ → ℕ → ℕ → Bool
+spares_slots ends o n =
+    nat_le (o + n) (offsets.end_at 0) || (nat_le (offsets.end_at ends) o
+    || (((o - offsets.end_at 0) % 24 == 2) && nat_le n 2))
+
+-- the mark of a key: of an unwrap under the module's own key
+abbrev pub is_key_mark : Mark → Bool
+is_key_mark (mark.Unwrapped ad body own) = own
+is_key_mark m = false
+
+-- a key was unwrapped so far
+abbrev pub has_key_mark : List Mark → Bool
+has_key_mark marks = list_any is_key_mark marks
+
+-- the slot whose key lies there is open
+abbrev pub is_open_slot : List ℕ → ℕ → Bool
+is_open_slot priv k = not (word priv (k - 4) == 0)
+
+-- the own key, or that of an open slot while no key was unwrapped
+abbrev pub is_key_kept : Conf → ℕ → Bool
+is_key_kept c k = (k == 0) || (is_open_slot c.priv k && not (has_key_mark c.marks))
+
+-- An operation writes no slot but its number, or opens it after a key was unwrapped; and it
+-- unwraps under the key of a slot that is open and as it was at the call.
+abbrev pub keeps_slots : ℕ → Ir → Conf → Bool
+keeps_slots ends (ir.Store o) c = spares_slots ends o 2
+keeps_slots ends (ir.StoreAt o n) c = spares_slots ends o (2 * n)
+keeps_slots ends (ir.CopyIn n o) c = spares_slots ends o n
+keeps_slots ends (ir.Seal k h hn b bn) c =
+    (k == 0) && spares_slots ends (h + hn) (bn + tag_size)
+keeps_slots ends (ir.Open k h hn b bn) c = spares_slots ends b bn && is_key_kept c k
+keeps_slots ends (ir.SetEnd k) c = has_key_mark c.marks
+keeps_slots ends i c = true
+
+-- the operation at the place, where there is one that names no key and keeps the slots
 abbrev pub do_at : Setup → (ℕ → Conf → OperationResult) → Option Ir → Conf → OperationResult
 do_at s handle None c = stuck
 do_at s handle (Some i) c =
-    when (names_no_key (length s.ends) i c.stack) (do_op s handle i c)
+    when (keeps_slots (length s.ends) i c && names_no_key (length s.ends) i c.stack)
+    (do_op s handle i c)
 
 -- one operation
 unfoldable pub op_step : Setup → (ℕ → Conf → OperationResult) → List Ir → Conf → OperationResult

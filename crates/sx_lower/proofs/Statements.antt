@@ -1,12 +1,12 @@
 -- The code of statements and blocks does what they do.
-use Rattle.std.proofs.Common.{◌≡◌, ℕ, zero, suc, ◌+◌, ◌-◌, ◌*◌, ◌%◌, ◌<◌, ◌≤◌, ◌==◌, Bool, true, false, if◌then◌else◌, List, [], ◌∷◌, ◌++◌, length, max, take}
+use Rattle.std.proofs.Common.{◌≡◌, ℕ, zero, suc, ◌+◌, ◌-◌, ◌*◌, ◌%◌, ◌<◌, ◌≤◌, ◌==◌, ◌&&◌, Bool, true, false, if◌then◌else◌, List, [], ◌∷◌, ◌++◌, length, max, take}
 use Rattle.std.proofs.Common.{Option, Some, nat_lt, refl, sym, ap, ◌∙◌, subst, arith, length-append, append_assoc}
 use Rattle.std.specs.Prelude.{slice_get}
 use Rattle.std.proofs.Math.Nat.{suc-mul}
 use Rattle.std.proofs.Math.Dec.{eqb-suc-zero}
 use Rattle.std.proofs.Math.Seq.{take-append_seam}
 use Rattle.std.proofs.lemmas.List.{append-nil}
-use Rattle.std.proofs.lemmas.Bool.{ltb-true}
+use Rattle.std.proofs.lemmas.Bool.{and_from, ltb-true}
 use Rattle.sx_lang.specs.declared.tree.Decl.{Decl}
 use Rattle.sx_lang.specs.Tree.{Expression, Statement, Defines, Assigns, Stores, Chooses, Repeats, Sends, Emits, Block, Done, Then}
 use Rattle.sx_lang.specs.Sizes.{expression_cost, statement_cost, block_cost}
@@ -33,7 +33,7 @@ use Rattle.sx_invoke.specs.Progress.{Progress, Course, Going, Broken, and_on}
 use Rattle.sx_invoke.specs.Acts.{own_window, actuated, with_act, with_acts}
 use Rattle.sx_ir.specs.Conf.{Conf}
 use Rattle.sx_ir.specs.Counts.{count_of}
-use Rattle.sx_ir.specs.Meaning.{OperationResult, do_at, do_op, is_shown, handler_count, emit, emitted}
+use Rattle.sx_ir.specs.Meaning.{OperationResult, do_at, do_op, is_shown, is_shown_element, spares_slots, handler_count, emit, emitted}
 use Rattle.sx_ir.specs.Invoking.{CourseBreaks}
 use Rattle.sx_ir.specs.declared.ir.Ir.{Ir}
 use Rattle.sx_ir.specs.declared.ir.Ir.TheVariants as ir
@@ -47,7 +47,7 @@ use Rattle.sx_mean.specs.Acts.{AddsActs}
 use Rattle.sx_mean.proofs.ActsGrow.{grows_on, assign_stays, element_stays, times_grow, block_grows}
 use Rattle.sx_mean.proofs.Scope.{length-names}
 use Rattle.sx_lower.proofs.Holds.{Holds, value_word, holds_turns, holds_define, holds_assign_local, holds_assign_cell, holds_element, holds_forget}
-use Rattle.sx_ir.proofs.Shown.{cell_shown, element_shown, middle_shown}
+use Rattle.sx_ir.proofs.Shown.{cell_shown, cell_spared, element_shown, low_spared, middle_shown}
 use Rattle.sx_lower.proofs.Run.{HasAt, has_front, has_back, at, do_one, then_so, after, weaker, to, room, passed, Comes_to, expression_reach}
 use Rattle.sx_invoke.proofs.PiecesMarked.{made_more}
 use Rattle.sx_lower.proofs.Packets.{Shows, shows_other, packets_reach}
@@ -173,9 +173,17 @@ module _ (s : Setup) (handle : ℕ → Conf → OperationResult) (given : ℕ
   value_then Q names st e p k j stack c h fine high space has le r =
       after s handle given code Ends_so Q (at p stack c) _ (expression_cost e) k j le (expression_reach s handle given code Ends_so ds n names st refl e p stack c h fine (omega (arith, high, space)) has) r
 
-  -- a local holds no key
-  local_shown : (i : ℕ) → i < 16 → is_shown n (local_at i) 2 ≡ true
-  local_shown i lt = middle_shown n (local_at i) 2 (omega arith) (omega (arith, lt))
+  -- locals and cells hold no key, and lie in no slot
+
+  local_stored : (i : ℕ) → i < 16 → (spares_slots n (local_at i) 2 && is_shown n (local_at i) 2) ≡ true
+  local_stored i lt = and_from _ _ (low_spared n (local_at i) 2 (omega (arith, lt))) (middle_shown n (local_at i) 2 (omega arith) (omega (arith, lt)))
+
+  cell_stored : (i : ℕ) → (spares_slots n (cell_at n i) 2 && is_shown n (cell_at n i) 2) ≡ true
+  cell_stored i = and_from _ _ (cell_spared n (cell_at n i) 2 (omega arith)) (cell_shown n (cell_at n i) 2 (omega arith))
+
+  element_stored : (i m k : ℕ) → (spares_slots n (cell_at n i) (2 * m) && is_shown_element n (cell_at n i) m k) ≡ true
+  element_stored i m k =
+      and_from _ _ (cell_spared n (cell_at n i) (2 * m) (omega arith)) (element_shown n (cell_at n i) m k (cell_shown n (cell_at n i + 2 * k) 2 (omega arith)))
 
   define_does : (x : List ℕ) (e : Expression) (p : ℕ) (names : List (List ℕ)) → FineExpression ds names e → height e ≤ 32 → length names < 16 → HasAt code p (define_code ds n names e)
       → Does names (names ++ x ∷ []) p (p + length (define_code ds n names e)) (64 + expression_cost e) 0 0 (λ st. define x (value ds st e) st)
@@ -187,7 +195,7 @@ module _ (s : Setup) (handle : ℕ → Conf → OperationResult) (given : ℕ
       value_then _ names st e p 8 _ stack c t.holds fine high (omega (arith, space)) (has_front code p ce _ has) (omega arith)
       (ended_at (names ++ x ∷ []) (names ++ x ∷ []) _ _ stack c.back _ _ _ 8 8 _ len refl (omega arith) (omega arith)
       (write_reach (ir.Store (local_at (length names))) (names ++ x ∷ []) st (define x v st) names (put_word c.priv (local_at (length names)) v) (p + length ce) (v ∷ stack) stack c
-      (has_back code p ce _ has).0 (passed s handle given code Ends_so _ _ (local_shown (length names) few)) (omega arith) t
+      (has_back code p ce _ has).0 (passed s handle given code Ends_so _ _ (local_stored (length names) few)) (omega arith) t
       (holds_define ds n names st c.priv t.holds x v small few) (shows_local (length names) v t.progress c.priv c.mem c.devices c.marks few t.shown) refl (length t.progress.pieces) (omega arith)))
 
   -- a value on the stack goes into a local or a variable
@@ -209,7 +217,7 @@ module _ (s : Setup) (handle : ℕ → Conf → OperationResult) (given : ℕ
           let inside = ltb-true i (length names) is in
           ended_at names names (p + 1) _ stack c.back _ _ _ 8 24 _ (omega arith) refl (omega arith) (omega arith)
           (write_reach (ir.Store (local_at i)) names st (assign ds x v st) names (put_word c.priv (local_at i) v) p (v ∷ stack) stack c has.0
-          (passed s handle given code Ends_so _ _ (local_shown i (omega (arith, inside, t.holds.few)))) (omega arith) t
+          (passed s handle given code Ends_so _ _ (local_stored i (omega (arith, inside, t.holds.few)))) (omega arith) t
           (holds_assign_local ds n names st c.priv t.holds x v small is) (shows_local i v t.progress c.priv c.mem c.devices c.marks (omega (arith, inside, t.holds.few)) t.shown) acts
           (length t.progress.pieces) (omega arith))
       go false is has =
@@ -221,7 +229,7 @@ module _ (s : Setup) (handle : ℕ → Conf → OperationResult) (given : ℕ
           (do_one s handle given code Ends_so _ (ir.Op op.Sub) _ (at (p + 1 + 1) (w ∷ stack) c) 8 16 has.1.0 refl (omega arith)
           (ended_at names names (p + 1 + 1 + 1) _ stack c.back _ _ _ 8 8 _ (omega arith) refl (omega arith) (omega arith)
           (write_reach (ir.Store o) names st (assign ds x v st) names (put_word c.priv o w) (p + 1 + 1) (w ∷ stack) stack c has.1.1.0
-          (passed s handle given code Ends_so _ _ (cell_shown n o 2 (omega arith))) (omega arith) t
+          (passed s handle given code Ends_so _ _ (cell_stored (place ds x))) (omega arith) t
           (holds_assign_cell ds n names st c.priv t.holds x v small is (known is) (smalls x)) (shows_cell (place ds x) w t.progress c.priv c.mem c.devices c.marks t.shown) acts
           (length t.progress.pieces) (omega arith))))
 
@@ -265,7 +273,7 @@ module _ (s : Setup) (handle : ℕ → Conf → OperationResult) (given : ℕ
       (ended_at names names _ _ stack c.back _ _ _ 8 8 _ len refl (omega arith) (omega arith)
       (write_reach store names st (assign_element ds x k v st) names (if nat_lt k (array_length ds x) then put_word c.priv (cell_at n (place ds x) + 2 * k) v else c.priv) (p + length ci + length ce)
       (v ∷ k ∷ stack) stack c (has_back code (p + length ci) ce _ rest).0
-      (passed s handle given code Ends_so _ _ (element_shown n (cell_at n (place ds x)) (array_length ds x) k (cell_shown n (cell_at n (place ds x) + 2 * k) 2 (omega arith)))) (omega arith) t
+      (passed s handle given code Ends_so _ _ (element_stored (place ds x) (array_length ds x) k)) (omega arith) t
       (holds_element ds n names st c.priv t.holds x k v small) (shows_element x k v t.progress c.priv c.mem c.devices c.marks t.shown) (element_stays ds x k v st) (length t.progress.pieces)
       (omega arith))))
 

@@ -1,10 +1,10 @@
 -- Entry 2: an event packet.
 use Rattle.std.proofs.Common.{◌≡◌, ◌≢◌, ℕ, zero, suc, ◌+◌, ◌-◌, ◌*◌, ◌%◌, ◌<◌, ◌≤◌, ◌⊎◌, inl, inr, Bool, true, false, not, ◌==◌, List, [], ◌∷◌, ◌++◌, length}
 use Rattle.std.proofs.Common.{take, drop, Option, Some, None, refl, sym, ap, ◌∙◌, subst, arith}
-use Rattle.std.specs.Prelude.{slice_get, if◌then◌else◌, nat_lt, bit_and}
+use Rattle.std.specs.Prelude.{slice_get, if◌then◌else◌, nat_lt, bit_and, ◌&&◌}
 use Rattle.std.proofs.lemmas.List.{length-take, length-drop, take_all, get_or-take}
 use Rattle.std.proofs.lemmas.List.Elements.{All-take}
-use Rattle.std.proofs.lemmas.Bool.{true≢false, and_from, ne_eqb, eqb-false, eqb-true}
+use Rattle.std.proofs.lemmas.Bool.{true≢false, and_from, ne_eqb, eqb-false, eqb-true, or_right}
 use Rattle.sx_lang.specs.declared.sides.Side.{Side}
 use Rattle.sx_lang.specs.declared.sides.Side.TheVariants.{From, To}
 use Rattle.sx_mean.specs.declared.events.End.{End}
@@ -27,11 +27,11 @@ use Rattle.sx_invoke.specs.Acts.{handled}
 use Rattle.sx_invoke.specs.Entries.{input, input_at, event_numbered, event_opened, number_taken, field_in, second_in, header_in, end_found, with_received}
 use Rattle.sx_invoke.specs.Devices.{HasDevices}
 use Rattle.sx_ir.specs.Conf.{Conf}
-use Rattle.sx_ir.specs.Meaning.{OperationResult, do_at, do_op, is_body_place, is_key_place, opened, key_at, names_no_key, when}
+use Rattle.sx_ir.specs.Meaning.{OperationResult, do_at, do_op, is_body_place, is_key_kept, is_key_place, has_key_mark, is_open_slot, opened, key_at, names_no_key, when}
 use Rattle.sx_ir.specs.declared.ir.Ir.{Ir}
 use Rattle.sx_ir.specs.declared.ir.Ir.TheVariants as ir
 use Rattle.sx_ir.specs.declared.ir.IrOp.TheVariants as op
-use Rattle.sx_ir.proofs.Shown.{slot_body, slot_key, slot_shown}
+use Rattle.sx_ir.proofs.Shown.{number_spared, slot_body, slot_key, slot_shown}
 use Rattle.sx_stub.specs.Stub.{input_code, input_found, key_found, key_place, search_code, refuse_if, cases, find_any, take_receiving, take_event, taken_code}
 use Rattle.sx_stub.specs.Stub.{is_receiving, is_to, is_wrong_kind, wanted_receiving, is_closed_code, is_other_epoch, is_past_number, is_last_number}
 use Rattle.sx_stub.specs.Stub.{is_opened_not, handled_by}
@@ -39,7 +39,7 @@ use Rattle.sx_stub.specs.Invokes.{ShowsCall, Ready, Invokes, HandlersDo}
 use Rattle.sx_stub.proofs.Mem.{AllBytes, word_lt, word_same, word-put_same, word-put_other, get-put_other, length-put_bytes, AllBytes-put_word}
 use Rattle.sx_stub.proofs.Mem.{AllBytes-put_bytes, get-put_bytes_other, get-put_bytes_in, bytes_from_same, AllBytes-bytes_from}
 use Rattle.sx_stub.proofs.Straight.{At, at, at_front, at_back, pure}
-use Rattle.sx_stub.proofs.Slots.{Same, IsKept, with_priv, shows_priv, end_with, end_state_is, end_in_slot, end_state_same, kept_high}
+use Rattle.sx_stub.proofs.Slots.{Same, IsKept, with_priv, shows_priv, end_with, end_state_is, end_in_slot, end_state_same}
 use Rattle.sx_stub.proofs.Refuse.{refuse_does, refuse_zero, or_if, sub_zero, not_twice, goes_on, runs_on, within}
 use Rattle.sx_stub.proofs.Chain.{found_by, case_test, chain_does}
 use Rattle.sx_stub.proofs.Receive.{receive_does, copied_shows}
@@ -57,6 +57,10 @@ use Rattle.sx_lists.specs.Truth.{truth}
 state_is : (priv : List ℕ) (j : ℕ)
     → end_state priv j ≡ end_with (word priv (end_at j + 4)) (word priv (end_at j)) (word priv (end_at j + 2)) (bytes_from priv (end_at j + 8) 16)
 state_is priv j = end_state_is priv j (word priv (end_at j + 4)) (word priv (end_at j)) (word priv (end_at j + 2)) (bytes_from priv (end_at j + 8) 16) refl refl refl refl
+
+not_not : (b : Bool) → not b ≡ false → b ≡ true
+not_not true h = refl
+not_not false h = absurd (true≢false h)
 
 truth_twice : (b : Bool) → truth b ≡ truth (not (not b))
 truth_twice true = refl
@@ -122,7 +126,7 @@ end_same m n k f = end_state_same m n k (λ i p q. f i (omega (arith, p)))
 module _ (s : Setup) (call : Call) (handle : ℕ → Conf → OperationResult) (given : ℕ
     → ℕ) (code : List Ir) (p : Progress) (none : p.pieces ≡ []) (tag : IsTag s.mac) (few : length s.ends ≤ 16) (links : FewLinks s.ends)
     (outside : is_bad_window s call.output out_window_size ≡ false) (devices : HasDevices p.devices (declared_kind s.tree.decls) s.section.layout) (cost : ℕ)
-    (does : HandlersDo s handle given code cost) where
+    (does : HandlersDo s handle given code cost) (fresh : p.marks ≡ []) where
   -- the event is taken, and handled
   takes : (packet body : List ℕ) (j : ℕ) (e : End) (place : ℕ) (c : Conf) → length packet ≡ 24 → AllBytes packet
       → AllBytes body → length body ≡ 32 → j < length s.ends → c.back ≡ None → second_in packet ≢ 65535
@@ -159,7 +163,8 @@ module _ (s : Setup) (call : Call) (handle : ℕ → Conf → OperationResult) (
       } in
       runs_on s call handle given code r (ir.Load 20 ∷ ir.Push 1 ∷ ir.Op op.Add ∷ []) c place (place + 3) [] (v ∷ []) (cost + 100) (cost + 76) (a.0, (a.1.0, (a.1.1.0, tt))) sum refl (omega arith)
       (goes_on s call handle given code r (ir.Store (end_number_at j)) (at c (place + 3) (v ∷ [])) (at c5 (place + 3 + 1) []) (cost + 76) (cost + 68) (ap (slice_get code) (omega arith)
-      ∙ a.1.1.1.0) (ap (λ (b : Bool). when b (do_op s handle (ir.Store (end_number_at j)) (at c (place + 3) (v ∷ [])))) (slot_shown (length s.ends) j 2 2 (omega arith))) refl (omega arith)
+      ∙ a.1.1.1.0) (ap (λ (b : Bool). when b (do_op s handle (ir.Store (end_number_at j)) (at c (place + 3) (v ∷ []))))
+      (and_from _ _ (number_spared (length s.ends) j) (slot_shown (length s.ends) j 2 2 (omega arith)))) refl (omega arith)
       (subst (λ (x : ℕ). Invokes s call handle given code r (cost + 68) (at c5 x [])) (omega arith)
       (within s call handle given code r (cost + 68) (cost + 16) (at c5 (place + 4) []) (omega arith)
       (handles s call handle given code ev p2 c5 (place + 4) cost ready (λ x n. does ev x n) (subst (λ (x : ℕ). At code x (handled_by (number_of s.tree ev))) (omega arith) a.1.1.1.1)))))
@@ -170,11 +175,11 @@ module _ (s : Setup) (call : Call) (handle : ℕ → Conf → OperationResult) (
 
   -- the packet is opened
   opens : (packet : List ℕ) (j : ℕ) (e : End) (place : ℕ) (c : Conf) → length packet ≡ 24 → AllBytes packet
-      → j < length s.ends → c.back ≡ None → second_in packet ≢ 65535 → ShowsCall s call p c → Holds c.priv packet
+      → j < length s.ends → c.back ≡ None → second_in packet ≢ 65535 → (end_of p.state.ends j).is_open ≡ true → ShowsCall s call p c → Holds c.priv packet
       → At code place (take_event s.tree place j e)
       → Invokes s call handle given code (event_opened s call (j, e) packet (unwrapped s.mac (end_of p.state.ends j).key (header_in packet) (take 2 (drop 6 packet)) (drop 8 packet)) p) (cost + 200)
       (at c place [])
-  opens packet j e place c len h lt back last shows holds a =
+  opens packet j e place c len h lt back last is_open shows holds a =
       let d6 = length-drop 6 packet in
       let d8 = length-drop 8 packet in
       let t2 = length-take 2 (drop 6 packet) in
@@ -188,8 +193,14 @@ module _ (s : Setup) (call : Call) (handle : ℕ → Conf → OperationResult) (
       let u = unwrapped s.mac st.key (header_in packet) (take 2 (drop 6 packet)) (drop 8 packet) in
       let named : names_no_key (length s.ends) (ir.Open k 16 6 2 2) [] ≡ true = and_from (is_key_place (length s.ends) k) (is_body_place k 2 2) (slot_key (length s.ends) j lt)
       (slot_body k 2 2 (omega arith)) in
+      let four : k - 4 ≡ end_at j + 4 = omega arith in
+      let open_slot : is_open_slot c.priv k ≡ true = ap (λ (o : ℕ). not (word c.priv o == 0)) four
+      ∙ sym (ap (λ (x : EndState). x.is_open) (end_in_slot s call p c j shows lt ∙ state_is c.priv j)) ∙ is_open in
+      let unkeyed : not (has_key_mark c.marks) ≡ true = ap (λ (l : List mark.Mark). not (has_key_mark l)) (shows.marks ∙ fresh) in
+      let kept : is_key_kept (at c place []) k ≡ true = or_right (k == 0) (is_open_slot c.priv k && not (has_key_mark c.marks))
+      (and_from (is_open_slot c.priv k) (not (has_key_mark c.marks)) open_slot unkeyed) in
       let does1 : do_at s handle (Some (ir.Open k 16 6 2 2)) (at c place []) ≡ opened (at c place []) k (header_in packet) 2 2 u =
-      ap (λ (b : Bool). when b (do_op s handle (ir.Open k 16 6 2 2) (at c place []))) named ∙
+      ap (λ (b : Bool). when b (do_op s handle (ir.Open k 16 6 2 2) (at c place []))) (and_from (is_key_kept (at c place []) k) (names_no_key (length s.ends) (ir.Open k 16 6 2 2) []) kept named) ∙
       ap (λ (x : List ℕ). opened (at c place []) k (bytes_from c.priv 16 6) 2 2 (unwrapped s.mac x (bytes_from c.priv 16 6) (bytes_from c.priv 22 2) (bytes_from c.priv 24 16))) key
       ∙ ap (λ (x : List ℕ). opened (at c place []) k x 2 2 (unwrapped s.mac st.key x (bytes_from c.priv 22 2) (bytes_from c.priv 24 16))) ad
       ∙ ap (λ (x : List ℕ). opened (at c place []) k (header_in packet) 2 2 (unwrapped s.mac st.key (header_in packet) x (bytes_from c.priv 24 16))) ci
@@ -293,7 +304,7 @@ module _ (s : Setup) (call : Call) (handle : ℕ → Conf → OperationResult) (
       let again = sym found2 ∙ index_found t (take_receiving s.tree) s.ends 0 j e links (λ i d. refl) receives found in
       let a6 = subst (λ (x : ℕ). At code place (take_event s.tree place x e2)) (some_place j2 j e2 e again) a5 in
       let a7 = subst (λ (x : End). At code place (take_event s.tree place j x)) (some_end j2 j e2 e again) a6 in
-      opens packet j e place c3 len h lt back (eqb-false second 65535 x4) shows3 holds3 a7)
+      opens packet j e place c3 len h lt back (eqb-false second 65535 x4) (not_not st.is_open x1) shows3 holds3 a7)
       (λ miss. absurd (some_none (j, e) (sym (index_found t (take_receiving s.tree) s.ends 0 j e links (λ i d. refl) receives found) ∙ miss)))))))))
 
 -- an end that is found for a receiving side receives
@@ -308,7 +319,7 @@ receives_to found link i d p q h = go d.side (let e = eqb-true (link + 256 * 1) 
 module _ (s : Setup) (call : Call) (handle : ℕ → Conf → OperationResult) (given : ℕ
     → ℕ) (code : List Ir) (p : Progress) (c : Conf) (shows : ShowsCall s call p c) (none : p.pieces ≡ []) (bytes : AllBytes p.mem) (back : c.back ≡ None)
     (window : is_bad_window s call.input in_window_size ≡ false) (outside : is_bad_window s call.output out_window_size ≡ false) (tag : IsTag s.mac) (few : length s.ends ≤ 16)
-    (links : FewLinks s.ends) (devices : HasDevices p.devices (declared_kind s.tree.decls) s.section.layout) (cost : ℕ) (does : HandlersDo s handle given code cost) (entry : call.entry ≡ 2)
+    (links : FewLinks s.ends) (devices : HasDevices p.devices (declared_kind s.tree.decls) s.section.layout) (cost : ℕ) (does : HandlersDo s handle given code cost) (fresh : p.marks ≡ []) (entry : call.entry ≡ 2)
     (search : ℕ) (at_search : At code search (search_code s.tree s.ends search)) where
   room512 : 512 ≤ length c.priv
   room512 = omega (arith, shows.size)
@@ -353,7 +364,7 @@ module _ (s : Setup) (call : Call) (handle : ℕ → Conf → OperationResult) (
       (ap (λ (x : ℕ). Some (x ∷ [])) (shows3.entry ∙ entry)) refl (omega arith)
       (goes_on s call handle given code r2 (ir.JumpZero key) (at c3 (found + 1 + 1) (2 ∷ [])) (at c3 (found + 3) []) (cost + 1420) (cost + 1400) a5.1.1.0
       (ap (λ (x : ℕ). Goes (at c3 x [])) (omega arith)) refl (omega arith)
-      (found_does s call handle given code p none tag few links outside devices cost does packet j e t c3 (found + 3) len h (same_back
+      (found_does s call handle given code p none tag few links outside devices cost does fresh packet j e t c3 (found + 3) len h (same_back
       ∙ back) shows3 (held packet (omega (arith, len)) holds2) index3 hit (λ i d p x. receives_to found link i d (omega arith) p x)
       (at_front code (found + 3) (input_found s.tree s.ends (found + 3)) (key_found s.ends key) a6)))))
       (λ miss. ap (λ (o : Option (ℕ × End)). input_at s call packet o p) (sym same ∙ miss)))))

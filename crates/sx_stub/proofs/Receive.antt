@@ -2,7 +2,7 @@
 use Rattle.std.proofs.Common.{◌≡◌, ◌≢◌, ℕ, zero, suc, ◌+◌, ◌-◌, ◌*◌, ◌%◌, ◌<◌, ◌≤◌, ◌⊎◌, inl, inr, Bool, true, false, ◌&&◌, not, ◌==◌, List, [], ◌∷◌, length}
 use Rattle.std.proofs.Common.{get_or, Option, Some, None, Result, Ok, Err, refl, sym, ap, ◌∙◌, subst, arith}
 use Rattle.std.specs.Prelude.{slice_get, slice_index, if◌then◌else◌, nat_le}
-use Rattle.std.proofs.lemmas.Bool.{not_from_false}
+use Rattle.std.proofs.lemmas.Bool.{leb-true, not_from_false}
 use Rattle.std.proofs.lemmas.Bool.Decides.{eqb_tells}
 use Rattle.sx_rules.specs.declared.access.Violation.{Violation}
 use Rattle.sx_rules.specs.declared.access.Access.TheVariants.{Read}
@@ -18,7 +18,8 @@ use Rattle.sx_invoke.specs.Windows.{is_bad_window, read_byte, read_bytes, then_,
 use Rattle.sx_invoke.specs.Progress.{Progress, Invoked, Returns, Violates}
 use Rattle.sx_invoke.specs.Entries.{is_kind, received}
 use Rattle.sx_ir.specs.Conf.{Conf}
-use Rattle.sx_ir.specs.Meaning.{OperationResult, do_op, copied_in, when, saved}
+use Rattle.sx_ir.specs.Meaning.{OperationResult, do_at, do_op, copied_in, when, saved}
+use Rattle.sx_ir.proofs.Shown.{low_spared}
 use Rattle.sx_ir.specs.declared.ir.Ir.{Ir}
 use Rattle.sx_ir.specs.declared.ir.Ir.TheVariants as ir
 use Rattle.sx_stub.specs.Stub.{refuse_if, is_wrong_kind}
@@ -92,11 +93,13 @@ module _ (s : Setup) (call : Call) (handle : ℕ → Conf → OperationResult) (
     (window : is_bad_window s call.input in_window_size ≡ false) where
   -- the copy is done or refused as the protocol says
   copies : (place n : ℕ) → nat_le n 40 ≡ true
-      → do_op s handle (ir.CopyIn n 16) (at c place []) ≡ copied_in (at c place []) 16 (read_bytes s p.devices p.mem call.input n)
+      → do_at s handle (Some (ir.CopyIn n 16)) (at c place []) ≡ copied_in (at c place []) 16 (read_bytes s p.devices p.mem call.input n)
   copies place n le =
       let ok : not (is_bad_window s (saved c input_register) 40) ≡ true = ap (λ (x : ℕ). not (is_bad_window s x in_window_size)) shows.input
       ∙ not_from_false (is_bad_window s call.input in_window_size) window in
-      ap (λ (b : Bool). when (b && nat_le n 40) (copied_in (at c place []) 16 (read_bytes s c.devices c.mem (saved c input_register) n))) ok
+      let few = leb-true n 40 le in
+      ap (λ (b : Bool). when (b && true) (do_op s handle (ir.CopyIn n 16) (at c place []))) (low_spared (length s.ends) 16 n (omega (arith, few)))
+      ∙ ap (λ (b : Bool). when (b && nat_le n 40) (copied_in (at c place []) 16 (read_bytes s c.devices c.mem (saved c input_register) n))) ok
       ∙ ap (λ (b : Bool). when b (copied_in (at c place []) 16 (read_bytes s c.devices c.mem (saved c input_register) n))) le
       ∙ ap (λ (x : ℕ). copied_in (at c place []) 16 (read_bytes s c.devices c.mem x n)) shows.input
       ∙ ap (λ (x : List ℕ). copied_in (at c place []) 16 (read_bytes s c.devices x call.input n)) shows.mem
@@ -141,7 +144,7 @@ module _ (s : Setup) (call : Call) (handle : ℕ → Conf → OperationResult) (
       go (read_bytes s p.devices p.mem call.input n) (bytes_read s p.devices p.mem call.input n bytes) (copies place n small)
     where
       go : (r : Result (List ℕ) Violation) → IsRead n r
-          → do_op s handle (ir.CopyIn n 16) (at c place []) ≡ copied_in (at c place []) 16 r
+          → do_at s handle (Some (ir.CopyIn n 16)) (at c place []) ≡ copied_in (at c place []) 16 r
           → Invokes s call handle given code (received r kind rest p) k (at c place [])
       go (Err v) q e =
           breaks s call handle given code (Violates v p) (ir.CopyIn n 16) (at c place []) v c.marks k copy e refl (omega (arith, le)) (refl, sym shows.marks)

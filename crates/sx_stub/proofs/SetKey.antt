@@ -4,7 +4,7 @@ use Rattle.std.proofs.Common.{drop, Option, Some, None, refl, sym, ap, ◌∙◌
 use Rattle.std.specs.Prelude.{if◌then◌else◌, nat_lt, bit_and}
 use Rattle.std.proofs.lemmas.List.{length-take, length-drop, take_all}
 use Rattle.std.proofs.lemmas.List.Elements.{All-take}
-use Rattle.std.proofs.lemmas.Bool.{false≢true, true≢false, lt-ltb}
+use Rattle.std.proofs.lemmas.Bool.{false≢true, true≢false, and_from, lt-ltb, or_right}
 use Rattle.sx_lang.specs.declared.sides.Side.{Side}
 use Rattle.sx_lang.specs.declared.sides.Side.TheVariants.{From, To}
 use Rattle.sx_mean.specs.declared.events.End.{End}
@@ -22,7 +22,7 @@ use Rattle.sx_invoke.specs.Windows.{is_bad_window}
 use Rattle.sx_invoke.specs.Progress.{Progress, Invoked, Returns}
 use Rattle.sx_invoke.specs.Entries.{set_key, set_key_at, key_opened, end_keyed, is_keyed, field_in, second_in, header_in, end_on, side_of, with_received}
 use Rattle.sx_ir.specs.Conf.{Conf}
-use Rattle.sx_ir.specs.Meaning.{OperationResult, do_op, do_at, opened, when}
+use Rattle.sx_ir.specs.Meaning.{OperationResult, do_op, do_at, is_key_mark, has_key_mark, opened, when}
 use Rattle.sx_ir.specs.Meaning as meaning
 use Rattle.sx_ir.specs.declared.ir.IrOp.TheVariants as op
 use Rattle.sx_ir.specs.declared.ir.Ir.{Ir}
@@ -111,6 +111,11 @@ keyed_other priv key k field i len o =
     ne (inl x) d a e lt = omega (arith, x, lt, e)
     ne (inr x) d a e lt = omega (arith, x, lt, e)
 
+-- a key was unwrapped last
+keyed_last : (marks : List mark.Mark) (header key : List ℕ) → has_key_mark (marks ++ mark.Unwrapped header key true ∷ []) ≡ true
+keyed_last [] header key = refl
+keyed_last (m ∷ marks) header key = or_right (is_key_mark m) (has_key_mark (marks ++ mark.Unwrapped header key true ∷ [])) (keyed_last marks header key)
+
 abbrev pub with_slot : Progress → ℕ → EndState → Progress
 with_slot p k new = record p { state = record p.state { ends = with_end p.state.ends k new } }
 
@@ -164,7 +169,8 @@ module _ (s : Setup) (call : Call) (handle : ℕ → Conf → OperationResult) (
       shows_slot s call (progress_mark p m) c priv (place + 1) [] j new shows lt (l4 ∙ l3 ∙ l2
       ∙ l1) bytes5 (λ i o. keyed_other c.priv key j (field_in packet) i len o) (keyed_end c.priv key j (field_in packet) isb len (omega (arith, lt, room))) in
       let does : do_at s handle (Some (ir.SetEnd j)) (at c place []) ≡ Goes (with_priv c priv (place + 1) []) =
-      ap (λ (b : Bool). when b (do_op s handle (ir.SetEnd j) (at c place []))) (lt-ltb j (length s.ends) lt)
+      ap (λ (b : Bool). when b (do_op s handle (ir.SetEnd j) (at c place [])))
+      (and_from (has_key_mark c.marks) (nat_lt j (length s.ends)) (ap has_key_mark shows.marks ∙ keyed_last p.marks (header_in packet) key) (lt-ltb j (length s.ends) lt))
       ∙ ap (λ (x : ℕ). Goes (with_priv c (meaning.slot_keyed c.priv j x (bytes_from c.priv 56 16)) (place + 1) [])) field
       ∙ ap (λ (x : List ℕ). Goes (with_priv c (meaning.slot_keyed c.priv j (field_in packet) x) (place + 1) [])) read in
       goes_on s call handle given code r (ir.SetEnd j) (at c place []) (with_priv c priv (place + 1) []) 60 16 a.0 does refl (omega arith)

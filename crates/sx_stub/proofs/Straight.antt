@@ -1,6 +1,6 @@
 -- Code that stands at a place, and runs of operations that work on the stack alone.
-use Rattle.std.proofs.Common.{◌≡◌, ℕ, ◌+◌, ◌≤◌, Bool, true, false, List, [], ◌∷◌, ◌++◌, length, Option, Some, None, refl, sym, ap, subst, arith}
-use Rattle.std.specs.Prelude.{nat_lt, slice_get, if◌then◌else◌}
+use Rattle.std.proofs.Common.{◌≡◌, ℕ, ◌+◌, ◌≤◌, Bool, true, false, List, [], ◌∷◌, ◌++◌, length, Option, Some, None, refl, sym, ap, ◌∙◌, subst, arith}
+use Rattle.std.specs.Prelude.{nat_lt, slice_get, if◌then◌else◌, ◌&&◌}
 use Rattle.std.proofs.lemmas.Option.{none-some, same_Some}
 use Rattle.sx_lang.specs.declared.tree.UnOp.TheVariants as unary
 use Rattle.sx_lang.specs.declared.tree.BinOp.TheVariants as binary
@@ -14,7 +14,7 @@ use Rattle.sx_invoke.specs.Setup.{Setup}
 use Rattle.sx_invoke.specs.Windows.{is_bad_window}
 use Rattle.sx_ir.specs.Conf.{Conf, Violates}
 use Rattle.sx_ir.specs.Counts.{count_of}
-use Rattle.sx_ir.specs.Meaning.{OperationResult, do_op, do_at, op_step, op_count, count_at, handler_count, CodeReaches, element, is_saved, names_no_key, next, pushed, when, on_top, saved, operated}
+use Rattle.sx_ir.specs.Meaning.{OperationResult, do_op, do_at, op_step, op_count, count_at, handler_count, CodeReaches, element, is_saved, keeps_slots, names_no_key, next, pushed, when, on_top, saved, operated}
 use Rattle.sx_ir.specs.declared.ir.IrOp.{IrOp}
 use Rattle.sx_ir.specs.declared.ir.IrOp.TheVariants as op
 use Rattle.sx_ir.specs.declared.ir.Ir.{Ir}
@@ -174,12 +174,21 @@ module _ (s : Setup) (handle : ℕ → Conf → OperationResult) where
   pure_does (ir.Handler x) c st h = absurd (none-some st h)
   pure_does ir.Leave c st h = absurd (none-some st h)
 
+  pure_keeps : (i : Ir) (c : Conf) (st : List ℕ) → pure_op s c.priv i c.stack ≡ Some st → keeps_slots (length s.ends) i c ≡ true
+  pure_keeps (ir.Store o) c st h = absurd (none-some st h)
+  pure_keeps (ir.StoreAt o n) c st h = absurd (none-some st h)
+  pure_keeps (ir.CopyIn n o) c st h = absurd (none-some st h)
+  pure_keeps (ir.Seal k x hn b bn) c st h = absurd (none-some st h)
+  pure_keeps (ir.Open k x hn b bn) c st h = absurd (none-some st h)
+  pure_keeps (ir.SetEnd k) c st h = absurd (none-some st h)
+  pure_keeps i c st h = refl
+
   pub pure_done : (i : Ir) (c : Conf) (st : List ℕ) → pure_at s c.priv i c.stack ≡ Some st
       → do_at s handle (Some i) c ≡ Goes (next c st)
   pure_done i c st h = go (names_no_key (length s.ends) i c.stack) h
     where
-      go : (b : Bool) → (if b then pure_op s c.priv i c.stack else None) ≡ Some st → when b (do_op s handle i c) ≡ Goes (next c st)
-      go true h = pure_does i c st h
+      go : (b : Bool) → (if b then pure_op s c.priv i c.stack else None) ≡ Some st → when (keeps_slots (length s.ends) i c && b) (do_op s handle i c) ≡ Goes (next c st)
+      go true h = ap (λ (b : Bool). when (b && true) (do_op s handle i c)) (pure_keeps i c st h) ∙ pure_does i c st h
       go false h = absurd (none-some st h)
 
   pub pure_count : (given : ℕ → ℕ) (i : Ir) (priv stack st : List ℕ) → pure_at s priv i stack ≡ Some st

@@ -118,7 +118,7 @@ module _ (s : Setup) (call : Call) (p : Progress) (handle : ℕ → Conf → Ope
       (omega arith))
       (λ n1. jumps (call.entry == 2) 2 35 q_input (cost + 2820) (cost + 2780) (with_received s call event_size event_kind p (λ packet. input s call packet p)) r3 (omega arith) refl
       (at_front code 35 (jump_on 2 q_input) l4 a3) (omega arith)
-      (λ x. input_does s call handle given code p c b.shows b.pieces b.mem b.back window outside b.tag b.few b.links b.devices cost does (eqb-true call.entry 2 x) q_search a8 q_input (cost + 2780)
+      (λ x. input_does s call handle given code p c b.shows b.pieces b.mem b.back window outside b.tag b.few b.links b.devices cost does b.unmarked (eqb-true call.entry 2 x) q_search a8 q_input (cost + 2780)
       (at_front code q_input (input_code q_search q_input) (search_code s.tree s.ends q_search) a7) (omega arith))
       (λ n2.
       let parts = or_parts (nat_lt 3 call.entry) ((call.entry == 3) && not (is_sensor_driver (declared_kind s.tree.decls))) known in

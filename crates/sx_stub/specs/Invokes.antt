@@ -45,6 +45,7 @@ pub record ShowsCall (s : Setup) (call : Call) (p : Progress) (c : Conf) : Type 
 pub record CallBegun (s : Setup) (call : Call) (p : Progress) (c : Conf) : Type 0 where
   pub shows : ShowsCall s call p c
   pub pieces : p.pieces ≡ []
+  pub unmarked : p.marks ≡ []
   pub back : c.back ≡ None
   pub mem : All (λ b. b < 256) p.mem
   pub tag : IsTag s.mac
