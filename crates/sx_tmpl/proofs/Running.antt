@@ -6,6 +6,7 @@ pub mod Owes
 pub mod Steps
 pub mod Flags
 pub mod Holding
+pub mod Entered
 pub mod Outcomes
 pub mod Instructions
 pub mod Loading

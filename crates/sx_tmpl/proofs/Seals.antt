@@ -261,7 +261,7 @@ module _ (s : Setup) (t u : Sections) (live : t.live ≡ s.live) (places : ℕ �
 -- Two nodes, at a wrap or an unwrap of the module's code.
 module _ (nac : Mac) (s : Setup) (n : State) (mem : List ℕ) (u : Sections) (key : List ℕ) (exchange : Exchange) (places : ℕ → Type 0) (fit : AreOpen s places) (live : n.sections.live ≡ s.live)
     (same : map keyless u.live ≡ map keyless n.sections.live) (next : u.next ≡ n.sections.next) (agree : AgreeAt places n.mem mem) (own : own_of n ≡ s.section.id) (other : Section)
-    (found : section_of n.sections.live s.section.id ≡ Some s.section) (found2 : section_of u.live s.section.id ≡ Some other) where
+    (found : section_of n.sections.live s.section.id ≡ Some s.section) (found2 : section_of u.live s.section.id ≡ Some other) (entered : List ℕ) (c : Watched) where
   abbrev m : State
   m = record n { mem = mem; sections = u; key = key; exchange = exchange }
 
@@ -304,7 +304,7 @@ module _ (nac : Mac) (s : Setup) (n : State) (mem : List ℕ) (u : Sections) (ke
       ap (λ w. at_word nac w m) e ∙ ap (λ (o : ℕ). exec u o (module_row nac 5 (record (given_at_pc nac m) { own = o })) (start m)) (own_twin ∙ own)
       ∙ ap (λ o. exec u s.section.id (within g2 (unwrap nac g2) o) (start m)) found2
 
-  seal_same : (w : ℕ) → word n.mem (pc_of n) ≡ w → SealShowsNone s w n.regs → SealsAlike s nac other n m → word mem (pc_of n) ≡ word n.mem (pc_of n)
+  seal_same : (w : ℕ) → word n.mem (pc_of n) ≡ w → SealShowsNone s entered c w n.regs → SealsAlike s nac other n m → word mem (pc_of n) ≡ word n.mem (pc_of n)
       → Told (instruction s.mac n) (instruction nac m)
   seal_same w here shown alike e =
       elim (shown.seals) [
@@ -332,7 +332,7 @@ module _ (nac : Mac) (s : Setup) (n : State) (mem : List ℕ) (u : Sections) (ke
       let hi = agree.same (even (pc_of n) + 1) (fit.outside (even (pc_of n) + 1) (sym (ap (λ (l : List Section). outside_private l (even (pc_of n) + 1)) live) ∙ p.1)) in
       cc
 
-  attempt_told : SealShowsNone s (word n.mem (pc_of n)) n.regs → SealsAlike s nac other n m → Told (attempt s.mac n) (attempt nac m)
+  attempt_told : SealShowsNone s entered c (word n.mem (pc_of n)) n.regs → SealsAlike s nac other n m → Told (attempt s.mac n) (attempt nac m)
   attempt_told shown alike =
       ifs_told (word_outside n.sections.live (pc_of n)) (word_outside u.live (pc_of n)) (ordered s.mac n (device_at n.devices (pc_of n))) (ordered nac m (device_at n.devices (pc_of n))) bad.Fetch
       (ap₂ (λ b c. b && c) (outside_keyless n.sections.live u.live same (even (pc_of n))) (outside_keyless n.sections.live u.live same (even (pc_of n) + 1)))
@@ -395,7 +395,7 @@ module _ (nac : Mac) (s : Setup) (n : State) (mem : List ℕ) (u : Sections) (ke
     outcome (Module r x t e c) (Violated b) h = absurd h
 
     -- a wrap or an unwrap is the same step in both
-    pub seal_abreast : SealShowsNone s (word n.mem (pc_of n)) n.regs → SealsAlike s nac other n m → StepAbreast places (watch s.mac w) (watch nac v)
+    pub seal_abreast : SealShowsNone s entered c (word n.mem (pc_of n)) n.regs → SealsAlike s nac other n m → StepAbreast places (watch s.mac w) (watch nac v)
     unfolding watch
     seal_abreast shown alike =
         subst (λ (z : State). StepAbreast places (watched_on w (settled_step z (attempt s.mac z)) (violation_of (settled_step z (attempt s.mac z)).shown.event)) (watch nac v)) (sym here)
@@ -405,17 +405,17 @@ module _ (nac : Mac) (s : Setup) (n : State) (mem : List ℕ) (u : Sections) (ke
 
 -- A step of the module's code that shows no key is the same in both nodes.
 pub steps_steady : (s : Setup) (places : ℕ → Type 0) → StepsSteady s places
-steps_steady s places nac other w v fit live own found found2 shown abreast alike =
+steps_steady s places nac other entered w v fit live own found found2 shown abreast alike =
     let n = w.node in
     let k = abreast.nodes in
     let m : State = record n { mem = v.node.mem; sections = v.node.sections; key = v.node.key; exchange = v.node.exchange } in
     by (is_module_word (word n.mem (pc_of n))) refl shown (subst (λ (z : State). SealsAlike s nac other n z) k.rest alike)
   where
-    by : (b : Bool) → is_module_word (word w.node.mem (pc_of w.node)) ≡ b → WordShowsNone s w.node (word w.node.mem (pc_of w.node)) b
+    by : (b : Bool) → is_module_word (word w.node.mem (pc_of w.node)) ≡ b → WordShowsNone s entered w (word w.node.mem (pc_of w.node)) b
         → SealsAlike s nac other w.node (record w.node { mem = v.node.mem; sections = v.node.sections; key = v.node.key; exchange = v.node.exchange })
         → StepAbreast places (watch s.mac w) (watch nac v)
     by true e told same =
-        seal_abreast nac s w.node v.node.mem v.node.sections v.node.key v.node.exchange places fit live abreast.nodes.live abreast.nodes.next abreast.nodes.mem own other found found2 w v refl
+        seal_abreast nac s w.node v.node.mem v.node.sections v.node.key v.node.exchange places fit live abreast.nodes.live abreast.nodes.next abreast.nodes.mem own other found found2 entered w w v refl
         abreast.nodes.rest abreast.marks told same
     by false e plain same =
         plain_abreast s.mac nac s w.node v.node.mem v.node.sections v.node.key v.node.exchange places fit live abreast.nodes.live abreast.nodes.next abreast.nodes.mem own w v refl abreast.nodes.rest

@@ -1,5 +1,5 @@
 -- What it means that instructions do what stack code does.
-use Rattle.std.specs.Prelude.{◌≡◌, ℕ, ◌+◌, ◌%◌, ◌≤◌, ◌<◌, ◌⊎◌, false, List, [], ◌++◌, length}
+use Rattle.std.specs.Prelude.{◌≡◌, ℕ, ◌+◌, ◌%◌, ◌≤◌, ◌<◌, ◌⊎◌, true, false, List, [], ◌++◌, length}
 use Rattle.std.specs.Prelude.{slice_index, slice_get, Option, Some, None}
 use Rattle.sx_lang.specs.Tree.{ModuleTree}
 use Rattle.sx_mean.specs.declared.events.End.{End}
@@ -26,11 +26,11 @@ use Rattle.sx_ir.specs.Conf.{Conf, Violates}
 use Rattle.sx_ir.specs.declared.ir.Code.{Code}
 use Rattle.sx_ir.specs.declared.ir.Ir.{Ir}
 use Rattle.sx_ir.specs.declared.ir.Ir.TheVariants as ir
-use Rattle.sx_ir.specs.Meaning.{Leaving, no_count, op_count, op_step, part_from, saved}
+use Rattle.sx_ir.specs.Meaning.{has_key_mark, Leaving, no_count, op_count, op_step, part_from, saved}
 use Rattle.sx_tmpl.specs.Shows.{Stood}
 use Rattle.sx_tmpl.specs.Running.{fixed_at}
 use Rattle.sx_tmpl.specs.Text.{addresses}
-use Rattle.sx_tmpl.specs.Unseen.{StepShowsNone}
+use Rattle.sx_tmpl.specs.Unseen.{SameSlots, StepShowsNone}
 
 -- the node comes from here to Q, or is reset with B, within this many instructions, and each moment
 -- before is one of the invocation whose step shows no key
@@ -38,7 +38,7 @@ abbrev pub NodeRuns : Setup → Invoked → State → (Watched → Violation →
     → ℕ → Watched → Type 0
 NodeRuns s result before B Q n w =
     Comes Watched Violation (watch s.mac) (λ w. 1)
-    (λ w. Underway s result before w × StepShowsNone s w.node) B Q n w
+    (λ w. Underway s result before w × StepShowsNone s before.mem w) B Q n w
 
 -- an operation that doesn't break has no violation
 abbrev pub Never : Watched → Violation → Type 0
@@ -67,14 +67,16 @@ ReturnsBehind ops None = Unit {0}
 ReturnsBehind ops (Some p) = (q : ℕ) × (i : Ir) × (p ≡ q + 1) × (slice_get ops q ≡ Some i)
 
 -- What holds of a configuration in a run for this call whose marks are `all`: the out-window is the
--- caller's, the marks so far are a prefix, the stack has room for return addresses, and a sensor's
--- value is one.
-pub record IsRegular (ops : List Ir) (call : Call) (all : List Mark) (c : Conf) : Type 0 where
+-- caller's, the marks so far are a prefix, the stack has room for return addresses, a sensor's
+-- value is one, and slots are as in this private section until a key is unwrapped.
+pub record IsRegular (ends : ℕ) (first : List ℕ) (ops : List Ir) (call : Call) (all : List Mark) (c : Conf)
+    : Type 0 where
   pub window : saved c output_register ≡ call.output
   pub marks : HasPrefix all c.marks
   pub room : length c.stack ≤ stack_words
   pub back : ReturnsBehind ops c.back
   pub samples : HaveSamples c.devices
+  pub slots : (has_key_mark c.marks ≡ true) ⊎ SameSlots ends first c.priv
 
 -- an offset whose byte counts: beside the device word, the stack's place and what only templates
 -- use
@@ -103,12 +105,14 @@ pub record Performs (s : Setup) (code : Code) (before : State) (result : Invoked
   pub enters : NodeRuns s result before Never (StandsFor (entry_conf s.section.layout before)) 6
       (begins before)
   pub goes : (c t : Conf) (w : Watched) → StandsFor c w
-      → IsRegular code.ops.items (call_at before) (marks_in result) c
+      → IsRegular (length s.ends) (private_bytes s.section.layout before.mem) code.ops.items
+      (call_at before) (marks_in result) c
       → HasPrefix (marks_in result) t.marks
       → op_step s (part_from code.parts.items) code.ops.items c ≡ Goes t
       → NodeRuns s result before Never (StandsFor t) (op_count no_count code.ops.items c) w
   pub stops : (c : Conf) (v : Violation) (marks : List Mark) (w : Watched) → StandsFor c w
-      → IsRegular code.ops.items (call_at before) (marks_in result) c
+      → IsRegular (length s.ends) (private_bytes s.section.layout before.mem) code.ops.items
+      (call_at before) (marks_in result) c
       → HasPrefix (marks_in result) marks
       → op_step s (part_from code.parts.items) code.ops.items c ≡ Stops (Violates v marks)
       → NodeRuns s result before (With v marks) (λ w. ⊥) (op_count no_count code.ops.items c) w

@@ -106,11 +106,11 @@ StepAbreast places (Stops x) (Goes v) = ⊥
 -- A step of the module's code that shows no key is the same in both nodes: it shows the same, and
 -- it leaves nodes that go side by side.
 abbrev pub StepsSteady : Setup → (ℕ → Type 0) → Type 0
-StepsSteady s places = (nac : Mac) (other : Section) (w v : Watched)
+StepsSteady s places = (nac : Mac) (other : Section) (entered : List ℕ) (w v : Watched)
     → AreOpen s places → w.node.sections.live ≡ s.live → own_of w.node ≡ s.section.id
     → section_of w.node.sections.live s.section.id ≡ Some s.section
     → section_of v.node.sections.live s.section.id ≡ Some other
-    → StepShowsNone s w.node → Abreast places w v
+    → StepShowsNone s entered w → Abreast places w v
     → SealsAlike s nac other w.node v.node
     → StepAbreast places (watch s.mac w) (watch nac v)
 
@@ -137,10 +137,11 @@ pub record Meets (s : Setup) (nac : Mac) (other : Section) (w v : Watched) : Typ
 -- and what is given holds between the two, from step to step.
 abbrev pub TurnsSteady : Setup → (ℕ → Type 0) → (Watched → Type 0) → (Watched → Watched → Type 0)
     → (Watched → Violation → Type 0) → (Watched → Type 0) → Type 0
-TurnsSteady s places P Between B Q = (nac : Mac) (other : Section) → AreOpen s places
+TurnsSteady s places P Between B Q = (nac : Mac) (other : Section) (entered : List ℕ)
+    → AreOpen s places
     → ((w v : Watched) → P w → Between w v → Meets s nac other w v)
     → ((w v x y : Watched) → P w → Between w v → watch s.mac w ≡ Goes x → watch nac v ≡ Goes y
     → Abreast places x y → Between x y)
     → (n : ℕ) (w v : Watched) → Abreast places w v → Between w v
-    → Comes Watched Violation (watch s.mac) (λ w. 1) (λ w. P w × StepShowsNone s w.node) B Q n w
+    → Comes Watched Violation (watch s.mac) (λ w. 1) (λ w. P w × StepShowsNone s entered w) B Q n w
     → (k : ℕ) × (k ≤ n) × SideBySide s.mac nac places B Q k w v

@@ -3,22 +3,25 @@
 -- bytes alone do the same, step by step, if wraps and unwraps under these keys do. Nobody has to
 -- believe this file for what an image realizes.
 use Rattle.std.specs.Prelude.{◌≡◌, ◌⊎◌, ℕ, ◌+◌, ◌*◌, ◌<◌, ◌≤◌, Bool, true, false, List, ◌∷◌, length}
-use Rattle.std.specs.Prelude.{slice_index, None, Result, Ok}
+use Rattle.std.specs.Prelude.{get_or, slice_index, not, ◌==◌, None, Result, Ok}
 use Rattle.sx_bus.specs.declared.devices.Window.{Window}
 use Rattle.sx_bus.specs.Devices.{device_at}
-use Rattle.sx_mean.specs.Offsets.{end_key_at}
+use Rattle.sx_mean.specs.Offsets.{end_at, end_key_at, end_open_at}
 use Rattle.sx_mean.specs.Working.{plain_at}
 use Rattle.sx_rules.specs.Access.{in_private}
-use Rattle.sx_machine.specs.Memory.{even, word}
+use Rattle.sx_image.specs.Image.{private_bytes}
+use Rattle.sx_image.specs.Watched.{Watched}
+use Rattle.sx_invoke.specs.Marks.{Mark}
+use Rattle.sx_machine.specs.Memory.{bytes_from, even, word}
 use Rattle.sx_machine.specs.Plan.{Plan, Done, Tell, Stop, Fetch, Load, Store, Need, Writable, Bytes}
 use Rattle.sx_machine.specs.Plan.{Put}
 use Rattle.sx_machine.specs.Rows.{program}
 use Rattle.sx_machine.specs.Run.{Moment, fetch, load, store}
-use Rattle.sx_machine.specs.State.{State}
 use Rattle.sx_machine.specs.Step.{is_module_word, pc_of, start}
 use Rattle.sx_invoke.specs.Protocol.{key_size}
 use Rattle.sx_invoke.specs.Pieces.{tag_size}
 use Rattle.sx_invoke.specs.Setup.{Setup}
+use Rattle.sx_ir.specs.Meaning.{has_key_mark}
 use Rattle.sx_ir.specs.declared.ir.Ir.{Ir}
 use Rattle.sx_ir.specs.declared.ir.Ir.TheVariants as ir
 
@@ -74,13 +77,25 @@ PlanShowsNone s (Writable at n k) x = ⊥
 PlanShowsNone s (Bytes at n k) x = ⊥
 PlanShowsNone s (Put at bs k) x = ⊥
 
--- A wrap or an unwrap uses the module's own key, or that in a slot; its header, its body or cipher
--- and the tag that it compares hold no key. What is unwrapped under the own key may be a key, and
--- goes where one may be.
-pub record SealShowsNone (s : Setup) (w : ℕ) (regs : List ℕ) : Type 0 where
+-- the k-th end was open, and these bytes were its key, where memory was so
+pub record WasOpen (s : Setup) (entered : List ℕ) (k : ℕ) (bytes : List ℕ) : Type 0 where
+  pub is_open : not (word (private_bytes s.section.layout entered) (end_open_at k) == 0) ≡ true
+  pub key : bytes_from (private_bytes s.section.layout entered) (end_key_at k) key_size
+      ≡ bytes
+
+-- The key is that of an end as the module was entered, or a key was unwrapped since.
+abbrev pub IsKeptKey : Setup → List ℕ → List Mark → ℕ → List ℕ → Type 0
+IsKeptKey s entered marks k key = (has_key_mark marks ≡ true) ⊎ WasOpen s entered k key
+
+-- A wrap or an unwrap uses the module's own key, or that in a slot, as it was when the module was
+-- entered; its header, its body or cipher and the tag that it compares hold no key. What is
+-- unwrapped under the own key may be a key, and goes where one may be.
+pub record SealShowsNone (s : Setup) (entered : List ℕ) (c : Watched) (w : ℕ) (regs : List ℕ) : Type
+    0 where
   pub seals : (w ≡ 0x1384) ⊎ (w ≡ 0x1385)
   pub key : (slice_index regs 9 ≡ 0) ⊎ ((k : ℕ) × (k < length s.ends)
-      × (slice_index regs 9 ≡ s.section.layout.priv_from + end_key_at k))
+      × (slice_index regs 9 ≡ s.section.layout.priv_from + end_key_at k)
+      × IsKeptKey s entered c.marks k (bytes_from c.node.mem (slice_index regs 9) key_size))
   pub header : AreShown s (slice_index regs 10) (slice_index regs 11)
   pub text : AreShown s (slice_index regs 12) (slice_index regs 13)
   pub tag : w ≡ 0x1385 → AreShown s (slice_index regs 15) tag_size
@@ -89,14 +104,14 @@ pub record SealShowsNone (s : Setup) (w : ℕ) (regs : List ℕ) : Type 0 where
       × (slice_index regs 13 ≤ key_size)
 
 -- the next step, of an instruction with this first word, shows no key
-abbrev pub WordShowsNone : Setup → State → ℕ → Bool → Type 0
-WordShowsNone s n w true = SealShowsNone s w n.regs
-WordShowsNone s n w false = PlanShowsNone s (program w n.regs) (start n)
+abbrev pub WordShowsNone : Setup → List ℕ → Watched → ℕ → Bool → Type 0
+WordShowsNone s entered c w true = SealShowsNone s entered c w c.node.regs
+WordShowsNone s entered c w false = PlanShowsNone s (program w c.node.regs) (start c.node)
 
--- the next step of the node shows no key
-abbrev pub StepShowsNone : Setup → State → Type 0
-StepShowsNone s n =
-    let w = word n.mem (pc_of n) in WordShowsNone s n w (is_module_word w)
+-- the next step of the node shows no key, where memory was so when the module was entered
+abbrev pub StepShowsNone : Setup → List ℕ → Watched → Type 0
+StepShowsNone s entered c =
+    let w = word c.node.mem (pc_of c.node) in WordShowsNone s entered c w (is_module_word w)
 
 -- where the key of a wrap or an unwrap lies: the module's own at 0, or in a slot
 abbrev pub IsKeyPlace : ℕ → ℕ → Type 0
@@ -118,3 +133,8 @@ NamesNoKey ends (ir.Open k h hn b bn) stack =
     × (k ≡ 0 → (b ≡ plain_at) × (bn ≤ key_size))
 NamesNoKey ends (ir.SetEnd k) stack = k < ends
 NamesNoKey ends i stack = Unit {0}
+
+-- the slots of this many ends are the same in two private sections, but for numbers
+abbrev pub SameSlots : ℕ → List ℕ → List ℕ → Type 0
+SameSlots ends p q = (k d : ℕ) → k < ends → d < 24 → (d < 2) ⊎ (4 ≤ d)
+    → get_or q (end_at k + d) 0 ≡ get_or p (end_at k + d) 0

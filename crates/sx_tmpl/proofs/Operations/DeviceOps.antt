@@ -76,7 +76,7 @@ module _ (f : Fixed) (st : Stands f) (all : List Mark) (B : Watched → Violatio
   -- and shows no key, if its plan doesn't
   two_step : {P n : ℕ} {ws : List ℕ} (t : Text f P n ws) (k w u : ℕ) (i : ℕ → ℕ → Instr) → slice_get ws k ≡ Some w → slice_get ws (k + 1) ≡ Some u → k + 2 ≤ n → Reads w 2 i
       → (r : Regs) (d : Data) → r.pc ≡ P + 2 * k → Safe f all (running f r d)
-      → PlanShowsNone f.setup (row (i u 0) (at_pc (regs16 f r) ((r.pc + 2) % 65536)) ((r.pc + 4) % 65536)) (start (running f r d).node) → StepShowsNone f.setup (running f r d).node
+      → PlanShowsNone f.setup (row (i u 0) (at_pc (regs16 f r) ((r.pc + 2) % 65536)) ((r.pc + 4) % 65536)) (start (running f r d).node) → StepShowsNone f.setup f.entered (running f r d)
   two_step {P = P} {n = n} t k w u i has has1 fits reads r d pc safe shown =
       let low = t.from in
       let high = t.to in
@@ -90,10 +90,10 @@ module _ (f : Fixed) (st : Stands f) (all : List Mark) (B : Watched → Violatio
       let i0 : cell d.mem r.pc ≡ w = text_word f st all B Q d.mem r.pc w safe.memory here ends (ap (cell f.entered) pc ∙ t.word k w has) in
       let i1 : cell d.mem (P + 2 * (k + 1)) ≡ u = text_word f st all B Q d.mem (P + 2 * (k + 1)) u safe.memory (omega arith) (omega arith) (t.word (k + 1) u has1) in
       let got = fetched f st all B Q ((r.pc + 2) % 65536) (P + 2 * (k + 1)) u x next (omega arith) (omega arith) (omega arith) safe.devices i1 in
-      step_shown f st all B Q (running f r d).node w ev i0 reads.plain (shown_two f st all B Q w u i (regs16 f r) x reads got shown)
+      step_shown f st all B Q (running f r d) w ev i0 reads.plain (shown_two f st all B Q w u i (regs16 f r) x reads got shown)
 
   -- a step that touches a device
-  from_touched : (n : ℕ) (r r2 : Regs) (d : Data) (m : List ℕ) (ds : List Window) (ts : List Touch) (new : List Mark) → Safe f all (running f r d) → StepShowsNone f.setup (running f r d).node
+  from_touched : (n : ℕ) (r r2 : Regs) (d : Data) (m : List ℕ) (ds : List Window) (ts : List Touch) (new : List Mark) → Safe f all (running f r d) → StepShowsNone f.setup f.entered (running f r d)
       → InText f r.pc → InText f r2.pc
       → attempt f.setup.mac (running f r d).node ≡ Finished (regs16 f r2) (record { mem = m; devices = ds; touches = ts }) → marks_of_touches ts ≡ new → OutsideKept f m
       → ((a : ℕ) → device_at ds a ≡ device_at d.devices a) → HasPrefix all (d.marks ++ new)

@@ -56,7 +56,7 @@ entering f r d last caller e = record {
 }
 
 module _ (f : Fixed) (st : Stands f) (all : List Mark) (B : Watched → Violation → Type 0) (at : ℕ → ℕ) (Q : Watched → Type 0) where
-  from_entry : (n : ℕ) (r : Regs) (d : Data) (last caller : ℕ) (e : Event) (o : Outcome) → Safe f all (entering f r d last caller e) → StepShowsNone f.setup (entering f r d last caller e).node → InText f r.pc
+  from_entry : (n : ℕ) (r : Regs) (d : Data) (last caller : ℕ) (e : Event) (o : Outcome) → Safe f all (entering f r d last caller e) → StepShowsNone f.setup f.entered (entering f r d last caller e) → InText f r.pc
       → entered_from (entering f r d last caller e).node f.setup.section.id ≡ f.caller → attempt f.setup.mac (entering f r d last caller e).node ≡ o
       → Met f (Then f st all B Q n d) (NoTell f st all B Q) (B (entering f r d last caller e)) (start (entering f r d last caller e).node) o → Runs f all B Q (suc n) (entering f r d last caller e)
   unfolding watch
@@ -115,7 +115,7 @@ module _ (f : Fixed) (st : Stands f) (all : List Mark) (B : Watched → Violatio
       ∙ rw (w0, own) refl
       ∙ program_two f st all B Q w (base_of f + 148) (λ x y. Two op2.Mov false (Reg 1) (Absolute x)) (regs16 f r) x reads got in
       let p = row (Two op2.Mov false (Reg 1) (Absolute (base_of f + 148))) (at_pc (regs16 f r) ((r.pc + 2) % 65536)) ((r.pc + 4) % 65536) in
-      let shown = step_shown f st all B Q s w ev i0 plain (shown_two f st all B Q w (base_of f + 148) (λ x y. Two op2.Mov false (Reg 1) (Absolute x)) (regs16 f r) x reads got
+      let shown = step_shown f st all B Q (entering f r d last caller e) w ev i0 plain (shown_two f st all B Q w (base_of f + 148) (λ x y. Two op2.Mov false (Reg 1) (Absolute x)) (regs16 f r) x reads got
       (owes_shown f st (Then f st all B Q j d) (NoTell f st all B Q) (B (entering f r d last caller e)) p x safe.devices safe.memory owed)) in
       from_entry j r d last caller e _ safe shown (record { from = here; to = omega arith }) from at_
       (owes_met f st (Then f st all B Q j d) (NoTell f st all B Q) (B (entering f r d last caller e))

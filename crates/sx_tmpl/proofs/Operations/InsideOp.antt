@@ -54,7 +54,7 @@ module _ (f : Fixed) (st : Stands f) (all : List Mark) (B : Watched → Violatio
       let i0 : cell d.mem r.pc ≡ 0 = text_word f st all B Q d.mem r.pc 0 safe.memory here ends (ap (cell f.entered) pc ∙ t.word k 0 has) in
       let at_ : attempt f.setup.mac (running f r d).node ≡ Violated bad.Illegal = tests_passed f st all B Q event.Quiet r d safe here ends ev
       ∙ plain_instruction f st all B Q event.Quiet r d 0 here ends ev i0 refl ∙ illegal_program (regs16 f r) (start (running f r d).node) in
-      Ends (safe, step_shown f st all B Q (running f r d).node 0 ev i0 refl (illegal_shown (regs16 f r) (start (running f r d).node))) (rw at_ refl) (omega arith) b
+      Ends (safe, step_shown f st all B Q (running f r d) 0 ev i0 refl (illegal_shown (regs16 f r) (start (running f r d).node))) (rw at_ refl) (omega arith) b
 
 abbrev pub inside_words : Fixed → List ℕ
 inside_words f = templates.inside_words (base_of f + 12) f.setup.section.layout.pub_from f.setup.section.layout.pub_to

@@ -82,7 +82,7 @@ module _ (f : Fixed) (st : Stands f) (all : List Mark) (B : Watched → Violatio
     | inr ne ↦ ne_eqb (holder f.setup.live a) f.setup.section.id ne
   ]
 
-  from_exit : (n : ℕ) (r : Regs) (d : Data) (o : Outcome) → Safe f all (running f r d) → StepShowsNone f.setup (running f r d).node → InText f r.pc → attempt f.setup.mac (running f r d).node ≡ o
+  from_exit : (n : ℕ) (r : Regs) (d : Data) (o : Outcome) → Safe f all (running f r d) → StepShowsNone f.setup f.entered (running f r d) → InText f r.pc → attempt f.setup.mac (running f r d).node ≡ o
       → Met f (Out n d) (NoTell f st all B Q) (B (running f r d)) (start (running f r d).node) o → Runs f all B Q (suc n) (running f r d)
   unfolding watch
   from_exit n r d (Finished regs y) safe shown here at h =
@@ -147,7 +147,7 @@ module _ (f : Fixed) (st : Stands f) (all : List Mark) (B : Watched → Violatio
       let O = Out f st all B Q 0 d in
       let T = NoTell f st all B Q in
       let owed : Owes f O T (B (running f r d)) p d.mem = (base_of f + 12, refl, p12, back, is, λ kept. (r2, rw stay refl, out, λ kept2. Here (after kept2))) in
-      let shown = step_shown f st all B Q (running f r d).node w ev i0 reads.plain (shown_two f st all B Q w (base_of f + 12) ii (regs16 f r) x reads got
+      let shown = step_shown f st all B Q (running f r d) w ev i0 reads.plain (shown_two f st all B Q w (base_of f + 12) ii (regs16 f r) x reads got
       (owes_shown f st O T (B (running f r d)) p x safe.devices safe.memory owed)) in
       from_exit f st all B Q 0 r d _ safe shown (record { from = here; to = omega arith }) at_ (owes_met f st O T (B (running f r d)) p x safe.devices safe.memory owed)
 

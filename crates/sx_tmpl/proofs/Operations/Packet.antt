@@ -29,6 +29,7 @@ use Rattle.sx_invoke.specs.Windows as windows
 use Rattle.sx_invoke.specs.Acts.{event_header, event_packet}
 use Rattle.sx_invoke.specs.Marks as mark
 use Rattle.sx_invoke.specs.Marks.{HasPrefix, Mark}
+use Rattle.sx_tmpl.specs.Unseen.{IsKeptKey}
 use Rattle.sx_tmpl.specs.Running.{running_after, Regs, Fixed, Data, running, Safe, cell}
 use Rattle.sx_tmpl.proofs.Running.Flags.{flags_stay, flags_after, equal, unequal}
 use Rattle.sx_tmpl.proofs.Operations.Sealing.{KeyIn, Buffers, wrap_as}
@@ -278,13 +279,13 @@ module _ (f : Fixed) (st : Stands f) (all : List Mark) (B : Watched → Violatio
   pub wrap_run : IsTag f.setup.mac → (e : EndState) → end_state priv k ≡ e → (r : Regs) (d : Data) (v : ℕ) (stack outside : List ℕ) (j : ℕ) → r.pc ≡ A + 2 * 18 → H stack outside r.sp d.mem
       → Safe f all (running f r d)
       → cell d.mem (base_of f + 106) ≡ 3 → cell d.mem (base_of f + 106 + 2) ≡ e.field → cell d.mem (base_of f + 106 + 4) ≡ e.number → cell d.mem (base_of f + 130) ≡ v
-      → HasPrefix all (d.marks ++ mark.Wrapped (event_header e) (windows.two v) false ∷ [])
+      → IsKeptKey f.setup f.entered d.marks k e.key → HasPrefix all (d.marks ++ mark.Wrapped (event_header e) (windows.two v) false ∷ [])
       → ((x : Exchange) (m : List ℕ) (r2 : Regs) → r2.pc ≡ A + 64 → r2.sp ≡ r.sp → H stack outside r.sp m → BytesAt m (base_of f + 106) (event_packet f.setup e v)
       → let d2 : Data = record d { mem = m; exchange = x; marks = d.marks ++ mark.Wrapped (event_header e) (windows.two v) false ∷ [] } in
       Safe f all (running_after (event.Wrapped f.setup.section.id) f r2 d2) → R j (running_after (event.Wrapped f.setup.section.id) f r2 d2))
       → R (suc (suc (suc (suc (suc (suc (suc (suc j)))))))) (running f r d)
   unfolding end_state
-  wrap_run tag e is r d v stack outside j pc h safe c0 c1 c2 cv marks after =
+  wrap_run tag e is r d v stack outside j pc h safe c0 c1 c2 cv kept marks after =
       let b = base_of f in
       let room = st.room in
       let beneath = st.beneath in
@@ -337,7 +338,7 @@ module _ (f : Fixed) (st : Stands f) (all : List Mark) (B : Watched → Violatio
       → ((x : Exchange) → let d2 : Data = record d { mem = mt; exchange = x; marks = d.marks ++ mark.Wrapped (event_header e) (windows.two v) own ∷ [] } in
       Safe f all (running_after (event.Wrapped f.setup.section.id) f (record r7 { pc = A + 64; r15 = 1 }) d2)
       → R j (running_after (event.Wrapped f.setup.section.id) f (record r7 { pc = A + 64; r15 = 1 }) d2)) → R (suc j) (running f r7 d)) ne
-      (wrap_as f st all B Q t 31 refl (omega arith) event.Quiet r7 d e.key (event_header e) (windows.two v) j refl s7 bs (KeyIn k one refl pk key) ad body)
+      (wrap_as f st all B Q t 31 refl (omega arith) event.Quiet r7 d e.key (event_header e) (windows.two v) j refl s7 bs (KeyIn k one refl pk key kept) ad body)
       marks (λ x s. after x mt (record r7 { pc = A + 64; r15 = 1 }) refl refl ht packet s))
 
   -- R12 doubled
@@ -542,13 +543,13 @@ module _ (f : Fixed) (st : Stands f) (all : List Mark) (B : Watched → Violatio
   pub send_run : IsTag f.setup.mac → (e : EndState) → end_state priv k ≡ e → (r : Regs) (d : Data) (ret v : ℕ) (rest outside : List ℕ) (p out j : ℕ) → r.pc ≡ A + 2 * 6
       → H (ret ∷ v ∷ rest) outside r.sp d.mem → Safe f all (running f r d)
       → e.number < 65535 → word priv working.pieces_at ≡ p → 24 * p + 24 ≤ 384 → word priv 10 ≡ out → out + 384 ≤ 65536 → f.from ≤ out + 24 * p → out + 24 * p + 24 ≤ f.to → InText f ret → ret % 2 ≡ 0
-      → (marks : List Mark) → d.marks ++ mark.Wrapped (event_header e) (windows.two v) false ∷ [] ≡ marks → HasPrefix all marks
+      → IsKeptKey f.setup f.entered d.marks k e.key → (marks : List Mark) → d.marks ++ mark.Wrapped (event_header e) (windows.two v) false ∷ [] ≡ marks → HasPrefix all marks
       → ((x : Violation) → write_bytes f.setup d.devices outside (out + 24 * p) (event_packet f.setup e v) ≡ Err x → (c : Watched) → c.marks ≡ marks → B c x)
       → ((mem : List ℕ) → write_bytes f.setup d.devices outside (out + 24 * p) (event_packet f.setup e v) ≡ Ok mem → (r2 : Regs) (d2 : Data) → r2.pc ≡ ret
       → MemoryHolds f at back (v ∷ rest) (put_word (put_word priv (offsets.end_number_at k) (e.number + 1)) working.pieces_at (p + 1)) mem r2.sp d2.mem → d2.devices ≡ d.devices → d2.marks ≡ marks
       → Safe f all (running f r2 d2) → R j (running f r2 d2))
       → R (121 + j) (running f r d)
-  send_run tag e is r d ret v rest outside p out j pc h safe ln ip lp io lo w1 w2 to ev marks em begins stop done =
+  send_run tag e is r d ret v rest outside p out j pc h safe ln ip lp io lo w1 w2 to ev kept marks em begins stop done =
       let W = wrapped f.setup.mac e.key (event_header e) (windows.two v) in
       let bs : List ℕ = 0 ∷ e.field % 256 ∷ e.field / 256 ∷ e.number % 256 ∷ e.number / 256 ∷ (W.cipher ++ W.tag) in
       let lc = length_cipher f.setup.mac tag e.key (event_header e) (windows.two v) (omega arith) in
@@ -559,7 +560,7 @@ module _ (f : Fixed) (st : Stands f) (all : List Mark) (B : Watched → Violatio
       subst (λ n. R n (running f r d)) (omega arith)
       (header_run e is r d ret v rest outside (108 + suc (suc (suc j)) + 6) pc h safe (λ m h1 c0 c1 c2 cv s1.
       subst (λ n. R n (running f (record r { pc = A + 36 }) (record d { mem = m }))) (omega arith)
-      (wrap_run tag e is (record r { pc = A + 36 }) (record d { mem = m }) v (ret ∷ v ∷ rest) outside (96 + suc (suc (suc j)) + 10) refl h1 s1 c0 c1 c2 cv
+      (wrap_run tag e is (record r { pc = A + 36 }) (record d { mem = m }) v (ret ∷ v ∷ rest) outside (96 + suc (suc (suc j)) + 10) refl h1 s1 c0 c1 c2 cv kept
       (subst (λ l. HasPrefix all l) (sym em) begins) (λ x m2 r2 pc2 sp2 h2 packet s2.
       let d2 : Data = record { mem = m2; devices = d.devices; exchange = x; marks = d.marks ++ mark.Wrapped (event_header e) (windows.two v) false ∷ [] } in
       subst (λ n. R n (running_after (event.Wrapped f.setup.section.id) f r2 d2)) (omega arith)

@@ -27,7 +27,8 @@ use Rattle.sx_tmpl.proofs.Operations.Sealing.{KeyAt, OwnKey, KeyIn, Buffers, wra
 use Rattle.sx_image.specs.Watched.{Watched}
 use Rattle.sx_ir.specs.Conf.{Conf}
 use Rattle.sx_ir.specs.declared.ir.Ir.TheVariants as ir
-use Rattle.sx_tmpl.specs.Unseen.{AreShown, HoldsNoKey, IsKeyPlace, NamesNoKey}
+use Rattle.sx_mean.specs.Offsets.{end_key_at}
+use Rattle.sx_tmpl.specs.Unseen.{AreShown, HoldsNoKey, IsKeptKey, IsKeyPlace, NamesNoKey}
 use Rattle.sx_tmpl.specs.Shows.{base_of, MemoryHolds, Stood}
 use Rattle.sx_tmpl.proofs.Running.Owes.{kept_bytes}
 use Rattle.sx_tmpl.proofs.Running.Steps.{Text}
@@ -69,18 +70,22 @@ module _ (f : Fixed) (st : Stands f) (all : List Mark) (B : Watched → Violatio
   private_range : (o n : ℕ) (priv : List ℕ) → base_of f + length priv ≡ f.setup.section.layout.priv_to → IsRange o n (length priv) → PrivateRange f (base_of f + o) n
   private_range o n priv sz r = record { low = omega (arith, r.low); high = omega (arith, r.fits) }
 
-  key_here : (c : Conf) (k : ℕ) (stack : List ℕ) (sp : ℕ) (r : Regs) (m : List ℕ) → (k ≡ 0) ⊎ IsRange k 16 (length c.priv) → IsKeyPlace (length f.setup.ends) k → MemoryHolds f at c.back stack c.priv c.mem sp m → r.r9 ≡ key_place f k
-      → KeyAt f r m (key_at f.setup c k)
-  key_here c zero stack sp r m h place hold e = OwnKey e refl
-  key_here c (suc k) stack sp r m h place hold e =
+  -- the key of a slot is kept
+  abbrev pub KeptAt : Conf → ℕ → Type 0
+  KeptAt c k = (j : ℕ) → j < length f.setup.ends → k ≡ end_key_at j → IsKeptKey f.setup f.entered c.marks j (key_at f.setup c k)
+
+  key_here : (c : Conf) (k : ℕ) (stack : List ℕ) (sp : ℕ) (r : Regs) (d : Data) → (k ≡ 0) ⊎ IsRange k 16 (length c.priv) → IsKeyPlace (length f.setup.ends) k → KeptAt c k
+      → MemoryHolds f at c.back stack c.priv c.mem sp d.mem → d.marks ≡ c.marks → r.r9 ≡ key_place f k → KeyAt f r d (key_at f.setup c k)
+  key_here c zero stack sp r d h place kept hold marks e = OwnKey e refl
+  key_here c (suc k) stack sp r d h place kept hold marks e =
       elim h [
         | inl z ↦ absurd (omega arith)
         | inr g ↦
-            let same = holds_from f st at c.back stack c.priv c.mem sp m (suc k) 16 hold g in
+            let same = holds_from f st at c.back stack c.priv c.mem sp d.mem (suc k) 16 hold g in
             elim place [
               | inl z ↦ absurd (omega arith)
               | inr i ↦ KeyIn i.0 i.1 (e ∙ ap (λ (o : ℕ). base_of f + o) i.2) (subst (λ a. PrivateRange f a 16) (sym e) (private_range (suc k) 16 c.priv hold.size g))
-                  (ap (λ a. bytes_from m a 16) e ∙ same)
+                  (ap (λ a. bytes_from d.mem a 16) e ∙ same) (subst (λ (l : List Mark). IsKeptKey f.setup f.entered l i.0 (key_at f.setup c (suc k))) (sym marks) (kept i.0 i.1 i.2))
             ]
       ]
 
@@ -114,12 +119,12 @@ module _ (f : Fixed) (st : Stands f) (all : List Mark) (B : Watched → Violatio
       }
 
   -- wrap, and a plain instruction after it
-  pub seal_leads : IsTag f.setup.mac → (c : Conf) (k h hn b bn : ℕ) → SealsAt k h hn b bn (length c.priv) → NamesNoKey (length f.setup.ends) (ir.Seal k h hn b bn) []
+  pub seal_leads : IsTag f.setup.mac → (c : Conf) (k h hn b bn : ℕ) → SealsAt k h hn b bn (length c.priv) → NamesNoKey (length f.setup.ends) (ir.Seal k h hn b bn) [] → KeptAt c k
       → (let w = wrapped f.setup.mac (key_at f.setup c k) (bytes_from c.priv h hn) (bytes_from c.priv b bn) in
       let marks = c.marks ++ mark.Wrapped (bytes_from c.priv h hn) (bytes_from c.priv b bn) (k == 0) ∷ [] in
       HasPrefix all marks → Leads f st all B at 16 (sealing_words (base_of f) k h hn b bn) 9 c
       (record (next c c.stack) { priv = put_bytes (put_bytes c.priv (h + hn) w.cipher) (h + hn + bn) w.tag; marks = marks }))
-  seal_leads tag c k h hn b bn ok unseen begins r d t on sh safe =
+  seal_leads tag c k h hn b bn ok unseen kept begins r d t on sh safe =
       let hold = sh.holds in
       let sz = hold.size in
       let hdr = ok.header in
@@ -166,7 +171,7 @@ module _ (f : Fixed) (st : Stands f) (all : List Mark) (B : Watched → Violatio
       Safe f all (running_after (event.Wrapped f.setup.section.id) f (record rL { pc = at c.place + 30; r15 = 1 }) d2)
       → Runs f all B Q 1 (running_after (event.Wrapped f.setup.section.id) f (record rL { pc = at c.place + 30; r15 = 1 }) d2)) → Runs f all B Q 2 (running f rL d)) (key_is_own k)
       (wrap_as f st all B Q t 14 refl (omega arith) event.Quiet rL d key ad body 1 refl sL (buffers_here c k h hn b bn rL sz ok refl refl unseen.1 (b, refl, unseen.2) (private_range b bn c.priv sz bdy) pc_ refl refl)
-      (key_here c k c.stack r.sp rL d.mem ok.key unseen.0 hold refl) ea eb)
+      (key_here c k c.stack r.sp rL d ok.key unseen.0 kept hold sh.marks refl) ea eb)
       (subst (λ l. HasPrefix all l) (sym mk) begins)
       (λ x s2.
       let d2 : Data = record d { mem = mt; exchange = x; marks = d.marks ++ mark.Wrapped ad body (k == 0) ∷ [] } in
@@ -229,11 +234,11 @@ module _ (f : Fixed) (st : Stands f) (all : List Mark) (B : Watched → Violatio
         ),
       )
 
-  pub open_leads : (c : Conf) (k h hn b bn : ℕ) (result : Option (List ℕ)) → SealsAt k h hn b bn (length c.priv) → NamesNoKey (length f.setup.ends) (ir.Open k h hn b bn) [] → length c.stack < 160
+  pub open_leads : (c : Conf) (k h hn b bn : ℕ) (result : Option (List ℕ)) → SealsAt k h hn b bn (length c.priv) → NamesNoKey (length f.setup.ends) (ir.Open k h hn b bn) [] → KeptAt c k → length c.stack < 160
       → unwrapped f.setup.mac (key_at f.setup c k) (bytes_from c.priv h hn) (bytes_from c.priv (h + hn) bn) (bytes_from c.priv (h + hn + bn) 16) ≡ result
       → HasPrefix all (after_open c k (bytes_from c.priv h hn) b bn result).marks
       → Leads f st all B at 16 (opening_words (base_of f) k h hn b bn) 9 c (after_open c k (bytes_from c.priv h hn) b bn result)
-  open_leads c k h hn b bn result ok unseen room is begins r d t on sh safe =
+  open_leads c k h hn b bn result ok unseen kept room is begins r d t on sh safe =
       let hold = sh.holds in
       let sz = hold.size in
       let hdr = ok.header in
@@ -271,7 +276,7 @@ module _ (f : Fixed) (st : Stands f) (all : List Mark) (B : Watched → Violatio
       (ls, (omega arith, (omega arith, (omega arith, (omega arith, (omega arith, (omega arith, tt))))))) r d 2 r.pc (omega (arith, sh.pc)) safe (λ sL.
       unwrap_step f st all B Q t 14 refl (omega arith) event.Quiet rL d key 1 result refl sL (buffers_here c k h hn b bn rL sz ok refl refl header
       (h + hn, refl, part_shown (length f.setup.ends) h (hn + bn + 16) hn bn unseen.1 (omega arith)) (private_range (h + hn) bn c.priv sz rc)
-      (private_range b bn c.priv sz bdy) refl refl) (h + hn + bn, refl, last) to_plain (key_here c k c.stack r.sp rL d.mem ok.key unseen.0 hold refl) same
+      (private_range b bn c.priv sz bdy) refl refl) (h + hn + bn, refl, last) to_plain (key_here c k c.stack r.sp rL d ok.key unseen.0 kept hold sh.marks refl) same
       (λ er s2. subst (λ o. Runs f all B (Stood f all at (after_open c k ad b bn o)) 1 (running f (record rL { pc = at c.place + 30; r15 = 0 }) d)) (sym er)
       (answer_pushed (next c (0 ∷ c.stack)) 0 t refl (omega arith) event.Quiet (record rL { pc = at c.place + 30; r15 = 0 }) d c.stack c.priv c.mem c.back 0 refl s2 hold room refl
       (omega arith) on refl refl refl refl sh.devices sh.marks))

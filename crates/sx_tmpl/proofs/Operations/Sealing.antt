@@ -35,7 +35,7 @@ use Rattle.sx_tmpl.proofs.Running.MidRun.{Stands, Runs, PrivateRange}
 use Rattle.sx_tmpl.proofs.Running.Owned.{own_found, run_holder, in_private_yes}
 use Rattle.sx_tmpl.proofs.Running.Owes.{OwesSeal, Met, seal_met}
 use Rattle.sx_tmpl.specs.Shows.{base_of}
-use Rattle.sx_tmpl.specs.Unseen.{AreShown, SealShowsNone, StepShowsNone, WordShowsNone}
+use Rattle.sx_tmpl.specs.Unseen.{AreShown, IsKeptKey, SealShowsNone, StepShowsNone, WordShowsNone}
 use Rattle.sx_mean.specs.Offsets.{end_key_at}
 use Rattle.sx_mean.specs.Working.{plain_at}
 use Rattle.sx_tmpl.proofs.Running.Mem.{word_is}
@@ -83,7 +83,7 @@ module _ (f : Fixed) (st : Stands f) (all : List Mark) (B : Watched → Violatio
   abbrev pub given_own : Event → Regs → Data → Given
   given_own e r d = record (given_at_pc f.setup.mac (running_after e f r d).node) { own = f.setup.section.id }
 
-  from_told : (n : ℕ) (e : Event) (r : Regs) (d : Data) (o : Outcome) → Safe f all (running_after e f r d) → StepShowsNone f.setup (running_after e f r d).node → InText f r.pc → attempt f.setup.mac (running_after e f r d).node ≡ o
+  from_told : (n : ℕ) (e : Event) (r : Regs) (d : Data) (o : Outcome) → Safe f all (running_after e f r d) → StepShowsNone f.setup f.entered (running_after e f r d) → InText f r.pc → attempt f.setup.mac (running_after e f r d).node ≡ o
       → Met f NoDone (Tells n d) (B (running_after e f r d)) (start (running_after e f r d).node) o → Runs f all B Q (suc n) (running_after e f r d)
   unfolding watch
   from_told n e r d (Finished regs y) safe shown here at h = absurd h.2
@@ -112,9 +112,10 @@ module _ (f : Fixed) (st : Stands f) (all : List Mark) (B : Watched → Violatio
   at_word w a = cond (is_module_word w) (module_instruction f.setup.mac (w - 0x1380) (given_at_pc f.setup.mac a) a.mem) (exec a.sections (own_of a) (program w a.regs) (start a))
 
 -- the key of a wrap or unwrap: the module's own, or sixteen bytes of the private section
-pub data KeyAt (f : Fixed) (r : Regs) (m key : List ℕ) : Type 0 where
-  OwnKey : r.r9 ≡ 0 → f.setup.section.key ≡ key → KeyAt f r m key
-  KeyIn : (k : ℕ) → k < length f.setup.ends → r.r9 ≡ base_of f + end_key_at k → PrivateRange f r.r9 16 → bytes_from m r.r9 16 ≡ key → KeyAt f r m key
+pub data KeyAt (f : Fixed) (r : Regs) (d : Data) (key : List ℕ) : Type 0 where
+  OwnKey : r.r9 ≡ 0 → f.setup.section.key ≡ key → KeyAt f r d key
+  KeyIn : (k : ℕ) → k < length f.setup.ends → r.r9 ≡ base_of f + end_key_at k → PrivateRange f r.r9 16 → bytes_from d.mem r.r9 16 ≡ key
+      → IsKeptKey f.setup f.entered d.marks k key → KeyAt f r d key
 
 -- its other buffers: the header, the body or cipher, the place of the other, and the tag
 pub record Buffers (f : Fixed) (r : Regs) : Type 0 where
@@ -166,7 +167,7 @@ module _ (f : Fixed) (st : Stands f) where
         let x2 : list_any (λ b. meets_device (places_of d.devices) b.at b.count) (buffers (regs16 f r)) ≡ false = rw (k2, q1, q2, q3, q4) refl in
         ((λ no_. absurd (true≢false (sym (ap not x1) ∙ no_))), (λ _. ((λ no_. absurd (true≢false (sym (ap not x2) ∙ no_))), (λ _. owed))))
 
-    pub inputs_met : (key : List ℕ) (rest : List ℕ → List ℕ → List ℕ → Plan) → ((b : ℕ) → device_at d.devices b ≡ device_at f.devices b) → Buffers f r → KeyAt f r d.mem key
+    pub inputs_met : (key : List ℕ) (rest : List ℕ → List ℕ → List ℕ → Plan) → ((b : ℕ) → device_at d.devices b ≡ device_at f.devices b) → Buffers f r → KeyAt f r d key
         → OwesT (rest key (bytes_from d.mem r.r10 r.r11) (bytes_from d.mem r.r12 r.r13)) → OwesT (with_inputs g f.setup.section rest)
     inputs_met key rest same bs (OwnKey z is) owed =
         let own : own_key (regs16 f r) ≡ true = eq-eqb r.r9 0 z in
@@ -180,7 +181,7 @@ module _ (f : Fixed) (st : Stands f) where
       where
         body : List ℕ → Plan
         body key = Bytes r.r10 r.r11 (λ ad. Bytes r.r12 r.r13 (λ text. rest key ad text))
-    inputs_met key rest same bs (KeyIn i one place p is) owed =
+    inputs_met key rest same bs (KeyIn i one place p is kept) owed =
         let own : own_key (regs16 f r) ≡ false = ne_eqb r.r9 0 (omega (arith, p.low)) in
         let lens : (nat_le r.r11 32 && nat_le r.r13 32) ≡ true = and_from _ _ (le-leb r.r11 32 bs.few) (le-leb r.r13 32 bs.short) in
         let k1 : passes_end r.r9 (cond (own_key (regs16 f r)) 0 16) ≡ false = rw own (no_passing r.r9 16 p) in
@@ -198,11 +199,11 @@ xor_short [] ks = omega arith
 xor_short (b ∷ bs) [] = omega arith
 xor_short (b ∷ bs) (k ∷ ks) = let h = xor_short bs ks in omega arith
 
-crypt_short : (mac : Mac) (key ad bs : List ℕ) → length (crypt mac key ad bs) ≤ length bs
+pub crypt_short : (mac : Mac) (key ad bs : List ℕ) → length (crypt mac key ad bs) ≤ length bs
 unfolding crypt
 crypt_short mac key ad bs = xor_short bs (stream mac key ad)
 
-tag_short : (mac : Mac) (key ad cipher : List ℕ) → length (wrap_tag mac key ad cipher) ≤ 16
+pub tag_short : (mac : Mac) (key ad cipher : List ℕ) → length (wrap_tag mac key ad cipher) ≤ 16
 unfolding wrap_tag
 tag_short mac key ad cipher = let h = length-take 16 (mac key (0x54 ∷ length ad ∷ (ad ++ cipher))) in omega (arith, h)
 
@@ -232,8 +233,8 @@ module _ (f : Fixed) (st : Stands f) (all : List Mark) (B : Watched → Violatio
 
   -- what it shows
   seal_shown : {P n : ℕ} {ws : List ℕ} (t : Text f P n ws) (k w : ℕ) → slice_get ws k ≡ Some w → k + 1 ≤ n → (e : Event) (r : Regs) (d : Data) (key : List ℕ) → r.pc ≡ P + 2 * k
-      → Safe f all (running_after e f r d) → is_module_word w ≡ true → (w ≡ 0x1384) ⊎ (w ≡ 0x1385) → Buffers f r → KeyAt f r d.mem key → (w ≡ 0x1385 → AreShown f.setup r.r15 16) → (w ≡ 0x1385 → r.r9 ≡ 0 → (r.r14 ≡ base_of f + plain_at) × (r.r13 ≤ 16))
-      → StepShowsNone f.setup (running_after e f r d).node
+      → Safe f all (running_after e f r d) → is_module_word w ≡ true → (w ≡ 0x1384) ⊎ (w ≡ 0x1385) → Buffers f r → KeyAt f r d key → (w ≡ 0x1385 → AreShown f.setup r.r15 16) → (w ≡ 0x1385 → r.r9 ≡ 0 → (r.r14 ≡ base_of f + plain_at) × (r.r13 ≤ 16))
+      → StepShowsNone f.setup f.entered (running_after e f r d)
   seal_shown t k w has fits e r d key pc safe module_ seals bs key_at tag opened_ =
       let low = t.from in
       let high = t.to in
@@ -241,15 +242,16 @@ module _ (f : Fixed) (st : Stands f) (all : List Mark) (B : Watched → Violatio
       let here : f.setup.section.layout.pub_from ≤ r.pc = omega arith in
       let ends : r.pc + 1 < f.setup.section.layout.pub_to = omega arith in
       let ev : r.pc % 2 ≡ 0 = omega arith in
-      let a = (running_after e f r d).node in
+      let a = running_after e f r d in
       let is : cell d.mem r.pc ≡ w = text_word f st all B Q d.mem r.pc w safe.memory here ends (ap (cell f.entered) pc ∙ t.word k w has) in
       let e1 : word d.mem r.pc ≡ w = word_is d.mem r.pc ev ∙ is in
-      subst (λ (z : ℕ). WordShowsNone f.setup a z (is_module_word z)) (sym e1) (subst (λ b. WordShowsNone f.setup a w b) (sym module_)
+      subst (λ (z : ℕ). WordShowsNone f.setup f.entered a z (is_module_word z)) (sym e1) (subst (λ b. WordShowsNone f.setup f.entered a w b) (sym module_)
       (record { seals = seals; key = key_in key_at; header = bs.header_shown; text = bs.text_shown; tag = tag; opened = opened_ }))
     where
-      key_in : KeyAt f r d.mem key → (r.r9 ≡ 0) ⊎ ((i : ℕ) × (i < length f.setup.ends) × (r.r9 ≡ f.setup.section.layout.priv_from + end_key_at i))
+      key_in : KeyAt f r d key → (r.r9 ≡ 0) ⊎ ((i : ℕ) × (i < length f.setup.ends) × (r.r9 ≡ f.setup.section.layout.priv_from + end_key_at i)
+          × IsKeptKey f.setup f.entered d.marks i (bytes_from d.mem r.r9 16))
       key_in (OwnKey z is) = inl z
-      key_in (KeyIn i one place p is) = inr (i, one, place)
+      key_in (KeyIn i one place p is kept) = inr (i, one, place, subst (λ (l : List ℕ). IsKeptKey f.setup f.entered d.marks i l) (sym is) kept)
 
   next_pc : {P n : ℕ} {ws : List ℕ} (t : Text f P n ws) (k : ℕ) (r : Regs) → k + 1 ≤ n → r.pc ≡ P + 2 * k → (r.pc + 2) % 65536 ≡ P + 2 * (k + 1)
   next_pc t k r le pc = omega (arith, t.to, st.below)
@@ -260,7 +262,7 @@ module _ (f : Fixed) (st : Stands f) (all : List Mark) (B : Watched → Violatio
   -- wrap
   pub wrap_step : {P n : ℕ} {ws : List ℕ} (t : Text f P n ws) (k : ℕ) → slice_get ws k ≡ Some 0x1384 → k + 1 ≤ n → (e : Event) (r : Regs) (d : Data) (key : List ℕ) (j : ℕ) → r.pc ≡ P + 2 * k
       → Safe f all (running_after e f r d)
-      → Buffers f r → KeyAt f r d.mem key → HasPrefix all (d.marks ++ mark.Wrapped (bytes_from d.mem r.r10 r.r11) (bytes_from d.mem r.r12 r.r13) (r.r9 == 0) ∷ [])
+      → Buffers f r → KeyAt f r d key → HasPrefix all (d.marks ++ mark.Wrapped (bytes_from d.mem r.r10 r.r11) (bytes_from d.mem r.r12 r.r13) (r.r9 == 0) ∷ [])
       → ((x : Exchange) → let r2 = record r { pc = P + 2 * (k + 1); r15 = 1 } in
       let d2 : Data = record d {
         mem = put_bytes (put_bytes d.mem r.r14 (sealed r d key).cipher) r.r15 (sealed r d key).tag;
@@ -315,7 +317,7 @@ module _ (f : Fixed) (st : Stands f) (all : List Mark) (B : Watched → Violatio
   -- unwrap: where the tag is wrong only R15 tells it
   pub unwrap_step : {P n : ℕ} {ws : List ℕ} (t : Text f P n ws) (k : ℕ) → slice_get ws k ≡ Some 0x1385 → k + 1 ≤ n
       → (e : Event) (r : Regs) (d : Data) (key : List ℕ) (j : ℕ) (result : Option (List ℕ)) → r.pc ≡ P + 2 * k → Safe f all (running_after e f r d)
-      → Buffers f r → AreShown f.setup r.r15 16 → (r.r9 ≡ 0 → (r.r14 ≡ base_of f + plain_at) × (r.r13 ≤ 16)) → KeyAt f r d.mem key → unsealed r d key ≡ result
+      → Buffers f r → AreShown f.setup r.r15 16 → (r.r9 ≡ 0 → (r.r14 ≡ base_of f + plain_at) × (r.r13 ≤ 16)) → KeyAt f r d key → unsealed r d key ≡ result
       → (result ≡ None → Safe f all (running_after event.Quiet f (record r { pc = P + 2 * (k + 1); r15 = 0 }) d)
       → Runs f all B Q j (running_after event.Quiet f (record r { pc = P + 2 * (k + 1); r15 = 0 }) d))
       → ((plain : List ℕ) → result ≡ Some plain → HasPrefix all (d.marks ++ mark.Unwrapped (bytes_from d.mem r.r10 r.r11) (take r.r13 plain) (r.r9 == 0) ∷ []))
@@ -407,7 +409,7 @@ module _ (f : Fixed) (st : Stands f) (all : List Mark) (B : Watched → Violatio
   -- wrap, by the header and the body that stand in memory
   pub wrap_as : {P n : ℕ} {ws : List ℕ} (t : Text f P n ws) (k : ℕ) → slice_get ws k ≡ Some 0x1384 → k + 1 ≤ n → (e : Event) (r : Regs) (d : Data) (key ad body : List ℕ) (j : ℕ) → r.pc ≡ P + 2 * k
       → Safe f all (running_after e f r d)
-      → Buffers f r → KeyAt f r d.mem key → bytes_from d.mem r.r10 r.r11 ≡ ad → bytes_from d.mem r.r12 r.r13 ≡ body → WrapThen j e r d (P + 2 * (k + 1)) key ad body
+      → Buffers f r → KeyAt f r d key → bytes_from d.mem r.r10 r.r11 ≡ ad → bytes_from d.mem r.r12 r.r13 ≡ body → WrapThen j e r d (P + 2 * (k + 1)) key ad body
   wrap_as {P = P} t k has fits e r d key ad body j pc safe bs key_at ea eb =
       subst (λ ad. WrapThen j e r d (P + 2 * (k + 1)) key ad body) ea
       (subst (λ body. WrapThen j e r d (P + 2 * (k + 1)) key (bytes_from d.mem r.r10 r.r11) body) eb

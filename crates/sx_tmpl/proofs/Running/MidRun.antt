@@ -30,7 +30,7 @@ pub record Stands (f : Fixed) : Type 0 where
 
 -- what holds at every moment of a run: nothing was done so far that may not be, and the next step shows no key
 abbrev pub Held : Fixed → List Mark → Watched → Type 0
-Held f all c = Safe f all c × StepShowsNone f.setup c.node
+Held f all c = Safe f all c × StepShowsNone f.setup f.entered c
 
 -- the run of a module comes to Q, or ends in a violation with B
 abbrev pub Runs : Fixed → List Mark → (Watched → Violation → Type 0) → (Watched → Type 0) → ℕ → Watched → Type 0

@@ -93,7 +93,7 @@ module _ (f : Fixed) (st : Stands f) (all : List Mark) (B : Watched → Violatio
   by_outcome c o = watched_on c (settled_step c.node o) (violation_of (settled_step c.node o).shown.event)
 
   -- a step that is what was owed
-  pub from_met : (n : ℕ) (e : Event) (r : Regs) (d : Data) (o : Outcome) → Safe f all (running_after e f r d) → StepShowsNone f.setup (running_after e f r d).node → InText f r.pc → attempt f.setup.mac (running_after e f r d).node ≡ o
+  pub from_met : (n : ℕ) (e : Event) (r : Regs) (d : Data) (o : Outcome) → Safe f all (running_after e f r d) → StepShowsNone f.setup f.entered (running_after e f r d) → InText f r.pc → attempt f.setup.mac (running_after e f r d).node ≡ o
       → Met f (Then n d) NoTell (B (running_after e f r d)) (start (running_after e f r d).node) o → R (suc n) (running_after e f r d)
   unfolding watch
   from_met n e r d (Finished regs y) safe shown here at h =
@@ -197,10 +197,12 @@ module _ (f : Fixed) (st : Stands f) (all : List Mark) (B : Watched → Violatio
       (subst (λ o. PlanShowsNone f.setup (row_of o (at_pc regs (onward pc 2)) pc) x) (sym y) shown)))
 
   -- so a step whose plan shows no key shows none
-  pub step_shown : (s : State) (w : ℕ) → pc_of s % 2 ≡ 0 → cell s.mem (pc_of s) ≡ w → is_module_word w ≡ false → PlanShowsNone f.setup (program w s.regs) (start s) → StepShowsNone f.setup s
-  step_shown s w ev h plain shown =
+  pub step_shown : (c : Watched) (w : ℕ) → pc_of c.node % 2 ≡ 0 → cell c.node.mem (pc_of c.node) ≡ w → is_module_word w ≡ false → PlanShowsNone f.setup (program w c.node.regs) (start c.node)
+      → StepShowsNone f.setup f.entered c
+  step_shown c w ev h plain shown =
+      let s = c.node in
       let e1 : word s.mem (pc_of s) ≡ w = word_is s.mem (pc_of s) ev ∙ h in
-      subst (λ (z : ℕ). WordShowsNone f.setup s z (is_module_word z)) (sym e1) (subst (λ b. WordShowsNone f.setup s w b) (sym plain) shown)
+      subst (λ (z : ℕ). WordShowsNone f.setup f.entered c z (is_module_word z)) (sym e1) (subst (λ b. WordShowsNone f.setup f.entered c w b) (sym plain) shown)
 
   pub onward_to : (a b n : ℕ) → a + n ≡ b → b < 65536 → onward a n ≡ b
   onward_to a b n e h = omega arith
@@ -226,7 +228,7 @@ module _ (f : Fixed) (st : Stands f) (all : List Mark) (B : Watched → Violatio
       let at = tests_passed e r d safe here ends ev ∙ plain_instruction e r d w here ends ev is reads.plain ∙ program_one w i (regs16 f r) x reads
       ∙ ap (λ b. exec_own (row (i 0 0) (at_pc (regs16 f r) b) b) x) next in
       let p : ℕ → Plan = λ b. row (i 0 0) (at_pc (regs16 f r) b) b in
-      let shown = step_shown (running_after e f r d).node w ev is reads.plain (shown_one w i (regs16 f r) x reads (subst (λ b. PlanShowsNone f.setup (p b) x) (sym next)
+      let shown = step_shown (running_after e f r d) w ev is reads.plain (shown_one w i (regs16 f r) x reads (subst (λ b. PlanShowsNone f.setup (p b) x) (sym next)
       (owes_shown f st (Then j d) NoTell (B (running_after e f r d)) (p (P + 2 * (k + 1))) x safe.devices safe.memory owed))) in
       from_met j e r d _ safe shown (record { from = here; to = omega arith }) at (owes_met f st (Then j d) NoTell (B (running_after e f r d)) _ x safe.devices safe.memory owed)
 
@@ -252,7 +254,7 @@ module _ (f : Fixed) (st : Stands f) (all : List Mark) (B : Watched → Violatio
       let at = tests_passed e r d safe here ends ev ∙ plain_instruction e r d w here ends ev is reads.plain ∙ program_two w u i (regs16 f r) x reads got
       ∙ ap (λ b. exec_own (row (i u 0) (at_pc (regs16 f r) b) (onward r.pc 4)) x) next ∙ ap (λ b. exec_own (row (i u 0) (at_pc (regs16 f r) (P + 2 * (k + 1))) b) x) next2 in
       let p : ℕ → ℕ → Plan = λ b c. row (i u 0) (at_pc (regs16 f r) b) c in
-      let shown = step_shown (running_after e f r d).node w ev is reads.plain (shown_two w u i (regs16 f r) x reads got (subst (λ b. PlanShowsNone f.setup (p b (onward r.pc 4)) x) (sym next)
+      let shown = step_shown (running_after e f r d) w ev is reads.plain (shown_two w u i (regs16 f r) x reads got (subst (λ b. PlanShowsNone f.setup (p b (onward r.pc 4)) x) (sym next)
       (subst (λ c. PlanShowsNone f.setup (p (P + 2 * (k + 1)) c) x) (sym next2)
       (owes_shown f st (Then j d) NoTell (B (running_after e f r d)) (p (P + 2 * (k + 1)) (P + 2 * (k + 2))) x safe.devices safe.memory owed)))) in
       from_met j e r d _ safe shown (record { from = here; to = omega arith }) at (owes_met f st (Then j d) NoTell (B (running_after e f r d)) _ x safe.devices safe.memory owed)
@@ -284,7 +286,7 @@ module _ (f : Fixed) (st : Stands f) (all : List Mark) (B : Watched → Violatio
       let at = tests_passed e r d safe here ends ev ∙ plain_instruction e r d w here ends ev is reads.plain ∙ program_three w u v i (regs16 f r) x reads got got2
       ∙ ap (λ b. exec_own (row (i u v) (at_pc (regs16 f r) b) (onward r.pc 6)) x) next ∙ ap (λ b. exec_own (row (i u v) (at_pc (regs16 f r) (P + 2 * (k + 1))) b) x) next3 in
       let p : ℕ → ℕ → Plan = λ b c. row (i u v) (at_pc (regs16 f r) b) c in
-      let shown = step_shown (running_after e f r d).node w ev is reads.plain (shown_three w u v i (regs16 f r) x reads got got2 (subst (λ b. PlanShowsNone f.setup (p b (onward r.pc 6)) x) (sym next)
+      let shown = step_shown (running_after e f r d) w ev is reads.plain (shown_three w u v i (regs16 f r) x reads got got2 (subst (λ b. PlanShowsNone f.setup (p b (onward r.pc 6)) x) (sym next)
       (subst (λ c. PlanShowsNone f.setup (p (P + 2 * (k + 1)) c) x) (sym next3) none))) in
       from_met j e r d _ safe shown (record { from = here; to = omega arith }) at met
 

@@ -243,7 +243,7 @@ module _ (s : Setup) (n : State) (result : Invoked) (e : Ready s n) where
 
   pub weak : bytes_in (pieces_in result) ≡ made_bytes all → (B C : Watched → Violation → Type 0) (Q R : Watched → Type 0) (k : ℕ) (w : Watched) → ((w : Watched) (v : Violation) → B w v → C w v)
       → ((w : Watched) → Q w → R w) → Runs f all B Q k w → upper.NodeRuns s result n C R k w
-  weak sizes B C Q R k w b q run = weaken Watched Violation (watch s.mac) (λ _. 1) (Held f all) (λ w. Underway s result n w × StepShowsNone s w.node) B C Q R k k w (omega arith) (λ w h. (underway sizes w h.0, h.1)) b q run
+  weak sizes B C Q R k w b q run = weaken Watched Violation (watch s.mac) (λ _. 1) (Held f all) (λ w. Underway s result n w × StepShowsNone s n.mem w) B C Q R k k w (omega arith) (λ w h. (underway sizes w h.0, h.1)) b q run
 
   bytes_at : (o : ℕ) → o < length (private_bytes l n.mem) → slice_index n.mem (l.priv_from + o) ≡ slice_index (private_bytes l n.mem) o
   bytes_at o lt =

@@ -17,6 +17,7 @@ use Rattle.sx_ir.specs.declared.ir.Code.{Code}
 use Rattle.sx_ir.specs.declared.ir.Ir.{Ir}
 use Rattle.sx_ir.specs.Meaning.{no_count, OperationResult, op_count, op_step, part_from}
 use Rattle.sx_tmpl.specs.Performs.{IsNarrow, IsRegular, Never, ReturnsBehind, With}
+use Rattle.sx_image.specs.Image.{private_bytes}
 use Rattle.sx_tmpl.specs.Running.{Fixed, pieces_end}
 use Rattle.sx_tmpl.proofs.Running.Outcomes.{goes_same, goes_stops, stops_same}
 use Rattle.sx_tmpl.proofs.Running.MidRun.{Runs, Stands}
@@ -67,7 +68,7 @@ module _ (f : Fixed) (st : Stands f) (all : List Mark) (window : f.to ≡ pieces
       (λ p i h. sound_op f st a parts ops sound (λ h. refl) there (packet_text f st code text sound.fits) (slots_text f st code text sound.fits) narrow p i h (sound.each p i h))
 
   -- a configuration that is regular is one that templates can run from
-  good : (call : Call) (c : Conf) → call.output ≡ f.from → IsRegular ops call all c → Good f all a ops c
+  good : (call : Call) (c : Conf) → call.output ≡ f.from → IsRegular (length f.setup.ends) (private_bytes f.setup.section.layout f.entered) ops call all c → Good f all a ops c
   good call c out h = record {
     marks = h.marks;
     stack = h.room;
@@ -75,6 +76,7 @@ module _ (f : Fixed) (st : Stands f) (all : List Mark) (window : f.to ≡ pieces
     to = λ ok k short few. to (is_bad_window f.setup f.from 384) (sym window) (sym (ap (λ (x : ℕ). not (is_bad_window f.setup x 384)) (h.window ∙ out)) ∙ ok) k short few;
     sensor = λ i w found. sample_small c.devices i w h.samples (device_there c.devices f.setup.section.layout.priv_from i w found);
     back = λ p is. back p (subst (ReturnsBehind ops) is h.back);
+    slots = h.slots;
   }
     where
       to : (b : Bool) → pieces_end b f.from (made_bytes all) ≡ f.to → not b ≡ true → (k : ℕ) → k ≤ 384 → k ≤ made_bytes all → f.from + k ≤ f.to
@@ -92,13 +94,13 @@ module _ (f : Fixed) (st : Stands f) (all : List Mark) (window : f.to ≡ pieces
           (record { from = omega (arith, z, next, from); to = omega (arith, z, next, to) }, omega (arith, z, next, ev))
 
   -- an operation that goes on
-  pub op_goes_on : (call : Call) (c t : Conf) (w : Watched) → call.output ≡ f.from → Sim c w → IsRegular ops call all c → HasPrefix all t.marks → op_step f.setup (part_from parts) ops c ≡ Goes t
+  pub op_goes_on : (call : Call) (c t : Conf) (w : Watched) → call.output ≡ f.from → Sim c w → IsRegular (length f.setup.ends) (private_bytes f.setup.section.layout f.entered) ops call all c → HasPrefix all t.marks → op_step f.setup (part_from parts) ops c ≡ Goes t
       → Runs f all Never (Sim t) (op_count no_count ops c) w
   op_goes_on call c t w out x h begins is = step_goes f st all (λ v m. ⊥) (λ v m b. absurd b) tag a ops done (part_from parts) (part_goes parts) (part_stops parts) no_count c t w x
       (good call c out h) is begins
 
   -- an operation that breaks
-  pub op_breaks : (call : Call) (c : Conf) (v : Violation) (marks : List Mark) (w : Watched) → call.output ≡ f.from → Sim c w → IsRegular ops call all c → HasPrefix all marks
+  pub op_breaks : (call : Call) (c : Conf) (v : Violation) (marks : List Mark) (w : Watched) → call.output ≡ f.from → Sim c w → IsRegular (length f.setup.ends) (private_bytes f.setup.section.layout f.entered) ops call all c → HasPrefix all marks
       → op_step f.setup (part_from parts) ops c ≡ Stops (conf.Violates v marks) → Runs f all (With v marks) (λ x. ⊥) (op_count no_count ops c) w
   op_breaks call c v marks w out x h begins is =
       step_stops f st all (λ u m. (u ≡ v) × (m ≡ marks)) (λ u m b. subst (λ l. HasPrefix all l) (sym b.1) begins) tag a ops done (part_from parts) (part_goes parts) (part_stops parts) no_count c

@@ -17,7 +17,7 @@ use Rattle.sx_invoke.specs.Marks.{HasPrefix, Mark}
 use Rattle.sx_invoke.specs.Pieces.{made_bytes}
 use Rattle.sx_invoke.specs.Progress.{Invoked, bytes_in, marks_in, pieces_in}
 use Rattle.sx_image.specs.Watched.{Watched, watch}
-use Rattle.sx_image.specs.Image.{call_at, public_bytes, setup_at}
+use Rattle.sx_image.specs.Image.{call_at, private_bytes, public_bytes, setup_at}
 use Rattle.sx_ir.specs.Conf.{Conf}
 use Rattle.sx_ir.specs.Conf as conf
 use Rattle.sx_ir.specs.declared.ir.Code.{Code}
@@ -69,13 +69,13 @@ module _ (s : Setup) (n : State) (result : Invoked) (e : Ready s n) (sizes : byt
   done : Emitted f a ops
   done = going.done f st all refl tag code sound narrow text
 
-  goes : (c t : Conf) (w : Watched) → Sim c w → IsRegular ops (call_at n) all c → HasPrefix all t.marks → op_step s (part_from parts) ops c ≡ Goes t
+  goes : (c t : Conf) (w : Watched) → Sim c w → IsRegular (length s.ends) (private_bytes s.section.layout n.mem) ops (call_at n) all c → HasPrefix all t.marks → op_step s (part_from parts) ops c ≡ Goes t
       → upper.NodeRuns s result n Never (Sim t) (op_count no_count ops c) w
   goes c t w x h begins is =
       weak s n result e sizes Never Never (Sim t) (Sim t) (op_count no_count ops c) w (λ w v x. x) (λ w x. x)
       (going.op_goes_on f st all refl tag code sound narrow text (call_at n) c t w refl x h begins is)
 
-  stops : (c : Conf) (v : Violation) (marks : List Mark) (w : Watched) → Sim c w → IsRegular ops (call_at n) all c → HasPrefix all marks
+  stops : (c : Conf) (v : Violation) (marks : List Mark) (w : Watched) → Sim c w → IsRegular (length s.ends) (private_bytes s.section.layout n.mem) ops (call_at n) all c → HasPrefix all marks
       → op_step s (part_from parts) ops c ≡ Stops (conf.Violates v marks)
       → upper.NodeRuns s result n (With v marks) (λ x. ⊥) (op_count no_count ops c) w
   stops c v marks w x h begins is =

@@ -1,5 +1,5 @@
 -- From the operations' templates to the whole code.
-use Rattle.std.proofs.Common.{◌≡◌, ℕ, zero, suc, ◌+◌, ◌-◌, ◌*◌, ◌%◌, ◌<◌, ◌≤◌, inl, Bool, true, false, ◌&&◌, nat_le, ◌++◌, List, [], ◌∷◌, length, Option, Some, None, refl, sym, ◌∙◌, ap, subst, arith}
+use Rattle.std.proofs.Common.{◌≡◌, ℕ, zero, suc, ◌+◌, ◌-◌, ◌*◌, ◌%◌, ◌<◌, ◌≤◌, inl, inr, Bool, true, false, not, ◌&&◌, nat_le, ◌++◌, List, [], ◌∷◌, length, Option, Some, None, refl, sym, ◌∙◌, ap, subst, arith}
 use Rattle.sx_rules.specs.declared.access.Violation.{Violation}
 use Rattle.sx_machine.specs.Memory.{word, put_word, bytes_from, put_bytes}
 use Rattle.sx_invoke.specs.Marks.{Mark, HasPrefix}
@@ -12,7 +12,7 @@ use Rattle.sx_tmpl.proofs.Running.MidRun.{Stands, Runs, later}
 use Rattle.sx_tmpl.specs.Shows.{base_of, IsData, ShowsConfiguration, Stood}
 use Rattle.sx_tmpl.proofs.Running.Steps.{Text, InText}
 use Rattle.std.specs.Prelude.{slice_get, nat_lt, ◌==◌}
-use Rattle.std.proofs.lemmas.Bool.{ltb-true, leb-true, and_parts}
+use Rattle.std.proofs.lemmas.Bool.{ltb-true, leb-true, eqb-true, or_cases, and_parts}
 use Rattle.sx_tmpl.proofs.Operations.Plain.{Leads, push_leads, load_leads, store_leads, add_leads}
 use Rattle.sx_reach.specs.Reach.{Goes, Stops}
 use Rattle.sx_tmpl.proofs.Texts.Made.{made_prefix}
@@ -31,7 +31,7 @@ use Rattle.sx_ir.specs.declared.ir.IrOp.TheVariants as op
 use Rattle.sx_ir.specs.declared.ir.Ir.{Ir}
 use Rattle.sx_ir.specs.declared.ir.Ir.TheVariants as ir
 use Rattle.sx_ir.specs.Counts.{count_of}
-use Rattle.sx_ir.specs.Meaning.{op_step, op_count, count_at, handler_count, names_no_key, OnViolation, send}
+use Rattle.sx_ir.specs.Meaning.{op_step, op_count, count_at, handler_count, has_key_mark, is_key_kept, is_open_slot, keeps_slots, names_no_key, OnViolation, send, spares_slots}
 use Rattle.sx_tmpl.specs.Template.{Addresses, operator_words, template, slot_words, routine_words}
 use Rattle.sx_tmpl.proofs.Operations.Branch.{jump_leads, jump_zero_leads, jump_not_leads, lt_leads, eq_leads}
 use Rattle.sx_tmpl.proofs.Operations.Arrays.{IsArray, load_at_leads, store_at_leads}
@@ -43,11 +43,12 @@ use Rattle.sx_tmpl.proofs.Operations.InsideOp.{inside_ends}
 use Rattle.sx_tmpl.proofs.Operations.SetEndOp.{set_end_leads}
 use Rattle.sx_tmpl.proofs.Operations.MeetsOp.{meets_leads}
 use Rattle.sx_invoke.specs.Windows.{is_bad_window}
-use Rattle.sx_tmpl.proofs.Operations.SealOps.{SealsAt, seal_leads, open_leads}
+use Rattle.sx_tmpl.proofs.Operations.SealOps.{KeptAt, SealsAt, seal_leads, open_leads}
 use Rattle.sx_tmpl.proofs.Operations.CopyOps.{Ending, Goes_to, Breaks_off, No_meaning, copy_in_ends, copy_out_ends}
 use Rattle.sx_tmpl.proofs.Running.Holding.{IsRange, low_shown}
+use Rattle.sx_tmpl.proofs.Running.Entered.{AreKept, was_open}
 use Rattle.sx_tmpl.proofs.Texts.Named.{names_none}
-use Rattle.sx_tmpl.specs.Unseen.{NamesNoKey}
+use Rattle.sx_tmpl.specs.Unseen.{IsKeptKey, NamesNoKey, WasOpen}
 use Rattle.sx_bus.specs.Devices.{cleared}
 use Rattle.std.proofs.Common.{take, cond}
 use Rattle.sx_tag.specs.Wrap.{unwrapped}
@@ -98,7 +99,7 @@ pub record Emitted (f : Fixed) (a : Addresses) (code : List Ir) : Type 0 where
   pub following : (p : ℕ) (i : Ir) → slice_get code p ≡ Some i → a.at (p + 1) ≡ a.at p + 2 * length (template f.setup.section.layout a p i)
   pub sound : (p : ℕ) (i : Ir) → slice_get code p ≡ Some i → IsSoundOp f a i
 
--- What holds of each configuration of the run: its marks are the first of all, the stack has room, its window is the caller's, a sensor's value is one, and a handler's part returns into the code.
+-- What holds of each configuration of the run: its marks are the first of all, the stack has room, its window is the caller's, a sensor's value is one, a handler's part returns into the code, and slots are kept.
 pub record Good (f : Fixed) (all : List Mark) (a : Addresses) (code : List Ir) (c : Conf) : Type 0 where
   pub marks : HasPrefix all c.marks
   pub stack : length c.stack ≤ 160
@@ -106,6 +107,7 @@ pub record Good (f : Fixed) (all : List Mark) (a : Addresses) (code : List Ir) (
   pub to : has_out_window f.setup c ≡ true → (n : ℕ) → n ≤ 384 → n ≤ made_bytes all → f.from + n ≤ f.to
   pub sensor : (i : ℕ) (w : Window) → own_window f.setup c.devices ≡ Some (i, w) → w.value < 32768
   pub back : (p : ℕ) → c.back ≡ Some p → IsTarget f (a.at p)
+  pub slots : AreKept f c
 
 -- a copy ends where pieces go
 copy_ends : (f : Fixed) (all : List Mark) (a : Addresses) (code : List Ir) (c : Conf) (at n : ℕ) → has_out_window f.setup c ≡ true → has_copy_room c at n ≡ true → Good f all a code c
@@ -213,16 +215,40 @@ module _ (f : Fixed) (st : Stands f) (all : List Mark) (BV : Violation → List 
   ending_goes after G E t (Breaks_off v m is g) e = absurd (never (Violates v m) t (sym is ∙ e))
   ending_goes after G E t (No_meaning is) e = absurd (never Stuck t (sym is ∙ e))
 
-  open_goes : (k h hn b bn : ℕ) (c t : Conf) (result : Option (List ℕ)) → SealsAt k h hn b bn (size_of f) → NamesNoKey (length f.setup.ends) (ir.Open k h hn b bn) []
+  -- the key that a wrap or an unwrap names is kept
+
+  own_kept : (c : Conf) (k : ℕ) → (k == 0) ≡ true → KeptAt f st all B a.at c k
+  own_kept c k own j one is = let zero_ = eqb-true k 0 own in absurd (omega (arith, zero_, is))
+
+  open_kept : (c : Conf) (k : ℕ) → is_key_kept c k ≡ true → AreKept f c → KeptAt f st all B a.at c k
+  open_kept c k kept slots j one is =
+      elim (or_cases (k == 0) (is_open_slot c.priv k && not (has_key_mark c.marks)) kept) [
+        | inl own ↦ own_kept c k own j one is
+        | inr slot ↦ slot_kept (and_parts (is_open_slot c.priv k) (not (has_key_mark c.marks)) slot) slots
+      ]
+    where
+      slot_kept : (is_open_slot c.priv k ≡ true) × (not (has_key_mark c.marks) ≡ true) → AreKept f c → IsKeptKey f.setup f.entered c.marks j (key_at f.setup c k)
+      slot_kept x (inl keyed) = inl keyed
+      slot_kept x (inr same) =
+          let at : k - 4 ≡ offsets.end_open_at j = omega (arith, is) in
+          let is_open : not (word c.priv (offsets.end_open_at j) == 0) ≡ true = subst (λ (o : ℕ). not (word c.priv o == 0) ≡ true) at x.0 in
+          let key : bytes_from c.priv (offsets.end_key_at j) 16 ≡ key_at f.setup c k = slot_key k is in
+          inr (subst (λ (l : List ℕ). WasOpen f.setup f.entered j l) key (was_open f.setup f.entered c.priv j one same is_open))
+        where
+          slot_key : (k : ℕ) → k ≡ offsets.end_key_at j → bytes_from c.priv (offsets.end_key_at j) 16 ≡ key_at f.setup c k
+          slot_key zero is = absurd (omega (arith, is))
+          slot_key (suc k) is = ap (λ (o : ℕ). bytes_from c.priv o 16) (sym is)
+
+  open_goes : (k h hn b bn : ℕ) (c t : Conf) (result : Option (List ℕ)) → SealsAt k h hn b bn (size_of f) → NamesNoKey (length f.setup.ends) (ir.Open k h hn b bn) [] → KeptAt f st all B a.at c k
       → unwrapped f.setup.mac (key_at f.setup c k) (bytes_from c.priv h hn) (bytes_from c.priv (h + hn) bn) (bytes_from c.priv (h + hn + bn) 16) ≡ result → HasPrefix all t.marks
       → opened c k (bytes_from c.priv h hn) b bn result ≡ Goes t → Runs_on (template f.setup.section.layout a c.place (ir.Open k h hn b bn)) 24 c t
-  open_goes k h hn b bn c t None ok u is begins e =
+  open_goes k h hn b bn c t None ok u kept is begins e =
       let p = pushed_goes c t 0 e in
-      with_size _ 24 _ t (λ sz. lift _ 9 24 _ _ t (omega arith) p.1 (open_leads f st all B a.at c k h hn b bn None (subst (λ s. SealsAt k h hn b bn s) (size_is f c.priv sz) ok) u p.0 is
+      with_size _ 24 _ t (λ sz. lift _ 9 24 _ _ t (omega arith) p.1 (open_leads f st all B a.at c k h hn b bn None (subst (λ s. SealsAt k h hn b bn s) (size_is f c.priv sz) ok) u kept p.0 is
       (subst (λ l. HasPrefix all l) (sym (ap (λ (c : Conf). c.marks) p.1)) begins)))
-  open_goes k h hn b bn c t (Some body) ok u is begins e =
+  open_goes k h hn b bn c t (Some body) ok u kept is begins e =
       let p = pushed_goes (record c { priv = put_bytes c.priv b (take bn body); marks = c.marks ++ mark.Unwrapped (bytes_from c.priv h hn) (take bn body) (k == 0) ∷ [] }) t 1 e in
-      with_size _ 24 _ t (λ sz. lift _ 9 24 _ _ t (omega arith) p.1 (open_leads f st all B a.at c k h hn b bn (Some body) (subst (λ s. SealsAt k h hn b bn s) (size_is f c.priv sz) ok) u p.0 is
+      with_size _ 24 _ t (λ sz. lift _ 9 24 _ _ t (omega arith) p.1 (open_leads f st all B a.at c k h hn b bn (Some body) (subst (λ s. SealsAt k h hn b bn s) (size_is f c.priv sz) ok) u kept p.0 is
       (subst (λ l. HasPrefix all l) (sym (ap (λ (c : Conf). c.marks) p.1)) begins)))
 
   sense_goes : (c t : Conf) (o : Option (ℕ × Window)) → own_window f.setup c.devices ≡ o → ((i : ℕ) (w : Window) → own_window f.setup c.devices ≡ Some (i, w) → w.value < 32768)
@@ -244,38 +270,39 @@ module _ (f : Fixed) (st : Stands f) (all : List Mark) (BV : Violation → List 
       kinds Actuator ek e = absurd (never Stuck t e)
       kinds Sensor ek e = either d.1.fresh refl ek e
 
-  pub op_goes : (i : Ir) (stack : List ℕ) (c t : Conf) → slice_get code c.place ≡ Some i → IsSoundOp f a i → NamesNoKey (length f.setup.ends) i stack → Good f all a code (record c { stack = stack }) → HasPrefix all t.marks
+  pub op_goes : (i : Ir) (stack : List ℕ) (c t : Conf) → slice_get code c.place ≡ Some i → IsSoundOp f a i → NamesNoKey (length f.setup.ends) i stack
+      → keeps_slots (length f.setup.ends) i (record c { stack = stack }) ≡ true → Good f all a code (record c { stack = stack }) → HasPrefix all t.marks
       → do_op f.setup handle i (record c { stack = stack }) ≡ Goes t → Op_goes i stack c t
-  op_goes (ir.Push n) stack c t here ok u g gt e =
+  op_goes (ir.Push n) stack c t here ok u ks g gt e =
       let p = pushed_goes (record c { stack = stack }) t n e in
       lift _ 1 8 _ _ t (omega arith) p.1 (push_leads f st all B a.at (record c { stack = stack }) n ok p.0)
-  op_goes (ir.Load o) stack c t here ok u g gt e =
+  op_goes (ir.Load o) stack c t here ok u ks g gt e =
       let p = pushed_goes (record c { stack = stack }) t (word c.priv o) e in
       with_size _ 8 _ t (λ sz. lift _ 1 8 _ _ t (omega arith) p.1 (load_leads f st all B a.at (record c { stack = stack }) o ok.0 ok.1 u (omega (arith, ok.2)) p.0))
-  op_goes (ir.Store o) [] c t here ok u g gt e = absurd (never Stuck t e)
-  op_goes (ir.Store o) (x ∷ rest) c t here ok u g gt e =
+  op_goes (ir.Store o) [] c t here ok u ks g gt e = absurd (never Stuck t e)
+  op_goes (ir.Store o) (x ∷ rest) c t here ok u ks g gt e =
       with_size _ 8 _ t (λ sz. lift _ 1 8 _ _ t (omega arith) (goes_same _ t e) (store_leads f st all B a.at c x rest o ok.0 ok.1 u (omega (arith, ok.2))))
-  op_goes (ir.LoadAt o n) [] c t here ok u g gt e = absurd (never Stuck t e)
-  op_goes (ir.LoadAt o n) (i ∷ rest) c t here ok u g gt e =
+  op_goes (ir.LoadAt o n) [] c t here ok u ks g gt e = absurd (never Stuck t e)
+  op_goes (ir.LoadAt o n) (i ∷ rest) c t here ok u ks g gt e =
       with_size _ 8 _ t (λ sz. lift _ 6 8 _ _ t (omega arith) (goes_same _ t e) (load_at_leads f st all B a.at c o n i rest ok.0 (array_fits o n c.priv sz ok.1) u))
-  op_goes (ir.StoreAt o n) [] c t here ok u g gt e = absurd (never Stuck t e)
-  op_goes (ir.StoreAt o n) (v ∷ []) c t here ok u g gt e = absurd (never Stuck t e)
-  op_goes (ir.StoreAt o n) (v ∷ i ∷ rest) c t here ok u g gt e =
+  op_goes (ir.StoreAt o n) [] c t here ok u ks g gt e = absurd (never Stuck t e)
+  op_goes (ir.StoreAt o n) (v ∷ []) c t here ok u ks g gt e = absurd (never Stuck t e)
+  op_goes (ir.StoreAt o n) (v ∷ i ∷ rest) c t here ok u ks g gt e =
       with_size _ 8 _ t (λ sz. lift _ 6 8 _ _ t (omega arith) (goes_same _ t e) (store_at_leads f st all B a.at c o n i v rest ok.0 (array_fits o n c.priv sz ok.1) u))
-  op_goes (ir.Op h) stack c t here ok u g gt e = lift _ (count_of (ir.Op h)) (count_of (ir.Op h) + 0) _ t t (omega arith) refl (operator_goes h stack c t e)
-  op_goes (ir.Jump q) stack c t here ok u g gt e = lift _ 1 8 _ _ t (omega arith) (goes_same _ t e) (jump_leads f st all B a.at (record c { stack = stack }) q ok.0 ok.1)
-  op_goes (ir.JumpZero q) [] c t here ok u g gt e = absurd (never Stuck t e)
-  op_goes (ir.JumpZero q) (zero ∷ rest) c t here ok u g gt e = lift _ 4 8 _ _ t (omega arith) (goes_same _ t e) (jump_zero_leads f st all B a.at c q rest ok.0 ok.1)
-  op_goes (ir.JumpZero q) (suc v ∷ rest) c t here ok u g gt e = lift _ 4 8 _ _ t (omega arith) (goes_same _ t e) (jump_not_leads f st all B a.at c q v rest)
-  op_goes (ir.Packet k) [] c t here ok u g gt e = absurd (never Stuck t e)
-  op_goes (ir.Packet k) (v ∷ rest) c t here ok u g gt e =
-      with_size _ 200 _ t (λ sz. lift _ 126 200 _ t t (omega arith) refl (packet_goes f st all B a.at tag c t k v (a.packet k) rest (omega (arith, ok.1)) u g.stack ok.0 e gt g.from g.to))
-  op_goes ir.Drop [] c t here ok u g gt e = absurd (never Stuck t e)
-  op_goes ir.Drop (x ∷ rest) c t here ok u g gt e = lift _ 1 8 _ _ t (omega arith) (goes_same _ t e) (drop_leads f st all B a.at c x rest)
-  op_goes ir.Emit [] c t here ok u g gt e = absurd (never Stuck t e)
-  op_goes ir.Emit (x ∷ rest) c t here ok u g gt e = emit_goes c t x rest (own_window f.setup c.devices) refl gt e
-  op_goes ir.Stop stack c t here ok u g gt e = stop_goes (record c { stack = stack }) t c.back refl g.back e
-  op_goes (ir.Saved r) stack c t here ok u g gt e =
+  op_goes (ir.Op h) stack c t here ok u ks g gt e = lift _ (count_of (ir.Op h)) (count_of (ir.Op h) + 0) _ t t (omega arith) refl (operator_goes h stack c t e)
+  op_goes (ir.Jump q) stack c t here ok u ks g gt e = lift _ 1 8 _ _ t (omega arith) (goes_same _ t e) (jump_leads f st all B a.at (record c { stack = stack }) q ok.0 ok.1)
+  op_goes (ir.JumpZero q) [] c t here ok u ks g gt e = absurd (never Stuck t e)
+  op_goes (ir.JumpZero q) (zero ∷ rest) c t here ok u ks g gt e = lift _ 4 8 _ _ t (omega arith) (goes_same _ t e) (jump_zero_leads f st all B a.at c q rest ok.0 ok.1)
+  op_goes (ir.JumpZero q) (suc v ∷ rest) c t here ok u ks g gt e = lift _ 4 8 _ _ t (omega arith) (goes_same _ t e) (jump_not_leads f st all B a.at c q v rest)
+  op_goes (ir.Packet k) [] c t here ok u ks g gt e = absurd (never Stuck t e)
+  op_goes (ir.Packet k) (v ∷ rest) c t here ok u ks g gt e =
+      with_size _ 200 _ t (λ sz. lift _ 126 200 _ t t (omega arith) refl (packet_goes f st all B a.at tag c t k v (a.packet k) rest (omega (arith, ok.1)) u g.slots g.stack ok.0 e gt g.from g.to))
+  op_goes ir.Drop [] c t here ok u ks g gt e = absurd (never Stuck t e)
+  op_goes ir.Drop (x ∷ rest) c t here ok u ks g gt e = lift _ 1 8 _ _ t (omega arith) (goes_same _ t e) (drop_leads f st all B a.at c x rest)
+  op_goes ir.Emit [] c t here ok u ks g gt e = absurd (never Stuck t e)
+  op_goes ir.Emit (x ∷ rest) c t here ok u ks g gt e = emit_goes c t x rest (own_window f.setup c.devices) refl gt e
+  op_goes ir.Stop stack c t here ok u ks g gt e = stop_goes (record c { stack = stack }) t c.back refl g.back e
+  op_goes (ir.Saved r) stack c t here ok u ks g gt e =
       let q = when_goes (is_saved r) (pushed (record c { stack = stack }) (saved c r)) t e in
       let p = pushed_goes (record c { stack = stack }) t (saved c r) q.1 in
       let b = and_parts (nat_le 12 r) (nat_le r 15) q.0 in
@@ -283,22 +310,22 @@ module _ (f : Fixed) (st : Stands f) (all : List Mark) (BV : Violation → List 
       let hi : r ≤ 15 = leb-true r 15 b.1 in
       with_size _ 8 _ t (λ sz. lift _ 1 8 _ _ t (omega arith) p.1 (load_leads f st all B a.at (record c { stack = stack }) (working.saved_at r) (omega arith)
       (record { low = omega arith; beside = inl (omega arith) }) (low_shown _ _ 2 (omega arith)) (omega (arith, st.room)) p.0))
-  op_goes ir.Inside stack c t here ok u g gt e = lift _ 6 16 _ t t (omega arith) refl (ending_goes _ _ _ t (inside_ends f st all B a.at (record c { stack = stack })) e)
-  op_goes (ir.Meets r n) stack c t here ok u g gt e =
+  op_goes ir.Inside stack c t here ok u ks g gt e = lift _ 6 16 _ t t (omega arith) refl (ending_goes _ _ _ t (inside_ends f st all B a.at (record c { stack = stack })) e)
+  op_goes (ir.Meets r n) stack c t here ok u ks g gt e =
       let c1 = record c { stack = stack } in
       let v = truth (is_bad_window f.setup (saved c r) n) in
       let q = when_goes (is_saved r) (pushed c1 v) t e in
       let p = pushed_goes c1 t v q.1 in
       let b = and_parts (nat_le 12 r) (nat_le r 15) q.0 in
       lift _ 9 24 _ _ t (omega arith) p.1 (meets_leads f st all B a.at c1 r n (leb-true 12 r b.0) (leb-true r 15 b.1) ok.0 ok.1 p.0)
-  op_goes (ir.CopyIn zero o) stack c t here ok u g gt e = absurd (omega (arith, ok.0))
-  op_goes (ir.CopyIn (suc n) o) stack c t here ok u g gt e =
+  op_goes (ir.CopyIn zero o) stack c t here ok u ks g gt e = absurd (omega (arith, ok.0))
+  op_goes (ir.CopyIn (suc n) o) stack c t here ok u ks g gt e =
       let c1 = record c { stack = stack } in
       with_size _ (16 + 8 * suc n + 0) _ t (λ sz. lift _ (7 + 4 * suc n) (16 + 8 * suc n + 0) _ t t (omega arith) refl
       (ending_goes (copy_in f.setup c1 (suc n) o) _ _ t (copy_in_ends f st all B a.at c1 n o (subst (λ s. IsRange o (suc n) s) (size_is f c.priv sz) ok.2) (omega (arith, ok.1))) e))
-  op_goes (ir.CopyOut zero o) stack c t here ok u g gt e = absurd (omega (arith, ok.0))
-  op_goes (ir.CopyOut (suc n) o) [] c t here ok u g gt e = absurd (never Stuck t e)
-  op_goes (ir.CopyOut (suc n) o) (v ∷ rest) c t here ok u g gt e =
+  op_goes (ir.CopyOut zero o) stack c t here ok u ks g gt e = absurd (omega (arith, ok.0))
+  op_goes (ir.CopyOut (suc n) o) [] c t here ok u ks g gt e = absurd (never Stuck t e)
+  op_goes (ir.CopyOut (suc n) o) (v ∷ rest) c t here ok u ks g gt e =
       let b = and_parts (has_out_window f.setup c) (has_copy_room c v (suc n)) (when_goes (has_out_window f.setup c && has_copy_room c v (suc n)) _ t e).0 in
       let to = copy_ends f all a code (record c { stack = v ∷ rest }) v (suc n) b.0 b.1 g in
       let from = g.from in
@@ -306,20 +333,21 @@ module _ (f : Fixed) (st : Stands f) (all : List Mark) (BV : Violation → List 
       with_size _ (16 + 8 * suc n + 0) _ t (λ sz. lift _ (8 + 4 * suc n) (16 + 8 * suc n + 0) _ t t (omega arith) refl
       (ending_goes (copy_out f.setup (record c { stack = v ∷ rest }) (suc n) o v rest) _ _ t (copy_out_ends f st all B a.at c v rest n o (subst (λ s. IsRange o (suc n) s) (size_is f c.priv sz) ok.2)
       u (omega (arith, ok.1)) w.0 w.1) e))
-  op_goes (ir.Seal k h hn b bn) stack c t here ok u g gt e =
+  op_goes (ir.Seal k h hn b bn) stack c t here ok u ks g gt e =
       let same = goes_same _ t e in
       with_size _ 16 _ t (λ sz. lift _ 9 16 _ _ t (omega arith) same
       (seal_leads f st all B a.at tag (record c { stack = stack }) k h hn b bn (subst (λ s. SealsAt k h hn b bn s) (size_is f c.priv sz) ok) u
+      (own_kept (record c { stack = stack }) k (and_parts (k == 0) (spares_slots (length f.setup.ends) (h + hn) (bn + 16)) ks).0)
       (subst (λ l. HasPrefix all l) (sym (ap (λ (c : Conf). c.marks) same)) gt)))
-  op_goes (ir.Open k h hn b bn) stack c t here ok u g gt e = open_goes k h hn b bn (record c { stack = stack }) t
-      (unwrapped f.setup.mac (key_at f.setup c k) (bytes_from c.priv h hn) (bytes_from c.priv (h + hn) bn) (bytes_from c.priv (h + hn + bn) 16)) ok u refl gt e
-  op_goes (ir.SetEnd k) stack c t here ok u g gt e = with_size _ 32 _ t
+  op_goes (ir.Open k h hn b bn) stack c t here ok u ks g gt e = open_goes k h hn b bn (record c { stack = stack }) t
+      (unwrapped f.setup.mac (key_at f.setup c k) (bytes_from c.priv h hn) (bytes_from c.priv (h + hn) bn) (bytes_from c.priv (h + hn + bn) 16)) ok u (open_kept (record c { stack = stack }) k (and_parts (spares_slots (length f.setup.ends) b bn) (is_key_kept (record c { stack = stack }) k) ks).1 g.slots) refl gt e
+  op_goes (ir.SetEnd k) stack c t here ok u ks g gt e = with_size _ 32 _ t
       (λ sz. lift _ 14 32 _ _ t (omega arith) (goes_same _ t e) (set_end_leads f st all B a.at (record c { stack = stack }) k a.slots ok.0 (omega (arith, ok.1)) u g.stack))
-  op_goes ir.Sense stack c t here ok u g gt e = sense_goes (record c { stack = stack }) t (own_window f.setup c.devices) refl g.sensor gt e
-  op_goes (ir.Handler h) stack c t here ok u g gt e =
+  op_goes ir.Sense stack c t here ok u ks g gt e = sense_goes (record c { stack = stack }) t (own_window f.setup c.devices) refl g.sensor gt e
+  op_goes (ir.Handler h) stack c t here ok u ks g gt e =
       with_size _ (8 + given h) _ t (λ sz. lift _ 3 (8 + given h) _ _ t (omega arith) (parts h (record c { stack = stack; priv = put_word c.priv 4 0 }) t e)
       (handler_leads f st all B a.at (record c { stack = stack }) (a.part h) ok.0 ok.1 (omega (arith, st.room))))
-  op_goes ir.Leave stack c t here ok u g gt e = absurd (never Stuck t e)
+  op_goes ir.Leave stack c t here ok u ks g gt e = absurd (never Stuck t e)
 
 -- what stops an operation that has no violation is that it has no meaning
 goes_never : (a : Conf) (h : Halt) → ◌≡◌ {A = OperationResult} (Goes a) (Stops h) → ⊥
@@ -432,7 +460,7 @@ module _ (f : Fixed) (st : Stands f) (all : List Mark) (BV : Violation → List 
   packet_stops k v rest c Stuck here ok u g e b r d tx on sh safe = absurd b
   packet_stops k v rest c (Violates x marks) here ok u g e b r d tx on sh safe =
       let sz = sh.holds.size in
-      later f all Bw (λ _. ⊥) 126 200 (running f r d) (omega arith) (packet_breaks f st all Bw a.at tag c k v (a.packet k) rest x marks (omega (arith, ok.1)) u g.stack ok.0 e
+      later f all Bw (λ _. ⊥) 126 200 (running f r d) (omega arith) (packet_breaks f st all Bw a.at tag c k v (a.packet k) rest x marks (omega (arith, ok.1)) u g.slots g.stack ok.0 e
       (begins x marks b) g.from g.to r d tx on sh safe (λ u m. subst (λ l. BV x l) (sym m) b))
 
   pub op_stops : (i : Ir) (stack : List ℕ) (c : Conf) (w : Halt) → slice_get code c.place ≡ Some i → IsSoundOp f a i → NamesNoKey (length f.setup.ends) i stack → Good f all a code (record c { stack = stack })
@@ -507,11 +535,12 @@ module _ (f : Fixed) (st : Stands f) (all : List Mark) (BV : Violation → List 
           → Runs f all Bw (Rep t) (count_at given (slice_get code c.place)) w
       by_op None here _ e = absurd (never Stuck t (rw here at e))
       by_op (Some i) here _ e =
-          let named = when_goes (names_no_key (length f.setup.ends) i c.stack) (do_op f.setup handle i c) t (ap (λ o. do_at f.setup handle o c) (sym here) ∙ e) in
-          let unseen = names_none (length f.setup.ends) i c.stack named.0 in
+          let named = when_goes (keeps_slots (length f.setup.ends) i c && names_no_key (length f.setup.ends) i c.stack) (do_op f.setup handle i c) t (ap (λ o. do_at f.setup handle o c) (sym here) ∙ e) in
+          let both = and_parts (keeps_slots (length f.setup.ends) i c) (names_no_key (length f.setup.ends) i c.stack) named.0 in
+          let unseen = names_none (length f.setup.ends) i c.stack both.1 in
           subst (λ o. Runs f all Bw (Rep t) (count_at given o) w) (sym here)
           (subst (λ w. Runs f all Bw (Rep t) (count_of i + handler_count given i) w) (sym rep.state)
-          (op_goes f st all BV tag a code emitted_ handle parts given i c.stack c t here (emitted_.sound c.place i here) unseen g gt named.1 rep.regs rep.rest (emitted_.stands c.place i here)
+          (op_goes f st all BV tag a code emitted_ handle parts given i c.stack c t here (emitted_.sound c.place i here) unseen both.0 g gt named.1 rep.regs rep.rest (emitted_.stands c.place i here)
           (emitted_.following c.place i here) rep.shows (subst (λ w. Safe f all w) rep.state rep.safe)))
 
   pub step_stops : (c : Conf) (h : Halt) (w : Watched) → Rep c w → Good f all a code c → op_step f.setup handle code c ≡ Stops h → OnViolation BV c h → Runs f all Bw (λ _. ⊥) (op_count given code c) w
@@ -521,8 +550,9 @@ module _ (f : Fixed) (st : Stands f) (all : List Mark) (BV : Violation → List 
       by_op : (o : Option Ir) → slice_get code c.place ≡ o → do_at f.setup handle (slice_get code c.place) c ≡ Stops h → Runs f all Bw (λ _. ⊥) (count_at given (slice_get code c.place)) w
       by_op None here e = let s : Stuck ≡ h = stuck_is h (rw here at e) in absurd (subst (λ h. OnViolation BV c h) (sym s) b)
       by_op (Some i) here e =
-          let named = when_ends (names_no_key (length f.setup.ends) i c.stack) (do_op f.setup handle i c) c h (ap (λ o. do_at f.setup handle o c) (sym here) ∙ e) b in
-          let unseen = names_none (length f.setup.ends) i c.stack named.0 in
+          let named = when_ends (keeps_slots (length f.setup.ends) i c && names_no_key (length f.setup.ends) i c.stack) (do_op f.setup handle i c) c h (ap (λ o. do_at f.setup handle o c) (sym here) ∙ e) b in
+          let both = and_parts (keeps_slots (length f.setup.ends) i c) (names_no_key (length f.setup.ends) i c.stack) named.0 in
+          let unseen = names_none (length f.setup.ends) i c.stack both.1 in
           subst (λ o. Runs f all Bw (λ _. ⊥) (count_at given o) w) (sym here)
           (subst (λ w. Runs f all Bw (λ _. ⊥) (count_of i + handler_count given i) w) (sym rep.state)
           (op_stops i c.stack c h here (emitted_.sound c.place i here) unseen g named.1 b rep.regs rep.rest (emitted_.stands c.place i here) (emitted_.following c.place i here) rep.shows

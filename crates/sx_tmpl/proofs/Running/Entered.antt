@@ -1,0 +1,51 @@
+-- The slot of an end, as it was when the module was entered.
+use Rattle.std.proofs.Common.{◌≡◌, ℕ, zero, suc, ◌+◌, ◌*◌, ◌%◌, ◌<◌, ◌⊎◌, inl, inr, true, not, ◌==◌, List, length, refl, sym, ap, ap₂, ◌∙◌, subst, arith}
+use Rattle.std.specs.Prelude.{slice_index, ◌++◌, ◌∷◌, []}
+use Rattle.sx_mean.specs.Offsets.{end_at, end_key_at, end_open_at}
+use Rattle.sx_machine.specs.Memory.{bytes_from, word}
+use Rattle.sx_image.specs.Image.{private_bytes}
+use Rattle.sx_invoke.specs.Marks.{Mark}
+use Rattle.sx_invoke.specs.ModuleState.{EndState, end_state}
+use Rattle.sx_invoke.specs.Setup.{Setup}
+use Rattle.sx_ir.specs.Meaning.{has_key_mark}
+use Rattle.sx_ir.specs.Conf.{Conf}
+use Rattle.sx_tmpl.specs.Running.{Fixed, cell}
+use Rattle.sx_tmpl.specs.Unseen.{IsKeptKey, SameSlots, WasOpen}
+use Rattle.sx_tmpl.proofs.Running.Mem.{word_is}
+
+-- slots are as the module was entered, or a key was unwrapped since
+abbrev pub AreKept : Fixed → Conf → Type 0
+AreKept f c = (has_key_mark c.marks ≡ true) ⊎ SameSlots (length f.setup.ends) (private_bytes f.setup.section.layout f.entered) c.priv
+
+same_from : (p q : List ℕ) (a n : ℕ) → ((i : ℕ) → i < n → slice_index q (a + i) ≡ slice_index p (a + i)) → bytes_from q a n ≡ bytes_from p a n
+unfolding bytes_from
+same_from p q a zero f = refl
+same_from p q a (suc n) f = ap₂ (λ (l : List ℕ) (b : ℕ). l ++ b ∷ []) (same_from p q a n (λ i lt. f i (omega (arith, lt)))) (f n (omega arith))
+
+module _ (ends : ℕ) (first priv : List ℕ) (same : SameSlots ends first priv) (k : ℕ) (one : k < ends) where
+  open_same : word first (end_open_at k) ≡ word priv (end_open_at k)
+  unfolding cell
+  open_same =
+      let low : slice_index priv (512 + 24 * k + 4) ≡ slice_index first (512 + 24 * k + 4) = same k 4 one (omega arith) (inr (omega arith)) in
+      let next : 512 + 24 * k + 5 ≡ 512 + 24 * k + 4 + 1 = omega arith in
+      let high : slice_index priv (512 + 24 * k + 4 + 1) ≡ slice_index first (512 + 24 * k + 4 + 1) =
+      subst (λ (o : ℕ). slice_index priv o ≡ slice_index first o) next (same k 5 one (omega arith) (inr (omega arith))) in
+      word_is first (512 + 24 * k + 4) (omega arith) ∙ ap₂ (λ (x y : ℕ). x + 256 * y) (sym low) (sym high) ∙ sym (word_is priv (512 + 24 * k + 4) (omega arith))
+
+  key_same : bytes_from first (end_key_at k) 16 ≡ bytes_from priv (end_key_at k) 16
+  key_same = same_from priv first (end_key_at k) 16 (λ i lt. let at : 512 + 24 * k + (8 + i) ≡ 512 + 24 * k + 8 + i = omega arith in
+      sym (subst (λ (o : ℕ). slice_index priv o ≡ slice_index first o) at (same k (8 + i) one (omega (arith, lt)) (inr (omega arith)))))
+
+-- an open end of a slot that is kept was open, with its key
+pub was_open : (s : Setup) (entered priv : List ℕ) (k : ℕ) → k < length s.ends → SameSlots (length s.ends) (private_bytes s.section.layout entered) priv
+    → not (word priv (end_open_at k) == 0) ≡ true → WasOpen s entered k (bytes_from priv (end_key_at k) 16)
+was_open s entered priv k one same is_open =
+    let first = private_bytes s.section.layout entered in
+    record { is_open = ap (λ (w : ℕ). not (w == 0)) (open_same (length s.ends) first priv same k one) ∙ is_open; key = key_same (length s.ends) first priv same k one }
+
+-- so the key of an open end is a kept one
+pub end_kept : (s : Setup) (entered priv : List ℕ) (marks : List Mark) (k : ℕ) → k < length s.ends
+    → (has_key_mark marks ≡ true) ⊎ SameSlots (length s.ends) (private_bytes s.section.layout entered) priv → (end_state priv k).is_open ≡ true → IsKeptKey s entered marks k (end_state priv k).key
+unfolding end_state
+end_kept s entered priv marks k one (inl keyed) is_open = inl keyed
+end_kept s entered priv marks k one (inr same) is_open = inr (was_open s entered priv k one same is_open)
