@@ -68,6 +68,7 @@ begun_at mac tree ends image section n enters bytes tag few links size =
         back = word-put_same p3 12 (slice_index n.regs 15) refl (omega (arith, l0, l1, l2, l3, size));
       };
       pieces = refl;
+      unmarked = refl;
       back = refl;
       mem = bytes;
       tag = tag;

@@ -18,7 +18,7 @@ use Rattle.sx_invoke.specs.Windows.{is_bad_window}
 use Rattle.sx_invoke.specs.Progress.{Progress, Invoked, Returns, Violates, marks_in, pieces_in}
 use Rattle.sx_invoke.specs.Invocation.{invoke, entered, has_bad_windows, is_no_entry, returns_inside}
 use Rattle.sx_image.specs.Watched.{Watched, watch}
-use Rattle.sx_image.specs.Image.{call_at, progress_at}
+use Rattle.sx_image.specs.Image.{call_at, private_bytes, progress_at}
 use Rattle.sx_image.specs.Realizes.{Aborted, Exited, Stand, Underway, begins}
 use Rattle.sx_ir.specs.declared.ir.Code.{Code}
 use Rattle.sx_ir.specs.declared.ir.Ir.{Ir}
@@ -27,7 +27,10 @@ use Rattle.sx_ir.specs.Conf as conf
 use Rattle.sx_ir.specs.Meaning.{no_count, op_step, op_count, part_from, OnViolation}
 use Rattle.sx_ir.specs.Sound.{is_sound_op}
 use Rattle.sx_stub.specs.Invokes.{CallBegun, EndsSo, Invokes, LeavesSo, ShowsCall}
-use Rattle.sx_tmpl.specs.Unseen.{StepShowsNone}
+use Rattle.sx_tmpl.specs.Unseen.{SameSlots, StepShowsNone}
+use Rattle.sx_rules.specs.declared.section.Layout.{Layout}
+use Rattle.sx_machine.specs.Memory.{put_word}
+use Rattle.sx_compile.proofs.Spared.{slots_trans, word_spared}
 use Rattle.sx_tmpl.specs.Performs.{IsRegular, LeftFrom, Never, Performs, NodeRuns, With, entry_conf}
 use Rattle.sx_compile.proofs.Begun.{state_in_memory}
 use Rattle.sx_compile.proofs.Regular.{runs_regular}
@@ -37,14 +40,14 @@ use Rattle.sx_compile.proofs.Returning.{violates_returns, returns_same}
 
 -- a moment of the invocation, whose step shows no key
 abbrev pub Unseen : Setup → Invoked → State → Watched → Type 0
-Unseen s result before w = Underway s result before w × StepShowsNone s w.node
+Unseen s result before w = Underway s result before w × StepShowsNone s before.mem w
 
 module _ (s : Setup) (code : Code) (before : State) (result : Invoked) (Sim : Conf → Watched → Type 0) (performs : Performs s code before result Sim) (B : Violation → List Mark → Type 0) (Q : Conf
     → Type 0)
     (at_exit : (t : Conf) → Q t → HasPrefix (marks_in result) t.marks) (at_end : (v : Violation) (marks : List Mark) → B v marks → HasPrefix (marks_in result) marks) where
   -- the stack code's run
   abbrev Run : ℕ → Conf → Type 0
-  Run n c = Comes Conf Halt (op_step s (part_from code.parts.items) code.ops.items) (op_count no_count code.ops.items) (IsRegular code.ops.items (call_at before) (marks_in result))
+  Run n c = Comes Conf Halt (op_step s (part_from code.parts.items) code.ops.items) (op_count no_count code.ops.items) (IsRegular (length s.ends) (private_bytes s.section.layout before.mem) code.ops.items (call_at before) (marks_in result))
       (OnViolation B) Q n c
 
   -- it has come to a violation, or to an exit
@@ -75,6 +78,18 @@ module _ (s : Setup) (code : Code) (before : State) (result : Invoked) (Sim : Co
           (λ w x. x)
           (λ y u z. (marks, subst (λ (u : Violation). B u marks) (sym z.0) b, z.1)) (λ y z. absurd z) (performs.stops c v marks w x p (at_end v marks b) e)
       ends conf.Stuck e b = absurd b
+
+-- the caller's registers are saved before the slots
+entry_slots : (ends : ℕ) (l : Layout) (n : State) → SameSlots ends (private_bytes l n.mem) (entry_conf l n).priv
+entry_slots ends l n =
+    let p0 = private_bytes l n.mem in
+    let p1 = put_word p0 6 (slice_index n.regs 12) in
+    let p2 = put_word p1 8 (slice_index n.regs 13) in
+    let p3 = put_word p2 10 (slice_index n.regs 14) in
+    let p4 = put_word p3 12 (slice_index n.regs 15) in
+    slots_trans ends p0 p1 p4 (word_spared ends p0 6 (slice_index n.regs 12) refl refl)
+    (slots_trans ends p1 p2 p4 (word_spared ends p1 8 (slice_index n.regs 13) refl refl)
+    (slots_trans ends p2 p3 p4 (word_spared ends p2 10 (slice_index n.regs 14) refl refl) (word_spared ends p3 12 (slice_index n.regs 15) refl refl)))
 
 -- pieces are made only where the window is good
 pieces_or_good : (s : Setup) (call : Call) (p q : Progress) (status : ℕ) → p.pieces ≡ [] → invoke s call p ≡ Returns status q → (q.pieces ≡ []) ⊎ (is_bad_window s call.output out_window_size ≡ false)
@@ -176,9 +191,9 @@ module _ (s : Setup) (code : Code) (before : State) (Sim : Conf → Watched → 
   does_invocation n m size cost performs sound begun run whole few private =
       let first = entry_conf s.section.layout before in
       let After = λ (t : Conf). LeavesSo s call code.ops.items result t in
-      let regular = runs_regular s code.ops.items code.parts.items n m size sound call (marks_in result) (EndsSo result) After (λ t q. exit_prefix s call code.ops.items result t q)
+      let regular = runs_regular s (private_bytes s.section.layout before.mem) code.ops.items code.parts.items n m size sound call (marks_in result) (EndsSo result) After (λ t q. exit_prefix s call code.ops.items result t q)
       (λ v marks e. end_prefix result v marks e) cost first
-      begun.shows.output (omega arith) tt begun.samples run in
+      begun.shows.output (omega arith) tt begun.samples (inr (entry_slots (length s.ends) s.section.layout before)) run in
       and_then Watched Violation (watch s.mac) (λ w. 1) (Unseen s result before) (Aborted result) (Sim first) (Exited s result before) 6 (cost + 16) (6 + cost + 16) (begins before) (omega arith)
       (weaken Watched Violation (watch s.mac) (λ w. 1) (Unseen s result before) (Unseen s result before) Never (Aborted result) (Sim first) (Sim first) 6 6 (begins before) (omega arith)
       (λ w x. x) (λ w v x. absurd x) (λ w x. x) performs.enters)

@@ -32,7 +32,8 @@ use Rattle.sx_ir.specs.Sizes.{offset}
 use Rattle.sx_lower.specs.Lowering.{IsLowerable, LowersTo}
 use Rattle.sx_lower.proofs.Reacts.{lowered_ends}
 use Rattle.sx_tmpl.specs.Performs.{IsNarrow, IsRegular, Never, With}
-use Rattle.sx_tmpl.specs.Running.{Fixed, Safe, pieces_end}
+use Rattle.sx_tmpl.specs.Running.{Fixed, pieces_end}
+use Rattle.sx_compile.proofs.Spared.{same_slots}
 use Rattle.sx_tmpl.specs.Shows.{Stood}
 use Rattle.sx_tmpl.specs.Text.{addresses, bytes_of, text_words}
 use Rattle.sx_tmpl.proofs.Texts.Going.{op_breaks, op_goes_on}
@@ -70,7 +71,7 @@ module _ (f : Fixed) (st : Stands f) (all : List Mark) (window : f.to ≡ pieces
 
   -- the stack code's run
   abbrev Run : ℕ → Conf → Type 0
-  Run n c = Comes Conf Halt (op_step f.setup (part_from code.parts.items) code.ops.items) (op_count no_count code.ops.items) (IsRegular code.ops.items call all) (OnViolation B) Q n c
+  Run n c = Comes Conf Halt (op_step f.setup (part_from code.parts.items) code.ops.items) (op_count no_count code.ops.items) (IsRegular (length f.setup.ends) (private_bytes f.setup.section.layout f.entered) code.ops.items call all) (OnViolation B) Q n c
 
   -- it has come to a violation, or to its end
   abbrev Ended : Watched → Violation → Type 0
@@ -286,8 +287,8 @@ module _ (mac : Mac) (tree : ModuleTree) (ends : List End) (code : Code) (tag : 
         let stood = begins_at s n call.output all resumes at from (b.at ∙ sym place) (omega (arith, place)) (omega (arith, place, less, fits)) in
         let at_exit = λ (t : Conf) (y : After_ t). course_prefix course (λ q t. Represents s call q t × AtEnd t) t (λ q z. z.0.marks) y in
         let at_end = λ (v : Violation) (marks : List Mark) (y : CourseBreaks course v marks). breaks_prefix course v marks y in
-        let regular = runs_regular s ops parts (length ops) (length parts) (module_data_size tree (length ends)) low.does.fits.sound call all (CourseBreaks course) After_ at_exit at_end
-        (handler_cost h) first refl (omega arith) tt b.node.samples run in
+        let regular = runs_regular s (private_bytes l n.mem) ops parts (length ops) (length parts) (module_data_size tree (length ends)) low.does.fits.sound call all (CourseBreaks course) After_ at_exit at_end
+        (handler_cost h) first refl (omega arith) tt b.node.samples (inr (same_slots (length ends) (private_bytes l n.mem))) run in
         weaken Watched Violation (watch mac) (λ w. 1) (Held f all) (Handling s call.output course n) (λ w v. (marks : List Mark) × CourseBreaks course v marks
         × (w.marks ≡ marks)) (Aborted (finished course)) (λ w. (t : Conf) × Stood f all at t w × After_ t) (HasHandled s call.output course n (offset ops (to - 1)))
         (handler_cost h) (handler_cost h) (begins n) (omega arith) moment (λ w v y. breaks_aborts course w v y.0 y.1 y.2) handled_at

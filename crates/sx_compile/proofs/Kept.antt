@@ -32,7 +32,7 @@ use Rattle.sx_ir.specs.declared.ir.IrOp.{IrOp}
 use Rattle.sx_ir.specs.declared.ir.IrOp.TheVariants as op
 use Rattle.sx_ir.specs.Conf.{Conf, Violates, Stuck}
 use Rattle.sx_ir.specs.Meaning as m
-use Rattle.sx_ir.specs.Meaning.{OperationResult, saved, do_at, do_op, names_no_key, next, when, on_top, pushed, pieces}
+use Rattle.sx_ir.specs.Meaning.{OperationResult, saved, do_at, do_op, keeps_slots, names_no_key, next, when, on_top, pushed, pieces}
 use Rattle.sx_ir.specs.Sound.{are_sealed, is_even, is_free, is_sound_op, may_change}
 use Rattle.sx_stub.proofs.Mem.{word_same, get-put_bytes_other}
 use Rattle.sx_lists.specs.Truth.{truth}
@@ -90,7 +90,7 @@ bytes_kept priv o bs far = word_same priv (put_bytes priv o bs) 10 10 refl refl 
     off (inr p) k lo hi = inl (omega (arith, p, hi))
 
 -- what was read has its length
-length-read_bytes : (s : Setup) (devices : List Window) (mem : List ℕ) (a n : ℕ) (bs : List ℕ) → read_bytes s devices mem a n ≡ Ok bs → length bs ≡ n
+pub length-read_bytes : (s : Setup) (devices : List Window) (mem : List ℕ) (a n : ℕ) (bs : List ℕ) → read_bytes s devices mem a n ≡ Ok bs → length bs ≡ n
 unfolding read_bytes
 length-read_bytes s devices mem a zero bs e = ap length (sym (ok_same [] bs e))
 length-read_bytes s devices mem a (suc n) bs e = go (read_byte s devices mem a) (read_bytes s devices mem (a + 1) n) e (λ rest f. length-read_bytes s devices mem (a + 1) n rest f)
@@ -323,4 +323,4 @@ module _ (s : Setup) (handle : ℕ → Conf → OperationResult) (handles : (h :
   op_kept ops parts size ir.Leave c ok = tt
 
   pub some_kept : (ops parts size : ℕ) (i : Ir) (c : Conf) → is_sound_op ops parts size i ≡ true → KeptAfter c (do_at s handle (Some i) c)
-  some_kept ops parts size i c ok = when_kept c (names_no_key (length s.ends) i c.stack) (do_op s handle i c) (λ x. op_kept ops parts size i c ok)
+  some_kept ops parts size i c ok = when_kept c (keeps_slots (length s.ends) i c && names_no_key (length s.ends) i c.stack) (do_op s handle i c) (λ x. op_kept ops parts size i c ok)

@@ -2,6 +2,7 @@
 -- beginning, the middle and the end of a call, over Joins and Sound. Handling, BodyText and
 -- BodyDoes are of the handlers alone.
 pub mod Kept
+pub mod Spared
 pub mod Regular
 pub mod Written
 pub mod FewPieces
