@@ -31,20 +31,20 @@ use Rattle.sx_command_head.specs.Headless.{EndsHeadless}
 use Rattle.sx_command_head.specs.Meanings.{Meaning}
 use Rattle.sx_command_head.specs.Refused.{fault_output}
 use Rattle.sx_command_head.specs.Ends.{EndsRefused}
+use Rattle.sx_command_head.proofs.Given.{ran_out_at, ran_out_behind}
 use Rattle.sx_command_deploy.specs.Afterwards.{DeployTold, DeploysBehind, DeploysOrRanOut, found_output, head_output}
-use Rattle.sx_command_deploy.specs.Deploy.{Behind, deploy_output}
-use Rattle.sx_command_deploy.specs.Given.{Wanting}
+use Rattle.sx_command_deploy.specs.Deploy.{Behind, Wants, deploy_output}
 
 no_bytes : AreByteTexts []
 no_bytes m t e = absurd (cc e)
 
 -- what is done behind a head of a text
-pub does_read : {tells to_tell : Bool} {now : Ahead} {s0 s1 : SourceAt} {k0 k1 : SinkAt} {status : ℕ} (mac : Mac) (own : Behind) (wants : Wanting) (text : List ℕ) (r : Result Deployment DeployError)
+pub does_read : {tells to_tell : Bool} {now : Ahead} {s0 s1 : SourceAt} {k0 k1 : SinkAt} {status : ℕ} (mac : Mac) (own : Behind) (may : Wants) (text : List ℕ) (r : Result Deployment DeployError)
     → GivesOne deployed_as r (IsRead text)
-    → IfOk r (λ d. (text : List ℕ) → IsRead text (Ok (deployed_as d)) → DeploysOrRanOut mac own wants tells to_tell now (command_at s0 k0) (command_at s1 k1) status text)
-    → IfErr r (λ e. EndsRefused to_tell k0 k1 status e) → OnErr r (s1 ≡ s0) → DeploysOrRanOut mac own wants tells to_tell now (command_at s0 k0) (command_at s1 k1) status text
-does_read {tells} {to_tell} {now} {s0} {s1} {k0} {k1} {status} mac own wants text (Ok d) read good bad same = good text read
-does_read {tells} {to_tell} {now} {s0} {s1} {k0} {k1} {status} mac own wants text (Err (Fault f)) read good bad same =
+    → IfOk r (λ d. (text : List ℕ) → IsRead text (Ok (deployed_as d)) → DeploysOrRanOut mac own may tells to_tell now (command_at s0 k0) (command_at s1 k1) status text)
+    → IfErr r (λ e. EndsRefused to_tell k0 k1 status e) → OnErr r (s1 ≡ s0) → DeploysOrRanOut mac own may tells to_tell now (command_at s0 k0) (command_at s1 k1) status text
+does_read {tells} {to_tell} {now} {s0} {s1} {k0} {k1} {status} mac own may text (Ok d) read good bad same = good text read
+does_read {tells} {to_tell} {now} {s0} {s1} {k0} {k1} {status} mac own may text (Err (Fault f)) read good bad same =
     rw same (inr (record {
       texts = [];
       realize = λ d other. absurd (cc (one_meaning text (Ok d) (Err f) other read));
@@ -55,7 +55,7 @@ does_read {tells} {to_tell} {now} {s0} {s1} {k0} {k1} {status} mac own wants tex
           (λ more. ends-same _ _ _ _ _ _ (ap (λ (r : Result Deployed DeployFault). found_output own [] r more) (one_meaning text (meaning text) (Err f) (is text) read)) bad.0);
       wanted = λ six. absurd (bad.1 six);
     }))
-does_read {tells} {to_tell} {now} {s0} {s1} {k0} {k1} {status} mac own wants text (Err OutOfMemory) read good bad same =
+does_read {tells} {to_tell} {now} {s0} {s1} {k0} {k1} {status} mac own may text (Err OutOfMemory) read good bad same =
     inl (record { six = bad.0; same = cc (same, bad.1) })
 
 -- the text of a head after a one; nothing where there is none
@@ -96,67 +96,70 @@ is_some : (text : List ℕ) → ◌≡◌ {A = Option (List ℕ)} (Some text) No
 is_some text e = cc
 
 -- a head was read, and the rest was done
-told_found : {tells to_tell : Bool} {s0 s1 : SourceAt} {k0 : SinkAt} {now : Ahead} {m2 : CommandAt} {status : ℕ} (mac : Mac) (own : Behind) (wants : Wanting) (text : List ℕ)
-    → HeadRead tells s0 s1 now (Ok text) → DeploysBehind mac own wants tells to_tell now (command_at s1 k0) m2 status text → DeployTold mac own wants tells to_tell (command_at s0 k0) m2 status
-told_found {tells} {to_tell} {s0} {s1} {k0} {now} {m2} {status} mac own wants text got does =
-    inr (record {
-      deployment = Some text;
-      texts = does.texts;
-      bytes = does.bytes;
-      headed = λ e six. is_some text e;
-      realize = does.realize;
-      made = does.made;
-      told = λ meaning is.
-          told_also (λ answers. HasHead (Some text) (head answers)) (λ answers e. has_head (head answers) text e)
-          (does.rest meaning is head_lines (command_at s0 k0) (deploy_output own meaning does.texts) marked_in (1 ∷ text)
-          (begun-got (head_output own meaning does.texts) refl (got-also (Notes marked_in (1 ∷ text)) (λ answers more e. ap marked e) got)));
-      wanted = λ six.
-          let w = does.wanted six in
-          record { text = text; deployed = w.0; read = w.1; begun = s1; old = now; new = w.2; head_read = got; wants_so = w.3 };
-    })
+told_found : {tells to_tell : Bool} {s0 s1 : SourceAt} {k0 : SinkAt} {now : Ahead} {m2 : CommandAt} {status : ℕ} (mac : Mac) (own : Behind) (may : Wants) (text : List ℕ)
+    → HeadRead tells s0 s1 now (Ok text) → DeploysBehind mac own may tells to_tell now (command_at s1 k0) m2 status text → DeployTold mac own may tells to_tell (command_at s0 k0) m2 status
+told_found {tells} {to_tell} {s0} {s1} {k0} {now} {m2} {status} mac own may text got does = record {
+  says = inr (record {
+    deployment = Some text;
+    texts = does.texts;
+    bytes = does.bytes;
+    headed = λ e six. is_some text e;
+    realize = does.realize;
+    made = does.made;
+    told = λ meaning is.
+        told_also (λ answers. HasHead (Some text) (head answers)) (λ answers e. has_head (head answers) text e)
+        (does.rest meaning is head_lines (command_at s0 k0) (deploy_output own meaning does.texts) marked_in (1 ∷ text)
+        (begun-got (head_output own meaning does.texts) refl (got-also (Notes marked_in (1 ∷ text)) (λ answers more e. ap marked e) got)));
+  });
+  memory = λ six.
+      let w = does.wanted six in ran_out_at {m0 = command_at s0 k0} {m1 = m2} {begun = s1} {old = now} {new = w.2} may text w.0 w.1 got w.3;
+}
 
 -- there is none
-told_none : {tells to_tell : Bool} {s0 s1 : SourceAt} {k0 k1 : SinkAt} {status : ℕ} (mac : Mac) (own : Behind) (wants : Wanting) (h : Head) (o : Output) → HasHead None h
+told_none : {tells to_tell : Bool} {s0 s1 : SourceAt} {k0 k1 : SinkAt} {status : ℕ} (mac : Mac) (own : Behind) (may : Wants) (h : Head) (o : Output) → HasHead None h
     → ((meaning : Meaning) → head_output own meaning [] h ≡ o) → Reads tells head_lines s0 s1 head Unread (λ answers. head answers ≡ h) → CommandEnds to_tell k0 k1 status o
-    → (status ≡ out_of_memory → ⊥) → DeployTold mac own wants tells to_tell (command_at s0 k0) (command_at s1 k1) status
-told_none {tells} {to_tell} {s0} {s1} {k0} {k1} {status} mac own wants h o none e r w never =
-    inr (record {
-      deployment = None;
-      texts = [];
-      bytes = no_bytes;
-      headed = λ n. never;
-      realize = λ d deploys. absurd deploys;
-      made = λ d deploys. absurd deploys;
-      told = λ meaning is.
-          told-reads (head_output own meaning []) o refl r (λ answers q. (ap (head_output own meaning []) q ∙ e meaning, let P : Head → Type 0 = HasHead None in subst P (sym q) none)) w;
-      wanted = λ six. absurd (never six);
-    })
+    → (status ≡ out_of_memory → ⊥) → DeployTold mac own may tells to_tell (command_at s0 k0) (command_at s1 k1) status
+told_none {tells} {to_tell} {s0} {s1} {k0} {k1} {status} mac own may h o none e r w never = record {
+  says = inr (record {
+    deployment = None;
+    texts = [];
+    bytes = no_bytes;
+    headed = λ n. never;
+    realize = λ d deploys. absurd deploys;
+    made = λ d deploys. absurd deploys;
+    told = λ meaning is.
+        told-reads (head_output own meaning []) o refl r (λ answers q. (ap (head_output own meaning []) q ∙ e meaning, let P : Head → Type 0 = HasHead None in subst P (sym q) none)) w;
+  });
+  memory = λ six. absurd (never six);
+}
 
 -- memory ran out after a head, and nothing was written
-told_out_of_memory : {tells to_tell : Bool} {s0 s1 : SourceAt} {k : SinkAt} {now : Ahead} (mac : Mac) (own : Behind) (wants : Wanting) (text : List ℕ)
-    → Got tells head_lines head_lines s0 s1 now head (λ more. Found text more) Unread anything → DeployTold mac own wants tells to_tell (command_at s0 k) (command_at s1 k) out_of_memory
-told_out_of_memory {tells} {to_tell} {s0} {s1} {k} {now} mac own wants text got =
-    inl (record {
-      six = refl;
-      sink = refl;
-      text = text;
-      reads = reads-map (λ answers. HasHead (Some text) (head answers)) (λ (h : Head). h) (λ answers w. w.0) (reads-stop (λ h. HasHead (Some text) h) got (λ more. refl));
-    })
+told_out_of_memory : {tells to_tell : Bool} {s0 s1 : SourceAt} {k : SinkAt} {now : Ahead} (mac : Mac) (own : Behind) (may : Wants) (text : List ℕ)
+    → Got tells head_lines head_lines s0 s1 now head (λ more. Found text more) Unread anything → DeployTold mac own may tells to_tell (command_at s0 k) (command_at s1 k) out_of_memory
+told_out_of_memory {tells} {to_tell} {s0} {s1} {k} {now} mac own may text got = record {
+  says = inl (record {
+    six = refl;
+    sink = refl;
+    text = text;
+    reads = reads-map (λ answers. HasHead (Some text) (head answers)) (λ (h : Head). h) (λ answers w. w.0) (reads-stop (λ h. HasHead (Some text) h) got (λ more. refl));
+  });
+  memory = λ six. ran_out_behind {m0 = command_at s0 k} {m1 = command_at s1 k} {now = now} may text got;
+}
 
 -- there is no head, or no memory for one
-pub told_headless : {tells to_tell : Bool} {s0 s1 : SourceAt} {k0 k1 : SinkAt} {status : ℕ} (mac : Mac) (own : Behind) (wants : Wanting) (now : Ahead) (why : HeadFault) → HeadRead tells s0 s1 now (Err why)
-    → EndsHeadless to_tell k0 k1 status why → DeployTold mac own wants tells to_tell (command_at s0 k0) (command_at s1 k1) status
-told_headless {tells} {to_tell} {s0} {s1} {k0} {k1} {status} mac own wants now none.TooLong r w =
-    told_none mac own wants TooLong (fault_output (fault 1 Nowhere)) tt (λ meaning. refl) r w.0 w.1
-told_headless {tells} {to_tell} {s0} {s1} {k0} {k1} {status} mac own wants now none.NoMark r w =
-    told_none mac own wants NoMark (fault_output (fault 2 Nowhere)) tt (λ meaning. refl) r w.0 w.1
-told_headless {tells} {to_tell} {s0} {s1} {k0} {k1} {status} mac own wants now none.Failed r w = told_none mac own wants Unread unread_output tt (λ meaning. refl) r w.0 w.1
-told_headless {tells} {to_tell} {s0} {s1} {k0} {k1} {status} mac own wants now none.OutOfMemory (text, got) w =
-    rw (w.0, w.1) (told_out_of_memory {to_tell = to_tell} {k = k0} {now = now} mac own wants text got)
+pub told_headless : {tells to_tell : Bool} {s0 s1 : SourceAt} {k0 k1 : SinkAt} {status : ℕ} (mac : Mac) (own : Behind) (may : Wants) (now : Ahead) (why : HeadFault) → HeadRead tells s0 s1 now (Err why)
+    → EndsHeadless to_tell k0 k1 status why → DeployTold mac own may tells to_tell (command_at s0 k0) (command_at s1 k1) status
+told_headless {tells} {to_tell} {s0} {s1} {k0} {k1} {status} mac own may now none.TooLong r w =
+    told_none mac own may TooLong (fault_output (fault 1 Nowhere)) tt (λ meaning. refl) r w.0 w.1
+told_headless {tells} {to_tell} {s0} {s1} {k0} {k1} {status} mac own may now none.NoMark r w =
+    told_none mac own may NoMark (fault_output (fault 2 Nowhere)) tt (λ meaning. refl) r w.0 w.1
+told_headless {tells} {to_tell} {s0} {s1} {k0} {k1} {status} mac own may now none.Failed r w = told_none mac own may Unread unread_output tt (λ meaning. refl) r w.0 w.1
+told_headless {tells} {to_tell} {s0} {s1} {k0} {k1} {status} mac own may now none.OutOfMemory (text, got) w =
+    rw (w.0, w.1) (told_out_of_memory {to_tell = to_tell} {k = k0} {now = now} mac own may text got)
 
 -- a head was read, and the rest was done, or memory ran out for it
-pub told_behind : {tells to_tell : Bool} {s0 s1 : SourceAt} {k0 : SinkAt} {now : Ahead} {m2 : CommandAt} {status : ℕ} (mac : Mac) (own : Behind) (wants : Wanting) (text : List ℕ)
-    → HeadRead tells s0 s1 now (Ok text) → DeploysOrRanOut mac own wants tells to_tell now (command_at s1 k0) m2 status text → DeployTold mac own wants tells to_tell (command_at s0 k0) m2 status
-told_behind {tells} {to_tell} {s0} {s1} {k0} {now} {m2} {status} mac own wants text got (inl out) =
-    rw (out.six, out.same) (told_out_of_memory {to_tell = to_tell} {k = k0} {now = now} mac own wants text got)
-told_behind {tells} {to_tell} {s0} {s1} {k0} {now} {m2} {status} mac own wants text got (inr does) = told_found {now = now} mac own wants text got does
+pub told_behind : {tells to_tell : Bool} {s0 s1 : SourceAt} {k0 : SinkAt} {now : Ahead} {m2 : CommandAt} {status : ℕ} (mac : Mac) (own : Behind) (may : Wants) (text : List ℕ)
+    → HeadRead tells s0 s1 now (Ok text) → DeploysOrRanOut mac own may tells to_tell now (command_at s1 k0) m2 status text → DeployTold mac own may tells to_tell (command_at s0 k0) m2 status
+told_behind {tells} {to_tell} {s0} {s1} {k0} {now} {m2} {status} mac own may text got (inl out) =
+    rw (out.six, out.same) (told_out_of_memory {to_tell = to_tell} {k = k0} {now = now} mac own may text got)
+told_behind {tells} {to_tell} {s0} {s1} {k0} {now} {m2} {status} mac own may text got (inr does) = told_found {now = now} mac own may text got does

@@ -1,30 +1,35 @@
--- The lines that a command was given behind the head of its input, one after another.
-use Rattle.std.proofs.Common.{◌∷◌, ◌++◌, ℕ, [], Bool, List, ap, append_assoc, refl, sym, take}
+-- The lines that the loop of an own part was given, which counts them from 1.
+use Rattle.std.proofs.Common.{◌≡◌, ◌+◌, inr, ◌∷◌, ◌++◌, ℕ, [], Bool, List, length, take, arith, refl}
+use Rattle.std.proofs.lemmas.List.{length-append}
 use Rattle.sx_io.specs.Streams.{SourceAt}
-use Rattle.sx_io.specs.Reading.{Answer, Fault, Line, longest}
+use Rattle.sx_io.specs.Reading.{Answer, Line, longest}
 use Rattle.sx_io.specs.Next.{Ahead, Next}
 use Rattle.sx_io.specs.declared.lines.LineRead.TheVariants as read
-use Rattle.sx_told.specs.Told.{CommandAt}
-use Rattle.sx_told.proofs.Takings.{got-line, got-same}
-use Rattle.sx_head.specs.Head.{Found, Unread, head_lines}
-use Rattle.sx_deploy.specs.Deployment.{Deployed}
-use Rattle.sx_command_deploy.specs.Wanting.{RanOutAt}
-use Rattle.sx_command_deploy.specs.Given.{GivenSince, RanOutBehind, RanOutSince}
+use Rattle.sx_head.specs.Head.{head_lines}
+use Rattle.sx_command_head.specs.Given.{GivenSince, RanOutSince}
+use Rattle.sx_command_head.proofs.Given.{given_line, given_none, wants_last}
 
--- none yet
-pub given_none : (tells : Bool) (s : SourceAt) (a : Ahead) → GivenSince tells s s a a []
-given_none tells s a = λ limit s0 f due b. (due, b)
+-- the next line has this number
+pub record Gave (tells : Bool) (s1 s2 : SourceAt) (old new : Ahead) (number : ℕ) : Type 0 where
+  pub lines : List Answer
+  pub numbered : number ≡ length lines + 1
+  pub since : GivenSince head_lines head_lines tells s1 s2 old new lines
+
+-- none was given
+unfoldable pub gave_none : (tells : Bool) (s : SourceAt) (a : Ahead) → Gave tells s s a a 1
+gave_none tells s a = record { lines = []; numbered = refl; since = given_none head_lines tells s a }
 
 -- one more
-pub given_line : {tells : Bool} {s1 s2 s3 : SourceAt} {old now new : Ahead} (lines : List Answer) (into : List ℕ) (n : ℕ)
-    → GivenSince tells s1 s2 old now lines → Next longest tells s2 s3 now new into (read.Text n) → GivenSince tells s1 s3 old new (lines ++ Line (take n into) ∷ [])
-given_line {tells} {s1} {s2} {s3} {old} {now} {new} lines into n given next = λ limit s0 f due b.
-    let g = given limit s0 f due b in
-    (f (lines ++ Fault ∷ []), got-same (λ more. ap f (sym (append_assoc lines (Line (take n into) ∷ []) more))) refl (got-line (λ more. f (lines ++ more)) g.1 next))
+unfoldable pub gave_line : {tells : Bool} {s1 s2 s3 : SourceAt} {old now new : Ahead} {number : ℕ} (into : List ℕ) (n : ℕ)
+    → Gave tells s1 s2 old now number → Next longest tells s2 s3 now new into (read.Text n) → Gave tells s1 s3 old new (number + 1)
+gave_line {tells} {s1} {s2} {s3} {old} {now} {new} {number} into n g next = record {
+  lines = g.lines ++ Line (take n into) ∷ [];
+  numbered = (let l = length-append g.lines (Line (take n into) ∷ []) in let k = g.numbered in omega (arith, l, k));
+  since = given_line g.lines into n g.since next;
+}
 
--- behind a head
-pub ran_out_at : {tells : Bool} {m0 m1 : CommandAt} (May : Deployed → ℕ → List ℕ → Type 0)
-    → RanOutBehind (λ d. RanOutSince (May d)) tells m0 m1 → RanOutAt May tells m0 m1
-ran_out_at {tells} {m0} {m1} May w =
-    let g = w.wants_so.1 head_lines m0.source (λ more. Found w.text more) Unread w.head_read in
-    record { text = w.text; deployed = w.deployed; read = w.read; lines = w.wants_so.0; last = w.wants_so.2; now = w.new; due = g.0; got = g.1 }
+-- at which memory ran out
+pub gave_last : {tells : Bool} {s1 s2 s3 : SourceAt} {old now new : Ahead} {number : ℕ} (May : List Answer → List ℕ → Type 0) (into : List ℕ) (n : ℕ) (g : Gave tells s1 s2 old now number)
+    → Next longest tells s2 s3 now new into (read.Text n) → May g.lines (take n into) → RanOutSince head_lines head_lines May tells s1 s3 old new
+gave_last {tells} {s1} {s2} {s3} {old} {now} {new} {number} May into n g next may =
+    (g.lines ++ Line (take n into) ∷ [], given_line g.lines into n g.since next, inr (wants_last May g.lines into n g.since next may))

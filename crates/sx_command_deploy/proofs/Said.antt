@@ -15,11 +15,11 @@ use Rattle.sx_command.specs.Faults.{TellsFaults}
 use Rattle.sx_command.proofs.Ends.{faults_of}
 use Rattle.sx_command_head.specs.Begun.{Deploys, Starved}
 use Rattle.sx_command_head.specs.Meanings.{Meaning}
+use Rattle.sx_command_head.specs.Wanting.{RanOutAt}
 use Rattle.sx_command_head.proofs.Known.{known, is_known}
 use Rattle.sx_command_deploy.specs.Afterwards.{DeployTold, ToldWith}
 use Rattle.sx_command_deploy.specs.Deploy.{deploy_output, deploy_status}
 use Rattle.sx_command_deploy.specs.Deploys.{DeploySays, OwnPart}
-use Rattle.sx_command_deploy.specs.Given.{Wanting}
 use Rattle.sx_command_deploy.proofs.Owing.{CutOr, Owes, due_all, not_four, not_two, not_zero, output_not, output_status}
 
 -- what is said of a whole input, where no read and no write failed
@@ -55,9 +55,9 @@ with_all {tells} {to_tell} {m0} {m1} {status} {also} part owes meaning texts tol
     output_not part owes 0 (omega arith) meaning texts answers (not_zero part owes meaning answers (unfinished head_lines [] bytes)) (sym e ∙ none)) t
 
 -- images that realize their modules, with what the own part keeps of them, and what was told of the command with them
-says_with : {wants : Wanting} {tells to_tell : Bool} {m0 m1 : CommandAt} {status : ℕ} (mac : Mac) (part : OwnPart) → Owes part → (w : ToldWith mac part.output wants tells to_tell m0 m1 status)
-    → part.With w.deployment w.texts → DeploySays mac part tells to_tell m0 m1 status
-says_with {wants} {tells} {to_tell} {m0} {m1} {status} mac part owes w own = record {
+says_with : {tells to_tell : Bool} {m0 m1 : CommandAt} {status : ℕ} (mac : Mac) (part : OwnPart) → Owes part → (w : ToldWith mac part.output tells to_tell m0 m1 status)
+    → part.With w.deployment w.texts → (status ≡ out_of_memory → RanOutAt head_lines part.MayWant tells m0 m1) → DeploySays mac part tells to_tell m0 m1 status
+says_with {tells} {to_tell} {m0} {m1} {status} mac part owes w own memory = record {
   says = inr (record {
     deployment = w.deployment;
     texts = w.texts;
@@ -78,10 +78,12 @@ says_with {wants} {tells} {to_tell} {m0} {m1} {status} mac part owes w own = rec
       let answers = scan head_lines Ended [] m0.source.rest in
       exactly part owes to_tell m0 m1 status (deploy_status part.status meaning answers) (deploy_output part.output meaning w.texts answers)
       (told-quiet (w.told meaning is) t quiet.0 quiet.1) (output_status part owes meaning w.texts answers);
+  memory = memory;
 }
 
-says_starved : {tells : Bool} {m0 m1 : CommandAt} {status : ℕ} (mac : Mac) (part : OwnPart) → Owes part → (to_tell : Bool) → Starved tells m0 m1 status → DeploySays mac part tells to_tell m0 m1 status
-says_starved {tells} {m0} {m1} {status} mac part owes to_tell s = record {
+says_starved : {tells : Bool} {m0 m1 : CommandAt} {status : ℕ} (mac : Mac) (part : OwnPart) → Owes part → (to_tell : Bool) → Starved tells m0 m1 status
+    → (status ≡ out_of_memory → RanOutAt head_lines part.MayWant tells m0 m1) → DeploySays mac part tells to_tell m0 m1 status
+says_starved {tells} {m0} {m1} {status} mac part owes to_tell s memory = record {
   says = inl s;
   faults = record {
     read = λ four. absurd (omega (arith, s.six, four));
@@ -90,14 +92,18 @@ says_starved {tells} {m0} {m1} {status} mac part owes to_tell s = record {
   };
   read_all = λ none t. absurd (omega (arith, s.six, none));
   exact = λ meaning is t quiet. inl (subst part.Cut (sym s.six) owes.starved);
+  memory = memory;
 }
 
 -- What the own part keeps of any images that realize their modules, it keeps of those that were made.
-pub deploy_says : {wants : Wanting} {tells to_tell : Bool} {m0 m1 : CommandAt} {status : ℕ} (mac : Mac) (part : OwnPart) → Owes part
+pub deploy_says : {tells to_tell : Bool} {m0 m1 : CommandAt} {status : ℕ} (mac : Mac) (part : OwnPart) → Owes part
     → ((deployment : Option (List ℕ)) (texts : List (List ℕ)) → AreByteTexts texts → ((d : Deployed) → Deploys deployment d → AreImages mac d texts) → part.With deployment texts)
-    → DeployTold mac part.output wants tells to_tell m0 m1 status → DeploySays mac part tells to_tell m0 m1 status
-deploy_says {wants} {tells} {to_tell} {m0} {m1} {status} mac part owes keeps (inl s) = says_starved mac part owes to_tell s
-deploy_says {wants} {tells} {to_tell} {m0} {m1} {status} mac part owes keeps (inr w) = says_with mac part owes w (keeps w.deployment w.texts w.bytes w.realize)
+    → DeployTold mac part.output part.MayWant tells to_tell m0 m1 status → DeploySays mac part tells to_tell m0 m1 status
+deploy_says {tells} {to_tell} {m0} {m1} {status} mac part owes keeps told =
+    elim told.says [
+      | inl s ↦ says_starved mac part owes to_tell s told.memory
+      | inr w ↦ says_with mac part owes w (keeps w.deployment w.texts w.bytes w.realize) told.memory
+    ]
 
 -- a command that was told doesn't end with the status for other words
 with_not_two : {tells to_tell : Bool} {m0 m1 : CommandAt} {status : ℕ} {also : List Answer → Type 0} (part : OwnPart) → Owes part → (meaning : Meaning) (texts : List (List ℕ))

@@ -13,11 +13,12 @@ use Rattle.sx_deploy.specs.Deployment.{Deployed, IsRead}
 use Rattle.sx_run.specs.Accepted.{AreByteTexts, AreImages}
 use Rattle.sx_command_head.specs.Begun.{Deploys, HasHead, Starved}
 use Rattle.sx_command_head.specs.Ends.{RanOut}
+use Rattle.sx_command_head.specs.Given.{RanOutSince}
 use Rattle.sx_command_head.specs.Meanings.{Meaning, IsMeaning}
 use Rattle.sx_command_head.specs.Refused.{fault_output}
+use Rattle.sx_command_head.specs.Wanting.{RanOutAt}
 use Rattle.sx_command_world.specs.Compiled.{compiled_texts}
-use Rattle.sx_command_deploy.specs.Deploy.{Behind, by_deployment, by_head, deploy_output}
-use Rattle.sx_command_deploy.specs.Given.{RanOutBehind, Wanting}
+use Rattle.sx_command_deploy.specs.Deploy.{Behind, Wants, by_deployment, by_head, deploy_output}
 
 -- what is written of a deployment that was read, or the rule that it breaks
 abbrev pub found_output : Behind → List (List ℕ) → Result Deployed DeployFault → List Answer
@@ -34,7 +35,7 @@ head_status own meaning h = by_head own (λ f. 1) read_failed meaning h
 
 -- What does the rest of the command after a head of this text: with these images, which realize its
 -- modules, it writes what is defined for what is to come.
-pub record DeploysBehind (mac : Mac) (own : Behind) (wants : Wanting) (tells to_tell : Bool)
+pub record DeploysBehind (mac : Mac) (own : Behind) (may : Wants) (tells to_tell : Bool)
     (now : Ahead)
     (m1 m2 : CommandAt)
     (status : ℕ)
@@ -46,18 +47,18 @@ pub record DeploysBehind (mac : Mac) (own : Behind) (wants : Wanting) (tells to_
   pub rest : (meaning : Meaning) → IsMeaning meaning
       → Rest tells to_tell head_lines now m1 m2 status (found_output own texts (meaning text))
   pub wanted : status ≡ out_of_memory → (d : Deployed) × IsRead text (Ok d)
-      × (new : Ahead) × wants d tells m1.source m2.source now new
+      × (new : Ahead)
+      × RanOutSince head_lines head_lines (may d) tells m1.source m2.source now new
 
 -- the rest of the command, or that memory ran out before the images were made
-abbrev pub DeploysOrRanOut : Mac → Behind → Wanting → Bool → Bool → Ahead → CommandAt → CommandAt
+abbrev pub DeploysOrRanOut : Mac → Behind → Wants → Bool → Bool → Ahead → CommandAt → CommandAt
     → ℕ → List ℕ → Type 0
-DeploysOrRanOut mac own wants tells to_tell now m1 m2 status text =
-    RanOut m1 m2 status ⊎ DeploysBehind mac own wants tells to_tell now m1 m2 status text
+DeploysOrRanOut mac own may tells to_tell now m1 m2 status text =
+    RanOut m1 m2 status ⊎ DeploysBehind mac own may tells to_tell now m1 m2 status text
 
 -- The whole command: there are images that realize the modules of the deployment that was read, and
 -- what was written is what is defined with them.
-pub record ToldWith (mac : Mac) (own : Behind) (wants : Wanting) (tells to_tell : Bool)
-    (m0 m1 : CommandAt)
+pub record ToldWith (mac : Mac) (own : Behind) (tells to_tell : Bool) (m0 m1 : CommandAt)
     (status : ℕ) : Type 0 where
   pub deployment : Option (List ℕ)
   pub texts : List (List ℕ)
@@ -68,9 +69,10 @@ pub record ToldWith (mac : Mac) (own : Behind) (wants : Wanting) (tells to_tell 
   pub told : (meaning : Meaning) → IsMeaning meaning
       → Told tells to_tell head_lines m0 m1 status (deploy_output own meaning texts)
       (λ answers. HasHead deployment (head answers))
-  pub wanted : status ≡ out_of_memory → RanOutBehind wants tells m0 m1
 
--- this, or that memory ran out before the images were made
-abbrev pub DeployTold : Mac → Behind → Wanting → Bool → Bool → CommandAt → CommandAt → ℕ → Type 0
-DeployTold mac own wants tells to_tell m0 m1 status =
-    Starved tells m0 m1 status ⊎ ToldWith mac own wants tells to_tell m0 m1 status
+-- this, or that memory ran out before the images were made; and where it ran out, at which line
+pub record DeployTold (mac : Mac) (own : Behind) (may : Wants) (tells to_tell : Bool)
+    (m0 m1 : CommandAt)
+    (status : ℕ) : Type 0 where
+  pub says : Starved tells m0 m1 status ⊎ ToldWith mac own tells to_tell m0 m1 status
+  pub memory : status ≡ out_of_memory → RanOutAt head_lines may tells m0 m1

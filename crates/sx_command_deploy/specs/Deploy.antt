@@ -16,6 +16,10 @@ use Rattle.sx_command_head.specs.Refused.{fault_output}
 abbrev pub Behind : Type 0
 Behind = Deployed → List (List ℕ) → List Answer → Output
 
+-- whether a line behind the head of a deployment may want memory, by the lines between them
+abbrev pub Wants : Type 1
+Wants = Deployed → List Answer → List ℕ → Type 0
+
 -- what follows from a deployment that was read and the answers behind it, or from the rule that it
 -- breaks
 abbrev pub by_deployment : {A : Type 0} → (Deployed → List Answer → A) → (DeployFault → A)

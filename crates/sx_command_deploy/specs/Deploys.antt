@@ -10,16 +10,19 @@ use Rattle.sx_run.specs.Accepted.{AreImages}
 use Rattle.sx_command.specs.Faults.{IsFaultless, TellsFaults}
 use Rattle.sx_command_head.specs.Begun.{Deploys, HasHead, Starved}
 use Rattle.sx_command_head.specs.Meanings.{Meaning, IsMeaning, input_of}
+use Rattle.sx_command_head.specs.Wanting.{RanOutAt}
 use Rattle.sx_command_world.specs.Compiled.{compiled_texts}
-use Rattle.sx_command_deploy.specs.Deploy.{Behind, deploy_output, deploy_status}
+use Rattle.sx_command_deploy.specs.Deploy.{Behind, Wants, deploy_output, deploy_status}
 
 -- What a command that deploys has of its own: what it writes behind the head, and its status there,
--- whatever the images are; the statuses with which it is cut short, whatever the input is; and what
--- it promises of the images that were made, for a head of this text or for none.
+-- whatever the images are; the statuses with which it is cut short, whatever the input is; at which
+-- lines memory may run out; and what it promises of the images that were made, for a head of this
+-- text or for none.
 pub record OwnPart : Type 1 where
   pub output : Behind
   pub status : Deployed → List Answer → ℕ
   pub Cut : ℕ → Type 0
+  pub MayWant : Wants
   pub With : Option (List ℕ) → List (List ℕ) → Type 0
 
 -- There are images, each of which realizes its module of the deployment that was read, and they
@@ -47,7 +50,8 @@ pub record DeploysWith (mac : Mac) (part : OwnPart) (tells to_tell : Bool) (m0 m
 
 -- A command that deploys. Whatever the images are, its status is that of the input where no read
 -- and no write failed, unless the command was cut short; status 0 says that the input was read to
--- its end.
+-- its end. Where memory ran out, no line behind the head was given, or the last that was given is
+-- one at which it may (`memory`).
 pub record DeploySays (mac : Mac) (part : OwnPart) (tells to_tell : Bool) (m0 m1 : CommandAt)
     (status : ℕ) : Type 0 where
   pub says : Starved tells m0 m1 status ⊎ DeploysWith mac part tells to_tell m0 m1 status
@@ -55,3 +59,4 @@ pub record DeploySays (mac : Mac) (part : OwnPart) (tells to_tell : Bool) (m0 m1
   pub read_all : status ≡ 0 → IsTrue tells → m1.source.rest ≡ []
   pub exact : (meaning : Meaning) → IsMeaning meaning → IsTrue tells → IsFaultless m0 m1
       → part.Cut status ⊎ (status ≡ deploy_status part.status meaning (input_of m0))
+  pub memory : status ≡ out_of_memory → RanOutAt head_lines part.MayWant tells m0 m1

@@ -1,8 +1,6 @@
 -- Begin with Deploys: what a command that deploys promises. Deploy has what it writes, and its
--- status. Wanting says at which line memory may run out. Same is for laws on two calls.
+-- status. Same is for laws on two calls.
 pub mod Afterwards
 pub mod Deploy
 pub mod Deploys
-pub mod Given
 pub mod Same
-pub mod Wanting

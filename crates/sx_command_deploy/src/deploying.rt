@@ -36,7 +36,7 @@ fn deploy_modules<C: Deploys, S: Source, K: Sink, T: Tag + Copy>(
     requires sound { IsSoundDeployment (deployed_as plan.now) }
     requires names { IsTrue (are_valid (deployed_as plan.now).names) }
     ensures { (text : List ℕ) → IsRead text (Ok (deployed_as plan.now))
-        → DeploysOrRanOut T.mac (C.behind T.mac) C.wants S.tells K.tells lines.old
+        → DeploysOrRanOut T.mac (C.behind T.mac) C.may S.tells K.tells lines.old
         (command_at (S.at input.old) (K.at output.old))
         (command_at (S.at input.new) (K.at output.new)) result text }
 {
@@ -59,7 +59,7 @@ fn deploy_read<C: Deploys, S: Source, K: Sink, T: Tag + Copy>(
     requires sound { IfOk read (λ plan. IsSoundDeployment (deployed_as plan)) }
     requires names { IfOk read (λ plan. IsTrue (are_valid (deployed_as plan).names)) }
     ensures deploys { IfOk read (λ plan. (text : List ℕ) → IsRead text (Ok (deployed_as plan))
-        → DeploysOrRanOut T.mac (C.behind T.mac) C.wants S.tells K.tells lines.old
+        → DeploysOrRanOut T.mac (C.behind T.mac) C.may S.tells K.tells lines.old
         (command_at (S.at input.old) (K.at output.old))
         (command_at (S.at input.new) (K.at output.new)) result text) }
     ensures refused { IfErr read (λ error.
@@ -81,7 +81,7 @@ fn deploy_text<C: Deploys, S: Source, K: Sink, T: Tag + Copy>(
     input: &mut S,
     output: &mut K,
 ) -> u8
-    ensures { DeploysOrRanOut T.mac (C.behind T.mac) C.wants S.tells K.tells lines.old
+    ensures { DeploysOrRanOut T.mac (C.behind T.mac) C.may S.tells K.tells lines.old
         (command_at (S.at input.old) (K.at output.old))
         (command_at (S.at input.new) (K.at output.new)) result text.now }
 {
@@ -105,7 +105,7 @@ pub fn deploy_over<C: Deploys, S: Source, K: Sink, T: Tag + Copy>(
     input: &mut S,
     output: &mut K,
 ) -> u8
-    ensures { DeployTold T.mac (C.behind T.mac) C.wants S.tells K.tells
+    ensures { DeployTold T.mac (C.behind T.mac) C.may S.tells K.tells
         (command_at (S.at input.old) (K.at output.old))
         (command_at (S.at input.new) (K.at output.new)) result }
 {

@@ -1,19 +1,17 @@
 //! The trait of commands that deploy.
 
-ghost use Rattle.std.specs.Prelude.{◌≡◌, Bool, IsTrue, length};
+ghost use Rattle.std.specs.Prelude.{◌≡◌, IsTrue, length};
 ghost use Rattle.sx_tag.specs.Mac.{Mac};
-ghost use Rattle.sx_io.specs.Streams.{SourceAt};
-ghost use Rattle.sx_io.specs.Next.{Ahead};
 ghost use Rattle.sx_told.specs.Told.{command_at, out_of_memory};
 ghost use Rattle.sx_told.specs.Parts.{Rest};
 ghost use Rattle.sx_head.specs.Head.{head_lines};
 ghost use Rattle.sx_trace.specs.ValidNames.{are_valid};
-ghost use Rattle.sx_deploy.specs.Deployment.{Deployed};
 ghost use Rattle.sx_deploy.specs.Law.{IsSoundDeployment};
 ghost use Rattle.sx_deploy.specs.SeenDeployment.{deployed_as};
 ghost use Rattle.sx_run.specs.Accepted.{AreImages};
 ghost use Rattle.sx_world.specs.InMemory.{texts_of};
-ghost use Rattle.sx_command_deploy.specs.Deploy.{Behind};
+ghost use Rattle.sx_command_head.specs.Given.{RanOutSince};
+ghost use Rattle.sx_command_deploy.specs.Deploy.{Behind, Wants};
 
 use std::alloc::Global;
 use sx_deploy::deployment::Deployment;
@@ -26,8 +24,8 @@ pub trait Deploys {
     // What is written behind the head of a deployment, for a tag.
     ghost behind: { Mac → Behind };
 
-    // What holds of a source and a reader where memory ran out behind the head.
-    ghost wants: { Deployed → Bool → SourceAt → SourceAt → Ahead → Ahead → Type 0 };
+    // At which lines behind the head memory may run out.
+    ghost may: { Wants };
 
     /// Does what follows the head, with these images of the deployment's modules. Gives the exit
     /// status.
@@ -48,6 +46,7 @@ pub trait Deploys {
             (command_at (S.at input.old) (K.at output.old))
             (command_at (S.at input.new) (K.at output.new)) result
             (behind T.mac (deployed_as plan.now) (texts_of images.now)) }
-        ensures wanted { result ≡ out_of_memory → wants (deployed_as plan.now) S.tells
-            (S.at input.old) (S.at input.new) lines.old lines.new };
+        ensures wanted { result ≡ out_of_memory → RanOutSince head_lines head_lines
+            (may (deployed_as plan.now)) S.tells (S.at input.old) (S.at input.new)
+            lines.old lines.new };
 }

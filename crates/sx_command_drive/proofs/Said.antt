@@ -19,11 +19,10 @@ use Rattle.sx_drive_laws.proofs.Accepted.{accepted_is_driveable, accepted_is_dri
 use Rattle.sx_drive_laws.proofs.Driven.{are_samplings, honest_is_driven}
 use Rattle.sx_command_head.specs.Begun.{Deploys}
 use Rattle.sx_command_deploy.specs.Afterwards.{DeployTold}
-use Rattle.sx_command_deploy.specs.Given.{says_nothing}
 use Rattle.sx_command_deploy.proofs.Said.{deploy_not_two, deploy_says}
 use Rattle.sx_command_world.specs.Schedule.{Stop}
 use Rattle.sx_command_drive.specs.Drive.{drive_deployed, drive_readings, driven_of, long_output, stop_output}
-use Rattle.sx_command_drive.specs.Drives.{AreRead, DriveSays, DrivesWith, IsPredicted, IsTheRun, drive_part, left_out, lines_in}
+use Rattle.sx_command_drive.specs.Drives.{AreRead, DriveSays, DrivesWith, IsPredicted, IsTheRun, drive_may, drive_part, left_out, lines_in}
 use Rattle.sx_command_drive.specs.Readings.{readings_from}
 use Rattle.sx_command_drive.specs.Statuses.{drive_status}
 use Rattle.sx_command_drive.proofs.Named.{are_there}
@@ -114,9 +113,9 @@ drives_with mac tag (Some text) texts bytes realize = record {
 }
 
 pub drive_says : {tells to_tell : Bool} {m0 m1 : CommandAt} {status : ℕ} (mac : Mac) → IsTag mac
-    → DeployTold mac (drive_deployed mac) says_nothing tells to_tell m0 m1 status → DriveSays mac tells to_tell m0 m1 status
+    → DeployTold mac (drive_deployed mac) drive_may tells to_tell m0 m1 status → DriveSays mac tells to_tell m0 m1 status
 drive_says {tells} {to_tell} {m0} {m1} {status} mac tag told =
-    deploy_says {wants = says_nothing} {tells = tells} {to_tell = to_tell} {m0 = m0} {m1 = m1} {status = status} mac (drive_part mac) (drive_owes mac)
+    deploy_says {tells = tells} {to_tell = to_tell} {m0 = m0} {m1 = m1} {status = status} mac (drive_part mac) (drive_owes mac)
     (λ deployment texts bytes realize. drives_with mac tag deployment texts bytes realize) told
 
 pub says_not_two : {tells to_tell : Bool} {m0 m1 : CommandAt} {status : ℕ} (mac : Mac) → DriveSays mac tells to_tell m0 m1 status → status ≡ 2 → ⊥

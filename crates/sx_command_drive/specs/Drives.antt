@@ -1,6 +1,6 @@
 -- What the command `drive` promises, of its streams at its start (m0) and at its end (m1).
-use Rattle.std.specs.Prelude.{ℕ, ◌≡◌, ◌≤◌, ◌⊎◌, Bool, false, if◌then◌else◌, List, [], ◌∷◌, ◌++◌}
-use Rattle.std.specs.Prelude.{length, map, Option}
+use Rattle.std.specs.Prelude.{ℕ, ◌+◌, ◌≡◌, ◌≤◌, ◌⊎◌, Bool, false, if◌then◌else◌, List, [], ◌∷◌}
+use Rattle.std.specs.Prelude.{◌++◌, length, map, Option}
 use Rattle.sx_io.specs.Reading.{Answer, End}
 use Rattle.sx_io.specs.Reading as answer
 use Rattle.sx_told.specs.Told.{CommandAt, out_of_memory}
@@ -24,7 +24,7 @@ use Rattle.sx_command_world.specs.Schedule.{AtEnd, schedule}
 use Rattle.sx_command_head.specs.Begun.{Deploys}
 use Rattle.sx_command_deploy.specs.Deploys.{DeploySays, OwnPart}
 use Rattle.sx_command_drive.specs.Drive.{drive_deployed, driven_of}
-use Rattle.sx_command_drive.specs.Readings.{readings_from}
+use Rattle.sx_command_drive.specs.Readings.{MayRunOut, judged_reading, readings_from}
 use Rattle.sx_command_drive.specs.Statuses.{drive_status}
 
 -- the lines of the schedule that were said
@@ -85,6 +85,10 @@ pub record DrivesWith (mac : Mac) (deployment : Option (List ℕ)) (texts : List
       → (drive_deployed mac d texts readings).status
       ≡ (if (driven_of mac d texts readings).honest.long then left_out else drive_status d readings)
 
+-- memory may run out at this line of readings, behind these
+abbrev pub drive_may : Deployed → List Answer → List ℕ → Type 0
+drive_may d earlier text = MayRunOut (judged_reading d (length earlier + 1) text)
+
 -- what is `drive`'s own behind the head; it is cut short where memory runs out, or where a line was
 -- left out
 abbrev pub drive_part : Mac → OwnPart
@@ -92,6 +96,7 @@ drive_part mac = record {
   output = drive_deployed mac;
   status = drive_status;
   Cut = λ status. (status ≡ out_of_memory) ⊎ (status ≡ left_out);
+  MayWant = drive_may;
   With = DrivesWith mac;
 }
 

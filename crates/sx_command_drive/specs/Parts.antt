@@ -94,11 +94,6 @@ abbrev pub TellsSaid : Bool → SinkAt → SinkAt → NameLists → List Said �
 TellsSaid to_tell k0 k1 names said turned = turned ≡ Stop out_of_memory → IsTrue to_tell
     → k1.written ≡ k0.written ++ said_text names said
 
--- memory may run out at a reading, and at no line that says none or breaks a rule
-abbrev pub MayRunOut : Result ReadingLine ℕ → Type 0
-MayRunOut (Ok (says.Reading device value)) = Unit {0}
-MayRunOut _ = ⊥
-
 -- the command stopped, since a line had no room
 abbrev pub StopsLong : Bool → SinkAt → SinkAt → Turned → Type 0
 StopsLong to_tell k0 k1 On = ⊥

@@ -69,6 +69,11 @@ unfoldable pub judged_reading : Deployed → ℕ → List ℕ → Result Reading
 judged_reading d number text =
     if nat_lt 65536 number then Err too_many else said_in d (words_of text)
 
+-- memory may run out at a reading, and at no line that says none or breaks a rule
+abbrev pub MayRunOut : Result ReadingLine ℕ → Type 0
+MayRunOut (Ok (says.Reading device value)) = Unit {0}
+MayRunOut _ = ⊥
+
 -- the readings before the place where the lines end or break a rule, and that place
 pub record Readings : Type 0 where
   pub readings : List Reading

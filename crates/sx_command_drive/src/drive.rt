@@ -1,7 +1,7 @@
 //! The command `drive`: behind the head it writes the honest run of the readings that follow.
 
 ghost use Rattle.std.specs.Prelude.{◌≡◌, IfOk, IsTrue, false, length};
-ghost use Rattle.sx_told.specs.Told.{command_at};
+ghost use Rattle.sx_told.specs.Told.{command_at, out_of_memory};
 ghost use Rattle.sx_told.specs.Parts.{Rest};
 ghost use Rattle.sx_head.specs.Head.{head_lines};
 ghost use Rattle.sx_trace.specs.ValidNames.{are_valid};
@@ -10,8 +10,9 @@ ghost use Rattle.sx_deploy.specs.SeenDeployment.{deployed_as};
 ghost use Rattle.sx_world.specs.InMemory.{image_setting, texts_of};
 ghost use Rattle.sx_drive.specs.Driving.{Follows, GoesOn};
 ghost use Rattle.sx_drive.specs.Honest.{start};
+ghost use Rattle.sx_command_head.specs.Given.{RanOutSince};
 ghost use Rattle.sx_command_drive.specs.Drive.{drive_deployed};
-ghost use Rattle.sx_command_drive.specs.Drives.{DriveSays};
+ghost use Rattle.sx_command_drive.specs.Drives.{DriveSays, drive_may};
 
 use crate::lines::drive_run;
 use std::alloc::{AllocError, Global};
@@ -63,10 +64,13 @@ fn drive_built<S: Source, K: Sink, B: Copied, T: Tag>(
     requires starts { Follows T.mac deployment.now honest.old
         (image_setting T.mac deployment.now images.now)
         (start (image_setting T.mac deployment.now images.now)) }
-    ensures { Rest S.tells K.tells head_lines lines.old
+    ensures rest { Rest S.tells K.tells head_lines lines.old
         (command_at (S.at input.old) (K.at output.old))
         (command_at (S.at input.new) (K.at output.new)) result
         (drive_deployed T.mac (deployed_as deployment.now) (texts_of images.now)) }
+    ensures wanted { result ≡ out_of_memory → RanOutSince head_lines head_lines
+        (drive_may (deployed_as deployment.now)) S.tells (S.at input.old) (S.at input.new)
+        lines.old lines.new }
 {
     match put_images(alloc, &deployment.names, images, output) {
         Turned::Stop(status) => status,
@@ -78,12 +82,12 @@ fn drive_built<S: Source, K: Sink, B: Copied, T: Tag>(
 struct DriveCommand;
 
 impl Deploys for DriveCommand {
-    ghost use Rattle.sx_command_deploy.specs.Given.{says_nothing};
     ghost use Rattle.sx_command_drive.specs.Drive.{drive_deployed};
+    ghost use Rattle.sx_command_drive.specs.Drives.{drive_may};
 
     ghost behind = { drive_deployed };
 
-    ghost wants = { says_nothing };
+    ghost may = { drive_may };
 
     /// Drives a deployment with these images of its modules.
     fn perform<S: Source, K: Sink, T: Tag + Copy>(

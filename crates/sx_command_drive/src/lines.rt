@@ -11,9 +11,11 @@ ghost use Rattle.sx_deploy.specs.SeenDeployment.{deployed_as};
 ghost use Rattle.sx_run.specs.Setting.{Setting};
 ghost use Rattle.sx_drive.specs.Driving.{Follows, GoesOn, LosesNothing, all_said};
 ghost use Rattle.sx_drive.specs.Honest.{Honest as Driving, start};
+ghost use Rattle.sx_command_head.specs.Given.{RanOutSince};
 ghost use Rattle.sx_command_drive.specs.Drive.{drive_readings, reading_fault, steps_text};
-ghost use Rattle.sx_command_drive.specs.Parts.{drive_from, MayRunOut, TellsSaid, TurnsFrom};
-ghost use Rattle.sx_command_drive.specs.Readings.{judged_reading};
+ghost use Rattle.sx_command_drive.specs.Drives.{drive_may};
+ghost use Rattle.sx_command_drive.specs.Parts.{drive_from, TellsSaid, TurnsFrom};
+ghost use Rattle.sx_command_drive.specs.Readings.{MayRunOut, judged_reading};
 
 use crate::parts::{read, set_up};
 use crate::readings::{ReadingLine, TOO_LONG, judge_reading};
@@ -56,8 +58,9 @@ fn steps_text(steps: u64) -> Text
 
 /// Ends the command behind all readings.
 fn end_run<K: Sink>(output: &mut K, steps: u64) -> u8
-    ensures { CommandEnds K.tells (K.at output.old) (K.at output.new) result
+    ensures ends { CommandEnds K.tells (K.at output.old) (K.at output.new) result
         (record { text = steps_text steps; status = 0 }) }
+    ensures memory { result ≢ out_of_memory }
 {
     finish(output, steps_text(steps).as_slice(), 0)
 }
@@ -110,11 +113,14 @@ fn read_lines<S: Source, K: Sink, B: Copied, T: Tag>(
     requires names { IsTrue (are_valid (deployed_as deployment.now).names) }
     requires going { GoesOn T.mac deployment.now honest.old }
     requires memory { honest.old.wanted ≡ false }
-    ensures { (set : Setting) (h : Driving) → Follows T.mac deployment.now honest.old set h
+    ensures rest { (set : Setting) (h : Driving) → Follows T.mac deployment.now honest.old set h
         → h.long ≡ false → Rest S.tells K.tells head_lines lines.old
         (command_at (S.at input.old) (K.at output.old))
         (command_at (S.at input.new) (K.at output.new)) result
         (drive_from (deployed_as deployment.now) set h 1) }
+    ensures wanted { result ≡ out_of_memory → RanOutSince head_lines head_lines
+        (drive_may (deployed_as deployment.now)) S.tells (S.at input.old) (S.at input.new)
+        lines.old lines.new }
 {
     let mut into = [0; 4096];
     let mut number: u32 = 1;
@@ -146,11 +152,14 @@ pub(crate) fn drive_run<S: Source, K: Sink, B: Copied, T: Tag>(
     requires names { IsTrue (are_valid (deployed_as deployment.now).names) }
     requires going { GoesOn T.mac deployment.now honest.old }
     requires memory { honest.old.wanted ≡ false }
-    ensures { (set : Setting) → Follows T.mac deployment.now honest.old set (start set)
+    ensures rest { (set : Setting) → Follows T.mac deployment.now honest.old set (start set)
         → Rest S.tells K.tells head_lines lines.old
         (command_at (S.at input.old) (K.at output.old))
         (command_at (S.at input.new) (K.at output.new)) result
         (drive_readings (deployed_as deployment.now) set) }
+    ensures wanted { result ≡ out_of_memory → RanOutSince head_lines head_lines
+        (drive_may (deployed_as deployment.now)) S.tells (S.at input.old) (S.at input.new)
+        lines.old lines.new }
 {
     let mut said = Vec::new(alloc);
     match set_up(output, deployment, honest, &mut said) {

@@ -12,6 +12,7 @@ use Rattle.sx_command_explain.specs.Explain.{explain_from}
 use Rattle.sx_command_explain.specs.Meant.{AreMeanings, Meanings}
 use Rattle.sx_command_explain.specs.Trace.{trace_lines}
 use Rattle.sx_command_explain.proofs.Keeping.{Waits}
+use Rattle.sx_command_explain.proofs.Wanted.{GaveTrace}
 
 -- The judge follows these items, and what is left is what is kept, and then what is said from the line after them on.
 pub record Between (tells to_tell : Bool) (m1 m2 : CommandAt) (old new : Ahead) (app : AppTree) (names : NameLists) (judge : Seen) (number : ℕ) (kept : List ℕ) : Type 0 where
@@ -19,6 +20,7 @@ pub record Between (tells to_tell : Bool) (m1 m2 : CommandAt) (old new : Ahead) 
   pub items : List Item
   pub follows : Follows app items judge
   pub counted : number ≡ length items + 1
+  pub gave : GaveTrace tells m1.source m2.source old new names number items
   pub waits : (means : Meanings) → AreMeanings means → (limit : Limit) (m0 : CommandAt) (defined : List Answer → Output) (aside : List Answer → List ℕ) (noted : List ℕ)
       → Begun tells to_tell limit trace_lines m0 m1 old defined (explain_from app (means.item names) []) (Notes aside noted)
       → Waits tells to_tell limit m0 m2 new defined kept (explain_from app (means.item names) items) (Notes aside noted)

@@ -171,7 +171,7 @@ holds_anything reader.AtEnd limit lines = tt
 holds_anything reader.TooLong limit lines = tt
 holds_anything reader.Failed limit lines = tt
 
-got_longer : {tells : Bool} {s0 s1 : SourceAt} {now : Ahead} (text : List ℕ) → Got tells head_lines head_lines s0 s1 now head (λ more. Found text more) Unread anything
+pub got_longer : {tells : Bool} {s0 s1 : SourceAt} {now : Ahead} (text : List ℕ) → Got tells head_lines head_lines s0 s1 now head (λ more. Found text more) Unread anything
     → Got tells explain_lines image_lines s0 s1 now head (λ more. Found text more) Unread anything
 got_longer {tells} {s0} {s1} {now} text b = record {
   before = b.before;

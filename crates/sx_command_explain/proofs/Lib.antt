@@ -12,4 +12,5 @@ pub mod Owing
 pub mod Promised
 pub mod Starting
 pub mod Statuses
+pub mod Wanted
 pub mod Written

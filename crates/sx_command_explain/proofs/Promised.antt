@@ -4,7 +4,7 @@ use Rattle.std.specs.Prelude.{IsTrue}
 use Rattle.std.proofs.lemmas.List.{append-nil}
 use Rattle.sx_io.specs.Reading.{Answer, Broken, Ended, scan}
 use Rattle.sx_told.specs.Reads.{AtEnd, AtFault, Decides, Enough, Left}
-use Rattle.sx_told.specs.Told.{CommandAt, CommandEnds, Told}
+use Rattle.sx_told.specs.Told.{CommandAt, CommandEnds, Told, out_of_memory}
 use Rattle.sx_told.proofs.Due.{streams-within}
 use Rattle.sx_told.proofs.Laws.{told-all, told-fault, told-no-write-fault, told-quiet, told-some, told-write-fault}
 use Rattle.sx_told.proofs.Endings.{faultless, unfinished}
@@ -16,6 +16,8 @@ use Rattle.sx_explain.proofs.Caused.{legal_has_causes}
 use Rattle.sx_command_explain.specs.Meant.{AreMeanings, Meanings}
 use Rattle.sx_command_explain.specs.Explain.{explain_all}
 use Rattle.sx_command_head.specs.Found.{RunsOutBehindHead}
+use Rattle.sx_command_head.specs.Wanting.{RanOutAt}
+use Rattle.sx_command_explain.specs.Wants.{explain_may}
 use Rattle.sx_command_explain.specs.Explains.{ExplainSays, input_of}
 use Rattle.sx_command_explain.specs.Trace.{explain_lines}
 use Rattle.sx_command_explain.proofs.Found.{are_meant, meant}
@@ -54,8 +56,9 @@ zero_is {tells} {to_tell} {m0} {m1} {status} {also} means told t zero =
     whole_zero r.left tells to_tell m0 m1 r.taken means also t (r.from_source t) (subst P zero r.decides)
 
 pub explain_promise : {tells to_tell : Bool} {m0 m1 : CommandAt} {status : ℕ}
-    → ((means : Meanings) → AreMeanings means → Told tells to_tell explain_lines m0 m1 status (explain_all means) (RunsOutBehindHead status)) → ExplainSays tells to_tell m0 m1 status
-explain_promise {tells} {to_tell} {m0} {m1} {status} told = record {
+    → ((means : Meanings) → AreMeanings means → Told tells to_tell explain_lines m0 m1 status (explain_all means) (RunsOutBehindHead status))
+    → ((means : Meanings) → AreMeanings means → status ≡ out_of_memory → RanOutAt explain_lines (explain_may means) tells m0 m1) → ExplainSays tells to_tell m0 m1 status
+explain_promise {tells} {to_tell} {m0} {m1} {status} told memory = record {
   told = told;
   streams = λ means is. streams-within explain_lines (explain_all means) (due_all means) (told means is);
   faults = faults_are meant (told meant are_meant);
@@ -66,6 +69,7 @@ explain_promise {tells} {to_tell} {m0} {m1} {status} told = record {
   legal = λ means is t zero. head_zero means (head (input_of m0)) (zero_is means (told means is) t zero);
   complete = λ means is t good quiet.
       came to_tell m0 m1 status (explain_all means (input_of m0)) (told-quiet (told means is) t quiet.0 quiet.1) (head_legal means (head (input_of m0)) good);
+  memory = memory;
   causes = λ text d read items legal. legal_has_causes d.app items (app_valid text d read) legal;
 }
 

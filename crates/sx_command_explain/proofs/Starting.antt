@@ -36,14 +36,14 @@ by_image : (t b : Bool) → (if t then image.Trace else if b then image.Image el
 by_image true b e = absurd (cc e)
 by_image false b e = refl
 
-trace_is : (number : ℕ) (text : List ℕ) → image_line number text ≡ image.Trace → is_trace text ≡ true
+pub trace_is : (number : ℕ) (text : List ℕ) → image_line number text ≡ image.Trace → is_trace text ≡ true
 trace_is number text e = by_trace (is_trace text) (nat_le number most_images && is_image text) e
 
-image_is : (number : ℕ) (text : List ℕ) → image_line number text ≡ image.Image → is_trace text ≡ false
+pub image_is : (number : ℕ) (text : List ℕ) → image_line number text ≡ image.Image → is_trace text ≡ false
 image_is number text e = by_image (is_trace text) (nat_le number most_images && is_image text) e
 
 -- the limits behind a line, by whether it is `trace`
-abbrev lines_by : Bool → Limit
+abbrev pub lines_by : Bool → Limit
 lines_by t lines = if t then trace_lines lines else image_lines lines
 
 -- what is said from a line of this number on

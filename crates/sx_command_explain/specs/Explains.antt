@@ -13,10 +13,12 @@ use Rattle.sx_explain.specs.Causes.{HasCauses}
 use Rattle.sx_command.specs.Faults.{IsFaultless, TellsFaults}
 use Rattle.sx_command.specs.Ended.{CameToItsEnd}
 use Rattle.sx_command_head.specs.Found.{RunsOutBehindHead}
+use Rattle.sx_command_head.specs.Wanting.{RanOutAt}
 use Rattle.sx_command_explain.specs.Meant.{Meanings, AreMeanings}
 use Rattle.sx_command_explain.specs.Explain.{explain_all}
 use Rattle.sx_command_explain.specs.Trace.{Start, Behind, Missing, Whole, explain_lines, start}
 use Rattle.sx_command_explain.specs.Trace.{trace}
+use Rattle.sx_command_explain.specs.Wants.{explain_may}
 
 -- a whole trace, whose items before the first that is forged are legal
 abbrev pub IsLegalTrace : AppTree → (List ℕ → Option Item) → Start → Type 0
@@ -50,7 +52,8 @@ EndsAs to_tell m0 m1 status o = (status ≡ out_of_memory)
 -- and no write failed, all is as it is defined for the whole input (`exact`). Status 0 says that
 -- the input was read to its end (`read_all`), and that its trace is whole, and legal up to the
 -- first item that is forged (`legal`); and it comes for each such input (`complete`). What a legal
--- trace of a deployment rests on follows (`causes`).
+-- trace of a deployment rests on follows (`causes`). Where memory ran out, no line behind the head
+-- was given, or the last that was given is one at which it may (`memory`).
 pub record ExplainSays (tells to_tell : Bool) (m0 m1 : CommandAt) (status : ℕ) : Type 0 where
   pub told : (means : Meanings) → AreMeanings means
       → Told tells to_tell explain_lines m0 m1 status (explain_all means) (RunsOutBehindHead status)
@@ -65,5 +68,7 @@ pub record ExplainSays (tells to_tell : Bool) (m0 m1 : CommandAt) (status : ℕ)
   pub complete : (means : Meanings) → AreMeanings means → IsTrue tells
       → IsLegalInput means (head (input_of m0)) → IsFaultless m0 m1
       → CameToItsEnd to_tell m0 m1 status (explain_all means (input_of m0))
+  pub memory : (means : Meanings) → AreMeanings means → status ≡ out_of_memory
+      → RanOutAt explain_lines (explain_may means) tells m0 m1
   pub causes : (text : List ℕ) (d : Deployed) → IsRead text (Ok d) → (items : List Item)
       → Legal d.app items → HasCauses d.app items

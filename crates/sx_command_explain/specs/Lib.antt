@@ -6,3 +6,4 @@ pub mod Laws
 pub mod Meant
 pub mod Trace
 pub mod Turns
+pub mod Wants

@@ -1,12 +1,13 @@
 -- What a call makes of one line. Nobody has to believe this file: it is for contracts of functions
 -- that aren't public.
 use Rattle.std.specs.Prelude.{◌≡◌, ℕ, ◌+◌, ◌==◌, ◌&&◌, nat_le, Bool, if◌then◌else◌, List, [], ◌∷◌}
-use Rattle.std.specs.Prelude.{◌++◌, ◌⊎◌, codes, length, take, IsTrue, Some, Result, Ok, Err}
+use Rattle.std.specs.Prelude.{◌++◌, ◌⊎◌, codes, length, take, IsTrue, Option, Some, Result, Ok}
+use Rattle.std.specs.Prelude.{Err}
 use Rattle.std.specs.Str.{bytes_eq}
 use Rattle.sx_io.specs.Counts.{next_count}
 use Rattle.sx_io.specs.Prefixes.{AppendsPrefix}
-use Rattle.sx_io.specs.Streams.{SinkAt}
-use Rattle.sx_io.specs.Reading.{longest}
+use Rattle.sx_io.specs.Streams.{SinkAt, SourceAt}
+use Rattle.sx_io.specs.Reading.{Answer, longest}
 use Rattle.sx_io.specs.Next.{Ahead, GivesHeld, Next}
 use Rattle.sx_io.specs.declared.lines.LineRead.{LineRead}
 use Rattle.sx_io.specs.declared.lines.LineRead.TheVariants.{Text}
@@ -16,13 +17,17 @@ use Rattle.sx_told.specs.declared.turned.Turned.{Turned}
 use Rattle.sx_told.specs.declared.turned.Turned.TheVariants.{On, Stop}
 use Rattle.sx_trace.specs.declared.items.Item.{Item}
 use Rattle.sx_mean.specs.Application.{AppTree}
+use Rattle.sx_deploy.specs.Deployment.{Deployed, IsRead}
 use Rattle.sx_explain.specs.Followed.{Follows, Seen}
 use Rattle.sx_explain.specs.Judging.{judged}
 use Rattle.sx_explain.specs.declared.judge.Judged.{Judged}
+use Rattle.sx_command_head.specs.Given.{GivenSince, RanOutSince, WantsLast}
 use Rattle.sx_command_explain.specs.declared.images.ImageLine.{ImageLine}
 use Rattle.sx_command_explain.specs.declared.images.ImageLine.TheVariants as image
 use Rattle.sx_command_explain.specs.Explain.{told_item}
-use Rattle.sx_command_explain.specs.Trace.{most_images}
+use Rattle.sx_command_explain.specs.Meant.{Meanings}
+use Rattle.sx_command_explain.specs.Trace.{image_lines, most_images, trace_lines}
+use Rattle.sx_command_explain.specs.Wants.{explain_may, trace_may}
 
 -- what a line before `trace` is, by its first bytes and how many it has
 abbrev pub front_line : ℕ → List ℕ → ℕ → ImageLine
@@ -83,3 +88,15 @@ abbrev pub JudgesFrom : Bool → SinkAt → SinkAt → List ℕ → List ℕ →
 JudgesFrom to_tell k0 k1 kept left app old new number item turned =
     (items : List Item) → Follows app items old → number ≡ length items + 1
     → JudgesItem to_tell k0 k1 kept left app items item new turned
+
+-- Memory ran out in a trace: at once, or at a line that may want it.
+abbrev pub TraceWants : (List ℕ → Option Item) → Bool → SourceAt → SourceAt → Ahead → Ahead
+    → Type 0
+TraceWants item tells s1 s2 old new = ((s2 ≡ s1) × (new ≡ old))
+    ⊎ ((lines : List Answer) × GivenSince trace_lines trace_lines tells s1 s2 old new lines
+    × WantsLast trace_lines (trace_may item) tells s1 s2 old lines)
+
+-- behind a head: at once, or behind a deployment at a line that may want it
+abbrev pub ReadWants : Meanings → List ℕ → Bool → SourceAt → SourceAt → Ahead → Ahead → Type 0
+ReadWants means text tells s1 s2 old new = (s2 ≡ s1) ⊎ ((d : Deployed) × IsRead text (Ok d)
+    × RanOutSince image_lines trace_lines (explain_may means d) tells s1 s2 old new)

@@ -2,7 +2,7 @@
 //! it.
 
 ghost use Rattle.std.specs.Prelude.{◌≡◌, IfErr, IfOk, IsTrue, OnErr};
-ghost use Rattle.sx_told.specs.Told.{Told, command_at};
+ghost use Rattle.sx_told.specs.Told.{Told, command_at, out_of_memory};
 ghost use Rattle.sx_told.specs.Parts.{Rest};
 ghost use Rattle.sx_trace.specs.ValidNames.{are_valid};
 ghost use Rattle.sx_deploy.specs.SeenDeployment.{deployed_as};
@@ -11,9 +11,13 @@ ghost use Rattle.sx_mean.specs.View.{app_as};
 ghost use Rattle.sx_command_head.specs.Ends.{EndsRefused};
 ghost use Rattle.sx_command_explain.specs.Explain.{explain_all, explain_deployed, explain_found};
 ghost use Rattle.sx_command_head.specs.Found.{RunsOutBehindHead};
+ghost use Rattle.sx_command_head.specs.Given.{RanOutSince};
+ghost use Rattle.sx_command_head.specs.Wanting.{RanOutAt};
 ghost use Rattle.sx_command_explain.specs.Explains.{ExplainSays};
 ghost use Rattle.sx_command_explain.specs.Meant.{AreMeanings, Meanings};
-ghost use Rattle.sx_command_explain.specs.Trace.{explain_lines, image_lines};
+ghost use Rattle.sx_command_explain.specs.Trace.{explain_lines, image_lines, trace_lines};
+ghost use Rattle.sx_command_explain.specs.Turns.{ReadWants};
+ghost use Rattle.sx_command_explain.specs.Wants.{explain_may};
 
 use crate::images::explain_images;
 use std::alloc::Global;
@@ -39,6 +43,10 @@ fn explain_read<S: Source, K: Sink>(
         (command_at (S.at input.old) (K.at output.old))
         (command_at (S.at input.new) (K.at output.new)) result
         (explain_deployed means (deployed_as plan))) }
+    ensures wanted { IfOk read (λ plan. (means : Meanings) → AreMeanings means
+        → result ≡ out_of_memory
+        → RanOutSince image_lines trace_lines (explain_may means (deployed_as plan)) S.tells
+        (S.at input.old) (S.at input.new) lines.old lines.new) }
     ensures refused { IfErr read (λ error.
         EndsRefused K.tells (K.at output.old) (K.at output.new) result error) }
     ensures unread { OnErr read (S.at input.new ≡ S.at input.old) }
@@ -57,11 +65,14 @@ fn explain_text<S: Source, K: Sink>(
     input: &mut S,
     output: &mut K,
 ) -> u8
-    ensures { (means : Meanings) → AreMeanings means
+    ensures rest { (means : Meanings) → AreMeanings means
         → Rest S.tells K.tells image_lines lines.old
         (command_at (S.at input.old) (K.at output.old))
         (command_at (S.at input.new) (K.at output.new)) result
         (explain_found means (means.deployment text.now)) }
+    ensures wanted { (means : Meanings) → AreMeanings means → result ≡ out_of_memory
+        → ReadWants means text.now S.tells (S.at input.old) (S.at input.new)
+        lines.old lines.new }
 {
     explain_read(alloc, read_deployment(alloc, text), lines, input, output)
 }
@@ -69,10 +80,14 @@ fn explain_text<S: Source, K: Sink>(
 /// What `explain` writes is what is defined for what it took. To say that there is no head takes no
 /// memory.
 fn explain_told<S: Source, K: Sink>(alloc: Global, input: &mut S, output: &mut K) -> u8
-    ensures { (means : Meanings) → AreMeanings means
+    ensures told { (means : Meanings) → AreMeanings means
         → Told S.tells K.tells explain_lines (command_at (S.at input.old) (K.at output.old))
         (command_at (S.at input.new) (K.at output.new)) result (explain_all means)
         (RunsOutBehindHead result) }
+    ensures memory { (means : Meanings) → AreMeanings means → result ≡ out_of_memory
+        → RanOutAt explain_lines (explain_may means) S.tells
+        (command_at (S.at input.old) (K.at output.old))
+        (command_at (S.at input.new) (K.at output.new)) }
 {
     let mut lines = Lines::new();
     match read_head(alloc, &mut lines, input) {

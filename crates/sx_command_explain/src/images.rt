@@ -1,16 +1,18 @@
 //! The lines before a trace. Those of images are passed, whatever they say.
 
 ghost use Rattle.std.specs.Prelude.{◌≡◌, ◌≤◌, IsTrue, length, true};
-ghost use Rattle.sx_told.specs.Told.{command_at};
+ghost use Rattle.sx_told.specs.Told.{command_at, out_of_memory};
 ghost use Rattle.sx_told.specs.Parts.{Rest};
 ghost use Rattle.sx_trace.specs.ValidNames.{are_valid};
 ghost use Rattle.sx_deploy.specs.SeenDeployment.{deployed_as};
 ghost use Rattle.sx_mean.specs.Validity.{is_valid};
 ghost use Rattle.sx_mean.specs.View.{app_as};
+ghost use Rattle.sx_command_head.specs.Given.{RanOutSince};
 ghost use Rattle.sx_command_explain.specs.Explain.{explain_deployed};
 ghost use Rattle.sx_command_explain.specs.Meant.{AreMeanings, Meanings};
-ghost use Rattle.sx_command_explain.specs.Trace.{image_lines};
+ghost use Rattle.sx_command_explain.specs.Trace.{image_lines, trace_lines};
 ghost use Rattle.sx_command_explain.specs.Turns.{front_line};
+ghost use Rattle.sx_command_explain.specs.Wants.{explain_may};
 
 use crate::text::break_off;
 use crate::trace::explain_trace;
@@ -61,11 +63,14 @@ pub(crate) fn explain_images<S: Source, K: Sink>(
 ) -> u8
     requires valid { is_valid (app_as plan.now.app) ≡ true }
     requires names { IsTrue (are_valid plan.now.names) }
-    ensures { (means : Meanings) → AreMeanings means
+    ensures rest { (means : Meanings) → AreMeanings means
         → Rest S.tells K.tells image_lines lines.old
         (command_at (S.at input.old) (K.at output.old))
         (command_at (S.at input.new) (K.at output.new)) result
         (explain_deployed means (deployed_as plan.now)) }
+    ensures wanted { (means : Meanings) → AreMeanings means → result ≡ out_of_memory
+        → RanOutSince image_lines trace_lines (explain_may means (deployed_as plan.now))
+        S.tells (S.at input.old) (S.at input.new) lines.old lines.new }
 {
     let mut front = [0; 8];
     let mut number: u32 = 1;

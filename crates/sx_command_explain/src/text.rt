@@ -172,9 +172,10 @@ pub(crate) fn keep_said<K: Sink>(
 
 /// Writes the last lines of a trace that is whole, and legal up to the first item that is forged.
 pub(crate) fn finish_legal<K: Sink>(output: &mut K, judge: &Judge) -> u8
-    ensures { (app : AppTree) (items : List Listed) → Follows app items judge.now
+    ensures ends { (app : AppTree) (items : List Listed) → Follows app items judge.now
         → CommandEnds K.tells (K.at output.old) (K.at output.new) result
         (record { text = legal_text items; status = 0 }) }
+    ensures memory { result ≢ out_of_memory }
 {
     finish(output, last_text(judge).as_slice(), 0)
 }
@@ -190,8 +191,9 @@ pub(crate) fn break_off<K: Sink>(output: &mut K, rule: u8, number: u32) -> u8
 
 /// Writes all that is kept, and which rule the line of this number breaks.
 pub(crate) fn break_kept<K: Sink>(output: &mut K, kept: &Kept, rule: u8, number: u32) -> u8
-    ensures { CommandEnds K.tells (K.at output.old) (K.at output.new) result
+    ensures ends { CommandEnds K.tells (K.at output.old) (K.at output.new) result
         (behind kept.now.items (broken_output rule number)) }
+    ensures memory { result ≢ out_of_memory }
 {
     match put_kept(output, kept) {
         Ok(()) => break_off(output, rule, number),

@@ -1,7 +1,7 @@
 //! The lines of a trace. Each is judged, and what is said of it is written before more of the input
 //! is read.
 
-ghost use Rattle.std.specs.Prelude.{◌≡◌, ◌+◌, ◌<◌, ◌≤◌, ◌||◌, [], IsTrue, List, OnOk, length};
+ghost use Rattle.std.specs.Prelude.{◌≡◌, ◌≢◌, ◌+◌, ◌<◌, ◌≤◌, ◌||◌, [], IsTrue, List, OnOk, length};
 ghost use Rattle.std.specs.Prelude.{IfSome, None, Some, true, false, is_some};
 ghost use Rattle.sx_io.specs.Next.{GivesHeld};
 ghost use Rattle.sx_told.specs.Told.{command_at, out_of_memory};
@@ -15,7 +15,7 @@ ghost use Rattle.sx_explain.specs.Followed.{Follows};
 ghost use Rattle.sx_command_explain.specs.Explain.{explain_from, stop_output};
 ghost use Rattle.sx_command_explain.specs.Meant.{AreMeanings, Meanings};
 ghost use Rattle.sx_command_explain.specs.Trace.{stop_behind, trace_lines};
-ghost use Rattle.sx_command_explain.specs.Turns.{ComesNext, JudgesFrom};
+ghost use Rattle.sx_command_explain.specs.Turns.{ComesNext, JudgesFrom, TraceWants};
 
 use crate::lines::{NO_ITEM, TraceLine, judge_line, rule_behind};
 use crate::text::{
@@ -103,12 +103,13 @@ fn explain_end<S: Source, K: Sink>(
     number: u32,
 ) -> u8
     requires names { IsTrue (are_valid plan.now.names) }
-    ensures { (means : Meanings) (items : List Listed) → AreMeanings means
+    ensures rest { (means : Meanings) (items : List Listed) → AreMeanings means
         → Follows (app_as plan.now.app) items judge.now
         → Rest S.tells K.tells trace_lines lines.old
         (command_at (S.at input.old) (K.at output.old))
         (command_at (S.at input.new) (K.at output.new)) result
         (λ more. stop_output items (stop_behind (means.item plan.now.names) number more)) }
+    ensures memory { result ≢ out_of_memory }
 {
     let mut into = [0; 4096];
     match lines.next(input, &mut into) {
@@ -130,11 +131,14 @@ fn explain_lines<S: Source, K: Sink>(
     requires valid { is_valid (app_as plan.now.app) ≡ true }
     requires names { IsTrue (are_valid plan.now.names) }
     requires follows { Follows (app_as plan.now.app) [] judge.old }
-    ensures { (means : Meanings) → AreMeanings means
+    ensures rest { (means : Meanings) → AreMeanings means
         → Rest S.tells K.tells trace_lines lines.old
         (command_at (S.at input.old) (K.at output.old))
         (command_at (S.at input.new) (K.at output.new)) result
         (explain_from (app_as plan.now.app) (means.item plan.now.names) []) }
+    ensures wanted { (means : Meanings) → AreMeanings means → result ≡ out_of_memory
+        → TraceWants (means.item plan.now.names) S.tells (S.at input.old) (S.at input.new)
+        lines.old lines.new }
 {
     let mut into = [0; 4096];
     let mut kept = Kept::new();
@@ -172,11 +176,14 @@ pub(crate) fn explain_trace<S: Source, K: Sink>(
 ) -> u8
     requires valid { is_valid (app_as plan.now.app) ≡ true }
     requires names { IsTrue (are_valid plan.now.names) }
-    ensures { (means : Meanings) → AreMeanings means
+    ensures rest { (means : Meanings) → AreMeanings means
         → Rest S.tells K.tells trace_lines lines.old
         (command_at (S.at input.old) (K.at output.old))
         (command_at (S.at input.new) (K.at output.new)) result
         (explain_from (app_as plan.now.app) (means.item plan.now.names) []) }
+    ensures wanted { (means : Meanings) → AreMeanings means → result ≡ out_of_memory
+        → TraceWants (means.item plan.now.names) S.tells (S.at input.old) (S.at input.new)
+        lines.old lines.new }
 {
     match Judge::new(alloc, &plan.app) {
         Ok(mut judge) => explain_lines(lines, input, output, plan, &mut judge),

@@ -1,2 +1,3 @@
+pub mod Given
 -- One file: what texts mean is a function.
 pub mod Known

@@ -3,6 +3,8 @@
 pub mod Found
 pub mod Begun
 pub mod Ends
+pub mod Given
 pub mod Headless
 pub mod Meanings
 pub mod Refused
+pub mod Wanting

@@ -1,20 +1,17 @@
 -- What follows for `run` from what it wrote and read.
-use Rattle.std.proofs.Common.{◌≡◌, ◌⊎◌, inl, inr, ℕ, Bool, List, Option, Some, None}
+use Rattle.std.proofs.Common.{◌≡◌, ℕ, Bool, List, Option, Some, None}
 use Rattle.sx_asm.specs.Assembled.{assembled}
 use Rattle.sx_io.specs.Reading.{Answer}
-use Rattle.sx_told.specs.Told.{CommandAt, out_of_memory}
+use Rattle.sx_told.specs.Told.{CommandAt}
 use Rattle.sx_tag.specs.Mac.{Mac, IsTag}
 use Rattle.sx_model.specs.Legal.{Legal, before}
 use Rattle.sx_deploy.specs.Deployment.{Deployed}
 use Rattle.sx_run.specs.Accepted.{AreImages, setting_of}
-use Rattle.sx_command_head.specs.Begun.{Deploys, Starved}
+use Rattle.sx_command_head.specs.Begun.{Deploys}
 use Rattle.sx_command_deploy.specs.Afterwards.{DeployTold}
-use Rattle.sx_command_deploy.specs.Wanting.{RanOutAt}
-use Rattle.sx_command_deploy.proofs.Given.{ran_out_at}
 use Rattle.sx_command_deploy.proofs.Said.{deploy_not_two, deploy_says}
 use Rattle.sx_command_run.specs.Run.{items_of, run_deployed}
 use Rattle.sx_command_run.specs.Runs.{RunSays, RunsWith, run_may, run_part}
-use Rattle.sx_command_run.specs.Turns.{run_wants}
 use Rattle.sx_guard.proofs.Performing.{runs_guarded}
 use Rattle.sx_forged.specs.Forgery.{ForgedIsForgery}
 use Rattle.sx_links.specs.LinksUnseen.{LinksAreUnseen}
@@ -55,17 +52,11 @@ runs_with mac tag deployment texts realize = record {
   guarded = λ d lines. runs_guarded (setting_of mac d texts) lines;
 }
 
-pub run_says : {tells to_tell : Bool} {m0 m1 : CommandAt} {status : ℕ} (mac : Mac) → IsTag mac → DeployTold mac (run_deployed assembled mac) run_wants tells to_tell m0 m1 status
+pub run_says : {tells to_tell : Bool} {m0 m1 : CommandAt} {status : ℕ} (mac : Mac) → IsTag mac → DeployTold mac (run_deployed assembled mac) (run_may assembled) tells to_tell m0 m1 status
     → RunSays assembled mac tells to_tell m0 m1 status
 run_says {tells} {to_tell} {m0} {m1} {status} mac tag told =
-    deploy_says {wants = run_wants} {tells = tells} {to_tell = to_tell} {m0 = m0} {m1 = m1} {status = status} mac (run_part assembled mac) (run_owes mac)
+    deploy_says {tells = tells} {to_tell = to_tell} {m0 = m0} {m1 = m1} {status = status} mac (run_part assembled mac) (run_owes mac)
     (λ deployment texts bytes realize. runs_with mac tag deployment texts realize) told
-
--- where memory ran out
-pub run_wanted : {tells to_tell : Bool} {m0 m1 : CommandAt} {status : ℕ} (mac : Mac) → DeployTold mac (run_deployed assembled mac) run_wants tells to_tell m0 m1 status
-    → status ≡ out_of_memory → Starved tells m0 m1 status ⊎ RanOutAt (run_may assembled) tells m0 m1
-run_wanted mac (inl starved) six = inl starved
-run_wanted mac (inr w) six = inr (ran_out_at (run_may assembled) (w.wanted six))
 
 pub says_not_two : {tells to_tell : Bool} {m0 m1 : CommandAt} {status : ℕ} (mac : Mac) → RunSays assembled mac tells to_tell m0 m1 status → status ≡ 2 → ⊥
 says_not_two mac run two = deploy_not_two mac (run_part assembled mac) (run_owes mac) run two

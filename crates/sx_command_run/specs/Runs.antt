@@ -1,6 +1,6 @@
 -- What the command `run` promises, of its streams at its start (m0) and at its end (m1). Of the
 -- assembler nothing is said here but that the code of an `asm` line is what it gives.
-use Rattle.std.specs.Prelude.{ℕ, ◌≡◌, ◌⊎◌, Bool, List, Option, Ok}
+use Rattle.std.specs.Prelude.{ℕ, ◌+◌, ◌≡◌, Bool, List, length, Option, Ok}
 use Rattle.sx_io.specs.Reading.{Answer}
 use Rattle.sx_told.specs.Told.{CommandAt, out_of_memory}
 use Rattle.sx_tag.specs.Mac.{Mac}
@@ -10,9 +10,8 @@ use Rattle.sx_model.specs.Consequences.{TellsReader}
 use Rattle.sx_explain.specs.Causes.{HasCauses}
 use Rattle.sx_deploy.specs.Deployment.{Deployed, IsRead}
 use Rattle.sx_run.specs.Accepted.{setting_of}
-use Rattle.sx_command_head.specs.Begun.{Deploys, Starved}
+use Rattle.sx_command_head.specs.Begun.{Deploys}
 use Rattle.sx_command_deploy.specs.Deploys.{DeploySays, OwnPart}
-use Rattle.sx_command_deploy.specs.Wanting.{RanOutAt}
 use Rattle.sx_sched.specs.Lines.{Line}
 use Rattle.sx_sched.specs.Reading.{Assembler}
 use Rattle.sx_guard.specs.Guarded.{GuardedRun}
@@ -46,12 +45,18 @@ pub record RunsWith (assemble : Assembler) (mac : Mac) (deployment : Option (Lis
       → HasMoved (setting_of mac d texts)
   pub guarded : (d : Deployed) (lines : List Line) → GuardedRun (setting_of mac d texts) lines
 
+-- memory may run out at this line of the schedule, behind these
+abbrev pub run_may : Assembler → Deployed → List Answer → List ℕ → Type 0
+run_may assemble d earlier text =
+    MayRunOut (judged_line assemble d.names (length earlier + 1) text)
+
 -- what is `run`'s own behind the head; it is cut short only where memory runs out
 abbrev pub run_part : Assembler → Mac → OwnPart
 run_part assemble mac = record {
   output = run_deployed assemble mac;
   status = schedule_status assemble;
   Cut = λ status. status ≡ out_of_memory;
+  MayWant = run_may assemble;
   With = RunsWith assemble mac;
 }
 
@@ -59,18 +64,12 @@ run_part assemble mac = record {
 abbrev pub RunSays : Assembler → Mac → Bool → Bool → CommandAt → CommandAt → ℕ → Type 0
 RunSays assemble mac = DeploySays mac (run_part assemble mac)
 
--- memory may run out at the line with this number
-abbrev pub run_may : Assembler → Deployed → ℕ → List ℕ → Type 0
-run_may assemble d number text = MayRunOut (judged_line assemble d.names number text)
-
 -- What `run` promises, and beside it what a reader may take from each legal trace: that follows
 -- from what is legal. So does what each reading, taking and output in it rests on (`causes`): the
 -- word that is taken was sent by a handler of the module that the connection comes from, and the
 -- value that is put out is the next that the handler of the module's latest event emits. Of the
 -- keys of nodes and modules a run shows nothing but tags (`keys`), so names in place of them do as
 -- well (`named`). Unless a key is found by code of no deployed module, none is guessed (`found`).
--- Where memory ran out, it was for the images, or the last line that was given may want it
--- (`memory`).
 pub record RunTold (assemble : Assembler) (mac : Mac) (tells to_tell : Bool) (m0 m1 : CommandAt)
     (status : ℕ) : Type 0 where
   pub says : RunSays assemble mac tells to_tell m0 m1 status
@@ -80,5 +79,3 @@ pub record RunTold (assemble : Assembler) (mac : Mac) (tells to_tell : Bool) (m0
   pub keys : RunsKeysUnseen
   pub named : NamesAgree
   pub found : KeysFound
-  pub memory : status ≡ out_of_memory
-      → Starved tells m0 m1 status ⊎ RanOutAt (run_may assemble) tells m0 m1

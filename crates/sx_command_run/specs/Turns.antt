@@ -1,8 +1,7 @@
 -- What a line of a schedule does to the program's world, and to its output.
 use Rattle.std.specs.Prelude.{ℕ, ◌+◌, ◌≡◌, ◌≢◌, Bool, false, List, length, ◌∷◌, ◌++◌, IsTrue}
 use Rattle.sx_asm.specs.Assembled.{assembled}
-use Rattle.sx_io.specs.Streams.{SinkAt, SourceAt}
-use Rattle.sx_io.specs.Next.{Ahead}
+use Rattle.sx_io.specs.Streams.{SinkAt}
 use Rattle.sx_io.specs.Reading.{Answer}
 use Rattle.sx_io.specs.Reading as answer
 use Rattle.sx_told.specs.Told.{Output, out_of_memory, behind}
@@ -11,16 +10,13 @@ use Rattle.sx_told.specs.declared.turned.Turned.{Turned}
 use Rattle.sx_told.specs.declared.turned.Turned.TheVariants.{On, Stop}
 use Rattle.sx_trace.specs.declared.items.Item.{Item}
 use Rattle.sx_trace.specs.Names.{NameLists}
-use Rattle.sx_deploy.specs.Deployment.{Deployed}
 use Rattle.sx_sched.specs.Lines.{Line}
 use Rattle.sx_run.specs.Setting.{Setting}
 use Rattle.sx_run.specs.State.{World, Acted}
 use Rattle.sx_world.specs.Held.{Held}
 use Rattle.sx_world.specs.Standing.{Stands}
 use Rattle.sx_command_world.specs.Turning.{after_next}
-use Rattle.sx_command_deploy.specs.Given.{RanOutSince}
 use Rattle.sx_command_run.specs.Run.{items_text, run_from}
-use Rattle.sx_command_run.specs.Runs.{run_may}
 use Rattle.sx_command.specs.Output.{line}
 
 -- a line's items, and what follows from the world that it leaves
@@ -66,7 +62,3 @@ abbrev pub TurnsFrom : Bool → SinkAt → SinkAt → NameLists → Setting → 
     → Turned → Type 0
 TurnsFrom to_tell k0 k1 names set held left number text turned =
     (w : World) → Stands set held w → TurnsLine to_tell k0 k1 names set left number text turned w
-
--- memory ran out in `run` behind the head, at a line that may want it
-abbrev pub run_wants : Deployed → Bool → SourceAt → SourceAt → Ahead → Ahead → Type 0
-run_wants d = RanOutSince (run_may assembled d)

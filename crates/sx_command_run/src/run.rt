@@ -20,11 +20,11 @@ struct RunCommand;
 impl Deploys for RunCommand {
     ghost use Rattle.sx_asm.specs.Assembled.{assembled};
     ghost use Rattle.sx_command_run.specs.Run.{run_deployed};
-    ghost use Rattle.sx_command_run.specs.Turns.{run_wants};
+    ghost use Rattle.sx_command_run.specs.Runs.{run_may};
 
     ghost behind = { run_deployed assembled };
 
-    ghost wants = { run_wants };
+    ghost may = { run_may assembled };
 
     /// Runs the schedule of a deployment with these images of its modules. The nodes are made
     /// before the first line is written: if memory runs out there, nothing is written.

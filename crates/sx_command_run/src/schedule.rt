@@ -15,10 +15,11 @@ ghost use Rattle.sx_world.specs.InMemory.{image_setting, texts_of, world_setting
 ghost use Rattle.sx_run.specs.Law.{IsSoundSetting};
 ghost use Rattle.sx_world.specs.Standing.{IsGoing, Stands};
 ghost use Rattle.sx_run.specs.State.{switched_on};
+ghost use Rattle.sx_command_head.specs.Given.{RanOutSince};
 ghost use Rattle.sx_command_run.specs.Run.{run_at_start, run_deployed};
+ghost use Rattle.sx_command_run.specs.Runs.{run_may};
 ghost use Rattle.sx_command_world.specs.Schedule.{judged_line};
 ghost use Rattle.sx_command_run.specs.Turns.{Advances, TellsLine, TellsMade, TurnsFrom};
-ghost use Rattle.sx_command_run.specs.Turns.{run_wants};
 ghost use Rattle.sx_command_world.specs.Turning.{MayRunOut};
 
 use crate::trace::put_items;
@@ -123,8 +124,9 @@ pub(crate) fn run_lines<S: Source, K: Sink, B: Copied, T: Tag>(
         (command_at (S.at input.new) (K.at output.new)) result
         (run_at_start assembled (deployed_as plan.now).names
         (world_setting T.mac plan.now world.old)) }
-    ensures wanted { result ≡ out_of_memory → run_wants (deployed_as plan.now) S.tells
-        (S.at input.old) (S.at input.new) lines.old lines.new }
+    ensures wanted { result ≡ out_of_memory → RanOutSince head_lines head_lines
+        (run_may assembled (deployed_as plan.now)) S.tells (S.at input.old) (S.at input.new)
+        lines.old lines.new }
 {
     let mut into = [0; 4096];
     let mut items = Vec::new(alloc);
@@ -171,8 +173,9 @@ pub(crate) fn run_built<S: Source, K: Sink, B: Copied, T: Tag>(
         (command_at (S.at input.old) (K.at output.old))
         (command_at (S.at input.new) (K.at output.new)) result
         (run_deployed assembled T.mac (deployed_as plan.now) (texts_of images.now)) }
-    ensures wanted { result ≡ out_of_memory → run_wants (deployed_as plan.now) S.tells
-        (S.at input.old) (S.at input.new) lines.old lines.new }
+    ensures wanted { result ≡ out_of_memory → RanOutSince head_lines head_lines
+        (run_may assembled (deployed_as plan.now)) S.tells (S.at input.old) (S.at input.new)
+        lines.old lines.new }
 {
     match begin_trace(alloc, &plan.names, images, output) {
         Turned::Stop(status) => status,

@@ -1,7 +1,8 @@
--- Read Written first: what is written line by line. Statuses has the exit status, Owing what is due
--- of some lines, and Said what follows for the whole command.
+-- Read Written first: what is written line by line. Places is about the places of lines, Statuses
+-- has the exit status, Owing what is due of some lines, and Said what follows for the whole command.
 pub mod Between
 pub mod Owing
+pub mod Places
 pub mod Registers
 pub mod Said
 pub mod Statuses

@@ -8,3 +8,4 @@ pub mod Reading
 pub mod Snap
 pub mod Snaps
 pub mod Statuses
+pub mod Wants

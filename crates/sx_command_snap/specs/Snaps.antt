@@ -5,6 +5,7 @@ use Rattle.sx_tag.specs.Mac.{Mac}
 use Rattle.sx_command_deploy.specs.Deploys.{DeploySays, OwnPart}
 use Rattle.sx_command_snap.specs.Snap.{snap_deployed}
 use Rattle.sx_command_snap.specs.Statuses.{snap_status}
+use Rattle.sx_command_snap.specs.Wants.{snap_may}
 
 -- what is `snap`'s own behind the head; it is cut short only where memory runs out
 abbrev pub snap_part : Mac → OwnPart
@@ -12,6 +13,7 @@ snap_part mac = record {
   output = snap_deployed mac;
   status = snap_status;
   Cut = λ status. status ≡ out_of_memory;
+  MayWant = snap_may;
   With = λ deployment texts. Unit {0};
 }
 

@@ -15,6 +15,7 @@ ghost use Rattle.sx_run.specs.Law.{IsSoundSetting};
 ghost use Rattle.sx_snap.specs.Checkpoints.{IsTimeline};
 ghost use Rattle.sx_command_snap.specs.Queries.{judged_query};
 ghost use Rattle.sx_command_snap.specs.Asked.{IsAsked};
+ghost use Rattle.sx_command_snap.specs.Kept.{QueriesWant};
 ghost use Rattle.sx_command_snap.specs.Answers.{answer_text};
 ghost use Rattle.sx_command_snap.specs.Snap.{answers_from, query_fault};
 
@@ -205,11 +206,14 @@ pub(crate) fn answer_queries<S: Source, K: Sink, B: Copied, T: Tag + Copy>(
     requires images { IsSoundSetting (setting T.mac (deployed_as plan.now) timeline.now.sites) }
     requires names { IsTrue (are_valid (deployed_as plan.now).names) }
     requires timeline { IsTimeline T.mac (deployed_as plan.now) timeline.now }
-    ensures { Rest S.tells K.tells head_lines lines.old
+    ensures rest { Rest S.tells K.tells head_lines lines.old
         (command_at (S.at input.old) (K.at output.old))
         (command_at (S.at input.new) (K.at output.new)) result
         (answers_from (deployed_as plan.now).names
         (setting T.mac (deployed_as plan.now) timeline.now.sites) timeline.now.lines 1) }
+    ensures wanted { result ≡ out_of_memory → QueriesWant (deployed_as plan.now).names
+        (length timeline.now.lines) S.tells (S.at input.old) (S.at input.new)
+        lines.old lines.new }
 {
     let mut into = [0; 4096];
     let mut number: u32 = 1;

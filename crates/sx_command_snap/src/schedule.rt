@@ -1,9 +1,9 @@
 //! The schedule: its lines are judged and kept to its end, and nothing is written before, so that a
 //! schedule that breaks a rule is reported alone.
 
-ghost use Rattle.std.specs.Prelude.{◌≡◌, ℕ, ◌+◌, ◌≤◌, [], Err, IsTrue, OnOk, length};
+ghost use Rattle.std.specs.Prelude.{◌≡◌, ◌≢◌, ℕ, ◌+◌, ◌≤◌, [], Err, IsTrue, OnOk, length};
 ghost use Rattle.sx_asm.specs.Assembled.{assembled};
-ghost use Rattle.sx_told.specs.Told.{CommandEnds, behind, command_at};
+ghost use Rattle.sx_told.specs.Told.{CommandEnds, behind, command_at, out_of_memory};
 ghost use Rattle.sx_told.specs.Parts.{Rest};
 ghost use Rattle.sx_head.specs.Head.{head_lines};
 ghost use Rattle.sx_trace.specs.ValidNames.{are_valid};
@@ -13,16 +13,18 @@ ghost use Rattle.sx_run.specs.Accepted.{setting};
 ghost use Rattle.sx_run.specs.Law.{IsSoundSetting};
 ghost use Rattle.sx_world.specs.InMemory.{texts_of};
 ghost use Rattle.sx_snap.specs.Checkpoints.{IsTimeline};
+ghost use Rattle.sx_command_head.specs.Given.{RanOutSince};
 ghost use Rattle.sx_command_world.specs.Images.{images_text};
 ghost use Rattle.sx_command_world.specs.Schedule.{judged_line};
 ghost use Rattle.sx_command_world.specs.Turning.{MayRunOut};
-ghost use Rattle.sx_command_snap.specs.Kept.{KeepsLine};
+ghost use Rattle.sx_command_snap.specs.Kept.{KeepsLine, QueriesWant};
 ghost use Rattle.sx_command_snap.specs.Snap.{answers_from, ended_output, snap_from};
+ghost use Rattle.sx_command_snap.specs.Wants.{snap_may};
 
 use crate::querying::answer_queries;
 use std::alloc::Global;
 use sx_bus::Copied;
-use sx_command_world::images::put_images;
+use sx_command_world::images::image_lines;
 use sx_command_world::judging::{TOO_LONG, break_off, judge};
 use sx_deploy::deployment::Deployment;
 use sx_head::is_mark;
@@ -31,7 +33,7 @@ use sx_io::{LineRead, Lines, Sink, Source};
 use sx_sched::lines::LineError;
 use sx_snap::Timeline;
 use sx_tag::Tag;
-use sx_told::{OUT_OF_MEMORY, READ_FAILED, Turned, finish};
+use sx_told::{OUT_OF_MEMORY, READ_FAILED, Turned, finish, put_text};
 
 /// Keeps the line with this number of the schedule. The error is the rule that it breaks, or says
 /// that memory ran out.
@@ -64,13 +66,13 @@ fn keep<B: Copied, T: Tag + Copy>(
     }
 }
 
-/// The images and `end`, where no queries came.
-fn answer_none<K: Sink>(alloc: Global, output: &mut K, plan: &Deployment, images: &[Image]) -> u8
-    ensures { CommandEnds K.tells (K.at output.old) (K.at output.new) result
-        (behind (images_text (deployed_as plan.now).names.modules (texts_of images.now))
-        ended_output) }
+/// The images and `end`, where no queries came. It takes no memory.
+fn answer_none<K: Sink>(output: &mut K, images: &[u8]) -> u8
+    ensures ends { CommandEnds K.tells (K.at output.old) (K.at output.new) result
+        (behind images.now ended_output) }
+    ensures memory { result ≢ out_of_memory }
 {
-    match put_images(alloc, &plan.names, images, output) {
+    match put_text(output, images) {
         Turned::Stop(status) => status,
         Turned::On => finish(output, b"end\n", 0),
     }
@@ -83,34 +85,37 @@ fn answer_all<S: Source, K: Sink, B: Copied, T: Tag + Copy>(
     input: &mut S,
     output: &mut K,
     plan: &Deployment,
-    images: &[Image],
+    images: &[u8],
     timeline: &Timeline<B, T>,
 ) -> u8
     requires sound { IsSoundDeployment (deployed_as plan.now) }
     requires images { IsSoundSetting (setting T.mac (deployed_as plan.now) timeline.now.sites) }
     requires names { IsTrue (are_valid (deployed_as plan.now).names) }
     requires timeline { IsTimeline T.mac (deployed_as plan.now) timeline.now }
-    ensures { Rest S.tells K.tells head_lines lines.old
+    ensures rest { Rest S.tells K.tells head_lines lines.old
         (command_at (S.at input.old) (K.at output.old))
         (command_at (S.at input.new) (K.at output.new)) result
-        (λ more. behind (images_text (deployed_as plan.now).names.modules (texts_of images.now))
-        (answers_from (deployed_as plan.now).names
+        (λ more. behind images.now (answers_from (deployed_as plan.now).names
         (setting T.mac (deployed_as plan.now) timeline.now.sites) timeline.now.lines 1 more)) }
+    ensures wanted { result ≡ out_of_memory → QueriesWant (deployed_as plan.now).names
+        (length timeline.now.lines) S.tells (S.at input.old) (S.at input.new)
+        lines.old lines.new }
 {
-    match put_images(alloc, &plan.names, images, output) {
+    match put_text(output, images) {
         Turned::Stop(status) => status,
         Turned::On => answer_queries(alloc, lines, input, output, plan, timeline),
     }
 }
 
-/// Reads the schedule to its end, and answers the queries behind its mark.
-pub(crate) fn snap_lines<S: Source, K: Sink, B: Copied, T: Tag + Copy>(
+/// Reads the schedule to its end, and answers the queries behind its mark. These are the lines of
+/// the images.
+fn snap_lines<S: Source, K: Sink, B: Copied, T: Tag + Copy>(
     alloc: Global,
     lines: &mut Lines,
     input: &mut S,
     output: &mut K,
     plan: &Deployment,
-    images: &[Image],
+    images: &[u8],
     timeline: &mut Timeline<B, T>,
 ) -> u8
     requires sound { IsSoundDeployment (deployed_as plan.now) }
@@ -118,18 +123,20 @@ pub(crate) fn snap_lines<S: Source, K: Sink, B: Copied, T: Tag + Copy>(
     requires names { IsTrue (are_valid (deployed_as plan.now).names) }
     requires timeline { IsTimeline T.mac (deployed_as plan.now) timeline.old }
     requires none { timeline.old.lines ≡ [] }
-    ensures { Rest S.tells K.tells head_lines lines.old
+    ensures rest { Rest S.tells K.tells head_lines lines.old
         (command_at (S.at input.old) (K.at output.old))
         (command_at (S.at input.new) (K.at output.new)) result
         (snap_from (deployed_as plan.now).names
-        (setting T.mac (deployed_as plan.now) timeline.old.sites)
-        (images_text (deployed_as plan.now).names.modules (texts_of images.now)) []) }
+        (setting T.mac (deployed_as plan.now) timeline.old.sites) images.now []) }
+    ensures wanted { result ≡ out_of_memory → RanOutSince head_lines head_lines
+        (snap_may (deployed_as plan.now)) S.tells (S.at input.old) (S.at input.new)
+        lines.old lines.new }
 {
     let mut into = [0; 4096];
     let mut number: u32 = 1;
     'lines: loop {
         match lines.next(input, &mut into) {
-            LineRead::End => return answer_none(alloc, output, plan, images),
+            LineRead::End => return answer_none(output, images),
             LineRead::TooLong => return break_off(output, TOO_LONG, number),
             LineRead::Failed => return finish(output, b"fault read\n", READ_FAILED),
             LineRead::Text(n) => {
@@ -144,5 +151,37 @@ pub(crate) fn snap_lines<S: Source, K: Sink, B: Copied, T: Tag + Copy>(
                 }
             }
         }
+    }
+}
+
+/// Makes the lines of the images before it reads the schedule, so that no memory is wanted for them
+/// behind it.
+pub(crate) fn snap_built<S: Source, K: Sink, B: Copied, T: Tag + Copy>(
+    alloc: Global,
+    lines: &mut Lines,
+    input: &mut S,
+    output: &mut K,
+    plan: &Deployment,
+    images: &[Image],
+    timeline: &mut Timeline<B, T>,
+) -> u8
+    requires sound { IsSoundDeployment (deployed_as plan.now) }
+    requires images { IsSoundSetting (setting T.mac (deployed_as plan.now) timeline.old.sites) }
+    requires names { IsTrue (are_valid (deployed_as plan.now).names) }
+    requires timeline { IsTimeline T.mac (deployed_as plan.now) timeline.old }
+    requires none { timeline.old.lines ≡ [] }
+    ensures rest { Rest S.tells K.tells head_lines lines.old
+        (command_at (S.at input.old) (K.at output.old))
+        (command_at (S.at input.new) (K.at output.new)) result
+        (snap_from (deployed_as plan.now).names
+        (setting T.mac (deployed_as plan.now) timeline.old.sites)
+        (images_text (deployed_as plan.now).names.modules (texts_of images.now)) []) }
+    ensures wanted { result ≡ out_of_memory → RanOutSince head_lines head_lines
+        (snap_may (deployed_as plan.now)) S.tells (S.at input.old) (S.at input.new)
+        lines.old lines.new }
+{
+    match image_lines(alloc, &plan.names.modules, images) {
+        Ok(text) => snap_lines(alloc, lines, input, output, plan, &text, timeline),
+        Err(_) => OUT_OF_MEMORY,
     }
 }

@@ -9,7 +9,7 @@ ghost use Rattle.sx_world.specs.InMemory.{image_setting};
 ghost use Rattle.sx_snap.specs.Checkpoints.{IsTimeline};
 ghost use Rattle.sx_command_snap.specs.Snaps.{SnapSays};
 
-use crate::schedule::snap_lines;
+use crate::schedule::snap_built;
 use std::alloc::{AllocError, Global};
 use sx_command_deploy::{Deploys, deploy_over};
 use sx_command_world::nodes::nodes_of;
@@ -46,12 +46,12 @@ fn new_timeline<T: Tag + Copy>(
 struct SnapCommand;
 
 impl Deploys for SnapCommand {
-    ghost use Rattle.sx_command_deploy.specs.Given.{says_nothing};
     ghost use Rattle.sx_command_snap.specs.Snap.{snap_deployed};
+    ghost use Rattle.sx_command_snap.specs.Wants.{snap_may};
 
     ghost behind = { snap_deployed };
 
-    ghost wants = { says_nothing };
+    ghost may = { snap_may };
 
     /// Answers the queries about a deployment with these images of its modules.
     fn perform<S: Source, K: Sink, T: Tag + Copy>(
@@ -65,7 +65,7 @@ impl Deploys for SnapCommand {
     ) -> u8 {
         match new_timeline(alloc, tag, plan, images) {
             Ok(mut timeline) => {
-                snap_lines(alloc, lines, input, output, plan, images, &mut timeline)
+                snap_built(alloc, lines, input, output, plan, images, &mut timeline)
             }
             Err(_) => OUT_OF_MEMORY,
         }

@@ -36,7 +36,7 @@ fn push_image(
 }
 
 /// The lines of all images.
-fn image_lines(alloc: Global, names: &[Name], images: &[Image]) -> Result<Vec<u8>, AllocError>
+pub fn image_lines(alloc: Global, names: &[Name], images: &[Image]) -> Result<Vec<u8>, AllocError>
     ensures { IfOk result (λ text. text.items ≡ images_text names.now (texts_of images.now)) }
 {
     let mut text = Vec::new(alloc);

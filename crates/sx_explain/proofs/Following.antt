@@ -275,6 +275,7 @@ tried app items j None causes e h fills =
       sent = λ f p. ap (λ (cs : List ℕ). slice_get (numbers_of j.behind (length (at_field j.model.sent f)) cs) p) (at f) ∙ h.sent f p;
       few = λ f. (let l = ap (λ (cs : List ℕ). length cs) (at f) in let m = h.few f in omega (arith, l, m));
       all = λ f. subst (λ n. HasAll app j.model j.behind f (length (at_field j.model.sent f)) n) (sym (ap (λ (cs : List ℕ). length cs) (at f))) (h.all f);
+      late = h.late;
     }
 tried app items j (Some l) causes e h fills = record {
   ran = h.ran;
@@ -291,6 +292,7 @@ tried app items j (Some l) causes e h fills = record {
   few = few;
   all = λ f. subst (λ o. HasAll app j.model o f (length (at_field j.model.sent f)) (length (at_field causes f))) (sym e)
       (at f (subst (λ o. HasAll app j.model o f (length (at_field j.model.sent f)) (length (at_field j.causes f))) e (h.all f)));
+  late = h.late;
 }
   where
     few : (f : ℕ) → length (at_field causes f) ≤ length (at_field j.model.sent f)
@@ -322,6 +324,7 @@ caught app items j None causes e h fills all =
           ∙ subst (λ o. slice_get (numbers_of o (length (at_field j.model.sent f)) (at_field j.causes f)) p ≡ appended app f p 1 (power_on app) items) e (h.sent f p);
       few = λ f. (let l = ap (λ (cs : List ℕ). length cs) (at f) in let m = h.few f in omega (arith, l, m));
       all = λ f. ap (λ (cs : List ℕ). length cs) (at f) ∙ subst (λ o. HasAll app j.model o f (length (at_field j.model.sent f)) (length (at_field j.causes f))) e (h.all f);
+      late = λ w. absurd (cc w);
     }
 caught app items j (Some l) causes e h fills all = record {
   ran = h.ran;
@@ -336,6 +339,7 @@ caught app items j (Some l) causes e h fills all = record {
       ∙ subst (λ o. slice_get (numbers_of o (length (at_field j.model.sent f)) (at_field j.causes f)) p ≡ appended app f p 1 (power_on app) items) e (h.sent f p);
   few = λ f. (let s = same f in omega (arith, s));
   all = same;
+  late = λ w. absurd (cc w);
 }
   where
     under : (f : ℕ) → (length (at_field j.causes f) ≡ length (at_field j.model.sent f)) ⊎ IsOf app j.model l.part f → length (at_field j.model.sent f) ≤ length (at_field causes f)
@@ -431,6 +435,7 @@ module _ (app : AppTree) (items : List Item) (j : Seen) (h : Stands app items j)
           (ap (λ (cs : List ℕ). slice_get cs p) (sym (full_all n (length (at_field t.sent f)) (at_field j.causes f) (let q = quiet not f in omega (arith, q)))) ∙ fresh f p);
       few = under;
       all = λ f. subst (λ o. HasAll app t o f (length (at_field t.sent f)) (length (at_field j.causes f))) (sym e) (quiet not f);
+      late = λ w. absurd (let z : false ≡ true = sym (ap (λ (o : Option Latest). is_some o) e) ∙ w in cc z);
     }
 
     event_stands : (m : ℕ) → m < length app.parts → ((k : ℕ) → begins_event k item ≡ (m == k)) → ((k : ℕ) → gives k item ≡ false)
@@ -455,6 +460,7 @@ module _ (app : AppTree) (items : List Item) (j : Seen) (h : Stands app items j)
       sent = fresh;
       few = under;
       all = event_all m only;
+      late = λ w. (items, item, m, refl, only m ∙ eq-eqb m m refl);
     }
 
   pub kept : (item : Item) (t : Model) → step app j.model item ≡ Some t → (n : ℕ) → n ≡ length items + 1 → Stands app (items ++ item ∷ []) (noted n item (record j { model = t; taken = n }))
@@ -613,4 +619,5 @@ begins app j model taken senses events causes behind forged =
       sent = λ f p. ap (λ (cs : List ℕ). slice_get cs p) (none_at FIELDS f);
       few = λ f. omega arith;
       all = λ f. refl;
+      late = λ w. absurd (cc w);
     }

@@ -1,7 +1,7 @@
 -- What a judge keeps, and how it stands for the items so far.
 use Rattle.std.specs.Prelude.{◌≡◌, ℕ, ◌+◌, ◌*◌, ◌/◌, ◌%◌, ◌<◌, ◌≤◌, Bool, true, false, List, length}
-use Rattle.std.specs.Prelude.{if◌then◌else◌, slice_get, slice_set, Option, Some, None, ◌⊎◌, ⊤, []}
-use Rattle.std.specs.Prelude.{◌∷◌, ◌++◌}
+use Rattle.std.specs.Prelude.{if◌then◌else◌, is_some, slice_get, slice_set, Option, Some, None, ⊤}
+use Rattle.std.specs.Prelude.{◌⊎◌, [], ◌∷◌, ◌++◌}
 use Rattle.std.specs.List.{list_any}
 use Rattle.sx_mean.specs.declared.apps.Link.{Link}
 use Rattle.sx_mean.specs.declared.events.End.{End}
@@ -21,6 +21,7 @@ use Rattle.sx_explain.specs.declared.judge.Judged.{Judged}
 use Rattle.sx_explain.specs.declared.judge.Judged.TheVariants.{Illegal}
 use Rattle.sx_explain.specs.Judging.{said}
 use Rattle.sx_explain.specs.Filling.{Fills, IsFull, at_field, full}
+use Rattle.sx_explain.specs.Wants.{IsBehindEvent}
 
 -- Where the source stands and how many items there were, the latest item that gave each device a
 -- value, the latest event of each module, the numbers of the items at which words were sent, the
@@ -103,6 +104,7 @@ pub record Stands (app : AppTree) (items : List Item) (j : Seen) : Type 0 where
   pub few : (field : ℕ) → length (at_field j.causes field) ≤ length (at_field j.model.sent field)
   pub all : (field : ℕ) → HasAll app j.model j.behind field
       (length (at_field j.model.sent field)) (length (at_field j.causes field))
+  pub late : is_some j.behind ≡ true → IsBehindEvent items
 
 -- how many of these items a judge takes: those before the first that is forged, and that one
 abbrev pub taken_of : List Item → ℕ

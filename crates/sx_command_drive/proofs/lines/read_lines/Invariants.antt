@@ -3,6 +3,7 @@ use Rattle.sx_told.specs.Told.{command_at}
 use Rattle.sx_run.specs.Setting.{Setting}
 use Rattle.sx_drive.specs.Honest.{Honest}
 use Rattle.sx_drive.specs.Driving.{Follows, GoesOn}
+use Rattle.sx_command_deploy.proofs.Given.{Gave}
 use Rattle.sx_command_drive.proofs.Between.{Between}
 use Rattle.sx_command_drive.proofs.lines.read_lines.Given as goal
 
@@ -15,6 +16,7 @@ invariant-lines g l = record {
   between : (set : Setting) (h : Honest) → Follows g.T.Tag.mac l.deployment l.fn.honest set h → h.long ≡ false
       → Between g.S.Source.tells g.K.Sink.tells (command_at (g.S.Source.at l.fn.input) (g.K.Sink.at l.fn.output)) (command_at (g.S.Source.at l.input) (g.K.Sink.at l.output))
       l.fn.lines l.lines g.T.Tag.mac l.deployment set h l.honest l.number;
+  gave : Gave g.S.Source.tells (g.S.Source.at l.fn.input) (g.S.Source.at l.input) l.fn.lines l.lines l.number;
 }
 
 abbrev pub decreases-lines : goal.decreases-lines

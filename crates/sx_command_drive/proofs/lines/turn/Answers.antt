@@ -5,8 +5,8 @@ use Rattle.sx_deploy.specs.SeenDeployment.{deployed_as}
 use Rattle.sx_drive.specs.Driving.{all_said, reading}
 use Rattle.sx_command_drive.specs.declared.readings.ReadingLine.{ReadingLine}
 use Rattle.sx_command_drive.specs.declared.readings.ReadingLine.TheVariants as says
-use Rattle.sx_command_drive.specs.Parts.{MayRunOut, drive_from}
-use Rattle.sx_command_drive.specs.Readings.{judged_reading}
+use Rattle.sx_command_drive.specs.Parts.{drive_from}
+use Rattle.sx_command_drive.specs.Readings.{MayRunOut, judged_reading}
 use Rattle.sx_command_drive.proofs.Named.{are_there, same_app}
 use Rattle.sx_command_drive.proofs.Written.{drive_blank, drive_breaks, drive_reading}
 use Rattle.sx_command_drive.proofs.lines.turn.Goals as goal

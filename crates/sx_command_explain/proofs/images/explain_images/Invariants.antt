@@ -7,6 +7,7 @@ use Rattle.sx_command_explain.specs.Meant.{AreMeanings, Meanings}
 use Rattle.sx_command_explain.specs.Explain.{explain_deployed}
 use Rattle.sx_command_explain.specs.Trace.{image_lines}
 use Rattle.sx_command_explain.proofs.Starting.{start_from}
+use Rattle.sx_command_explain.proofs.Wanted.{GaveImages}
 use Rattle.sx_command_explain.proofs.images.explain_images.Given as goal
 
 -- Whatever came before, what is left is what is said from the line with this number on.
@@ -19,6 +20,7 @@ invariant-lines g l =
           (explain_deployed means d) (Notes aside noted)
           → Begun g.S.Source.tells g.K.Sink.tells limit image_lines m0 (command_at (g.S.Source.at l.input) (g.K.Sink.at l.output)) l.lines defined
           (start_from d.app (means.item d.names) l.number) (Notes aside noted);
+      gave : GaveImages g.S.Source.tells (g.S.Source.at l.fn.input) (g.S.Source.at l.input) l.fn.lines l.lines l.number;
     }
 
 abbrev pub decreases-lines : goal.decreases-lines

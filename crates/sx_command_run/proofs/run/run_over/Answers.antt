@@ -4,7 +4,7 @@ use Rattle.sx_deploy.proofs.ValidApp.{app_valid}
 use Rattle.sx_forged.proofs.Naming.{names_agree}
 use Rattle.sx_forged.proofs.Scripts.{runs_keys_unseen}
 use Rattle.sx_links.proofs.Guessing.{keys_found}
-use Rattle.sx_command_run.proofs.Said.{run_says, run_wanted}
+use Rattle.sx_command_run.proofs.Said.{run_says}
 use Rattle.sx_command_run.proofs.run.run_over.Goals as goal
 
 pub returns : goal.returns
@@ -14,6 +14,5 @@ returns g c = record {
   keys = runs_keys_unseen;
   named = names_agree;
   found = keys_found;
-  memory = run_wanted g.T.Tag.mac c.deploy_over.ensures;
   causes = λ text d read items legal. legal_has_causes d.app items (app_valid text d read) legal;
 }

@@ -5,7 +5,7 @@ use Rattle.sx_deploy.specs.SeenDeployment.{deployed_as}
 use Rattle.sx_run.specs.Setting.{Site}
 use Rattle.sx_run.specs.State.{switched_on}
 use Rattle.sx_run.specs.Accepted.{setting, setting_of}
-use Rattle.sx_command_deploy.proofs.Given.{given_none}
+use Rattle.sx_command_head.proofs.Given.{given_none}
 use Rattle.sx_command_run.specs.Run.{run_at_start, run_from, run_deployed}
 use Rattle.sx_command_run.proofs.schedule.run_built.Goals as goal
 
@@ -27,7 +27,7 @@ returns-in-On-clause-rest g c = λ limit m0 defined aside noted b.
     (begun-put (run_deployed assembled mac d texts) left b (c.in-On.ensures left)))
 
 pub returns-in-Stop-clause-wanted : goal.returns-in-Stop-clause-wanted
-returns-in-Stop-clause-wanted g c = λ six. ([], given_none _ _ _, inl refl)
+returns-in-Stop-clause-wanted g c = λ six. ([], given_none _ _ _ _, inl refl)
 
 pub returns-in-On-clause-wanted : goal.returns-in-On-clause-wanted
 returns-in-On-clause-wanted g c = c.run_lines.ensures.wanted

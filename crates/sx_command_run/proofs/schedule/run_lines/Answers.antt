@@ -1,5 +1,4 @@
-use Rattle.std.proofs.Common.{◌∙◌, ◌+◌, ◌∷◌, ◌++◌, ℕ, List, [], inr, take, arith, ap, refl, subst, sym}
-use Rattle.std.proofs.lemmas.List.{length-append}
+use Rattle.std.proofs.Common.{◌∙◌, ◌+◌, ◌∷◌, ℕ, List, take, arith, ap, refl, subst, sym}
 use Rattle.sx_asm.specs.Assembled.{assembled}
 use Rattle.sx_io.specs.Reading.{Line}
 use Rattle.sx_told.specs.Told.{read_line}
@@ -12,7 +11,9 @@ use Rattle.sx_run.specs.Setting.{Site}
 use Rattle.sx_world.specs.Standing.{Stands}
 use Rattle.sx_run.specs.State.{World, switched_on}
 use Rattle.sx_command.specs.Output.{end_line}
-use Rattle.sx_command_deploy.proofs.Given.{given_line, given_none}
+use Rattle.sx_command_deploy.proofs.Given.{gave_last, gave_line, gave_none}
+use Rattle.sx_command_world.specs.Schedule.{judged_line}
+use Rattle.sx_command_world.specs.Turning.{MayRunOut}
 use Rattle.sx_command_run.specs.Run.{run_from}
 use Rattle.sx_command_run.specs.Runs.{run_may}
 use Rattle.sx_command_run.specs.Turns.{TurnsLine}
@@ -25,7 +26,7 @@ lines-init g c =
       few = omega arith;
       counted = ap (λ (k : ℕ). k + 1) c.requires.new;
       sites = refl;
-      between = record { world = switched_on set; stands = c.requires.stands; begun = λ limit m0 defined aside noted b. b; given = []; numbered = refl; since = given_none _ _ _ };
+      between = record { world = switched_on set; stands = c.requires.stands; begun = λ limit m0 defined aside noted b. b; gave = gave_none _ _ _ };
     }
 
 pub returns-in-End-clause-rest : goal.returns-in-End-clause-rest
@@ -88,13 +89,10 @@ returns-in-Failed-clause-wanted g c = λ six. absurd (omega (arith, six, c.finis
 
 pub returns-in-Stop-clause-wanted : goal.returns-in-Stop-clause-wanted
 returns-in-Stop-clause-wanted g c = λ six.
-    let st = c.lines.invariant.between in
-    let text = take c.in-Text.n c.next.new.into in
-    let May : ℕ → Type 0 = λ number. run_may assembled (deployed_as c.args.plan.now) number text in (
-      st.given ++ Line text ∷ [],
-      given_line st.given c.next.new.into c.in-Text.n st.since c.in-Text.ensures.next,
-      inr (st.given, text, refl, subst May st.numbered (c.in-Stop.ensures.memory (ap Stop six))),
-    )
+    let d = deployed_as c.args.plan.now in
+    let gave = c.lines.invariant.between.gave in
+    let P : ℕ → Type 0 = λ number. MayRunOut (judged_line assembled d.names number (take c.in-Text.n c.next.new.into)) in
+    gave_last (run_may assembled d) c.next.new.into c.in-Text.n gave c.in-Text.ensures.next (subst P gave.numbered (c.in-Stop.ensures.memory (ap Stop six)))
 
 pub lines-preserved : goal.lines-preserved
 lines-preserved g c =
@@ -116,8 +114,6 @@ lines-preserved g c =
             begun-put (λ more. run_from assembled d.names set st.world c.lines.number (Line text ∷ more)) (run_from assembled d.names set t.next (c.lines.number + 1))
             (begun-line (run_from assembled d.names set st.world c.lines.number) (run_unread d.names set st.world c.lines.number) (st.begun limit m0 defined aside noted b) c.in-Text.ensures.next)
             t.does;
-        given = st.given ++ Line text ∷ [];
-        numbered = (let l = length-append st.given (Line text ∷ []) in let n = st.numbered in omega (arith, l, n));
-        since = given_line st.given c.next.new.into c.in-Text.n st.since c.in-Text.ensures.next;
+        gave = gave_line c.next.new.into c.in-Text.n st.gave c.in-Text.ensures.next;
       };
     }

@@ -3,6 +3,7 @@ use Rattle.sx_told.specs.Told.{command_at}
 use Rattle.sx_deploy.specs.SeenDeployment.{deployed_as}
 use Rattle.sx_run.specs.Accepted.{setting}
 use Rattle.sx_command_snap.specs.Snap.{answers_from}
+use Rattle.sx_command_deploy.proofs.Given.{Gave}
 use Rattle.sx_command_snap.proofs.Between.{GoesOn}
 use Rattle.sx_command_snap.proofs.querying.answer_queries.Given as goal
 
@@ -14,6 +15,7 @@ invariant-queries g l =
       few : l.number ≤ 65;
       begun : GoesOn g.S.Source.tells g.K.Sink.tells (command_at (g.S.Source.at l.fn.input) (g.K.Sink.at l.fn.output)) (command_at (g.S.Source.at l.input) (g.K.Sink.at l.output))
           l.fn.lines l.lines (ask 1) (ask l.number);
+      gave : Gave g.S.Source.tells (g.S.Source.at l.fn.input) (g.S.Source.at l.input) l.fn.lines l.lines l.number;
     }
 
 abbrev pub decreases-queries : goal.decreases-queries

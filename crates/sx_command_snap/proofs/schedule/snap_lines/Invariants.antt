@@ -2,24 +2,24 @@ use Rattle.std.specs.Prelude.{◌≡◌, ◌≤◌, ◌-◌, ◌+◌, [], length
 use Rattle.sx_told.specs.Told.{command_at}
 use Rattle.sx_deploy.specs.SeenDeployment.{deployed_as}
 use Rattle.sx_run.specs.Accepted.{setting}
-use Rattle.sx_world.specs.InMemory.{texts_of}
 use Rattle.sx_snap.specs.Checkpoints.{IsTimeline}
-use Rattle.sx_command_world.specs.Images.{images_text}
 use Rattle.sx_command_snap.specs.Snap.{snap_from}
 use Rattle.sx_command_snap.proofs.Between.{GoesOn}
+use Rattle.sx_command_snap.proofs.Places.{GaveSchedule}
 use Rattle.sx_command_snap.proofs.schedule.snap_lines.Given as goal
 
 -- the lines so far are kept, and what is left is what is written from the next line on
 abbrev pub invariant-lines : goal.invariant-lines
 invariant-lines g l =
     let d = deployed_as l.plan in
-    let first = snap_from d.names (setting g.T.Tag.mac d l.fn.timeline.sites) (images_text d.names.modules (texts_of l.images)) in record {
+    let first = snap_from d.names (setting g.T.Tag.mac d l.fn.timeline.sites) l.images in record {
       few : l.number ≤ 65537;
       counted : length l.timeline.lines + 1 ≡ l.number;
       sites : l.timeline.sites ≡ l.fn.timeline.sites;
       timeline : IsTimeline g.T.Tag.mac d l.timeline;
       begun : GoesOn g.S.Source.tells g.K.Sink.tells (command_at (g.S.Source.at l.fn.input) (g.K.Sink.at l.fn.output)) (command_at (g.S.Source.at l.input) (g.K.Sink.at l.output))
           l.fn.lines l.lines (first []) (first l.timeline.lines);
+      gave : GaveSchedule g.S.Source.tells (g.S.Source.at l.fn.input) (g.S.Source.at l.input) l.fn.lines l.lines l.number;
     }
 
 abbrev pub decreases-lines : goal.decreases-lines

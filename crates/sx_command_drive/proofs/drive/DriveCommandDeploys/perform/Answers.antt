@@ -1,9 +1,10 @@
-use Rattle.std.proofs.Common.{map, refl}
+use Rattle.std.proofs.Common.{[], inl, map, refl}
 use Rattle.sx_told.proofs.Laws.{told-stop, ends-out-of-memory, prefix-none}
 use Rattle.sx_deploy.specs.SeenDeployment.{deployed_as}
 use Rattle.sx_run.proofs.accepted.Settled.{settled}
 use Rattle.sx_world.specs.InMemory.{image_setting}
 use Rattle.sx_drive.specs.Honest.{start}
+use Rattle.sx_command_head.proofs.Given.{given_none}
 use Rattle.sx_command_drive.specs.Drive.{drive_deployed}
 use Rattle.sx_command_drive.proofs.drive.DriveCommandDeploys.perform.Goals as goal
 
@@ -24,7 +25,7 @@ returns-in-Err-clause-rest g c = λ limit m0 defined aside noted b.
     told-stop b (λ more. ends-out-of-memory _ _ _ (drive_deployed g.T.Tag.mac (deployed_as c.args.plan.now) texts more) (λ t. prefix-none _ _ _ refl) refl)
 
 pub returns-in-Ok-clause-wanted : goal.returns-in-Ok-clause-wanted
-returns-in-Ok-clause-wanted g c = λ six. tt
+returns-in-Ok-clause-wanted g c = c.drive_built.ensures.wanted
 
 pub returns-in-Err-clause-wanted : goal.returns-in-Err-clause-wanted
-returns-in-Err-clause-wanted g c = λ six. tt
+returns-in-Err-clause-wanted g c = λ six. ([], given_none _ _ _ _, inl refl)

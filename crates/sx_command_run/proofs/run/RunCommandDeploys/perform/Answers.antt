@@ -8,7 +8,7 @@ use Rattle.sx_run.specs.Setting.{Site}
 use Rattle.sx_world.specs.Standing.{Stands}
 use Rattle.sx_run.specs.State.{switched_on}
 use Rattle.sx_run.proofs.accepted.Settled.{settled}
-use Rattle.sx_command_deploy.proofs.Given.{given_none}
+use Rattle.sx_command_head.proofs.Given.{given_none}
 use Rattle.sx_command_run.specs.Run.{run_deployed}
 use Rattle.sx_command_run.proofs.run.RunCommandDeploys.perform.Goals as goal
 
@@ -31,4 +31,4 @@ returns-in-Err-clause-rest g c = λ limit m0 defined aside noted b.
     told-stop b (λ more. ends-out-of-memory _ _ _ (run_deployed assembled g.T.Tag.mac (deployed_as c.args.plan.now) texts more) (λ t. prefix-none _ _ _ refl) refl)
 
 pub returns-in-Err-clause-wanted : goal.returns-in-Err-clause-wanted
-returns-in-Err-clause-wanted g c = λ six. ([], given_none _ _ _, inl refl)
+returns-in-Err-clause-wanted g c = λ six. ([], given_none _ _ _ _, inl refl)

@@ -1,16 +1,17 @@
-use Rattle.std.proofs.Common.{List, [], map, refl, subst, sym, ap}
+use Rattle.std.proofs.Common.{List, [], inl, map, refl, subst, sym, ap}
 use Rattle.sx_told.proofs.Laws.{begun-same, told-stop, ends-out-of-memory, prefix-none}
 use Rattle.sx_deploy.specs.SeenDeployment.{deployed_as}
 use Rattle.sx_run.specs.Accepted.{setting}
 use Rattle.sx_run.specs.Law.{IsSoundSetting}
 use Rattle.sx_run.specs.Setting.{Site}
 use Rattle.sx_run.proofs.accepted.Settled.{settled}
+use Rattle.sx_command_head.proofs.Given.{given_none}
 use Rattle.sx_command_world.specs.Images.{images_text}
 use Rattle.sx_command_snap.specs.Snap.{snap_deployed, snap_from}
 use Rattle.sx_command_snap.proofs.snap.SnapCommandDeploys.perform.Goals as goal
 
-pub snap_lines-requires-clause-images : goal.snap_lines-requires-clause-images
-snap_lines-requires-clause-images g c =
+pub snap_built-requires-clause-images : goal.snap_built-requires-clause-images
+snap_built-requires-clause-images g c =
     let d = deployed_as c.args.plan.now in
     let texts = map (λ i. i.text.items) c.args.images.now in
     let P : List Site → Type 0 = λ sites. IsSoundSetting (setting g.T.Tag.mac d sites) in
@@ -22,7 +23,7 @@ returns-in-Ok-clause-rest g c = λ limit m0 defined aside noted b.
     let d = deployed_as c.args.plan.now in
     let texts = map (λ i. i.text.items) c.args.images.now in
     let set = setting mac d c.in-Ok.timeline.sites in
-    c.snap_lines.ensures limit m0 defined aside noted
+    c.snap_built.ensures.rest limit m0 defined aside noted
     (begun-same (snap_from d.names set (images_text d.names.modules texts) [])
     (λ more. ap (λ (sites : List Site). snap_from d.names (setting mac d sites) (images_text d.names.modules texts) [] more) (sym c.in-Ok.ensures.sites)) b)
 
@@ -32,7 +33,7 @@ returns-in-Err-clause-rest g c = λ limit m0 defined aside noted b.
     told-stop b (λ more. ends-out-of-memory _ _ _ (snap_deployed g.T.Tag.mac (deployed_as c.args.plan.now) texts more) (λ t. prefix-none _ _ _ refl) refl)
 
 pub returns-in-Ok-clause-wanted : goal.returns-in-Ok-clause-wanted
-returns-in-Ok-clause-wanted g c = λ six. tt
+returns-in-Ok-clause-wanted g c = c.snap_built.ensures.wanted
 
 pub returns-in-Err-clause-wanted : goal.returns-in-Err-clause-wanted
-returns-in-Err-clause-wanted g c = λ six. tt
+returns-in-Err-clause-wanted g c = λ six. ([], given_none _ _ _ _, inl refl)
