@@ -4,13 +4,13 @@ ghost use Rattle.std.specs.Prelude.{◌≡◌, ℕ, ◌-◌, ◌<◌, ◌≤◌,
 ghost use Rattle.std.specs.Prelude.{Contains, IfSome, IsTrue, None, false};
 ghost use Rattle.sx_io.specs.Reading.{newline, longest, IsPlain};
 ghost use Rattle.sx_io.specs.Streams.{SourceAt, NoReadFault, OneReadFault, OneEnd};
-ghost use Rattle.sx_io.specs.Next.{GivesHeld, Next, TakesLine, Took};
-ghost use Rattle.sx_io.specs.Parts.{Moves, TurnAnswers, TurnFaults, AskedInTurn};
-ghost use Rattle.sx_io.specs.Passing.{IsBegun, IsWithin, PassedHeld, PassedPart};
-ghost use Rattle.sx_io.specs.Passing.{PassedTurn, Passes, TakesPassed, as_read, as_turn};
+ghost use Rattle.sx_io.specs.Next.{GivesHeld, Next, Took};
+ghost use Rattle.sx_io.specs.Parts.{AskedInTurn, IsBegun, IsWithin, TakesFront, TakesHeld};
+ghost use Rattle.sx_io.specs.Parts.{TakesPart, TakesTurn, TurnFaults};
+ghost use Rattle.sx_io.specs.Passing.{Passes, as_read};
 ghost use Rattle.sx_io.specs.Passed.{longest_passed};
 
-use crate::line_parts::{Part, PassPart, Passed, move_chunk, pass_chunk};
+use crate::line_parts::{Begun, NOTHING, Part, take_chunk};
 use crate::outside::Source;
 use std::marker::Model;
 
@@ -71,18 +71,11 @@ pub enum ReaderState {
     Failed,
 }
 
-/// What one turn of reading makes of the line: an answer, or this many bytes of it.
+/// What one turn of reading makes of the line: an answer, or more of it.
 #[derive(Clone, Copy)]
 enum Turn {
     Done(LineRead),
-    More(usize),
-}
-
-/// What one turn makes of a line that is passed.
-#[derive(Clone, Copy)]
-enum PassTurn {
-    Done(LineRead),
-    More(Passed),
+    More(Begun),
 }
 
 /// How a read went: bytes are held, or the input is at its end, or the read failed.
@@ -149,42 +142,47 @@ impl Lines {
         ensures unread { Contains self.old.held newline → source.new ≡ source.old }
         ensures untouched { (self.old.state ≡ ReaderState.Open → ⊥) → source.new ≡ source.old }
     {
+        let limit = into.len();
         match self.state() {
-            ReaderState::Open => self.next_open(source, into),
+            ReaderState::Open => self.take_line(source, into, limit),
             ReaderState::AtEnd => LineRead::End,
             ReaderState::TooLong => LineRead::TooLong,
             ReaderState::Failed => LineRead::Failed,
         }
     }
 
-    /// The next line, where no last answer was given.
-    fn next_open<S: Source>(&mut self, source: &mut S, into: &mut [u8]) -> LineRead
+    /// Takes the next line, which has at most `limit` bytes, where no last answer was given: its
+    /// first bytes stand in `front`.
+    fn take_line<S: Source>(&mut self, source: &mut S, front: &mut [u8], limit: usize) -> LineRead
         requires { self.old.state ≡ ReaderState.Open }
-        ensures takes { TakesLine (length into.old) S.tells (S.at source.old) (S.at source.new)
-            self.old self.new into.new result }
+        ensures takes { TakesFront limit S.tells (S.at source.old) (S.at source.new) self.old
+            self.new front.new result }
         ensures unread { Contains self.old.held newline → source.new ≡ source.old }
+        ensures within { IsWithin limit result }
+        ensures room { length front.new ≡ length front.old }
     {
-        let mut filled = 0;
+        let mut begun = NOTHING;
         'turns: loop {
-            match self.turn(source, into, filled) {
-                Turn::Done(answer) => {
-                    let _ = &self.held;
-                    return answer;
-                }
-                Turn::More(count) => filled = count,
+            match self.turn(source, front, limit, begun) {
+                Turn::Done(answer) => return answer,
+                Turn::More(more) => begun = more,
             }
         }
     }
 
-    /// One turn: reads where nothing is held, and moves a part of the line.
-    fn turn<S: Source>(&mut self, source: &mut S, into: &mut [u8], filled: usize) -> Turn
+    /// One turn: reads where nothing is held, and takes a part of the line.
+    fn turn<S: Source>(
+        &mut self,
+        source: &mut S,
+        front: &mut [u8],
+        limit: usize,
+        begun: Begun,
+    ) -> Turn
         requires open { self.old.state ≡ ReaderState.Open }
-        requires filled { filled ≤ length into.old }
-        requires plain { IsPlain (take filled into.old) }
-        ensures turns { (got : List ℕ) × (IsTrue S.tells
-            → (S.at source.old).rest ≡ got ++ (S.at source.new).rest)
-            × TurnAnswers (length into.old) ((take filled into.old ++ self.old.held) ++ got) filled
-            result into.new self.new }
+        requires few { begun.count ≤ limit }
+        ensures turns { (line : List ℕ) → IsBegun front.old begun line → TakesTurn limit S.tells
+            (S.at source.old) (S.at source.new) line self.old.held begun.count result self.new
+            front.new }
         ensures unread { 0 < length self.old.held → source.new ≡ source.old }
         ensures end { self.new.state ≡ ReaderState.AtEnd → IsTrue S.tells
             → OneEnd (S.at source.old) (S.at source.new) }
@@ -193,40 +191,39 @@ impl Lines {
         ensures asked { IsTrue S.tells → AskedInTurn self.old.held (S.at source.old)
             (S.at source.new) }
         ensures faults { TurnFaults result (S.at source.old) (S.at source.new) }
-        ensures few { length self.new.held ≤ longest }
-        ensures room { length into.new ≡ length into.old }
+        ensures held { length self.new.held ≤ longest }
+        ensures room { length front.new ≡ length front.old }
     {
         if !self.is_empty() {
-            return self.turn_held(into, filled);
+            return self.turn_held(front, limit, begun);
         }
         match self.fill(source) {
             Filled::AtEnd => {
-                if filled == 0 {
+                if begun.count == 0 {
                     return Turn::Done(LineRead::End);
                 }
-                Turn::Done(LineRead::Text(filled))
+                Turn::Done(LineRead::Text(begun.count))
             }
             Filled::Failed => Turn::Done(LineRead::Failed),
-            Filled::Some => self.turn_held(into, filled),
+            Filled::Some => self.turn_held(front, limit, begun),
         }
     }
 
     /// One turn over what is held.
-    fn turn_held(&mut self, into: &mut [u8], filled: usize) -> Turn
+    fn turn_held(&mut self, front: &mut [u8], limit: usize, begun: Begun) -> Turn
         requires open { self.old.state ≡ ReaderState.Open }
         requires some { 0 < length self.old.held }
-        requires filled { filled ≤ length into.old }
-        requires plain { IsPlain (take filled into.old) }
-        ensures turns { TurnAnswers (length into.old) (take filled into.old ++ self.old.held) filled
-            result into.new self.new }
+        requires few { begun.count ≤ limit }
+        ensures turns { (line : List ℕ) → IsBegun front.old begun line
+            → TakesHeld limit line self.old.held begun.count result self.new front.new }
         ensures not_at_end { self.new.state ≡ ReaderState.AtEnd → ⊥ }
         ensures faults { (s0 s1 : SourceAt) → NoReadFault s0 s1 → TurnFaults result s0 s1 }
-        ensures few { length self.new.held ≤ longest }
-        ensures room { length into.new ≡ length into.old }
+        ensures held { length self.new.held ≤ longest }
+        ensures room { length front.new ≡ length front.old }
     {
-        match self.move_part(into, filled) {
+        match self.take_part(front, limit, begun) {
             Part::Whole(count) => Turn::Done(LineRead::Text(count)),
-            Part::More(count) => Turn::More(count),
+            Part::More(more) => Turn::More(more),
             Part::TooLong => {
                 self.set_too_long();
                 Turn::Done(LineRead::TooLong)
@@ -276,17 +273,16 @@ impl Lines {
         }
     }
 
-    /// Moves what is held of the line after the bytes that have come of it.
-    fn move_part(&mut self, into: &mut [u8], filled: usize) -> Part
-        requires filled { filled ≤ length into.old }
-        requires plain { IsPlain (take filled into.old) }
-        ensures moves { Moves (length into.old) (take filled into.old) self.old.held result into.new
-            self.new.held }
+    /// Takes what is held of the line after what has come of it.
+    fn take_part(&mut self, front: &mut [u8], limit: usize, begun: Begun) -> Part
+        requires few { begun.count ≤ limit }
+        ensures takes { (line : List ℕ) → IsBegun front.old begun line
+            → TakesPart limit line self.old.held result front.new self.new.held }
         ensures state { self.new.state ≡ self.old.state }
         ensures few { (length self.old.held ≤ longest) × (length self.new.held ≤ longest) }
-        ensures room { length into.new ≡ length into.old }
+        ensures room { length front.new ≡ length front.old }
     {
-        let (part, used) = move_chunk(into, filled, &self.held[self.from..self.to]);
+        let (part, used) = take_chunk(front, limit, begun, &self.held[self.from..self.to]);
         self.from += used;
         part
     }
@@ -315,7 +311,8 @@ impl Lines {
         ensures none { result ≡ None → self.new ≡ self.old }
         ensures plain { result ≡ None → IsPlain self.old.held }
     {
-        let (part, used) = move_chunk(into, 0, &self.held[self.from..self.to]);
+        let limit = into.len();
+        let (part, used) = take_chunk(into, limit, NOTHING, &self.held[self.from..self.to]);
         match part {
             Part::Whole(count) => {
                 self.from += used;
@@ -335,114 +332,11 @@ impl Lines {
         ensures untouched { (self.old.state ≡ ReaderState.Open → ⊥) → source.new ≡ source.old }
     {
         match self.state() {
-            ReaderState::Open => pass_read(self.pass_open(source, front)),
+            ReaderState::Open => pass_read(self.take_line(source, front, LONGEST_PASSED)),
             ReaderState::AtEnd => PassRead::End,
             ReaderState::TooLong => PassRead::TooLong,
             ReaderState::Failed => PassRead::Failed,
         }
-    }
-
-    /// Passes the next line, where no last answer was given.
-    fn pass_open<S: Source>(&mut self, source: &mut S, front: &mut [u8]) -> LineRead
-        requires open { self.old.state ≡ ReaderState.Open }
-        requires room { length front.old ≡ 8 }
-        ensures takes { TakesPassed S.tells (S.at source.old) (S.at source.new) self.old self.new
-            front.new result }
-        ensures unread { Contains self.old.held newline → source.new ≡ source.old }
-        ensures within { IsWithin longest_passed result }
-    {
-        let mut passed = Passed {
-            count: 0,
-            ends_in_return: false,
-        };
-        'turns: loop {
-            match self.pass_turn(source, front, passed) {
-                PassTurn::Done(answer) => {
-                    let _ = &self.from;
-                    return answer;
-                }
-                PassTurn::More(more) => passed = more,
-            }
-        }
-    }
-
-    /// One turn: reads where nothing is held, and passes a part of the line.
-    fn pass_turn<S: Source>(&mut self, source: &mut S, front: &mut [u8], passed: Passed) -> PassTurn
-        requires open { self.old.state ≡ ReaderState.Open }
-        requires few { passed.count ≤ longest_passed }
-        requires room { length front.old ≡ 8 }
-        ensures turns { (begun : List ℕ) → IsBegun front.old passed begun
-            → PassedTurn longest_passed S.tells (S.at source.old) (S.at source.new) begun
-            self.old.held passed.count result self.new front.new }
-        ensures unread { 0 < length self.old.held → source.new ≡ source.old }
-        ensures end { self.new.state ≡ ReaderState.AtEnd → IsTrue S.tells
-            → OneEnd (S.at source.old) (S.at source.new) }
-        ensures no_end { (self.new.state ≡ ReaderState.AtEnd → ⊥) → IsTrue S.tells
-            → (S.at source.new).ends ≡ (S.at source.old).ends }
-        ensures asked { IsTrue S.tells → AskedInTurn self.old.held (S.at source.old)
-            (S.at source.new) }
-        ensures faults { TurnFaults (as_turn result) (S.at source.old) (S.at source.new) }
-        ensures held { length self.new.held ≤ longest }
-        ensures room { length front.new ≡ 8 }
-    {
-        if !self.is_empty() {
-            return self.pass_held(front, passed);
-        }
-        match self.fill(source) {
-            Filled::AtEnd => {
-                if passed.count == 0 {
-                    return PassTurn::Done(LineRead::End);
-                }
-                PassTurn::Done(LineRead::Text(passed.count))
-            }
-            Filled::Failed => PassTurn::Done(LineRead::Failed),
-            Filled::Some => self.pass_held(front, passed),
-        }
-    }
-
-    /// One turn over what is held.
-    fn pass_held(&mut self, front: &mut [u8], passed: Passed) -> PassTurn
-        requires open { self.old.state ≡ ReaderState.Open }
-        requires some { 0 < length self.old.held }
-        requires few { passed.count ≤ longest_passed }
-        requires room { length front.old ≡ 8 }
-        ensures turns { (begun : List ℕ) → IsBegun front.old passed begun
-            → PassedHeld longest_passed begun self.old.held passed.count result self.new
-            front.new }
-        ensures not_at_end { self.new.state ≡ ReaderState.AtEnd → ⊥ }
-        ensures faults { (s0 s1 : SourceAt) → NoReadFault s0 s1
-            → TurnFaults (as_turn result) s0 s1 }
-        ensures held { length self.new.held ≤ longest }
-        ensures room { length front.new ≡ 8 }
-    {
-        match self.pass_part(front, passed) {
-            PassPart::Whole(count) => PassTurn::Done(LineRead::Text(count)),
-            PassPart::More(more) => PassTurn::More(more),
-            PassPart::TooLong => {
-                self.set_too_long();
-                PassTurn::Done(LineRead::TooLong)
-            }
-        }
-    }
-
-    /// Passes what is held of the line after the bytes that have come of it.
-    fn pass_part(&mut self, front: &mut [u8], passed: Passed) -> PassPart
-        requires few { passed.count ≤ longest_passed }
-        requires room { length front.old ≡ 8 }
-        ensures passes { (begun : List ℕ) → IsBegun front.old passed begun
-            → PassedPart longest_passed begun self.old.held result front.new self.new.held }
-        ensures state { self.new.state ≡ self.old.state }
-        ensures few { (length self.old.held ≤ longest) × (length self.new.held ≤ longest) }
-        ensures room { length front.new ≡ 8 }
-    {
-        let (part, used) = pass_chunk(
-            front,
-            passed,
-            LONGEST_PASSED,
-            &self.held[self.from..self.to],
-        );
-        self.from += used;
-        part
     }
 
     fn state(&self) -> ReaderState
