@@ -9,7 +9,7 @@ ghost use Rattle.sx_trace.specs.ValidNames.{are_valid};
 ghost use Rattle.sx_deploy.specs.Law.{IsSoundDeployment};
 ghost use Rattle.sx_deploy.specs.SeenDeployment.{deployed_as};
 ghost use Rattle.sx_run.specs.Accepted.{AreImages};
-ghost use Rattle.sx_world.specs.InMemory.{texts_of};
+ghost use Rattle.sx_image.specs.InMemory.{texts_of};
 ghost use Rattle.sx_command_head.specs.Given.{RanOutSince};
 ghost use Rattle.sx_command_deploy.specs.Deploy.{Behind, Wants};
 

@@ -11,7 +11,7 @@ ghost use Rattle.sx_deploy.specs.Law.{IsSoundDeployment};
 ghost use Rattle.sx_deploy.specs.SeenDeployment.{deployed_as};
 ghost use Rattle.sx_run.specs.Accepted.{setting};
 ghost use Rattle.sx_run.specs.Law.{IsSoundSetting};
-ghost use Rattle.sx_world.specs.InMemory.{texts_of};
+ghost use Rattle.sx_image.specs.InMemory.{texts_of};
 ghost use Rattle.sx_snap.specs.Checkpoints.{IsTimeline};
 ghost use Rattle.sx_command_head.specs.Given.{RanOutSince};
 ghost use Rattle.sx_command_world.specs.Images.{images_text};

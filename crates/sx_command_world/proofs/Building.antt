@@ -21,14 +21,13 @@ use Rattle.sx_deploy.specs.SeenDeployment.{deployed_as}
 use Rattle.sx_deploy.specs.declared.deployment.Deployment.{Deployment}
 use Rattle.sx_image.specs.declared.image.Image.{Image as Made}
 use Rattle.sx_image.specs.Image.{Image}
-use Rattle.sx_image.specs.InMemory.{plain}
+use Rattle.sx_image.specs.InMemory.{plain, texts_of}
 use Rattle.sx_image.specs.Realizes.{Realizes}
 use Rattle.sx_lower.specs.Lowering.{SendFew}
 use Rattle.sx_compile.specs.Compiled.{HasSections, compiled_text}
 use Rattle.sx_run.proofs.accepted.LaidSites.{laid_long, laid_at}
 use Rattle.sx_run.proofs.tie.Lists.{get_some, get_within, some_inj}
 use Rattle.sx_run.specs.Accepted.{AreByteTexts, AreImages}
-use Rattle.sx_world.specs.InMemory.{texts_of}
 use Rattle.sx_command_world.specs.Built.{AreBuilt, BuiltAt, IsBuilt, texts_from}
 use Rattle.sx_command_world.specs.Compiled.{compiled_texts}
 

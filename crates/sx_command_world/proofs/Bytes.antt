@@ -5,7 +5,7 @@ use Rattle.std.proofs.lemmas.Bool.Decides.{nat_tests}
 use Rattle.std.proofs.lemmas.List.{length-map}
 use Rattle.std.proofs.lemmas.Option.{same_Some, slice_get-map, slice_get_read, slice_get_within}
 use Rattle.sx_image.specs.declared.image.Image.{Image}
-use Rattle.sx_world.specs.InMemory.{texts_of}
+use Rattle.sx_image.specs.InMemory.{texts_of}
 
 -- each number of a list is a byte, whichever stands where it has none
 pub all_fit : (xs : List ℕ) → ((k : ℕ) → get_or xs k 0 < 256) → All (λ b. b < 256) xs

@@ -7,10 +7,9 @@ ghost use Rattle.sx_mean.specs.Ends.{ends_of};
 ghost use Rattle.sx_mean.specs.EndLaws.{senders};
 ghost use Rattle.sx_deploy.specs.Law.{IsSoundDeployment};
 ghost use Rattle.sx_deploy.specs.SeenDeployment.{deployed_as};
-ghost use Rattle.sx_image.specs.InMemory.{plain};
+ghost use Rattle.sx_image.specs.InMemory.{plain, texts_of};
 ghost use Rattle.sx_compile.specs.Compiled.{HasSections};
 ghost use Rattle.sx_run.specs.Accepted.{AreByteTexts};
-ghost use Rattle.sx_world.specs.InMemory.{texts_of};
 ghost use Rattle.sx_command_world.specs.Built.{BuiltAt, AreBuilt};
 
 use std::alloc::{AllocError, Global};

@@ -4,7 +4,7 @@ ghost use Rattle.std.specs.Prelude.{◌≡◌, ◌++◌, IfOk, OnOk, List};
 ghost use Rattle.sx_io.specs.Reading.{Answer};
 ghost use Rattle.sx_told.specs.Told.{Output, behind};
 ghost use Rattle.sx_told.specs.Parts.{DoesPart};
-ghost use Rattle.sx_world.specs.InMemory.{texts_of};
+ghost use Rattle.sx_image.specs.InMemory.{texts_of};
 ghost use Rattle.sx_command.specs.Output.{trace_line};
 ghost use Rattle.sx_command_world.specs.Images.{image_line, images_text};
 

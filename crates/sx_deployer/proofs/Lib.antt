@@ -1,6 +1,4 @@
--- Begin with RenewsAsTheModel: the deployer renews as the source does, by Raised and Firsts.
--- Granted is of one packet.
+-- Begin with Granted, the packets that are given. Raised and Firsts are of the epochs.
 pub mod Granted
 pub mod Raised
-pub mod RenewsAsTheModel
 pub mod Firsts

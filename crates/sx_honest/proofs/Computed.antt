@@ -5,7 +5,7 @@ use Rattle.sx_mean.specs.Validity.{is_valid}
 use Rattle.sx_honest.specs.Plain.{Sampling}
 use Rattle.sx_honest.specs.Course.{IsSampling, course_start, sensed, settled}
 use Rattle.sx_honest.specs.Worked.{LightingPredicted}
-use Rattle.sx_model.specs.Worked.{lighting}
+use Rattle.sx_mean.specs.Worked.{lighting}
 
 valid : is_valid lighting ≡ true
 unfolding is_valid Rattle.sx_mean.specs.Validity.is_too_large Rattle.sx_mean.specs.Validity.is_wrong Rattle.sx_mean.specs.Validity.is_misplaced

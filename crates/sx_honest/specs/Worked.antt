@@ -1,7 +1,7 @@
--- A worked run of the lighting application, which sx_model has. Nobody has to believe this file.
+-- A worked run of the lighting application, which sx_mean has. Nobody has to believe this file.
 use Rattle.std.specs.Prelude.{◌≡◌, ℕ, List, [], ◌∷◌, ◌++◌, length, Some, None}
 use Rattle.sx_lang.specs.declared.sides.Side.TheVariants.{From, To}
-use Rattle.sx_model.specs.Worked.{lighting}
+use Rattle.sx_mean.specs.Worked.{lighting}
 use Rattle.sx_honest.specs.Plain.{Sampling, plain_outputs}
 use Rattle.sx_honest.specs.Course.{Course, IsHonest, course_start, lines_so_far, played}
 use Rattle.sx_trace.specs.declared.items.Item.{Item}

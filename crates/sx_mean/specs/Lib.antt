@@ -1,6 +1,6 @@
 -- Begin with Meaning, what expressions and statements mean, and React, what a module does at an
 -- event. Application is what modules make together, Ends its connections at each module, Validity
--- when it is one; Offsets and Working lay out a private section.
+-- when it is one; Offsets and Working lay out a private section. Worked has an example.
 pub mod Places
 pub mod Sized
 pub mod Offsets
@@ -19,3 +19,4 @@ pub mod Scope
 pub mod Acts
 pub mod Words
 pub mod Variables
+pub mod Worked

@@ -6,8 +6,9 @@ use Rattle.sx_trace.specs.declared.items.Item.TheVariants.{Reset, Protect, Ask, 
 use Rattle.sx_trace.specs.declared.items.Item.TheVariants.{Open, Take, Out, Raw, Done}
 use Rattle.sx_trace.specs.declared.items.Cause.TheVariants.{Asked}
 use Rattle.sx_model.specs.State.{power_on}
+use Rattle.sx_mean.specs.Worked.{lighting}
 use Rattle.sx_model.specs.Legal.{after}
-use Rattle.sx_model.specs.Worked.{lighting, loaded, sent, taken, shown, again, renewed, dark}
+use Rattle.sx_model.specs.Worked.{loaded, sent, taken, shown, again, renewed, dark}
 
 -- each of the items is allowed in the lighting application
 abbrev pub allows : List Item → Bool

@@ -2,7 +2,7 @@
 -- believe this file.
 use Rattle.std.specs.Prelude.{◌≡◌, List, [], ◌∷◌, length}
 use Rattle.sx_sched.specs.Lines.{Line, Load, Ask, Give, Call, Take, Answer}
-use Rattle.sx_model.specs.Worked.{lighting}
+use Rattle.sx_mean.specs.Worked.{lighting}
 use Rattle.sx_setup.specs.Schedule.{setup_schedule}
 
 -- the modules 0 and 1 are at the node 0, and the module 2 at the node 1

@@ -1,6 +1,7 @@
 //! A deployer that judges answers, gives keys and renews them, with tags that are sums of bytes.
 
-ghost use Rattle.std.specs.Prelude.{◌≡◌, IfOk, length};
+ghost use Rattle.std.specs.Prelude.{◌≡◌, ◌<◌, IfOk, length};
+ghost use Rattle.sx_deployer.specs.Keeping as spec;
 
 use std::alloc::{AllocError, Global};
 use std::process::Abort;
@@ -31,7 +32,8 @@ fn target(alloc: Global) -> Result<Target, AllocError> {
 }
 
 fn deployer(alloc: Global) -> Result<Deployer, AllocError>
-    ensures { IfOk result (λ d. (length d.targets ≡ 1) × (d.state.asks ≡ 0)) }
+    ensures { IfOk result (λ d. (length d.targets ≡ 1) × (d.state.asks ≡ 0)
+        × (length (spec.target_at d 0).ends ≡ 1)) }
 {
     let mut targets = Vec::new(alloc);
     targets.push(target(alloc)?)?;
@@ -62,6 +64,7 @@ fn an_answer_is_judged(rt: HostRuntime) -> Result<(), AllocError> {
 fn renews(rt: &impl Abort, d: &mut Deployer)
     requires one { length d.old.targets ≡ 1 }
     requires new { d.old.state.asks ≡ 0 }
+    ensures { d.new.targets ≡ d.old.targets }
 {
     d.ask(&Weak, 0);
     d.answer(&Weak, 0, 0, &[0x48; 16]);
@@ -82,16 +85,38 @@ fn a_module_is_renewed(rt: HostRuntime) -> Result<(), AllocError> {
     renews(&rt, &mut d);
     has_epochs(&rt, &d, [0, 1, 0, 0]);
     has_epochs(&rt, &d.copy(rt.alloc())?, [0, 1, 0, 0]);
+    gives_attested(&rt, &d, &[(3, 1), (6, 0xF9), (37, 0xCD)]);
     Ok(())
+}
+
+/// The packet has these bytes at these places.
+fn holds(rt: &impl Abort, packet: &[u8; 38], want: &[(usize, u8)]) {
+    for (place, byte) in want {
+        assert!(rt; packet.get(*place) == Some(byte));
+    }
 }
 
 /// The set-key packet for the module's end at a boot and in an epoch has these bytes at these
 /// places.
 fn gives(rt: &impl Abort, d: &Deployer, boot: u32, epoch: u8, want: &[(usize, u8)]) {
-    let packet = d.packet(&Weak, 0, boot, UP, epoch).unwrap_or([0; 38]);
-    for (place, byte) in want {
-        assert!(rt; packet.get(*place) == Some(byte));
-    }
+    holds(
+        rt,
+        &d.packet(&Weak, 0, boot, UP, epoch).unwrap_or([0; 38]),
+        want,
+    );
+}
+
+/// The set-key packet that the attested module's end is due has these bytes at these places.
+fn gives_attested(rt: &impl Abort, d: &Deployer, want: &[(usize, u8)])
+    requires one { length d.now.targets ≡ 1 }
+    requires end { length (spec.target_at d.now 0).ends ≡ 1 }
+{
+    let packet = if d.attested(0).is_some() {
+        d.set_key(&Weak, 0, 0)
+    } else {
+        [0; 38]
+    };
+    holds(rt, &packet, want);
 }
 
 #[test]

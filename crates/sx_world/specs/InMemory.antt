@@ -1,17 +1,14 @@
 -- The settings of a deployment and of images that the program has in memory.
-use Rattle.std.specs.Prelude.{ℕ, List, map}
+use Rattle.std.specs.Prelude.{List}
 use Rattle.sx_tag.specs.Mac.{Mac}
 use Rattle.sx_deploy.specs.SeenDeployment.{deployed_as}
 use Rattle.sx_deploy.specs.declared.deployment.Deployment.{Deployment}
 use Rattle.sx_image.specs.declared.image.Image.{Image}
+use Rattle.sx_image.specs.InMemory.{texts_of}
 use Rattle.sx_run.specs.Setting.{Setting}
 use Rattle.sx_run.specs.Accepted.{setting_of}
 use Rattle.sx_observe.specs.InMemory.{setting_at}
 use Rattle.sx_world.specs.Held.{Held}
-
--- the texts of images
-abbrev pub texts_of : List Image → List (List ℕ)
-texts_of images = map (λ i. i.text.items) images
 
 -- the setting of a deployment with these images of its modules
 abbrev pub image_setting : Mac → Deployment → List Image → Setting

@@ -9,7 +9,7 @@ use Rattle.sx_mean.specs.Ends.{ends_of}
 use Rattle.sx_model.specs.Renewal as model
 use Rattle.sx_deployer.specs.Keeping.{Known, Keeping, nobody}
 use Rattle.sx_deployer.specs.Keeping as keeping
-use Rattle.sx_deployer.proofs.RenewsAsTheModel.{renews_as_the_model}
+use Rattle.sx_run.proofs.RenewsAsTheModel.{renews_as_the_model}
 use Rattle.sx_run.specs.Setting.{Site, Setting}
 use Rattle.sx_wire.specs.Headers.{ask_packet, challenge_in}
 use Rattle.sx_wire.proofs.Numbers.{low_number}

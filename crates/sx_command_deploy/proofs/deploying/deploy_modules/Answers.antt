@@ -7,7 +7,7 @@ use Rattle.sx_deploy.specs.SeenDeployment.{deployed_as}
 use Rattle.sx_stage.specs.declared.fault.DeployFault.{DeployFault}
 use Rattle.sx_image.specs.declared.image.Image.{Image}
 use Rattle.sx_run.specs.Accepted.{AreByteTexts, AreImages}
-use Rattle.sx_world.specs.InMemory.{texts_of}
+use Rattle.sx_image.specs.InMemory.{texts_of}
 use Rattle.sx_deploy.proofs.Meanings.{one_meaning}
 use Rattle.sx_command_deploy.specs.Afterwards.{found_output}
 use Rattle.sx_command_world.specs.Compiled.{compiled_texts}

@@ -1,7 +1,8 @@
 use Rattle.std.proofs.Common.{[], inl, refl}
 use Rattle.sx_told.proofs.Laws.{begun-put, told-stop}
 use Rattle.sx_deploy.specs.SeenDeployment.{deployed_as}
-use Rattle.sx_world.specs.InMemory.{image_setting, texts_of}
+use Rattle.sx_world.specs.InMemory.{image_setting}
+use Rattle.sx_image.specs.InMemory.{texts_of}
 use Rattle.sx_command_head.proofs.Given.{given_none}
 use Rattle.sx_command_drive.specs.Drive.{drive_deployed, drive_readings}
 use Rattle.sx_command_drive.proofs.drive.drive_built.Goals as goal

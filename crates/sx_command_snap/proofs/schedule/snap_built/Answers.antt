@@ -6,7 +6,7 @@ use Rattle.sx_head.specs.Head.{head_lines}
 use Rattle.sx_deploy.specs.SeenDeployment.{deployed_as}
 use Rattle.sx_deploy.specs.declared.deployment.Deployment.{Deployment}
 use Rattle.sx_run.specs.Accepted.{setting}
-use Rattle.sx_world.specs.InMemory.{texts_of}
+use Rattle.sx_image.specs.InMemory.{texts_of}
 use Rattle.sx_command_head.proofs.Given.{given_none}
 use Rattle.sx_command_world.specs.Images.{images_text}
 use Rattle.sx_command_snap.specs.Snap.{snap_from}

@@ -2,7 +2,7 @@ use Rattle.std.proofs.Common.{◌∙◌, List, length, arith, ap, subst}
 use Rattle.sx_deploy.specs.SeenDeployment.{deployed_as}
 use Rattle.sx_image.specs.declared.image.Image.{Image}
 use Rattle.sx_run.specs.Accepted.{AreByteTexts}
-use Rattle.sx_world.specs.InMemory.{texts_of}
+use Rattle.sx_image.specs.InMemory.{texts_of}
 use Rattle.sx_command_world.proofs.Building.{more_built, one_longer}
 use Rattle.sx_command_world.proofs.compiling.compile_all.Goals as goal
 

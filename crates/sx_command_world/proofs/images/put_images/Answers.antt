@@ -2,7 +2,7 @@ use Rattle.std.proofs.Common.{◌∙◌, List, ℕ, ap, subst}
 use Rattle.sx_told.specs.Told.{behind}
 use Rattle.sx_told.specs.Parts.{DoesPart}
 use Rattle.sx_trace.specs.Names.{NameLists}
-use Rattle.sx_world.specs.InMemory.{texts_of}
+use Rattle.sx_image.specs.InMemory.{texts_of}
 use Rattle.sx_command_world.specs.Images.{images_text}
 use Rattle.sx_command_world.proofs.images.put_images.Goals as goal
 

@@ -12,7 +12,7 @@ use Rattle.sx_mean.specs.declared.events.End.{End}
 use Rattle.sx_mean.specs.Ends.{ends_after}
 use Rattle.sx_model.specs.Renewal as model
 use Rattle.sx_deployer.specs.Keeping.{has_link, raised_from}
-use Rattle.sx_deployer.specs.Laws.{RenewsAsTheModel}
+use Rattle.sx_run.specs.Renewed.{RenewsAsTheModel}
 
 -- the ends of a connection and of those after it
 abbrev held : Bool → Bool → ℕ → Link → List End → List End
