@@ -2,7 +2,7 @@
 use Rattle.std.proofs.Common.{ℕ, zero, suc, ◌+◌, ◌-◌, ◌<◌, ◌≤◌, ◌==◌, ◌≡◌, ◌∙◌, inr, Bool, false, true, if◌then◌else◌, List, [], ◌∷◌, ◌++◌, length, take, drop}
 use Rattle.std.proofs.Common.{refl, ap, sym, subst, arith, length-append}
 use Rattle.std.specs.Prelude.{IsTrue, slice_index}
-use Rattle.std.proofs.lemmas.List.{append-nil, take-append-le, length-take, length-take-le}
+use Rattle.std.proofs.lemmas.List.{append-nil, take-append-le, length-take, length-take-le, nil_from_length, take_all}
 use Rattle.std.proofs.Math.Seq.{take-length}
 use Rattle.sx_io.specs.Reading.{carriage_return, longest, newline, IsPlain, without_return}
 use Rattle.sx_io.specs.Next.{Ahead, IsLineText, Next, TakesLine, Took}
@@ -37,12 +37,6 @@ take-turned (suc n) zero xs = refl
 take-turned (suc n) (suc m) [] = refl
 take-turned (suc n) (suc m) (x ∷ xs) = ap (λ (ys : List ℕ). x ∷ ys) (take-turned n m xs)
 
-take-all : (n : ℕ) (xs : List ℕ) → length xs ≤ n → take n xs ≡ xs
-take-all zero [] h = refl
-take-all zero (x ∷ xs) h = absurd (omega (arith, h))
-take-all (suc n) [] h = refl
-take-all (suc n) (x ∷ xs) h = ap (λ (ys : List ℕ). x ∷ ys) (take-all n xs (omega (arith, h)))
-
 take-over : (n : ℕ) (xs ys : List ℕ) → length xs ≤ n → take n (xs ++ ys) ≡ xs ++ take (n - length xs) ys
 take-over n [] ys h = let e : n - 0 ≡ n = omega arith in ap (λ (k : ℕ). take k ys) (sym e)
 take-over zero (x ∷ xs) ys h = absurd (omega (arith, h))
@@ -56,22 +50,22 @@ pub front_all : (old new from line : List ℕ) (at room : ℕ) → length line �
     → take (at + length from) new ≡ take at old ++ from → take (at + length from) new ≡ take room (line ++ from)
 front_all old new from line at room size old_is few new_is =
     let l = length-append line from in
-    new_is ∙ ap (λ (b : List ℕ). b ++ from) (old_is ∙ take-all room line (omega (arith, size, few))) ∙ sym (take-all room (line ++ from) (omega (arith, l, size, few)))
+    new_is ∙ ap (λ (b : List ℕ). b ++ from) (old_is ∙ take_all room line (omega (arith, size, few))) ∙ sym (take_all room (line ++ from) (omega (arith, l, size, few)))
 
 pub front_part : (old new from line : List ℕ) (at left room : ℕ) → length line ≡ at → take at old ≡ take room line → at + left ≡ room → left < length from → length new ≡ room
     → take (at + length (take left from)) new ≡ take at old ++ take left from → take (at + length from) new ≡ take room (line ++ from)
 front_part old new from line at left room size old_is full many wide new_is =
     let l : length (take left from) ≡ left = length-take-le left from (omega (arith, many)) in
     let r : room - length line ≡ left = omega (arith, size, full) in
-    take-all (at + length from) new (omega (arith, full, many, wide))
-    ∙ sym (take-all (at + length (take left from)) new (omega (arith, l, full, wide)))
-    ∙ new_is ∙ ap (λ (b : List ℕ). b ++ take left from) (old_is ∙ take-all room line (omega (arith, size, full)))
+    take_all (at + length from) new (omega (arith, full, many, wide))
+    ∙ sym (take_all (at + length (take left from)) new (omega (arith, l, full, wide)))
+    ∙ new_is ∙ ap (λ (b : List ℕ). b ++ take left from) (old_is ∙ take_all room line (omega (arith, size, full)))
     ∙ sym (take-over room line from (omega (arith, size, full)) ∙ ap (λ (k : ℕ). line ++ take k from) r)
 
 pub front_kept : (old from line : List ℕ) (at room : ℕ) → length line ≡ at → take at old ≡ take room line → room ≤ at → length old ≡ room
     → take (at + length from) old ≡ take room (line ++ from)
 front_kept old from line at room size old_is past wide =
-    take-all (at + length from) old (omega (arith, past, wide)) ∙ sym (take-all at old (omega (arith, past, wide))) ∙ old_is
+    take_all (at + length from) old (omega (arith, past, wide)) ∙ sym (take_all at old (omega (arith, past, wide))) ∙ old_is
     ∙ sym (take-append-le room line from (omega (arith, size, past)))
 
 -- the last byte of a line, after more of it has come
@@ -124,7 +118,7 @@ module _ (limit : ℕ) (front new line chunk : List ℕ) (begun : Begun) (count 
     pub part_more : count ≡ length chunk → TakesPart limit line chunk (part.More (record { count = begun.count + count; ends_in_return = ends })) new (drop count chunk)
     part_more whole =
         let c = h.count in
-        let all : take (begun.count + count) (line ++ take count chunk) ≡ line ++ take count chunk = take-all (begun.count + count) (line ++ take count chunk) (omega (arith, size)) in
+        let all : take (begun.count + count) (line ++ take count chunk) ≡ line ++ take count chunk = take_all (begun.count + count) (line ++ take count chunk) (omega (arith, size)) in
         record {
           into = line ++ take count chunk;
           moves = moves-more limit line chunk count (record { count = begun.count + count; ends_in_return = ends }) (line ++ take count chunk) h.plain plain whole (omega (arith, c)) fits all;
@@ -220,13 +214,9 @@ turn_end limit tells s0 s1 line old count new front none left is long first from
   into = [];
   got = new.held;
   from_source = from;
-  answers = (bytes_none line old new.held none left ∙ empty line (long ∙ first), left, is);
+  answers = (bytes_none line old new.held none left ∙ nil_from_length line (long ∙ first), left, is);
   fronts = tt;
 }
-  where
-    empty : (xs : List ℕ) → length xs ≡ 0 → xs ≡ []
-    empty [] e = refl
-    empty (x ∷ xs) e = absurd (omega (arith, e))
 
 pub turn_rest : (limit : ℕ) (tells : Bool) (s0 s1 : SourceAt) (line old : List ℕ) (begun : Begun) (new : Ahead) (front : List ℕ) → old ≡ [] → new.held ≡ []
     → new.state ≡ reader.AtEnd → IsBegun front begun line
@@ -234,7 +224,7 @@ pub turn_rest : (limit : ℕ) (tells : Bool) (s0 s1 : SourceAt) (line old : List
     → TakesTurn limit tells s0 s1 line old begun.count (turn.Done (read.Text begun.count)) new front
 turn_rest limit tells s0 s1 line old begun new front none left is h some few from =
     let size = h.count in
-    let all : take begun.count line ≡ line = take-all begun.count line (omega (arith, size)) in
+    let all : take begun.count line ≡ line = take_all begun.count line (omega (arith, size)) in
     record {
       into = line;
       got = new.held;
@@ -273,7 +263,7 @@ pub record SoFar (tells : Bool) (s0 s1 : SourceAt) (old held front : List ℕ) (
 
 -- nothing has come
 pub none_begun : (front : List ℕ) → IsBegun front (record { count = 0; ends_in_return = false }) []
-none_begun front = record { plain = tt; count = refl; ends = refl; first = sym (take-all (length front) [] (omega arith)) }
+none_begun front = record { plain = tt; count = refl; ends = refl; first = sym (take_all (length front) [] (omega arith)) }
 
 pub so_far_none : (tells : Bool) (s : SourceAt) (old front : List ℕ) → SoFar tells s s old old front (record { count = 0; ends_in_return = false })
 so_far_none tells s old front = record { line = []; is = none_begun front; got = []; from = λ _. refl; joined = append-nil old }
@@ -291,7 +281,7 @@ pub took_front : (limit : ℕ) (bytes into front : List ℕ) (answer : LineRead)
 took_front limit bytes into front (read.Text n) new f t =
     let small = t.0 in
     let short : length (take n into) ≤ limit = omega (arith, small, length-take n into) in
-    let same : take n front ≡ take n into = f ∙ take-all limit (take n into) short in
+    let same : take n front ≡ take n into = f ∙ take_all limit (take n into) short in
     (t.0, t.1, t.2, subst (λ (text : List ℕ). IsLineText limit t.1 text new) (sym same) t.3)
 took_front limit bytes into front read.End new f t = t
 took_front limit bytes into front read.TooLong new f t = t
