@@ -227,6 +227,7 @@ module _ (mac : Mac) (tree : ModuleTree) (ends : List End) (code : Code) (tag : 
           };
           value = b.value;
           pieces = refl;
+          unkeyed = refl;
           stack = refl;
           window = b.window;
           devices = b.devices;

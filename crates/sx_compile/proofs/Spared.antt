@@ -1,6 +1,6 @@
 -- Each operation keeps the slots but for numbers, until a key was unwrapped.
 use Rattle.std.proofs.Common.{◌≡◌, ◌≢◌, ℕ, zero, suc, ◌+◌, ◌-◌, ◌*◌, ◌/◌, ◌%◌, ◌<◌, ◌≤◌, ◌⊎◌, inl, inr, Bool, true, false, ◌&&◌, ◌||◌, ◌==◌, List, [], ◌∷◌, ◌++◌}
-use Rattle.std.proofs.Common.{length, get_or, take, Option, Some, None, Result, Ok, Err, refl, sym, ap, ◌∙◌, subst, arith}
+use Rattle.std.proofs.Common.{length, take, Option, Some, None, Result, Ok, Err, refl, sym, ◌∙◌, arith}
 use Rattle.std.specs.Prelude.{if◌then◌else◌, nat_le, nat_lt}
 use Rattle.std.proofs.lemmas.List.{length-take}
 use Rattle.std.proofs.lemmas.Bool.{and_parts, cases_lt, eqb-true, leb-true, ltb-true, or_cases, true≢false}
@@ -16,11 +16,11 @@ use Rattle.sx_machine.specs.Memory.{even, word, put_word, put_bytes, bytes_from}
 use Rattle.sx_machine.proofs.Lengths.{length-bytes_from}
 use Rattle.sx_reach.specs.Reach.{Goes, Stops}
 use Rattle.sx_invoke.specs.Marks as mark
-use Rattle.sx_invoke.specs.Marks.{Mark, HasPrefix}
+use Rattle.sx_invoke.specs.Marks.{Mark}
 use Rattle.sx_invoke.specs.Setup.{Setup}
 use Rattle.sx_invoke.specs.ModuleState.{EndState, end_state}
-use Rattle.sx_invoke.specs.Windows.{is_bad_window, read_bytes, two, write_bytes}
-use Rattle.sx_invoke.specs.Acts.{event_packet, event_header, own_window}
+use Rattle.sx_invoke.specs.Windows.{is_bad_window, read_bytes, write_bytes}
+use Rattle.sx_invoke.specs.Acts.{event_packet, own_window}
 use Rattle.sx_ir.specs.declared.ir.Ir.{Ir}
 use Rattle.sx_ir.specs.declared.ir.Ir.TheVariants as ir
 use Rattle.sx_ir.specs.declared.ir.IrOp.{IrOp}
@@ -29,7 +29,7 @@ use Rattle.sx_ir.specs.Conf.{Conf, Violates}
 use Rattle.sx_ir.specs.Meaning as m
 use Rattle.sx_ir.specs.Meaning.{OperationResult, saved, do_at, do_op, is_key_mark, has_key_mark, keeps_slots, names_no_key, next, when, on_top, pushed, pieces, spares_slots}
 use Rattle.sx_ir.specs.Sound.{is_even, is_sound_op, may_change}
-use Rattle.sx_ir.proofs.Shown.{low_spared, number_spared}
+use Rattle.sx_ir.proofs.Shown.{number_spared}
 use Rattle.sx_stub.proofs.Mem.{get-put_other, get-put_bytes_other}
 use Rattle.sx_lists.specs.Truth.{truth}
 use Rattle.sx_tmpl.specs.Unseen.{SameSlots}

@@ -1,7 +1,8 @@
 //! What holds of compiled modules. Each law is a function that does nothing: its contract is the
 //! law.
 
-ghost use Rattle.sx_compile.specs.Laws.{CompiledRealizes, CompiledShowsNoKey, FewPieces, ZerosInitial};
+ghost use Rattle.sx_compile.specs.Laws.{CompiledRealizes, CompiledShowsNoKey};
+ghost use Rattle.sx_compile.specs.Laws.{FewPieces, ZerosInitial};
 
 /// The image of a module realizes it.
 pub fn compiled_realizes()

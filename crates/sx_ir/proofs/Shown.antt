@@ -1,8 +1,9 @@
 -- Places that hold no key of the module's ends, and those that are in no slot.
-use Rattle.std.proofs.Common.{◌≡◌, ℕ, ◌+◌, ◌-◌, ◌*◌, ◌%◌, ◌<◌, ◌≤◌, true, nat_le, nat_lt, arith}
-use Rattle.std.specs.Prelude.{◌==◌, ◌||◌, ◌&&◌, not}
-use Rattle.std.proofs.lemmas.Bool.{and_from, eq-eqb, le-leb, lt-ltb, ne_eqb, not_from_false, or_left, or_right}
-use Rattle.sx_ir.specs.Meaning.{is_body_place, is_key_place, is_shown, is_shown_element, spares_slots}
+use Rattle.std.proofs.Common.{◌≡◌, ℕ, ◌+◌, ◌-◌, ◌*◌, ◌%◌, ◌<◌, ◌≤◌, Bool, true, false, List, [], ◌∷◌, ◌++◌, nat_le, nat_lt, ap, arith}
+use Rattle.std.specs.Prelude.{◌==◌, ◌||◌, not}
+use Rattle.std.proofs.lemmas.Bool.{and_from, eq-eqb, le-leb, lt-ltb, ne_eqb, not_from_false, or_from, or_left, or_parts, or_right}
+use Rattle.sx_ir.specs.Meaning.{has_key_mark, is_body_place, is_key_mark, is_key_place, is_shown, is_shown_element, spares_slots}
+use Rattle.sx_invoke.specs.Marks.{Mark}
 
 -- behind the copied packet's plain body, and before the key of the first slot
 pub middle_shown : (ends o n : ℕ) → 72 ≤ o → o + n ≤ 520 → is_shown ends o n ≡ true
@@ -50,3 +51,10 @@ pub number_spared : (ends k : ℕ) → spares_slots ends (512 + 24 * k + 2) 2 �
 number_spared ends k =
     let o = 512 + 24 * k + 2 in
     or_right (nat_le (o + 2) 512) _ (or_right (nat_le (512 + 24 * ends) o) _ (and_from _ _ (eq-eqb ((o - 512) % 24) 2 (omega arith)) (le-leb 2 2 (omega arith))))
+
+-- marks that no key follows
+pub unkeyed_more : (marks : List Mark) (m : Mark) → has_key_mark marks ≡ false → is_key_mark m ≡ false → has_key_mark (marks ++ m ∷ []) ≡ false
+unkeyed_more [] m e none = ap (λ (b : Bool). b || false) none
+unkeyed_more (x ∷ marks) m e none =
+    let both = or_parts (is_key_mark x) (has_key_mark marks) e in
+    or_from (is_key_mark x) (has_key_mark (marks ++ m ∷ [])) both.0 (unkeyed_more marks m both.1 none)

@@ -19,7 +19,7 @@ use Rattle.sx_invoke.specs.Acts.{handled}
 use Rattle.sx_ir.specs.declared.ir.Ir.{Ir}
 use Rattle.sx_ir.specs.declared.ir.Ir.TheVariants as ir
 use Rattle.sx_ir.specs.Conf.{Conf}
-use Rattle.sx_ir.specs.Meaning.{OperationResult, saved, pieces, CodeReaches}
+use Rattle.sx_ir.specs.Meaning.{OperationResult, saved, pieces, CodeReaches, has_key_mark}
 
 -- the configuration stands for this progress of this call
 pub record Represents (s : Setup) (call : Call) (p : Progress) (c : Conf) : Type 0 where
@@ -54,13 +54,15 @@ DoesCourse s call handle given code course at n c =
     CodeReaches s handle given code (CourseBreaks course)
     (λ t. CourseGoesOn course (λ p. Represents s call p t × at t)) n c
 
--- where a handler may begin: the event's value is in its place, no piece was made, the stack is
--- empty, the out-window is one that a caller may give, and the module's devices are there
+-- where a handler may begin: the event's value is in its place, no piece was made and no key
+-- unwrapped, the stack is empty, the out-window is one that a caller may give, and the module's
+-- devices are there
 pub record HandlerBegins (s : Setup) (call : Call) (e : SourceEvent) (p : Progress)
     (c : Conf) : Type 0 where
   pub represents : Represents s call p c
   pub value : word c.priv event_at ≡ value_of e
   pub pieces : p.pieces ≡ []
+  pub unkeyed : has_key_mark c.marks ≡ false
   pub stack : c.stack ≡ []
   pub window : is_bad_window s call.output out_window_size ≡ false
   pub devices : HasDevices p.devices (declared_kind s.tree.decls) s.section.layout

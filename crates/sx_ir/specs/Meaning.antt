@@ -294,7 +294,7 @@ do_op s handle (ir.Handler h) c = handle h (record c { priv = put_word c.priv wo
 do_op s handle ir.Leave c = stuck
 
 -- None of n bytes from an offset on may be a key's, where there are this many ends: neither in the
--- copied packet's plain body nor in the key of a slot, which is all of a slot but its first 8 bytes.
+-- copied packet's plain body nor in the key of a slot, which is all of it but the first 8 bytes.
 abbrev pub is_shown : ℕ → ℕ → ℕ → Bool
 is_shown ends o n =
     (nat_le (o + n) working.plain_at || nat_le (working.plain_at + key_size) o)
@@ -314,6 +314,10 @@ is_key_place ends k = (k == 0) || (nat_le (offsets.end_key_at 0) k
 abbrev pub is_body_place : ℕ → ℕ → ℕ → Bool
 is_body_place k b bn = not (k == 0) || ((b == working.plain_at) && nat_le bn key_size)
 
+-- a wrap under the own key has no body: its cipher would differ where the keys do
+abbrev pub is_sealed_body : ℕ → ℕ → Bool
+is_sealed_body k bn = not (k == 0) || (bn == 0)
+
 -- An operation, with this stack, names no byte that may be a key's but as the key of a wrap or an
 -- unwrap, where there are this many ends.
 abbrev pub names_no_key : ℕ → Ir → List ℕ → Bool
@@ -324,7 +328,8 @@ names_no_key ends (ir.StoreAt o n) (v ∷ i ∷ rest) = is_shown_element ends o 
 names_no_key ends (ir.Packet k) stack = nat_lt k ends
 names_no_key ends (ir.CopyOut n o) stack = is_shown ends o n
 names_no_key ends (ir.Seal k h hn b bn) stack =
-    is_key_place ends k && (is_shown ends h hn && is_shown ends b bn)
+    is_key_place ends k
+    && (is_sealed_body k bn && (is_shown ends h hn && is_shown ends b bn))
 names_no_key ends (ir.Open k h hn b bn) stack =
     is_key_place ends k && (is_shown ends h (hn + bn + tag_size) && is_body_place k b bn)
 names_no_key ends (ir.SetEnd k) stack = nat_lt k ends
@@ -353,11 +358,12 @@ is_open_slot priv k = not (word priv (k - 4) == 0)
 abbrev pub is_key_kept : Conf → ℕ → Bool
 is_key_kept c k = (k == 0) || (is_open_slot c.priv k && not (has_key_mark c.marks))
 
--- An operation writes no slot but its number, or opens it after a key was unwrapped; and it
--- unwraps under the key of a slot that is open and as it was at the call.
+-- An operation writes no slot but its number, or opens it after a key was unwrapped; and it wraps
+-- and unwraps under the key of a slot that is open and as it was at the call.
 abbrev pub keeps_slots : ℕ → Ir → Conf → Bool
 keeps_slots ends (ir.Store o) c = spares_slots ends o 2
 keeps_slots ends (ir.StoreAt o n) c = spares_slots ends o (2 * n)
+keeps_slots ends (ir.Packet k) c = not (has_key_mark c.marks)
 keeps_slots ends (ir.CopyIn n o) c = spares_slots ends o n
 keeps_slots ends (ir.Seal k h hn b bn) c =
     (k == 0) && spares_slots ends (h + hn) (bn + tag_size)

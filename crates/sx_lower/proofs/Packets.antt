@@ -2,7 +2,7 @@
 use Rattle.std.proofs.Common.{◌≡◌, ◌≢◌, ℕ, ◌+◌, ◌*◌, ◌<◌, ◌≤◌, Bool, true, false, ◌&&◌, not, if◌then◌else◌, List, [], ◌∷◌, ◌++◌, length, Some, nat_lt}
 use Rattle.std.proofs.Common.{nat_le, refl, sym, ap, ◌∙◌, subst, arith, length-append}
 use Rattle.std.specs.Prelude.{slice_get, Result, Ok, Err}
-use Rattle.std.proofs.lemmas.Bool.{le-leb, lt-ltb, ltb-true, and_parts}
+use Rattle.std.proofs.lemmas.Bool.{and_from, le-leb, lt-ltb, ltb-true, not_from_false, and_parts}
 use Rattle.std.proofs.lemmas.Bool.Decides.{nat_tests}
 use Rattle.sx_lang.specs.declared.tree.Decl.{Decl}
 use Rattle.sx_lang.specs.Sizes.{module_data_size}
@@ -26,13 +26,14 @@ use Rattle.sx_mean.specs.Ends.{is_sending}
 use Rattle.sx_mean.specs.EndLaws.{senders}
 use Rattle.sx_mean.proofs.Ends.{senders-cons}
 use Rattle.sx_ir.specs.Conf.{Conf}
-use Rattle.sx_ir.specs.Meaning.{OperationResult, do_at, send_open, copied_out, packed, sealed_event, has_out_window, pieces, saved, when}
+use Rattle.sx_ir.specs.Meaning.{OperationResult, do_at, has_key_mark, send_open, copied_out, packed, sealed_event, has_out_window, pieces, saved, when}
 use Rattle.sx_ir.specs.declared.ir.Ir.{Ir}
 use Rattle.sx_ir.specs.declared.ir.Ir.TheVariants as ir
 use Rattle.sx_lower.specs.Lowered.{packets_code}
 use Rattle.sx_lower.proofs.Bytes.{word-put_same, word-put_other}
 use Rattle.sx_lower.proofs.Slots.{end_among, ends_number, ends_other}
 use Rattle.sx_lower.proofs.Holds.{Holds, holds_other}
+use Rattle.sx_ir.proofs.Shown.{unkeyed_more}
 use Rattle.sx_lower.proofs.Run.{HasAt, at, do_one, do_last, passed, weaker, Comes_to}
 use Rattle.sx_machine.proofs.Lengths.{length-put_word}
 
@@ -49,6 +50,7 @@ pub record Shows (s : Setup) (call : Call) (p : Progress) (priv mem : List ℕ) 
   pub output : word priv (saved_at 14) ≡ call.output
   pub back : word priv (saved_at 15) ≡ call.back
   pub told : 24 * length p.pieces ≤ made_bytes p.marks
+  pub unkeyed : has_key_mark marks ≡ false
 
 -- a write that meets neither what an invocation keeps nor the ends
 pub shows_other : (s : Setup) (call : Call) (p : Progress) (priv mem : List ℕ) (devices : List Window) (marks : List Mark) (o v : ℕ) → ((b : ℕ) → 4 ≤ b → b < 16 → even b ≢ even o)
@@ -65,6 +67,7 @@ shows_other s call p priv mem devices marks o v low slots h = record {
   output = word-put_other priv o v 10 (low 10 (omega arith) (omega arith)) ∙ h.output;
   back = word-put_other priv o v 12 (low 12 (omega arith) (omega arith)) ∙ h.back;
   told = h.told;
+  unkeyed = h.unkeyed;
 }
 
 -- the progress after a packet, but for its copy
@@ -122,6 +125,7 @@ module _ (s : Setup) (call : Call) (ds : List Decl) (names : List (List ℕ)) (s
         output = word-put_other one pieces_at n 10 (omega arith) ∙ same_word 10 (omega arith) ∙ h.output;
         back = word-put_other one pieces_at n 12 (omega arith) ∙ same_word 12 (omega arith) ∙ h.back;
         told = omega (arith, h.told, length-append p.pieces (event_packet s e v ∷ []), made_more p.marks (Wrapped (event_header e) (two v) false));
+        unkeyed = unkeyed_more marks (Wrapped (event_header e) (two v) false) h.unkeyed refl;
       }
 
   packed_holds : (priv : List ℕ) (k : ℕ) → k < length s.ends → (end_state priv k).number < 65535 → word priv pieces_at < 65535 → Holds ds (length s.ends) names st priv
@@ -164,7 +168,7 @@ module _ (s : Setup) (handle : ℕ → Conf → OperationResult) (given : ℕ �
       by_open false shut is =
           let e = end_state c.priv k in
           let stays : do_at s handle (Some (ir.Packet k)) (at p (v ∷ stack) c) ≡ Goes (at (p + 1) (v ∷ stack) c) =
-          passed s handle given code B _ _ (lt-ltb k (length s.ends) inside)
+          passed s handle given code B _ _ (and_from _ _ (not_from_false (has_key_mark c.marks) shown.unkeyed) (lt-ltb k (length s.ends) inside))
           ∙ ap (λ b. when b (if e.is_open && nat_lt e.number 65535 then send_open s (at p (v ∷ stack) c) k v e else Goes (at (p + 1) (v ∷ stack) c))) (has_window c progress shown)
           ∙ ap (λ b. if b then send_open s (at p (v ∷ stack) c) k v e else Goes (at (p + 1) (v ∷ stack) c)) shut in
           do_one s handle given code B Q (ir.Packet k) (at p (v ∷ stack) c) (at (p + 1) (v ∷ stack) c) m n has stays (omega (arith, le))
@@ -176,7 +180,7 @@ module _ (s : Setup) (handle : ℕ → Conf → OperationResult) (given : ℕ �
           let small = ltb-true e.number 65535 (and_parts e.is_open (nat_lt e.number 65535) open_).1 in
           let does : do_at s handle (Some (ir.Packet k)) (at p (v ∷ stack) c) ≡ copied_out (write_bytes s c.devices c.mem (saved c 14 + 24 * pieces c) (event_packet s e v))
           (sealed_event (at p (v ∷ stack) c) e v) (packed (sealed_event (at p (v ∷ stack) c) e v) k e) =
-          passed s handle given code B _ _ (lt-ltb k (length s.ends) inside)
+          passed s handle given code B _ _ (and_from _ _ (not_from_false (has_key_mark c.marks) shown.unkeyed) (lt-ltb k (length s.ends) inside))
           ∙ ap (λ b. when b (if e.is_open && nat_lt e.number 65535 then send_open s (at p (v ∷ stack) c) k v e else Goes (at (p + 1) (v ∷ stack) c))) (has_window c progress shown)
           ∙ ap (λ b. if b then send_open s (at p (v ∷ stack) c) k v e else Goes (at (p + 1) (v ∷ stack) c)) open_
           ∙ ap (λ b. when b (copied_out (write_bytes s c.devices c.mem (saved c 14 + 24 * pieces c) (event_packet s e v)) (sealed_event (at p (v ∷ stack) c) e v)

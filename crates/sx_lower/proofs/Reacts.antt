@@ -207,6 +207,7 @@ module _ (s : Setup) (handle : ℕ → Conf → OperationResult) (given : ℕ �
         output = r.output;
         back = r.back;
         told = let none = ap length b.pieces in omega (arith, none);
+        unkeyed = b.unkeyed;
       } in
       let tied : Tied s call p0 c.devices (h.param ∷ []) (start h v p.state.cells) c2.priv c2.mem c2.devices c2.marks = record {
         holds = holds_define ds n [] st c.priv holds h.param v small (omega arith);

@@ -47,7 +47,7 @@ use Rattle.sx_mean.specs.Acts.{AddsActs}
 use Rattle.sx_mean.proofs.ActsGrow.{grows_on, assign_stays, element_stays, times_grow, block_grows}
 use Rattle.sx_mean.proofs.Scope.{length-names}
 use Rattle.sx_lower.proofs.Holds.{Holds, value_word, holds_turns, holds_define, holds_assign_local, holds_assign_cell, holds_element, holds_forget}
-use Rattle.sx_ir.proofs.Shown.{cell_shown, cell_spared, element_shown, low_spared, middle_shown}
+use Rattle.sx_ir.proofs.Shown.{cell_shown, cell_spared, element_shown, low_spared, middle_shown, unkeyed_more}
 use Rattle.sx_lower.proofs.Run.{HasAt, has_front, has_back, at, do_one, then_so, after, weaker, to, room, passed, Comes_to, expression_reach}
 use Rattle.sx_invoke.proofs.PiecesMarked.{made_more}
 use Rattle.sx_lower.proofs.Packets.{Shows, shows_other, packets_reach}
@@ -313,6 +313,7 @@ module _ (s : Setup) (handle : ℕ → Conf → OperationResult) (given : ℕ
             output = t.shown.output;
             back = t.shown.back;
             told = omega (arith, t.shown.told, made_more t.progress.marks (Actuated device.device v));
+            unkeyed = unkeyed_more c.marks (Actuated device.device v) t.shown.unkeyed refl;
           };
           same = t.same;
         };

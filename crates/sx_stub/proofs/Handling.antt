@@ -100,6 +100,7 @@ module _ (s : Setup) (call : Call) (handle : ℕ → Conf → OperationResult) (
         shows = shows_at s call p c q [] ready.shows;
         value = ready.value;
         pieces = ready.pieces;
+        unkeyed = ready.unkeyed;
         stack = refl;
         back = ready.back;
         window = ready.window;

@@ -155,6 +155,7 @@ module _ (s : Setup) (call : Call) (handle : ℕ → Conf → OperationResult) (
         shows = shows5;
         value = word-put_other c.priv (end_at j + 2) v 2 (omega arith) refl (omega arith) ∙ value;
         pieces = none;
+        unkeyed = ap has_key_mark shows.marks ∙ ap (λ (l : List mark.Mark). has_key_mark (l ++ m ∷ [])) fresh;
         stack = refl;
         back = back;
         window = outside;

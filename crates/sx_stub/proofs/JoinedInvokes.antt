@@ -70,6 +70,7 @@ module _ (s : Setup) (code : List Ir) (parts : List (ℕ × ℕ)) where
         };
         value = word-put_other c.priv 4 0 2 refl refl (omega arith) ∙ ready.value;
         pieces = ready.pieces;
+        unkeyed = ready.unkeyed;
         stack = ready.stack;
         window = ready.window;
         devices = ready.devices;

@@ -24,7 +24,7 @@ use Rattle.sx_invoke.specs.Acts.{handled, own_window}
 use Rattle.sx_invoke.specs.Entries.{sample, sample_of, sample_read}
 use Rattle.sx_invoke.specs.Devices.{HasDevices, Drives}
 use Rattle.sx_ir.specs.Conf.{Conf}
-use Rattle.sx_ir.specs.Meaning.{OperationResult, do_op, sense, sensor_read, pushed}
+use Rattle.sx_ir.specs.Meaning.{OperationResult, do_op, has_key_mark, sense, sensor_read, pushed}
 use Rattle.sx_ir.specs.declared.ir.Ir.{Ir}
 use Rattle.sx_ir.specs.declared.ir.Ir.TheVariants as ir
 use Rattle.sx_ir.specs.declared.ir.IrOp.TheVariants as op
@@ -79,7 +79,7 @@ device_cleared ws a d w h =
 module _ (s : Setup) (call : Call) (handle : ℕ → Conf → OperationResult) (given : ℕ
     → ℕ) (code : List Ir) (p : Progress) (c : Conf) (shows : ShowsCall s call p c) (none : p.pieces ≡ []) (back : c.back ≡ None) (outside : is_bad_window s call.output out_window_size ≡ false)
     (sensor : declared_kind s.tree.decls ≡ Some Sensor) (drives : Drives p.devices kind.Sensor s.section.layout) (samples : HaveSamples p.devices) (cost : ℕ)
-    (does : HandlersDo s handle given code cost) where
+    (does : HandlersDo s handle given code cost) (fresh : p.marks ≡ []) where
   abbrev dev : ℕ
   dev = drives.device
 
@@ -170,6 +170,7 @@ module _ (s : Setup) (call : Call) (handle : ℕ → Conf → OperationResult) (
             shows = shows2;
             value = word-put_same c1.priv 2 v refl (omega (arith, size1));
             pieces = none;
+            unkeyed = ap (λ (l : List Mark). has_key_mark (l ++ m ∷ [])) (shows.marks ∙ fresh);
             stack = refl;
             back = back;
             window =

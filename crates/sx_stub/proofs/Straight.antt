@@ -177,6 +177,7 @@ module _ (s : Setup) (handle : ℕ → Conf → OperationResult) where
   pure_keeps : (i : Ir) (c : Conf) (st : List ℕ) → pure_op s c.priv i c.stack ≡ Some st → keeps_slots (length s.ends) i c ≡ true
   pure_keeps (ir.Store o) c st h = absurd (none-some st h)
   pure_keeps (ir.StoreAt o n) c st h = absurd (none-some st h)
+  pure_keeps (ir.Packet k) c st h = absurd (none-some st h)
   pure_keeps (ir.CopyIn n o) c st h = absurd (none-some st h)
   pure_keeps (ir.Seal k x hn b bn) c st h = absurd (none-some st h)
   pure_keeps (ir.Open k x hn b bn) c st h = absurd (none-some st h)

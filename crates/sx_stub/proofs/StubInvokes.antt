@@ -125,7 +125,7 @@ module _ (s : Setup) (call : Call) (p : Progress) (handle : ℕ → Conf → Ope
       let three : call.entry ≡ 3 = three_left call.entry (below_four call.entry parts.0) (eqb-false call.entry 0 n0) (eqb-false call.entry 1 n1) (eqb-false call.entry 2 n2) in
       let sensor = sensor_kind (declared_kind s.tree.decls) (and_not (call.entry == 3) (is_sensor_driver (declared_kind s.tree.decls)) parts.1 (eq-eqb call.entry 3 three)) in
       let drives : Drives p.devices kind.Sensor s.section.layout = subst (λ (x : Option DeviceKind). HasDevices p.devices x s.section.layout) sensor b.devices in
-      sample_does s call handle given code p c b.shows b.pieces b.back outside sensor drives b.samples cost does 39 (cost + 2780) (at_front code 39 (sample_code s.tree 39) l5 a4) (omega arith))))
+      sample_does s call handle given code p c b.shows b.pieces b.back outside sensor drives b.samples cost does b.unmarked 39 (cost + 2780) (at_front code 39 (sample_code s.tree 39) l5 a4) (omega arith))))
     where
       three_left : (n : ℕ) → n ≤ 3 → (n ≡ 0 → ⊥) → (n ≡ 1 → ⊥) → (n ≡ 2 → ⊥) → n ≡ 3
       three_left n le a b c = omega (arith, le, a, b, c)

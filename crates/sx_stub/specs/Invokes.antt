@@ -24,7 +24,7 @@ use Rattle.sx_invoke.specs.Devices.{HasDevices}
 use Rattle.sx_ir.specs.declared.ir.Ir.{Ir}
 use Rattle.sx_ir.specs.declared.ir.Ir.TheVariants as ir
 use Rattle.sx_ir.specs.Conf.{Conf}
-use Rattle.sx_ir.specs.Meaning.{OperationResult, saved, CodeReaches, Leaving}
+use Rattle.sx_ir.specs.Meaning.{OperationResult, saved, CodeReaches, Leaving, has_key_mark}
 use Rattle.sx_ir.specs.Invoking.{DoesCourse}
 use Rattle.sx_stub.specs.Stub.{stub_code}
 
@@ -76,14 +76,15 @@ abbrev pub Invokes : Setup → Call → (ℕ → Conf → OperationResult) → (
 Invokes s call handle given code result n c =
     CodeReaches s handle given code (EndsSo result) (LeavesSo s call code result) n c
 
--- Where the operation `Handler` may stand: the event's value is in its place, no piece was made,
--- the stack is empty, the out-window is one that a caller may give, and the module's devices are
--- there.
+-- Where the operation `Handler` may stand: the event's value is in its place, no piece was made and
+-- no key unwrapped, the stack is empty, the out-window is one that a caller may give, and the
+-- module's devices are there.
 pub record Ready (s : Setup) (call : Call) (e : SourceEvent) (p : Progress) (c : Conf) : Type
     0 where
   pub shows : ShowsCall s call p c
   pub value : word c.priv event_at ≡ value_of e
   pub pieces : p.pieces ≡ []
+  pub unkeyed : has_key_mark c.marks ≡ false
   pub stack : c.stack ≡ []
   pub back : c.back ≡ None
   pub window : is_bad_window s call.output out_window_size ≡ false

@@ -26,7 +26,8 @@ use Rattle.sx_ir.specs.Conf.{Conf, Violates}
 use Rattle.sx_ir.specs.declared.ir.Code.{Code}
 use Rattle.sx_ir.specs.declared.ir.Ir.{Ir}
 use Rattle.sx_ir.specs.declared.ir.Ir.TheVariants as ir
-use Rattle.sx_ir.specs.Meaning.{has_key_mark, Leaving, no_count, op_count, op_step, part_from, saved}
+use Rattle.sx_ir.specs.Meaning.{has_key_mark, Leaving, no_count, op_count, op_step, part_from}
+use Rattle.sx_ir.specs.Meaning.{saved}
 use Rattle.sx_tmpl.specs.Shows.{Stood}
 use Rattle.sx_tmpl.specs.Running.{fixed_at}
 use Rattle.sx_tmpl.specs.Text.{addresses}
@@ -69,8 +70,8 @@ ReturnsBehind ops (Some p) = (q : ℕ) × (i : Ir) × (p ≡ q + 1) × (slice_ge
 -- What holds of a configuration in a run for this call whose marks are `all`: the out-window is the
 -- caller's, the marks so far are a prefix, the stack has room for return addresses, a sensor's
 -- value is one, and slots are as in this private section until a key is unwrapped.
-pub record IsRegular (ends : ℕ) (first : List ℕ) (ops : List Ir) (call : Call) (all : List Mark) (c : Conf)
-    : Type 0 where
+pub record IsRegular (ends : ℕ) (first : List ℕ) (ops : List Ir) (call : Call) (all : List Mark)
+    (c : Conf) : Type 0 where
   pub window : saved c output_register ≡ call.output
   pub marks : HasPrefix all c.marks
   pub room : length c.stack ≤ stack_words

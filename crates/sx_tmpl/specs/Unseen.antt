@@ -11,7 +11,6 @@ use Rattle.sx_mean.specs.Working.{plain_at}
 use Rattle.sx_rules.specs.Access.{in_private}
 use Rattle.sx_image.specs.Image.{private_bytes}
 use Rattle.sx_image.specs.Watched.{Watched}
-use Rattle.sx_invoke.specs.Marks.{Mark}
 use Rattle.sx_machine.specs.Memory.{bytes_from, even, word}
 use Rattle.sx_machine.specs.Plan.{Plan, Done, Tell, Stop, Fetch, Load, Store, Need, Writable, Bytes}
 use Rattle.sx_machine.specs.Plan.{Put}
@@ -21,7 +20,6 @@ use Rattle.sx_machine.specs.Step.{is_module_word, pc_of, start}
 use Rattle.sx_invoke.specs.Protocol.{key_size}
 use Rattle.sx_invoke.specs.Pieces.{tag_size}
 use Rattle.sx_invoke.specs.Setup.{Setup}
-use Rattle.sx_ir.specs.Meaning.{has_key_mark}
 use Rattle.sx_ir.specs.declared.ir.Ir.{Ir}
 use Rattle.sx_ir.specs.declared.ir.Ir.TheVariants as ir
 
@@ -83,21 +81,18 @@ pub record WasOpen (s : Setup) (entered : List ℕ) (k : ℕ) (bytes : List ℕ)
   pub key : bytes_from (private_bytes s.section.layout entered) (end_key_at k) key_size
       ≡ bytes
 
--- The key is that of an end as the module was entered, or a key was unwrapped since.
-abbrev pub IsKeptKey : Setup → List ℕ → List Mark → ℕ → List ℕ → Type 0
-IsKeptKey s entered marks k key = (has_key_mark marks ≡ true) ⊎ WasOpen s entered k key
-
--- A wrap or an unwrap uses the module's own key, or that in a slot, as it was when the module was
--- entered; its header, its body or cipher and the tag that it compares hold no key. What is
--- unwrapped under the own key may be a key, and goes where one may be.
+-- A wrap or an unwrap uses the module's own key, or that of an end that was open when the module
+-- was entered; its header, its body or cipher and the tag that it compares hold no key. What is
+-- unwrapped under the own key may be a key, and goes where one may be; a wrap under it has no body.
 pub record SealShowsNone (s : Setup) (entered : List ℕ) (c : Watched) (w : ℕ) (regs : List ℕ) : Type
     0 where
   pub seals : (w ≡ 0x1384) ⊎ (w ≡ 0x1385)
   pub key : (slice_index regs 9 ≡ 0) ⊎ ((k : ℕ) × (k < length s.ends)
       × (slice_index regs 9 ≡ s.section.layout.priv_from + end_key_at k)
-      × IsKeptKey s entered c.marks k (bytes_from c.node.mem (slice_index regs 9) key_size))
+      × WasOpen s entered k (bytes_from c.node.mem (slice_index regs 9) key_size))
   pub header : AreShown s (slice_index regs 10) (slice_index regs 11)
   pub text : AreShown s (slice_index regs 12) (slice_index regs 13)
+  pub bodiless : w ≡ 0x1384 → slice_index regs 9 ≡ 0 → slice_index regs 13 ≡ 0
   pub tag : w ≡ 0x1385 → AreShown s (slice_index regs 15) tag_size
   pub opened : w ≡ 0x1385 → slice_index regs 9 ≡ 0
       → (slice_index regs 14 ≡ s.section.layout.priv_from + plain_at)
@@ -127,7 +122,7 @@ NamesNoKey ends (ir.StoreAt o n) (v ∷ i ∷ rest) = i < n → HoldsNoKey ends 
 NamesNoKey ends (ir.Packet k) stack = k < ends
 NamesNoKey ends (ir.CopyOut n o) stack = HoldsNoKey ends o n
 NamesNoKey ends (ir.Seal k h hn b bn) stack =
-    IsKeyPlace ends k × HoldsNoKey ends h hn × HoldsNoKey ends b bn
+    IsKeyPlace ends k × HoldsNoKey ends h hn × HoldsNoKey ends b bn × (k ≡ 0 → bn ≡ 0)
 NamesNoKey ends (ir.Open k h hn b bn) stack =
     IsKeyPlace ends k × HoldsNoKey ends h (hn + bn + tag_size)
     × (k ≡ 0 → (b ≡ plain_at) × (bn ≤ key_size))

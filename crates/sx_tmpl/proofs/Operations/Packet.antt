@@ -29,7 +29,7 @@ use Rattle.sx_invoke.specs.Windows as windows
 use Rattle.sx_invoke.specs.Acts.{event_header, event_packet}
 use Rattle.sx_invoke.specs.Marks as mark
 use Rattle.sx_invoke.specs.Marks.{HasPrefix, Mark}
-use Rattle.sx_tmpl.specs.Unseen.{IsKeptKey}
+use Rattle.sx_tmpl.specs.Unseen.{WasOpen}
 use Rattle.sx_tmpl.specs.Running.{running_after, Regs, Fixed, Data, running, Safe, cell}
 use Rattle.sx_tmpl.proofs.Running.Flags.{flags_stay, flags_after, equal, unequal}
 use Rattle.sx_tmpl.proofs.Operations.Sealing.{KeyIn, Buffers, wrap_as}
@@ -279,7 +279,7 @@ module _ (f : Fixed) (st : Stands f) (all : List Mark) (B : Watched → Violatio
   pub wrap_run : IsTag f.setup.mac → (e : EndState) → end_state priv k ≡ e → (r : Regs) (d : Data) (v : ℕ) (stack outside : List ℕ) (j : ℕ) → r.pc ≡ A + 2 * 18 → H stack outside r.sp d.mem
       → Safe f all (running f r d)
       → cell d.mem (base_of f + 106) ≡ 3 → cell d.mem (base_of f + 106 + 2) ≡ e.field → cell d.mem (base_of f + 106 + 4) ≡ e.number → cell d.mem (base_of f + 130) ≡ v
-      → IsKeptKey f.setup f.entered d.marks k e.key → HasPrefix all (d.marks ++ mark.Wrapped (event_header e) (windows.two v) false ∷ [])
+      → WasOpen f.setup f.entered k e.key → HasPrefix all (d.marks ++ mark.Wrapped (event_header e) (windows.two v) false ∷ [])
       → ((x : Exchange) (m : List ℕ) (r2 : Regs) → r2.pc ≡ A + 64 → r2.sp ≡ r.sp → H stack outside r.sp m → BytesAt m (base_of f + 106) (event_packet f.setup e v)
       → let d2 : Data = record d { mem = m; exchange = x; marks = d.marks ++ mark.Wrapped (event_header e) (windows.two v) false ∷ [] } in
       Safe f all (running_after (event.Wrapped f.setup.section.id) f r2 d2) → R j (running_after (event.Wrapped f.setup.section.id) f r2 d2))
@@ -338,7 +338,7 @@ module _ (f : Fixed) (st : Stands f) (all : List Mark) (B : Watched → Violatio
       → ((x : Exchange) → let d2 : Data = record d { mem = mt; exchange = x; marks = d.marks ++ mark.Wrapped (event_header e) (windows.two v) own ∷ [] } in
       Safe f all (running_after (event.Wrapped f.setup.section.id) f (record r7 { pc = A + 64; r15 = 1 }) d2)
       → R j (running_after (event.Wrapped f.setup.section.id) f (record r7 { pc = A + 64; r15 = 1 }) d2)) → R (suc j) (running f r7 d)) ne
-      (wrap_as f st all B Q t 31 refl (omega arith) event.Quiet r7 d e.key (event_header e) (windows.two v) j refl s7 bs (KeyIn k one refl pk key kept) ad body)
+      (wrap_as f st all B Q t 31 refl (omega arith) event.Quiet r7 d e.key (event_header e) (windows.two v) j refl s7 bs (KeyIn k one refl pk key kept) (λ z. absurd (omega (arith, z))) ad body)
       marks (λ x s. after x mt (record r7 { pc = A + 64; r15 = 1 }) refl refl ht packet s))
 
   -- R12 doubled
@@ -543,7 +543,7 @@ module _ (f : Fixed) (st : Stands f) (all : List Mark) (B : Watched → Violatio
   pub send_run : IsTag f.setup.mac → (e : EndState) → end_state priv k ≡ e → (r : Regs) (d : Data) (ret v : ℕ) (rest outside : List ℕ) (p out j : ℕ) → r.pc ≡ A + 2 * 6
       → H (ret ∷ v ∷ rest) outside r.sp d.mem → Safe f all (running f r d)
       → e.number < 65535 → word priv working.pieces_at ≡ p → 24 * p + 24 ≤ 384 → word priv 10 ≡ out → out + 384 ≤ 65536 → f.from ≤ out + 24 * p → out + 24 * p + 24 ≤ f.to → InText f ret → ret % 2 ≡ 0
-      → IsKeptKey f.setup f.entered d.marks k e.key → (marks : List Mark) → d.marks ++ mark.Wrapped (event_header e) (windows.two v) false ∷ [] ≡ marks → HasPrefix all marks
+      → WasOpen f.setup f.entered k e.key → (marks : List Mark) → d.marks ++ mark.Wrapped (event_header e) (windows.two v) false ∷ [] ≡ marks → HasPrefix all marks
       → ((x : Violation) → write_bytes f.setup d.devices outside (out + 24 * p) (event_packet f.setup e v) ≡ Err x → (c : Watched) → c.marks ≡ marks → B c x)
       → ((mem : List ℕ) → write_bytes f.setup d.devices outside (out + 24 * p) (event_packet f.setup e v) ≡ Ok mem → (r2 : Regs) (d2 : Data) → r2.pc ≡ ret
       → MemoryHolds f at back (v ∷ rest) (put_word (put_word priv (offsets.end_number_at k) (e.number + 1)) working.pieces_at (p + 1)) mem r2.sp d2.mem → d2.devices ≡ d.devices → d2.marks ≡ marks

@@ -25,8 +25,8 @@ use Rattle.sx_invoke.specs.Marks as mark
 use Rattle.sx_invoke.specs.Marks.{HasPrefix, Mark}
 use Rattle.sx_machine.specs.Memory.{put_word}
 use Rattle.sx_image.specs.Watched.{Watched}
-use Rattle.sx_tmpl.specs.Unseen.{IsKeptKey}
-use Rattle.sx_tmpl.proofs.Running.Entered.{AreKept, end_kept}
+use Rattle.sx_tmpl.specs.Unseen.{WasOpen}
+use Rattle.sx_tmpl.proofs.Running.Entered.{IsKept, end_kept}
 use Rattle.sx_tmpl.specs.Running.{Regs, Fixed, Data, running, Safe}
 use Rattle.sx_tmpl.proofs.Running.MidRun.{Stands, Runs, later, put_cell}
 use Rattle.sx_tmpl.specs.Shows.{base_of, MemoryHolds, ShowsConfiguration, Stood}
@@ -90,7 +90,7 @@ module _ (f : Fixed) (st : Stands f) (all : List Mark) (B : Watched → Violatio
       → (r : Regs) (d : Data) → Text f (at c.place) 2 (words_of (call (## A) ∷ [])) → Text f A 56 (routine_words (base_of f) k) → at (c.place + 1) ≡ at c.place + 2 * 2
       → ShowsConfiguration f at (record c { stack = v ∷ rest }) r d → Safe f all (running f r d)
       → (let e = end_state c.priv k in let marks = c.marks ++ mark.Wrapped (event_header e) (windows.two v) false ∷ [] in
-      (is_ready e ≡ true → IsKeptKey f.setup f.entered c.marks k e.key)
+      (is_ready e ≡ true → WasOpen f.setup f.entered k e.key)
       → (is_ready e ≡ false → (r2 : Regs) (d2 : Data) → ShowsConfiguration f at (next c (v ∷ rest)) r2 d2 → Safe f all (running f r2 d2) → Runs f all B Q j (running f r2 d2))
       → (is_ready e ≡ true → (saved c 14 + 384 ≤ 65536) × (24 * pieces c + 24 ≤ 384) × (f.from ≤ saved c 14 + 24 * pieces c) × (saved c 14 + 24 * pieces c + 24 ≤ f.to) × HasPrefix all marks)
       → (is_ready e ≡ true → (x : Violation) → write_bytes f.setup c.devices c.mem (saved c 14 + 24 * pieces c) (event_packet f.setup e v) ≡ Err x → (w : Watched) → w.marks ≡ marks → B w x)
@@ -145,7 +145,7 @@ module _ (f : Fixed) (st : Stands f) (all : List Mark) (B : Watched → Violatio
               → Runs f all B Q (121 + j) (running f (record r1 { pc = A + 12; sr = sr }) d1)) sh.devices
               (send_run f st all B at Q k A rt c.back c.priv slot one tag e refl (record r1 { pc = A + 12; sr = sr }) d1 ret v rest c.mem (pieces c)
               (saved c 14) j refl h1 s2 ln refl ok.1 refl ok.0 ok.2 ok.3 to ev
-              (subst (λ (l : List Mark). IsKeptKey f.setup f.entered l k e.key) (sym sh.marks) (key_kept yr)) marks same_marks ok.4)
+              (key_kept yr) marks same_marks ok.4)
               (stop yr)
               (λ mem good r2 d2 pc2 h2 dv mk s3. done yr mem good r2 d2 (record { pc = pc2 ∙ sym on; holds = h2; devices = dv ∙ sh.devices; marks = mk }) s3)),
         ),
@@ -162,7 +162,7 @@ module _ (f : Fixed) (st : Stands f) (all : List Mark) (B : Watched → Violatio
   Breaks n ws count c v marks = (r : Regs) (d : Data) → Text f (at c.place) n ws → at (c.place + 1) ≡ at c.place + 2 * n → ShowsConfiguration f at c r d → Safe f all (running f r d)
       → ((w : Watched) → w.marks ≡ marks → B w v) → Runs f all B (λ _. ⊥) count (running f r d)
 
-  pub packet_goes : IsTag f.setup.mac → (c c2 : Conf) (k v A : ℕ) (rest : List ℕ) → offsets.end_at k + 24 ≤ length c.priv → k < length f.setup.ends → AreKept f c → length (v ∷ rest) ≤ 160 → Text f A 56 (routine_words (base_of f) k)
+  pub packet_goes : IsTag f.setup.mac → (c c2 : Conf) (k v A : ℕ) (rest : List ℕ) → offsets.end_at k + 24 ≤ length c.priv → k < length f.setup.ends → IsKept f c → length (v ∷ rest) ≤ 160 → Text f A 56 (routine_words (base_of f) k)
       → send f.setup (record c { stack = v ∷ rest }) k v (end_state c.priv k) ≡ Goes c2 → HasPrefix all c2.marks → saved c 14 ≡ f.from
       → (has_out_window f.setup c ≡ true → (n : ℕ) → n ≤ 384 → n ≤ made_bytes all → f.from + n ≤ f.to)
       → Leads f st all B at 2 (words_of (call (## A) ∷ [])) 126 (record c { stack = v ∷ rest }) c2
@@ -177,12 +177,12 @@ module _ (f : Fixed) (st : Stands f) (all : List Mark) (B : Watched → Violatio
       by_case : Sending f (record c { stack = v ∷ rest }) k v e (send f.setup (record c { stack = v ∷ rest }) k v e) → Runs f all B (Stood f all at c2) 126 (running f r d)
       by_case (Idle nr is) =
           let same = goes_same _ c2 (sym is ∙ goes) in
-          packet_core (Stood f all at c2) tag c k v A rest 0 slot one len r d t rt on sh safe (λ yr. end_kept f.setup f.entered c.priv c.marks k one slots (and_parts e.is_open (nat_lt e.number 65535) yr).0)
+          packet_core (Stood f all at c2) tag c k v A rest 0 slot one len r d t rt on sh safe (λ yr. end_kept f.setup f.entered c.priv k one slots (and_parts e.is_open (nat_lt e.number 65535) yr).0)
           (λ _ r2 d2 s safe2. shown (next c (v ∷ rest)) r2 d2 same s safe2)
           (λ yr. absurd (true≢false (sym yr ∙ nr))) (λ yr. absurd (true≢false (sym yr ∙ nr))) (λ yr. absurd (true≢false (sym yr ∙ nr)))
       by_case (Sent mem yr ho lo fits room ok is) =
           let same = goes_same _ c2 (sym is ∙ goes) in
-          packet_core (Stood f all at c2) tag c k v A rest 0 slot one len r d t rt on sh safe (λ yr. end_kept f.setup f.entered c.priv c.marks k one slots (and_parts e.is_open (nat_lt e.number 65535) yr).0)
+          packet_core (Stood f all at c2) tag c k v A rest 0 slot one len r d t rt on sh safe (λ yr. end_kept f.setup f.entered c.priv k one slots (and_parts e.is_open (nat_lt e.number 65535) yr).0)
           (λ nr. absurd (true≢false (sym yr ∙ nr)))
           (λ _.
           let sealed = subst (λ l. HasPrefix all l) (sym (ap (λ (c : Conf). c.marks) same)) begins in
@@ -193,7 +193,7 @@ module _ (f : Fixed) (st : Stands f) (all : List Mark) (B : Watched → Violatio
       by_case (Refused x yr ho lo fits room bad_ is) = absurd (goes_stops c2 _ (sym goes ∙ is))
       by_case (Nothing_said is) = absurd (goes_stops c2 Stuck (sym goes ∙ is))
 
-  pub packet_breaks : IsTag f.setup.mac → (c : Conf) (k v A : ℕ) (rest : List ℕ) (x : Violation) (marks : List Mark) → offsets.end_at k + 24 ≤ length c.priv → k < length f.setup.ends → AreKept f c → length (v ∷ rest) ≤ 160
+  pub packet_breaks : IsTag f.setup.mac → (c : Conf) (k v A : ℕ) (rest : List ℕ) (x : Violation) (marks : List Mark) → offsets.end_at k + 24 ≤ length c.priv → k < length f.setup.ends → IsKept f c → length (v ∷ rest) ≤ 160
       → Text f A 56 (routine_words (base_of f) k)
       → send f.setup (record c { stack = v ∷ rest }) k v (end_state c.priv k) ≡ Stops (Violates x marks) → HasPrefix all marks → saved c 14 ≡ f.from
       → (has_out_window f.setup c ≡ true → (n : ℕ) → n ≤ 384 → n ≤ made_bytes all → f.from + n ≤ f.to)
@@ -208,7 +208,7 @@ module _ (f : Fixed) (st : Stands f) (all : List Mark) (B : Watched → Violatio
       by_case (Sent mem yr ho lo fits room ok is) = absurd (goes_stops _ _ (sym is ∙ stops))
       by_case (Refused y yr ho lo fits room bad_ is) =
           let same = same_violation y x _ marks (stops_same _ _ (sym is ∙ stops)) in
-          packet_core (λ _. ⊥) tag c k v A rest 0 slot one len r d t rt on sh safe (λ yr. end_kept f.setup f.entered c.priv c.marks k one slots (and_parts e.is_open (nat_lt e.number 65535) yr).0)
+          packet_core (λ _. ⊥) tag c k v A rest 0 slot one len r d t rt on sh safe (λ yr. end_kept f.setup f.entered c.priv k one slots (and_parts e.is_open (nat_lt e.number 65535) yr).0)
           (λ nr. absurd (true≢false (sym yr ∙ nr)))
           (λ _.
           let sealed = subst (λ l. HasPrefix all l) (sym same.1) begins in

@@ -28,7 +28,7 @@ use Rattle.sx_image.specs.Watched.{Watched}
 use Rattle.sx_ir.specs.Conf.{Conf}
 use Rattle.sx_ir.specs.declared.ir.Ir.TheVariants as ir
 use Rattle.sx_mean.specs.Offsets.{end_key_at}
-use Rattle.sx_tmpl.specs.Unseen.{AreShown, HoldsNoKey, IsKeptKey, IsKeyPlace, NamesNoKey}
+use Rattle.sx_tmpl.specs.Unseen.{AreShown, HoldsNoKey, IsKeyPlace, NamesNoKey, WasOpen}
 use Rattle.sx_tmpl.specs.Shows.{base_of, MemoryHolds, Stood}
 use Rattle.sx_tmpl.proofs.Running.Owes.{kept_bytes}
 use Rattle.sx_tmpl.proofs.Running.Steps.{Text}
@@ -72,12 +72,12 @@ module _ (f : Fixed) (st : Stands f) (all : List Mark) (B : Watched → Violatio
 
   -- the key of a slot is kept
   abbrev pub KeptAt : Conf → ℕ → Type 0
-  KeptAt c k = (j : ℕ) → j < length f.setup.ends → k ≡ end_key_at j → IsKeptKey f.setup f.entered c.marks j (key_at f.setup c k)
+  KeptAt c k = (j : ℕ) → j < length f.setup.ends → k ≡ end_key_at j → WasOpen f.setup f.entered j (key_at f.setup c k)
 
   key_here : (c : Conf) (k : ℕ) (stack : List ℕ) (sp : ℕ) (r : Regs) (d : Data) → (k ≡ 0) ⊎ IsRange k 16 (length c.priv) → IsKeyPlace (length f.setup.ends) k → KeptAt c k
-      → MemoryHolds f at c.back stack c.priv c.mem sp d.mem → d.marks ≡ c.marks → r.r9 ≡ key_place f k → KeyAt f r d (key_at f.setup c k)
-  key_here c zero stack sp r d h place kept hold marks e = OwnKey e refl
-  key_here c (suc k) stack sp r d h place kept hold marks e =
+      → MemoryHolds f at c.back stack c.priv c.mem sp d.mem → r.r9 ≡ key_place f k → KeyAt f r d (key_at f.setup c k)
+  key_here c zero stack sp r d h place kept hold e = OwnKey e refl
+  key_here c (suc k) stack sp r d h place kept hold e =
       elim h [
         | inl z ↦ absurd (omega arith)
         | inr g ↦
@@ -85,7 +85,7 @@ module _ (f : Fixed) (st : Stands f) (all : List Mark) (B : Watched → Violatio
             elim place [
               | inl z ↦ absurd (omega arith)
               | inr i ↦ KeyIn i.0 i.1 (e ∙ ap (λ (o : ℕ). base_of f + o) i.2) (subst (λ a. PrivateRange f a 16) (sym e) (private_range (suc k) 16 c.priv hold.size g))
-                  (ap (λ a. bytes_from d.mem a 16) e ∙ same) (subst (λ (l : List Mark). IsKeptKey f.setup f.entered l i.0 (key_at f.setup c (suc k))) (sym marks) (kept i.0 i.1 i.2))
+                  (ap (λ a. bytes_from d.mem a 16) e ∙ same) (kept i.0 i.1 i.2)
             ]
       ]
 
@@ -171,7 +171,7 @@ module _ (f : Fixed) (st : Stands f) (all : List Mark) (B : Watched → Violatio
       Safe f all (running_after (event.Wrapped f.setup.section.id) f (record rL { pc = at c.place + 30; r15 = 1 }) d2)
       → Runs f all B Q 1 (running_after (event.Wrapped f.setup.section.id) f (record rL { pc = at c.place + 30; r15 = 1 }) d2)) → Runs f all B Q 2 (running f rL d)) (key_is_own k)
       (wrap_as f st all B Q t 14 refl (omega arith) event.Quiet rL d key ad body 1 refl sL (buffers_here c k h hn b bn rL sz ok refl refl unseen.1 (b, refl, unseen.2) (private_range b bn c.priv sz bdy) pc_ refl refl)
-      (key_here c k c.stack r.sp rL d ok.key unseen.0 kept hold sh.marks refl) ea eb)
+      (key_here c k c.stack r.sp rL d ok.key unseen.0 kept hold refl) (λ z. unseen.3 (none_own k z)) ea eb)
       (subst (λ l. HasPrefix all l) (sym mk) begins)
       (λ x s2.
       let d2 : Data = record d { mem = mt; exchange = x; marks = d.marks ++ mark.Wrapped ad body (k == 0) ∷ [] } in
@@ -276,7 +276,7 @@ module _ (f : Fixed) (st : Stands f) (all : List Mark) (B : Watched → Violatio
       (ls, (omega arith, (omega arith, (omega arith, (omega arith, (omega arith, (omega arith, tt))))))) r d 2 r.pc (omega (arith, sh.pc)) safe (λ sL.
       unwrap_step f st all B Q t 14 refl (omega arith) event.Quiet rL d key 1 result refl sL (buffers_here c k h hn b bn rL sz ok refl refl header
       (h + hn, refl, part_shown (length f.setup.ends) h (hn + bn + 16) hn bn unseen.1 (omega arith)) (private_range (h + hn) bn c.priv sz rc)
-      (private_range b bn c.priv sz bdy) refl refl) (h + hn + bn, refl, last) to_plain (key_here c k c.stack r.sp rL d ok.key unseen.0 kept hold sh.marks refl) same
+      (private_range b bn c.priv sz bdy) refl refl) (h + hn + bn, refl, last) to_plain (key_here c k c.stack r.sp rL d ok.key unseen.0 kept hold refl) same
       (λ er s2. subst (λ o. Runs f all B (Stood f all at (after_open c k ad b bn o)) 1 (running f (record rL { pc = at c.place + 30; r15 = 0 }) d)) (sym er)
       (answer_pushed (next c (0 ∷ c.stack)) 0 t refl (omega arith) event.Quiet (record rL { pc = at c.place + 30; r15 = 0 }) d c.stack c.priv c.mem c.back 0 refl s2 hold room refl
       (omega arith) on refl refl refl refl sh.devices sh.marks))

@@ -35,7 +35,7 @@ use Rattle.sx_tmpl.proofs.Running.MidRun.{Stands, Runs, PrivateRange}
 use Rattle.sx_tmpl.proofs.Running.Owned.{own_found, run_holder, in_private_yes}
 use Rattle.sx_tmpl.proofs.Running.Owes.{OwesSeal, Met, seal_met}
 use Rattle.sx_tmpl.specs.Shows.{base_of}
-use Rattle.sx_tmpl.specs.Unseen.{AreShown, IsKeptKey, SealShowsNone, StepShowsNone, WordShowsNone}
+use Rattle.sx_tmpl.specs.Unseen.{AreShown, SealShowsNone, StepShowsNone, WasOpen, WordShowsNone}
 use Rattle.sx_mean.specs.Offsets.{end_key_at}
 use Rattle.sx_mean.specs.Working.{plain_at}
 use Rattle.sx_tmpl.proofs.Running.Mem.{word_is}
@@ -115,7 +115,7 @@ module _ (f : Fixed) (st : Stands f) (all : List Mark) (B : Watched → Violatio
 pub data KeyAt (f : Fixed) (r : Regs) (d : Data) (key : List ℕ) : Type 0 where
   OwnKey : r.r9 ≡ 0 → f.setup.section.key ≡ key → KeyAt f r d key
   KeyIn : (k : ℕ) → k < length f.setup.ends → r.r9 ≡ base_of f + end_key_at k → PrivateRange f r.r9 16 → bytes_from d.mem r.r9 16 ≡ key
-      → IsKeptKey f.setup f.entered d.marks k key → KeyAt f r d key
+      → WasOpen f.setup f.entered k key → KeyAt f r d key
 
 -- its other buffers: the header, the body or cipher, the place of the other, and the tag
 pub record Buffers (f : Fixed) (r : Regs) : Type 0 where
@@ -233,9 +233,9 @@ module _ (f : Fixed) (st : Stands f) (all : List Mark) (B : Watched → Violatio
 
   -- what it shows
   seal_shown : {P n : ℕ} {ws : List ℕ} (t : Text f P n ws) (k w : ℕ) → slice_get ws k ≡ Some w → k + 1 ≤ n → (e : Event) (r : Regs) (d : Data) (key : List ℕ) → r.pc ≡ P + 2 * k
-      → Safe f all (running_after e f r d) → is_module_word w ≡ true → (w ≡ 0x1384) ⊎ (w ≡ 0x1385) → Buffers f r → KeyAt f r d key → (w ≡ 0x1385 → AreShown f.setup r.r15 16) → (w ≡ 0x1385 → r.r9 ≡ 0 → (r.r14 ≡ base_of f + plain_at) × (r.r13 ≤ 16))
+      → Safe f all (running_after e f r d) → is_module_word w ≡ true → (w ≡ 0x1384) ⊎ (w ≡ 0x1385) → Buffers f r → KeyAt f r d key → (w ≡ 0x1384 → r.r9 ≡ 0 → r.r13 ≡ 0) → (w ≡ 0x1385 → AreShown f.setup r.r15 16) → (w ≡ 0x1385 → r.r9 ≡ 0 → (r.r14 ≡ base_of f + plain_at) × (r.r13 ≤ 16))
       → StepShowsNone f.setup f.entered (running_after e f r d)
-  seal_shown t k w has fits e r d key pc safe module_ seals bs key_at tag opened_ =
+  seal_shown t k w has fits e r d key pc safe module_ seals bs key_at bodiless_ tag opened_ =
       let low = t.from in
       let high = t.to in
       let even = t.is_even in
@@ -246,12 +246,12 @@ module _ (f : Fixed) (st : Stands f) (all : List Mark) (B : Watched → Violatio
       let is : cell d.mem r.pc ≡ w = text_word f st all B Q d.mem r.pc w safe.memory here ends (ap (cell f.entered) pc ∙ t.word k w has) in
       let e1 : word d.mem r.pc ≡ w = word_is d.mem r.pc ev ∙ is in
       subst (λ (z : ℕ). WordShowsNone f.setup f.entered a z (is_module_word z)) (sym e1) (subst (λ b. WordShowsNone f.setup f.entered a w b) (sym module_)
-      (record { seals = seals; key = key_in key_at; header = bs.header_shown; text = bs.text_shown; tag = tag; opened = opened_ }))
+      (record { seals = seals; key = key_in key_at; header = bs.header_shown; text = bs.text_shown; bodiless = bodiless_; tag = tag; opened = opened_ }))
     where
       key_in : KeyAt f r d key → (r.r9 ≡ 0) ⊎ ((i : ℕ) × (i < length f.setup.ends) × (r.r9 ≡ f.setup.section.layout.priv_from + end_key_at i)
-          × IsKeptKey f.setup f.entered d.marks i (bytes_from d.mem r.r9 16))
+          × WasOpen f.setup f.entered i (bytes_from d.mem r.r9 16))
       key_in (OwnKey z is) = inl z
-      key_in (KeyIn i one place p is kept) = inr (i, one, place, subst (λ (l : List ℕ). IsKeptKey f.setup f.entered d.marks i l) (sym is) kept)
+      key_in (KeyIn i one place p is kept) = inr (i, one, place, subst (λ (l : List ℕ). WasOpen f.setup f.entered i l) (sym is) kept)
 
   next_pc : {P n : ℕ} {ws : List ℕ} (t : Text f P n ws) (k : ℕ) (r : Regs) → k + 1 ≤ n → r.pc ≡ P + 2 * k → (r.pc + 2) % 65536 ≡ P + 2 * (k + 1)
   next_pc t k r le pc = omega (arith, t.to, st.below)
@@ -262,7 +262,7 @@ module _ (f : Fixed) (st : Stands f) (all : List Mark) (B : Watched → Violatio
   -- wrap
   pub wrap_step : {P n : ℕ} {ws : List ℕ} (t : Text f P n ws) (k : ℕ) → slice_get ws k ≡ Some 0x1384 → k + 1 ≤ n → (e : Event) (r : Regs) (d : Data) (key : List ℕ) (j : ℕ) → r.pc ≡ P + 2 * k
       → Safe f all (running_after e f r d)
-      → Buffers f r → KeyAt f r d key → HasPrefix all (d.marks ++ mark.Wrapped (bytes_from d.mem r.r10 r.r11) (bytes_from d.mem r.r12 r.r13) (r.r9 == 0) ∷ [])
+      → Buffers f r → KeyAt f r d key → (r.r9 ≡ 0 → r.r13 ≡ 0) → HasPrefix all (d.marks ++ mark.Wrapped (bytes_from d.mem r.r10 r.r11) (bytes_from d.mem r.r12 r.r13) (r.r9 == 0) ∷ [])
       → ((x : Exchange) → let r2 = record r { pc = P + 2 * (k + 1); r15 = 1 } in
       let d2 : Data = record d {
         mem = put_bytes (put_bytes d.mem r.r14 (sealed r d key).cipher) r.r15 (sealed r d key).tag;
@@ -273,7 +273,7 @@ module _ (f : Fixed) (st : Stands f) (all : List Mark) (B : Watched → Violatio
       Safe f all (running_after (event.Wrapped f.setup.section.id) f r2 d2) → Runs f all B Q j (running_after (event.Wrapped f.setup.section.id) f r2 d2))
       → Runs f all B Q (suc j) (running_after e f r d)
   unfolding module_row
-  wrap_step {P = P} t k has fits e r d key j pc safe bs key_at marks after =
+  wrap_step {P = P} t k has fits e r d key j pc safe bs key_at bodiless_ marks after =
       let g = given_own f st all B Q e r d in
       let ad = bytes_from d.mem r.r10 r.r11 in
       let body = bytes_from d.mem r.r12 r.r13 in
@@ -307,7 +307,7 @@ module _ (f : Fixed) (st : Stands f) (all : List Mark) (B : Watched → Violatio
       ) in
       let owed : OwesSeal f (NoDone f st all B Q) (Tells f st all B Q j d) (B (running_after e f r d)) (module_row f.setup.mac 4 g) d.mem =
       subst (λ o. OwesSeal f (NoDone f st all B Q) (Tells f st all B Q j d) (B (running_after e f r d)) (within g (wrap f.setup.mac g) o) d.mem) (sym found) row in
-      from_told f st all B Q j e r d _ safe (seal_shown t k 0x1384 has fits e r d key pc safe refl (inl refl) bs key_at (λ x. absurd (omega (arith, x))) (λ x. absurd (omega (arith, x))))
+      from_told f st all B Q j e r d _ safe (seal_shown t k 0x1384 has fits e r d key pc safe refl (inl refl) bs key_at (λ x. bodiless_) (λ x. absurd (omega (arith, x))) (λ x. absurd (omega (arith, x))))
       (record { from = omega (arith, t.from); to = omega (arith, t.to) }) (module_fetched t k 0x1384 4 has fits e r d pc safe (λ a. refl))
       (seal_met f st (NoDone f st all B Q) (Tells f st all B Q j d) (B (running_after e f r d)) (module_row f.setup.mac 4 g) (start (running_after e f r d).node) safe.memory owed)
 
@@ -341,7 +341,7 @@ module _ (f : Fixed) (st : Stands f) (all : List Mark) (B : Watched → Violatio
       ) in
       let owed : OwesSeal f (NoDone f st all B Q) (Tells f st all B Q j d) (B (running_after e f r d)) (module_row f.setup.mac 5 g) d.mem =
       subst (λ o. OwesSeal f (NoDone f st all B Q) (Tells f st all B Q j d) (B (running_after e f r d)) (within g (unwrap f.setup.mac g) o) d.mem) (sym found) row in
-      from_told f st all B Q j e r d _ safe (seal_shown t k 0x1385 has fits e r d key pc safe refl (inr refl) bs key_at (λ x. tag_shown) (λ x. out_plain))
+      from_told f st all B Q j e r d _ safe (seal_shown t k 0x1385 has fits e r d key pc safe refl (inr refl) bs key_at (λ x. absurd (omega (arith, x))) (λ x. tag_shown) (λ x. out_plain))
       (record { from = omega (arith, t.from); to = omega (arith, t.to) }) (module_fetched t k 0x1385 5 has fits e r d pc safe (λ a. refl))
       (seal_met f st (NoDone f st all B Q) (Tells f st all B Q j d) (B (running_after e f r d)) (module_row f.setup.mac 5 g) (start (running_after e f r d).node) safe.memory owed)
     where
@@ -409,8 +409,8 @@ module _ (f : Fixed) (st : Stands f) (all : List Mark) (B : Watched → Violatio
   -- wrap, by the header and the body that stand in memory
   pub wrap_as : {P n : ℕ} {ws : List ℕ} (t : Text f P n ws) (k : ℕ) → slice_get ws k ≡ Some 0x1384 → k + 1 ≤ n → (e : Event) (r : Regs) (d : Data) (key ad body : List ℕ) (j : ℕ) → r.pc ≡ P + 2 * k
       → Safe f all (running_after e f r d)
-      → Buffers f r → KeyAt f r d key → bytes_from d.mem r.r10 r.r11 ≡ ad → bytes_from d.mem r.r12 r.r13 ≡ body → WrapThen j e r d (P + 2 * (k + 1)) key ad body
-  wrap_as {P = P} t k has fits e r d key ad body j pc safe bs key_at ea eb =
+      → Buffers f r → KeyAt f r d key → (r.r9 ≡ 0 → r.r13 ≡ 0) → bytes_from d.mem r.r10 r.r11 ≡ ad → bytes_from d.mem r.r12 r.r13 ≡ body → WrapThen j e r d (P + 2 * (k + 1)) key ad body
+  wrap_as {P = P} t k has fits e r d key ad body j pc safe bs key_at bodiless_ ea eb =
       subst (λ ad. WrapThen j e r d (P + 2 * (k + 1)) key ad body) ea
       (subst (λ body. WrapThen j e r d (P + 2 * (k + 1)) key (bytes_from d.mem r.r10 r.r11) body) eb
-      (wrap_step t k has fits e r d key j pc safe bs key_at))
+      (wrap_step t k has fits e r d key j pc safe bs key_at bodiless_))

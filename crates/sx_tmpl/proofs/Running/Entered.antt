@@ -1,21 +1,30 @@
 -- The slot of an end, as it was when the module was entered.
-use Rattle.std.proofs.Common.{◌≡◌, ℕ, zero, suc, ◌+◌, ◌*◌, ◌%◌, ◌<◌, ◌⊎◌, inl, inr, true, not, ◌==◌, List, length, refl, sym, ap, ap₂, ◌∙◌, subst, arith}
+use Rattle.std.proofs.Common.{◌≡◌, ℕ, zero, suc, ◌+◌, ◌*◌, ◌<◌, ◌⊎◌, inl, inr, true, not, ◌==◌, List, length, refl, sym, ap, ap₂, ◌∙◌, subst, arith}
 use Rattle.std.specs.Prelude.{slice_index, ◌++◌, ◌∷◌, []}
-use Rattle.sx_mean.specs.Offsets.{end_at, end_key_at, end_open_at}
+use Rattle.std.proofs.lemmas.Bool.{true≢false}
+use Rattle.sx_mean.specs.Offsets.{end_key_at, end_open_at}
 use Rattle.sx_machine.specs.Memory.{bytes_from, word}
 use Rattle.sx_image.specs.Image.{private_bytes}
-use Rattle.sx_invoke.specs.Marks.{Mark}
-use Rattle.sx_invoke.specs.ModuleState.{EndState, end_state}
+use Rattle.sx_invoke.specs.ModuleState.{end_state}
 use Rattle.sx_invoke.specs.Setup.{Setup}
 use Rattle.sx_ir.specs.Meaning.{has_key_mark}
 use Rattle.sx_ir.specs.Conf.{Conf}
 use Rattle.sx_tmpl.specs.Running.{Fixed, cell}
-use Rattle.sx_tmpl.specs.Unseen.{IsKeptKey, SameSlots, WasOpen}
+use Rattle.sx_tmpl.specs.Unseen.{SameSlots, WasOpen}
 use Rattle.sx_tmpl.proofs.Running.Mem.{word_is}
 
--- slots are as the module was entered, or a key was unwrapped since
+-- slots are as the module was entered
+abbrev pub IsKept : Fixed → Conf → Type 0
+IsKept f c = SameSlots (length f.setup.ends) (private_bytes f.setup.section.layout f.entered) c.priv
+
+-- until a key is unwrapped
 abbrev pub AreKept : Fixed → Conf → Type 0
-AreKept f c = (has_key_mark c.marks ≡ true) ⊎ SameSlots (length f.setup.ends) (private_bytes f.setup.section.layout f.entered) c.priv
+AreKept f c = (has_key_mark c.marks ≡ true) ⊎ IsKept f c
+
+-- so they are where none was
+pub are_kept : (f : Fixed) (c : Conf) → not (has_key_mark c.marks) ≡ true → AreKept f c → IsKept f c
+are_kept f c none (inl keyed) = absurd (true≢false (sym none ∙ ap not keyed))
+are_kept f c none (inr kept) = kept
 
 same_from : (p q : List ℕ) (a n : ℕ) → ((i : ℕ) → i < n → slice_index q (a + i) ≡ slice_index p (a + i)) → bytes_from q a n ≡ bytes_from p a n
 unfolding bytes_from
@@ -43,9 +52,8 @@ was_open s entered priv k one same is_open =
     let first = private_bytes s.section.layout entered in
     record { is_open = ap (λ (w : ℕ). not (w == 0)) (open_same (length s.ends) first priv same k one) ∙ is_open; key = key_same (length s.ends) first priv same k one }
 
--- so the key of an open end is a kept one
-pub end_kept : (s : Setup) (entered priv : List ℕ) (marks : List Mark) (k : ℕ) → k < length s.ends
-    → (has_key_mark marks ≡ true) ⊎ SameSlots (length s.ends) (private_bytes s.section.layout entered) priv → (end_state priv k).is_open ≡ true → IsKeptKey s entered marks k (end_state priv k).key
+-- so an end that is open was open
+pub end_kept : (s : Setup) (entered priv : List ℕ) (k : ℕ) → k < length s.ends → SameSlots (length s.ends) (private_bytes s.section.layout entered) priv → (end_state priv k).is_open ≡ true
+    → WasOpen s entered k (end_state priv k).key
 unfolding end_state
-end_kept s entered priv marks k one (inl keyed) is_open = inl keyed
-end_kept s entered priv marks k one (inr same) is_open = inr (was_open s entered priv k one same is_open)
+end_kept s entered priv k one same is_open = was_open s entered priv k one same is_open

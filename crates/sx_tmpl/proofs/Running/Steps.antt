@@ -17,7 +17,6 @@ use Rattle.sx_machine.specs.Registers.{onward, at_pc}
 use Rattle.sx_machine.specs.Plan.{Plan}
 use Rattle.sx_machine.specs.Run.{Moment, Outcome, Finished, Violated, Module, fetch, after_fetch, exec}
 use Rattle.sx_machine.specs.Rows.{row, row_of, with_words, program}
-use Rattle.sx_machine.specs.State.{State}
 use Rattle.sx_machine.specs.Step.{pc_of, own_of, start, is_module_word, instruction, ordered, word_outside, attempt, settled_step}
 use Rattle.sx_invoke.specs.Marks.{Mark}
 use Rattle.sx_image.specs.Watched.{Watched, watch, watched_on, violation_of}

@@ -4,7 +4,7 @@ use Rattle.std.specs.Prelude.{◌==◌, ◌||◌, ◌&&◌, not}
 use Rattle.std.proofs.lemmas.Bool.{and_parts, or_cases, cases_lt, eqb-true, leb-true, ltb-true, lt-ltb, true≢false}
 use Rattle.sx_ir.specs.declared.ir.Ir.{Ir}
 use Rattle.sx_ir.specs.declared.ir.Ir.TheVariants as ir
-use Rattle.sx_ir.specs.Meaning.{is_body_place, is_key_place, is_shown, is_shown_element, names_no_key}
+use Rattle.sx_ir.specs.Meaning.{is_body_place, is_key_place, is_sealed_body, is_shown, is_shown_element, names_no_key}
 use Rattle.sx_tmpl.specs.Unseen.{HoldsNoKey, IsKeyPlace, NamesNoKey}
 
 holds_no_key : (ends o n : ℕ) → is_shown ends o n ≡ true → HoldsNoKey ends o n
@@ -72,6 +72,10 @@ body_place zero b bn e own =
     (eqb-true b 56 both.0, leb-true bn 16 both.1)
 body_place (suc k) b bn e own = absurd (omega (arith, own))
 
+sealed_body : (k bn : ℕ) → is_sealed_body k bn ≡ true → k ≡ 0 → bn ≡ 0
+sealed_body zero bn e own = eqb-true bn 0 e
+sealed_body (suc k) bn e own = absurd (omega (arith, own))
+
 pub names_none : (ends : ℕ) (i : Ir) (stack : List ℕ) → names_no_key ends i stack ≡ true → NamesNoKey ends i stack
 names_none ends (ir.Push n) stack e = tt
 names_none ends (ir.Load o) stack e = holds_no_key ends o 2 e
@@ -94,9 +98,10 @@ names_none ends (ir.Meets r n) stack e = tt
 names_none ends (ir.CopyIn n o) stack e = tt
 names_none ends (ir.CopyOut n o) stack e = holds_no_key ends o n e
 names_none ends (ir.Seal k h hn b bn) stack e =
-    let outer = and_parts (is_key_place ends k) (is_shown ends h hn && is_shown ends b bn) e in
-    let inner = and_parts (is_shown ends h hn) (is_shown ends b bn) outer.1 in
-    (key_place ends k outer.0, holds_no_key ends h hn inner.0, holds_no_key ends b bn inner.1)
+    let outer = and_parts (is_key_place ends k) (is_sealed_body k bn && (is_shown ends h hn && is_shown ends b bn)) e in
+    let middle = and_parts (is_sealed_body k bn) (is_shown ends h hn && is_shown ends b bn) outer.1 in
+    let inner = and_parts (is_shown ends h hn) (is_shown ends b bn) middle.1 in
+    (key_place ends k outer.0, holds_no_key ends h hn inner.0, holds_no_key ends b bn inner.1, sealed_body k bn middle.0)
 names_none ends (ir.Open k h hn b bn) stack e =
     let outer = and_parts (is_key_place ends k) (is_shown ends h (hn + bn + 16) && is_body_place k b bn) e in
     let inner = and_parts (is_shown ends h (hn + bn + 16)) (is_body_place k b bn) outer.1 in

@@ -46,9 +46,9 @@ use Rattle.sx_invoke.specs.Windows.{is_bad_window}
 use Rattle.sx_tmpl.proofs.Operations.SealOps.{KeptAt, SealsAt, seal_leads, open_leads}
 use Rattle.sx_tmpl.proofs.Operations.CopyOps.{Ending, Goes_to, Breaks_off, No_meaning, copy_in_ends, copy_out_ends}
 use Rattle.sx_tmpl.proofs.Running.Holding.{IsRange, low_shown}
-use Rattle.sx_tmpl.proofs.Running.Entered.{AreKept, was_open}
+use Rattle.sx_tmpl.proofs.Running.Entered.{AreKept, IsKept, are_kept, was_open}
 use Rattle.sx_tmpl.proofs.Texts.Named.{names_none}
-use Rattle.sx_tmpl.specs.Unseen.{IsKeptKey, NamesNoKey, WasOpen}
+use Rattle.sx_tmpl.specs.Unseen.{NamesNoKey, WasOpen}
 use Rattle.sx_bus.specs.Devices.{cleared}
 use Rattle.std.proofs.Common.{take, cond}
 use Rattle.sx_tag.specs.Wrap.{unwrapped}
@@ -224,16 +224,17 @@ module _ (f : Fixed) (st : Stands f) (all : List Mark) (BV : Violation → List 
   open_kept c k kept slots j one is =
       elim (or_cases (k == 0) (is_open_slot c.priv k && not (has_key_mark c.marks)) kept) [
         | inl own ↦ own_kept c k own j one is
-        | inr slot ↦ slot_kept (and_parts (is_open_slot c.priv k) (not (has_key_mark c.marks)) slot) slots
+        | inr slot ↦
+            let both = and_parts (is_open_slot c.priv k) (not (has_key_mark c.marks)) slot in
+            slot_kept both.0 (are_kept f c both.1 slots)
       ]
     where
-      slot_kept : (is_open_slot c.priv k ≡ true) × (not (has_key_mark c.marks) ≡ true) → AreKept f c → IsKeptKey f.setup f.entered c.marks j (key_at f.setup c k)
-      slot_kept x (inl keyed) = inl keyed
-      slot_kept x (inr same) =
+      slot_kept : is_open_slot c.priv k ≡ true → IsKept f c → WasOpen f.setup f.entered j (key_at f.setup c k)
+      slot_kept x same =
           let at : k - 4 ≡ offsets.end_open_at j = omega (arith, is) in
-          let is_open : not (word c.priv (offsets.end_open_at j) == 0) ≡ true = subst (λ (o : ℕ). not (word c.priv o == 0) ≡ true) at x.0 in
+          let is_open : not (word c.priv (offsets.end_open_at j) == 0) ≡ true = subst (λ (o : ℕ). not (word c.priv o == 0) ≡ true) at x in
           let key : bytes_from c.priv (offsets.end_key_at j) 16 ≡ key_at f.setup c k = slot_key k is in
-          inr (subst (λ (l : List ℕ). WasOpen f.setup f.entered j l) key (was_open f.setup f.entered c.priv j one same is_open))
+          subst (λ (l : List ℕ). WasOpen f.setup f.entered j l) key (was_open f.setup f.entered c.priv j one same is_open)
         where
           slot_key : (k : ℕ) → k ≡ offsets.end_key_at j → bytes_from c.priv (offsets.end_key_at j) 16 ≡ key_at f.setup c k
           slot_key zero is = absurd (omega (arith, is))
@@ -296,7 +297,7 @@ module _ (f : Fixed) (st : Stands f) (all : List Mark) (BV : Violation → List 
   op_goes (ir.JumpZero q) (suc v ∷ rest) c t here ok u ks g gt e = lift _ 4 8 _ _ t (omega arith) (goes_same _ t e) (jump_not_leads f st all B a.at c q v rest)
   op_goes (ir.Packet k) [] c t here ok u ks g gt e = absurd (never Stuck t e)
   op_goes (ir.Packet k) (v ∷ rest) c t here ok u ks g gt e =
-      with_size _ 200 _ t (λ sz. lift _ 126 200 _ t t (omega arith) refl (packet_goes f st all B a.at tag c t k v (a.packet k) rest (omega (arith, ok.1)) u g.slots g.stack ok.0 e gt g.from g.to))
+      with_size _ 200 _ t (λ sz. lift _ 126 200 _ t t (omega arith) refl (packet_goes f st all B a.at tag c t k v (a.packet k) rest (omega (arith, ok.1)) u (are_kept f (record c { stack = v ∷ rest }) ks g.slots) g.stack ok.0 e gt g.from g.to))
   op_goes ir.Drop [] c t here ok u ks g gt e = absurd (never Stuck t e)
   op_goes ir.Drop (x ∷ rest) c t here ok u ks g gt e = lift _ 1 8 _ _ t (omega arith) (goes_same _ t e) (drop_leads f st all B a.at c x rest)
   op_goes ir.Emit [] c t here ok u ks g gt e = absurd (never Stuck t e)
@@ -455,53 +456,55 @@ module _ (f : Fixed) (st : Stands f) (all : List Mark) (BV : Violation → List 
   no_meaning : (stack : List ℕ) (c : Conf) (w : Halt) → Stuck ≡ w → OnViolation BV (record c { stack = stack }) w → ⊥
   no_meaning stack c w e b = subst (λ w. OnViolation BV (record c { stack = stack }) w) (sym e) b
 
-  packet_stops : (k v : ℕ) (rest : List ℕ) (c : Conf) (w : Halt) → slice_get code c.place ≡ Some (ir.Packet k) → IsSoundOp f a (ir.Packet k) → k < length f.setup.ends → Good f all a code (record c { stack = v ∷ rest })
+  packet_stops : (k v : ℕ) (rest : List ℕ) (c : Conf) (w : Halt) → slice_get code c.place ≡ Some (ir.Packet k) → IsSoundOp f a (ir.Packet k) → k < length f.setup.ends → not (has_key_mark c.marks) ≡ true
+      → Good f all a code (record c { stack = v ∷ rest })
       → send f.setup (record c { stack = v ∷ rest }) k v (end_state c.priv k) ≡ Stops w → OnViolation BV (record c { stack = v ∷ rest }) w → Op_stops (ir.Packet k) (v ∷ rest) c
-  packet_stops k v rest c Stuck here ok u g e b r d tx on sh safe = absurd b
-  packet_stops k v rest c (Violates x marks) here ok u g e b r d tx on sh safe =
+  packet_stops k v rest c Stuck here ok u none g e b r d tx on sh safe = absurd b
+  packet_stops k v rest c (Violates x marks) here ok u none g e b r d tx on sh safe =
       let sz = sh.holds.size in
-      later f all Bw (λ _. ⊥) 126 200 (running f r d) (omega arith) (packet_breaks f st all Bw a.at tag c k v (a.packet k) rest x marks (omega (arith, ok.1)) u g.slots g.stack ok.0 e
+      later f all Bw (λ _. ⊥) 126 200 (running f r d) (omega arith) (packet_breaks f st all Bw a.at tag c k v (a.packet k) rest x marks (omega (arith, ok.1)) u (are_kept f (record c { stack = v ∷ rest }) none g.slots) g.stack ok.0 e
       (begins x marks b) g.from g.to r d tx on sh safe (λ u m. subst (λ l. BV x l) (sym m) b))
 
-  pub op_stops : (i : Ir) (stack : List ℕ) (c : Conf) (w : Halt) → slice_get code c.place ≡ Some i → IsSoundOp f a i → NamesNoKey (length f.setup.ends) i stack → Good f all a code (record c { stack = stack })
+  pub op_stops : (i : Ir) (stack : List ℕ) (c : Conf) (w : Halt) → slice_get code c.place ≡ Some i → IsSoundOp f a i → NamesNoKey (length f.setup.ends) i stack
+      → keeps_slots (length f.setup.ends) i (record c { stack = stack }) ≡ true → Good f all a code (record c { stack = stack })
       → do_op f.setup handle i (record c { stack = stack }) ≡ Stops w → OnViolation BV (record c { stack = stack }) w → Op_stops i stack c
-  op_stops (ir.Push n) stack c w here ok u g e b = absurd (no_meaning stack c w (pushed_stops (record c { stack = stack }) _ w e) b)
-  op_stops (ir.Load o) stack c w here ok u g e b = absurd (no_meaning stack c w (pushed_stops (record c { stack = stack }) _ w e) b)
-  op_stops (ir.Store o) [] c w here ok u g e b = absurd (no_meaning [] c w (stuck_is w e) b)
-  op_stops (ir.Store o) (x ∷ rest) c w here ok u g e b = absurd (goes_never _ w e)
-  op_stops (ir.LoadAt o n) [] c w here ok u g e b = absurd (no_meaning [] c w (stuck_is w e) b)
-  op_stops (ir.LoadAt o n) (i ∷ rest) c w here ok u g e b = absurd (goes_never _ w e)
-  op_stops (ir.StoreAt o n) [] c w here ok u g e b = absurd (no_meaning [] c w (stuck_is w e) b)
-  op_stops (ir.StoreAt o n) (v ∷ []) c w here ok u g e b = absurd (no_meaning (v ∷ []) c w (stuck_is w e) b)
-  op_stops (ir.StoreAt o n) (v ∷ i ∷ rest) c w here ok u g e b = absurd (goes_never _ w e)
-  op_stops (ir.Op h) stack c w here ok u g e b = absurd (no_meaning stack c w (operator_stops h stack c w e) b)
-  op_stops (ir.Jump q) stack c w here ok u g e b = absurd (goes_never _ w e)
-  op_stops (ir.JumpZero q) [] c w here ok u g e b = absurd (no_meaning [] c w (stuck_is w e) b)
-  op_stops (ir.JumpZero q) (zero ∷ rest) c w here ok u g e b = absurd (goes_never _ w e)
-  op_stops (ir.JumpZero q) (suc v ∷ rest) c w here ok u g e b = absurd (goes_never _ w e)
-  op_stops (ir.Packet k) [] c w here ok u g e b = absurd (no_meaning [] c w (stuck_is w e) b)
-  op_stops (ir.Packet k) (v ∷ rest) c w here ok u g e b = packet_stops k v rest c w here ok u g e b
-  op_stops ir.Drop [] c w here ok u g e b = absurd (no_meaning [] c w (stuck_is w e) b)
-  op_stops ir.Drop (x ∷ rest) c w here ok u g e b = absurd (goes_never _ w e)
-  op_stops ir.Emit [] c w here ok u g e b = absurd (no_meaning [] c w (stuck_is w e) b)
-  op_stops ir.Emit (x ∷ rest) c w here ok u g e b = absurd (no_meaning (x ∷ rest) c w (emit_stops (record c { stack = x ∷ rest }) x rest (own_window f.setup c.devices) w e) b)
-  op_stops ir.Stop stack c w here ok u g e b = absurd (no_meaning stack c w (stop_stops (record c { stack = stack }) c.back w e) b)
-  op_stops (ir.Saved r) stack c w here ok u g e b = absurd (no_meaning stack c w (when_stops (is_saved r) _ w e (λ x. pushed_stops (record c { stack = stack }) _ w x)) b)
-  op_stops ir.Inside stack c Stuck here ok u g e b = absurd b
-  op_stops ir.Inside stack c (Violates v m) here ok u g e b = λ r d tx on sh safe. later f all Bw (λ _. ⊥) 6 16 (running f r d) (omega arith)
+  op_stops (ir.Push n) stack c w here ok u ks g e b = absurd (no_meaning stack c w (pushed_stops (record c { stack = stack }) _ w e) b)
+  op_stops (ir.Load o) stack c w here ok u ks g e b = absurd (no_meaning stack c w (pushed_stops (record c { stack = stack }) _ w e) b)
+  op_stops (ir.Store o) [] c w here ok u ks g e b = absurd (no_meaning [] c w (stuck_is w e) b)
+  op_stops (ir.Store o) (x ∷ rest) c w here ok u ks g e b = absurd (goes_never _ w e)
+  op_stops (ir.LoadAt o n) [] c w here ok u ks g e b = absurd (no_meaning [] c w (stuck_is w e) b)
+  op_stops (ir.LoadAt o n) (i ∷ rest) c w here ok u ks g e b = absurd (goes_never _ w e)
+  op_stops (ir.StoreAt o n) [] c w here ok u ks g e b = absurd (no_meaning [] c w (stuck_is w e) b)
+  op_stops (ir.StoreAt o n) (v ∷ []) c w here ok u ks g e b = absurd (no_meaning (v ∷ []) c w (stuck_is w e) b)
+  op_stops (ir.StoreAt o n) (v ∷ i ∷ rest) c w here ok u ks g e b = absurd (goes_never _ w e)
+  op_stops (ir.Op h) stack c w here ok u ks g e b = absurd (no_meaning stack c w (operator_stops h stack c w e) b)
+  op_stops (ir.Jump q) stack c w here ok u ks g e b = absurd (goes_never _ w e)
+  op_stops (ir.JumpZero q) [] c w here ok u ks g e b = absurd (no_meaning [] c w (stuck_is w e) b)
+  op_stops (ir.JumpZero q) (zero ∷ rest) c w here ok u ks g e b = absurd (goes_never _ w e)
+  op_stops (ir.JumpZero q) (suc v ∷ rest) c w here ok u ks g e b = absurd (goes_never _ w e)
+  op_stops (ir.Packet k) [] c w here ok u ks g e b = absurd (no_meaning [] c w (stuck_is w e) b)
+  op_stops (ir.Packet k) (v ∷ rest) c w here ok u ks g e b = packet_stops k v rest c w here ok u ks g e b
+  op_stops ir.Drop [] c w here ok u ks g e b = absurd (no_meaning [] c w (stuck_is w e) b)
+  op_stops ir.Drop (x ∷ rest) c w here ok u ks g e b = absurd (goes_never _ w e)
+  op_stops ir.Emit [] c w here ok u ks g e b = absurd (no_meaning [] c w (stuck_is w e) b)
+  op_stops ir.Emit (x ∷ rest) c w here ok u ks g e b = absurd (no_meaning (x ∷ rest) c w (emit_stops (record c { stack = x ∷ rest }) x rest (own_window f.setup c.devices) w e) b)
+  op_stops ir.Stop stack c w here ok u ks g e b = absurd (no_meaning stack c w (stop_stops (record c { stack = stack }) c.back w e) b)
+  op_stops (ir.Saved r) stack c w here ok u ks g e b = absurd (no_meaning stack c w (when_stops (is_saved r) _ w e (λ x. pushed_stops (record c { stack = stack }) _ w x)) b)
+  op_stops ir.Inside stack c Stuck here ok u ks g e b = absurd b
+  op_stops ir.Inside stack c (Violates v m) here ok u ks g e b = λ r d tx on sh safe. later f all Bw (λ _. ⊥) 6 16 (running f r d) (omega arith)
       (ending_stops _ _ _ v m (inside_ends f st all Bw a.at (record c { stack = stack })) e r d tx on sh safe (λ u k. subst (λ l. BV v l) (sym k) b))
-  op_stops (ir.Meets r n) stack c w here ok u g e b = absurd (no_meaning stack c w (when_stops (is_saved r) _ w e (λ x. pushed_stops (record c { stack = stack }) _ w x)) b)
-  op_stops (ir.CopyIn zero o) stack c w here ok u g e b = absurd (omega (arith, ok.0))
-  op_stops (ir.CopyIn (suc n) o) stack c Stuck here ok u g e b = absurd b
-  op_stops (ir.CopyIn (suc n) o) stack c (Violates v m) here ok u g e b = λ r d tx on sh safe.
+  op_stops (ir.Meets r n) stack c w here ok u ks g e b = absurd (no_meaning stack c w (when_stops (is_saved r) _ w e (λ x. pushed_stops (record c { stack = stack }) _ w x)) b)
+  op_stops (ir.CopyIn zero o) stack c w here ok u ks g e b = absurd (omega (arith, ok.0))
+  op_stops (ir.CopyIn (suc n) o) stack c Stuck here ok u ks g e b = absurd b
+  op_stops (ir.CopyIn (suc n) o) stack c (Violates v m) here ok u ks g e b = λ r d tx on sh safe.
       let c1 = record c { stack = stack } in
       later f all Bw (λ _. ⊥) (7 + 4 * suc n) (16 + 8 * suc n + 0) (running f r d) (omega arith)
       (ending_stops (copy_in f.setup c1 (suc n) o) _ _ v m (copy_in_ends f st all Bw a.at c1 n o (subst (λ s. IsRange o (suc n) s) (size_is f c.priv sh.holds.size) ok.2)
       (omega (arith, ok.1))) e r d tx on sh safe (λ u k. subst (λ l. BV v l) (sym k) b))
-  op_stops (ir.CopyOut zero o) stack c w here ok u g e b = absurd (omega (arith, ok.0))
-  op_stops (ir.CopyOut (suc n) o) [] c w here ok u g e b = absurd (no_meaning [] c w (stuck_is w e) b)
-  op_stops (ir.CopyOut (suc n) o) (v ∷ rest) c Stuck here ok u g e b = absurd b
-  op_stops (ir.CopyOut (suc n) o) (v ∷ rest) c (Violates x m) here ok u g e b = λ r d tx on sh safe.
+  op_stops (ir.CopyOut zero o) stack c w here ok u ks g e b = absurd (omega (arith, ok.0))
+  op_stops (ir.CopyOut (suc n) o) [] c w here ok u ks g e b = absurd (no_meaning [] c w (stuck_is w e) b)
+  op_stops (ir.CopyOut (suc n) o) (v ∷ rest) c Stuck here ok u ks g e b = absurd b
+  op_stops (ir.CopyOut (suc n) o) (v ∷ rest) c (Violates x m) here ok u ks g e b = λ r d tx on sh safe.
       let t = and_parts (has_out_window f.setup c) (has_copy_room c v (suc n)) (when_violates (has_out_window f.setup c && has_copy_room c v (suc n)) _ x m e) in
       let to = copy_ends f all a code (record c { stack = v ∷ rest }) v (suc n) t.0 t.1 g in
       let from = g.from in
@@ -509,15 +512,15 @@ module _ (f : Fixed) (st : Stands f) (all : List Mark) (BV : Violation → List 
       later f all Bw (λ _. ⊥) (8 + 4 * suc n) (16 + 8 * suc n + 0) (running f r d) (omega arith) (ending_stops (copy_out f.setup (record c { stack = v ∷ rest }) (suc n) o v rest) _ _ x m
       (copy_out_ends f st all Bw a.at c v rest n o (subst (λ s. IsRange o (suc n) s) (size_is f c.priv sh.holds.size) ok.2) u (omega (arith, ok.1)) w.0 w.1) e r d tx on sh safe
       (λ u k. subst (λ l. BV x l) (sym k) b))
-  op_stops (ir.Seal k h hn x xn) stack c w here ok u g e b = absurd (goes_never _ w e)
-  op_stops (ir.Open k h hn x xn) stack c w here ok u g e b = absurd
+  op_stops (ir.Seal k h hn x xn) stack c w here ok u ks g e b = absurd (goes_never _ w e)
+  op_stops (ir.Open k h hn x xn) stack c w here ok u ks g e b = absurd
       (no_meaning stack c w
       (open_stops (record c { stack = stack }) k (bytes_from c.priv h hn) x xn (unwrapped f.setup.mac (key_at f.setup c k) (bytes_from c.priv h hn) (bytes_from c.priv (h + hn) xn)
       (bytes_from c.priv (h + hn + xn) 16)) w e) b)
-  op_stops (ir.SetEnd k) stack c w here ok u g e b = absurd (goes_never _ w e)
-  op_stops ir.Sense stack c w here ok u g e b = absurd (no_meaning stack c w (sense_stops (record c { stack = stack }) (own_window f.setup c.devices) w e) b)
-  op_stops (ir.Handler h) stack c w here ok u g e b = absurd (no_meaning stack c w (no_end h _ w e) b)
-  op_stops ir.Leave stack c w here ok u g e b = absurd (no_meaning stack c w (stuck_is w e) b)
+  op_stops (ir.SetEnd k) stack c w here ok u ks g e b = absurd (goes_never _ w e)
+  op_stops ir.Sense stack c w here ok u ks g e b = absurd (no_meaning stack c w (sense_stops (record c { stack = stack }) (own_window f.setup c.devices) w e) b)
+  op_stops (ir.Handler h) stack c w here ok u ks g e b = absurd (no_meaning stack c w (no_end h _ w e) b)
+  op_stops ir.Leave stack c w here ok u ks g e b = absurd (no_meaning stack c w (stuck_is w e) b)
 
   -- an operation that ends a run with a violation has a meaning
   when_ends : (b : Bool) (x : OperationResult) (c : Conf) (h : Halt) → when b x ≡ Stops h → OnViolation BV c h → (b ≡ true) × (x ≡ Stops h)
@@ -555,5 +558,5 @@ module _ (f : Fixed) (st : Stands f) (all : List Mark) (BV : Violation → List 
           let unseen = names_none (length f.setup.ends) i c.stack both.1 in
           subst (λ o. Runs f all Bw (λ _. ⊥) (count_at given o) w) (sym here)
           (subst (λ w. Runs f all Bw (λ _. ⊥) (count_of i + handler_count given i) w) (sym rep.state)
-          (op_stops i c.stack c h here (emitted_.sound c.place i here) unseen g named.1 b rep.regs rep.rest (emitted_.stands c.place i here) (emitted_.following c.place i here) rep.shows
+          (op_stops i c.stack c h here (emitted_.sound c.place i here) unseen both.0 g named.1 b rep.regs rep.rest (emitted_.stands c.place i here) (emitted_.following c.place i here) rep.shows
           (subst (λ w. Safe f all w) rep.state rep.safe)))
