@@ -1,5 +1,5 @@
 -- A plain instruction of a module's code that shows no key is the same step in two nodes that differ in keys.
-use Rattle.std.proofs.Common.{◌≡◌, ℕ, ◌+◌, ◌++◌, Bool, true, false, cond, not, ◌&&◌, ◌||◌, ◌==◌, inl, inr, List, [], ◌∷◌, map, length, slice_index, Option, Some, None, is_some}
+use Rattle.std.proofs.Common.{◌≡◌, ℕ, ◌+◌, ◌++◌, Bool, true, false, cond, not, ◌&&◌, ◌||◌, ◌==◌, List, [], ◌∷◌, map, slice_index, Option, Some, None, is_some}
 use Rattle.std.proofs.Common.{refl, sym, ◌∙◌, ap, ap₂, subst}
 use Rattle.std.specs.List.{list_all}
 use Rattle.std.proofs.lemmas.Bool.{and_parts}
@@ -10,24 +10,20 @@ use Rattle.sx_rules.specs.declared.access.Violation.TheVariants as bad
 use Rattle.sx_rules.specs.declared.section.Section.{Section}
 use Rattle.sx_rules.specs.Access.{Sections, allows, extends, holder, in_order, in_private, in_public, may, outside_private, section_of}
 use Rattle.sx_machine.specs.Memory.{even, word}
-use Rattle.sx_bus.specs.declared.devices.Window.{Window}
 use Rattle.sx_bus.specs.Devices.{device_at}
 use Rattle.sx_tag.specs.Mac.{Mac}
-use Rattle.sx_machine.specs.declared.kinds.Event.{Event}
 use Rattle.sx_machine.specs.declared.kinds.Event.TheVariants as event
 use Rattle.sx_machine.specs.declared.kinds.Exchange.{Exchange}
-use Rattle.sx_machine.specs.declared.kinds.Touch.{Touch}
-use Rattle.sx_machine.specs.Plan.{Plan}
 use Rattle.sx_machine.specs.Rows.{program}
 use Rattle.sx_machine.specs.Run.{Moment, Outcome, Finished, Violated, Module, exec}
 use Rattle.sx_machine.specs.State.{State}
-use Rattle.sx_machine.specs.Step.{attempt, entered_from, instruction, is_live, is_module_word, left, ordered, own_of, pc_of, settled_step, start, word_outside}
+use Rattle.sx_machine.specs.Step.{attempt, entered_from, instruction, is_module_word, ordered, own_of, pc_of, settled_step, start, word_outside}
 use Rattle.sx_invoke.specs.Marks.{Mark}
 use Rattle.sx_invoke.specs.Marks as mark
 use Rattle.sx_invoke.specs.Setup.{Setup}
-use Rattle.sx_image.specs.Watched.{Watched, marks_of, marks_of_event, marks_of_touches, violation_of, watch, watched_on}
+use Rattle.sx_image.specs.Watched.{Watched, marks_of_event, marks_of_touches, violation_of, watch, watched_on}
 use Rattle.sx_tmpl.specs.Unseen.{PlanShowsNone}
-use Rattle.sx_tmpl.specs.Steady.{Abreast, AgreeAt, AreOpen, SameMark, SameMarks, StepAbreast, Twins, keyless}
+use Rattle.sx_tmpl.specs.Steady.{AgreeAt, AreOpen, SameMark, SameMarks, StepAbreast, keyless}
 use Rattle.sx_tmpl.proofs.Twins.{SamePlain, plan_same}
 
 -- Tables that differ in keys answer the same.

@@ -1,5 +1,5 @@
 -- A wrap or an unwrap of a module's code is the same step in two nodes that differ in keys, if it gives the same in both.
-use Rattle.std.proofs.Common.{◌≡◌, ℕ, zero, suc, ◌+◌, ◌-◌, ◌%◌, ◌<◌, ◌≤◌, ◌++◌, ◌==◌, ◌&&◌, Bool, true, false, cond, not, inl, inr, ◌⊎◌, List, [], ◌∷◌, length, take, slice_index, slice_set, Option, Some, None}
+use Rattle.std.proofs.Common.{◌≡◌, ℕ, zero, suc, ◌+◌, ◌-◌, ◌%◌, ◌<◌, ◌≤◌, ◌==◌, ◌&&◌, Bool, true, false, cond, not, inl, inr, List, [], ◌∷◌, length, take, slice_index, slice_set, Option, Some, None}
 use Rattle.std.proofs.Common.{refl, sym, ◌∙◌, ap, ap₂, subst, arith, map}
 use Rattle.std.specs.Prelude.{nat_le}
 use Rattle.std.specs.List.{list_any}
@@ -20,7 +20,7 @@ use Rattle.sx_machine.specs.declared.kinds.Event.TheVariants as event
 use Rattle.sx_machine.specs.declared.kinds.Exchange.{Exchange}
 use Rattle.sx_machine.specs.Given.{Given, concluded}
 use Rattle.sx_machine.specs.Memory.{even, bytes_from, put_bytes, word}
-use Rattle.sx_machine.specs.ModuleRows.{module_row, within, answer, buffers, exchanged, opened, own_key, tested, unwrap, with_inputs, with_key, wrap}
+use Rattle.sx_machine.specs.ModuleRows.{module_row, within, buffers, exchanged, opened, own_key, tested, unwrap, with_inputs, with_key, wrap}
 use Rattle.sx_machine.specs.Plan.{Plan, Need, Tell, Bytes, Put, Writable}
 use Rattle.sx_machine.specs.Ranges.{passes_end, meets_device}
 use Rattle.sx_machine.specs.Rows.{program}
@@ -29,7 +29,6 @@ use Rattle.sx_machine.specs.Step.{attempt, entered_from, given_at_pc, instructio
 use Rattle.sx_machine.specs.Modules.{module_instruction}
 use Rattle.sx_machine.specs.Run.{Moment, Outcome, Finished, Violated, Module, exec, may_each, may_range}
 use Rattle.sx_machine.proofs.PlanGuard.{with_mem}
-use Rattle.sx_invoke.specs.Marks.{Mark}
 use Rattle.sx_invoke.specs.Marks as mark
 use Rattle.sx_mean.specs.Working.{plain_at}
 use Rattle.sx_invoke.specs.Setup.{Setup}

@@ -1,14 +1,11 @@
 -- A turn whose steps show no key is the same turn in two nodes that differ in keys.
-use Rattle.std.proofs.Common.{◌≡◌, ℕ, suc, ◌+◌, ◌≤◌, refl, sym, ◌∙◌, subst, arith}
+use Rattle.std.proofs.Common.{◌≡◌, ℕ, suc, ◌≤◌, refl, subst, arith}
 use Rattle.sx_rules.specs.declared.access.Violation.{Violation}
-use Rattle.sx_rules.specs.declared.section.Section.{Section}
-use Rattle.sx_tag.specs.Mac.{Mac}
 use Rattle.sx_reach.specs.Reach as reach
-use Rattle.sx_reach.specs.Reach.{Comes, Stepped, Goes, Stops}
+use Rattle.sx_reach.specs.Reach.{Stepped, Goes, Stops}
 use Rattle.sx_invoke.specs.Setup.{Setup}
 use Rattle.sx_image.specs.Watched.{Watched, watch}
-use Rattle.sx_tmpl.specs.Unseen.{StepShowsNone}
-use Rattle.sx_tmpl.specs.Steady.{Abreast, AreOpen, Ends, Here, Meets, Next, SideBySide, StepAbreast, TurnsSteady}
+use Rattle.sx_tmpl.specs.Steady.{Abreast, Ends, Here, Next, SideBySide, StepAbreast, TurnsSteady}
 use Rattle.sx_tmpl.proofs.Seals.{steps_steady}
 
 pub turns_steady : (s : Setup) (places : ℕ → Type 0) (P : Watched → Type 0) (Between : Watched → Watched → Type 0) (B : Watched → Violation → Type 0) (Q : Watched → Type 0)

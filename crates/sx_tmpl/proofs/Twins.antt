@@ -1,5 +1,5 @@
 -- A plan that shows no key does the same in two nodes that differ in keys.
-use Rattle.std.proofs.Common.{◌≡◌, ℕ, ◌+◌, ◌/◌, ◌%◌, ◌<◌, ◌≤◌, Bool, true, false, cond, ◌&&◌, inl, inr, ◌⊎◌, List, length, slice_index, slice_set, Option, Some, None, Result, Ok, Err}
+use Rattle.std.proofs.Common.{◌≡◌, ℕ, ◌+◌, ◌/◌, ◌%◌, ◌<◌, ◌≤◌, Bool, true, false, cond, ◌&&◌, inl, inr, List, length, slice_index, slice_set, Option, Some, None, Result, Ok, Err}
 use Rattle.std.proofs.Common.{refl, sym, ◌∙◌, ap, ap₂, subst, arith}
 use Rattle.std.proofs.lemmas.List.{length-set, get_or-set_same, get_or-set_other, set_past}
 use Rattle.std.proofs.lemmas.Bool.{and_parts, cases_eq, cases_lt}
@@ -7,20 +7,19 @@ use Rattle.sx_rules.specs.declared.access.Access.{Access}
 use Rattle.sx_rules.specs.declared.access.Access.TheVariants.{Read, Write}
 use Rattle.sx_rules.specs.declared.access.Violation.{Violation}
 use Rattle.sx_rules.specs.declared.access.Violation.TheVariants as bad
-use Rattle.sx_rules.specs.declared.section.Section.{Section}
-use Rattle.sx_rules.specs.Access.{Sections, extends, in_private, may}
+use Rattle.sx_rules.specs.Access.{Sections, extends, may}
 use Rattle.sx_bus.specs.declared.devices.Kind.{Kind}
 use Rattle.sx_bus.specs.declared.devices.Kind.TheVariants.{Sensor, Actuator}
 use Rattle.sx_bus.specs.declared.devices.Window.{Window}
 use Rattle.sx_bus.specs.Devices.{cleared, device_at}
 use Rattle.sx_machine.specs.declared.kinds.Touch.TheVariants.{DeviceRead}
-use Rattle.sx_machine.specs.Memory.{even, word, read_at, write_at}
+use Rattle.sx_machine.specs.Memory.{even, read_at, write_at}
 use Rattle.sx_machine.specs.Plan.{Plan, Done, Tell, Stop, Fetch, Load, Store, Need, Writable, Bytes, Put}
 use Rattle.sx_machine.specs.Run.{Moment, with_touch, Outcome, Finished, Violated, Module, may_at, sampled, device_of, found, read_device, read_place, load, write_device}
 use Rattle.sx_machine.specs.Run.{write_place, store, fetch_place, fetch, after_read, after_write, after_fetch, exec}
 use Rattle.sx_machine.proofs.PlanGuard.{with_mem}
 use Rattle.sx_invoke.specs.Setup.{Setup}
-use Rattle.sx_tmpl.specs.Unseen.{AreShown, HoldsNoKey, IsShown, PlanShowsNone, MovesKey}
+use Rattle.sx_tmpl.specs.Unseen.{AreShown, PlanShowsNone, MovesKey}
 use Rattle.sx_tmpl.specs.Steady.{AgreeAt, AreOpen}
 
 -- Memories.

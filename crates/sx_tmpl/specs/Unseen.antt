@@ -3,7 +3,7 @@
 -- bytes alone do the same, step by step, if wraps and unwraps under these keys do. Nobody has to
 -- believe this file for what an image realizes.
 use Rattle.std.specs.Prelude.{◌≡◌, ◌⊎◌, ℕ, ◌+◌, ◌*◌, ◌<◌, ◌≤◌, Bool, true, false, List, ◌∷◌, length}
-use Rattle.std.specs.Prelude.{get_or, slice_index, not, ◌==◌, None, Result, Ok}
+use Rattle.std.specs.Prelude.{get_or, slice_index, not, ◌==◌, None, Ok}
 use Rattle.sx_bus.specs.declared.devices.Window.{Window}
 use Rattle.sx_bus.specs.Devices.{device_at}
 use Rattle.sx_mean.specs.Offsets.{end_at, end_key_at, end_open_at}

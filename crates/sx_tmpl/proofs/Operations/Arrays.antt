@@ -2,7 +2,7 @@
 use Rattle.sx_tmpl.specs.Template.{load_at_words, store_at_words}
 use Rattle.sx_isa.specs.Assembly.{##◌, #◌, ahead, cmp, jc, jmp, mov, pop, push, r12, r13, rla, sp, ◌⟨◌⟩}
 use Rattle.sx_tmpl.proofs.Running.Instructions.{step}
-use Rattle.std.proofs.Common.{◌≡◌, ℕ, suc, ◌+◌, ◌*◌, ◌%◌, ◌<◌, ◌≤◌, ◌⊎◌, inl, inr, cond, List, [], ◌∷◌, length, refl, sym, ap, subst, arith}
+use Rattle.std.proofs.Common.{◌≡◌, ℕ, suc, ◌+◌, ◌*◌, ◌%◌, ◌<◌, ◌≤◌, ◌⊎◌, inl, inr, cond, List, ◌∷◌, length, refl, sym, ap, subst, arith}
 use Rattle.sx_isa.specs.declared.instruction.Op2.TheVariants as op2
 use Rattle.sx_rules.specs.declared.access.Violation.{Violation}
 use Rattle.sx_machine.specs.declared.kinds.Event.TheVariants as event

@@ -2,7 +2,7 @@
 use Rattle.sx_tmpl.specs.Template as templates
 use Rattle.sx_isa.specs.Assembly.{##◌, #◌, &◌, ahead, cmp, jc, jmp, jnc, mov, push, r12}
 use Rattle.sx_tmpl.proofs.Running.Instructions.{step}
-use Rattle.std.proofs.Common.{◌≡◌, ℕ, suc, ◌+◌, ◌-◌, ◌%◌, ◌<◌, ◌≤◌, inl, inr, Bool, true, false, ◌&&◌, nat_lt, nat_lt, List, [], ◌∷◌, length, refl, sym, subst, arith}
+use Rattle.std.proofs.Common.{◌≡◌, ℕ, suc, ◌+◌, ◌-◌, ◌%◌, ◌<◌, ◌≤◌, inl, inr, Bool, true, false, ◌&&◌, nat_lt, nat_lt, List, ◌∷◌, length, refl, sym, subst, arith}
 use Rattle.sx_isa.specs.declared.instruction.Op2.TheVariants as op2
 use Rattle.sx_rules.specs.declared.access.Violation.{Violation}
 use Rattle.sx_machine.specs.declared.kinds.Event.TheVariants as event

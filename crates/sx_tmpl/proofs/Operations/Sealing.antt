@@ -35,7 +35,7 @@ use Rattle.sx_tmpl.proofs.Running.MidRun.{Stands, Runs, PrivateRange}
 use Rattle.sx_tmpl.proofs.Running.Owned.{own_found, run_holder, in_private_yes}
 use Rattle.sx_tmpl.proofs.Running.Owes.{OwesSeal, Met, seal_met}
 use Rattle.sx_tmpl.specs.Shows.{base_of}
-use Rattle.sx_tmpl.specs.Unseen.{AreShown, SealShowsNone, StepShowsNone, WasOpen, WordShowsNone}
+use Rattle.sx_tmpl.specs.Unseen.{AreShown, StepShowsNone, WasOpen, WordShowsNone}
 use Rattle.sx_mean.specs.Offsets.{end_key_at}
 use Rattle.sx_mean.specs.Working.{plain_at}
 use Rattle.sx_tmpl.proofs.Running.Mem.{word_is}
