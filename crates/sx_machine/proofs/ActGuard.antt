@@ -1,7 +1,7 @@
 -- Every act on a node from outside its code is guarded.
 use Rattle.std.proofs.Common.{◌≡◌, ◌≢◌, ℕ, ◌+◌, ◌%◌, ◌<◌, ◌≤◌, Bool, true, false, cond, not, ◌&&◌, ◌||◌, leb, ltb, ◌==◌, inl, inr, List, [], ◌∷◌, length, refl}
 use Rattle.std.proofs.Common.{sym, ◌∙◌, ap, subst, arith, Option, Some, None, Result, Ok}
-use Rattle.std.proofs.lemmas.Bool.{and_parts, true≢false, lt-ltb, leb-true, ltb-true, false_from_ne_true}
+use Rattle.std.proofs.lemmas.Bool.{and_parts, true≢false, lt-ltb, leb-true, ltb-true, false_from_ne_true, or_parts, and_from}
 use Rattle.std.specs.List.{list_any}
 use Rattle.sx_rules.specs.declared.section.Section.{Section}
 use Rattle.sx_rules.specs.Access.{in_private, Lives}
@@ -22,26 +22,14 @@ use Rattle.sx_machine.specs.Guarding.{Guarded}
 use Rattle.sx_machine.proofs.PlanGuard.{set_kept, bytes_alike, put_alike, Moments, SameOutcome, KeptBy, exec_alike, exec_kept}
 use Rattle.sx_machine.proofs.StepGuard.{with_mem, alike_same, twins_same, SameEnd}
 
-or_false_left : (a b : Bool) → a || b ≡ false → a ≡ false
-or_false_left true b h = absurd (true≢false h)
-or_false_left false b h = refl
-
-or_false_right : (a b : Bool) → a || b ≡ false → b ≡ false
-or_false_right true b h = absurd (true≢false h)
-or_false_right false b h = h
-
 -- what none meets, no live section meets
 none_of : (t : Section → Bool) (xs : List Section) (s : Section) → Lives xs s → list_any t xs ≡ false → t s ≡ false
 none_of t [] s l h = absurd l
 none_of t (x ∷ xs) s l h =
     elim l [
-      | inl e ↦ subst (λ (y : Section). t y ≡ false) e (or_false_left (t x) (list_any t xs) h)
-      | inr r ↦ none_of t xs s r (or_false_right (t x) (list_any t xs) h)
+      | inl e ↦ subst (λ (y : Section). t y ≡ false) e (or_parts (t x) (list_any t xs) h).0
+      | inr r ↦ none_of t xs s r (or_parts (t x) (list_any t xs) h).1
     ]
-
-both : (a b : Bool) → a ≡ true → b ≡ true → a && b ≡ true
-both true b h g = g
-both false b h g = h
 
 -- bytes that don't meet the private section hold none of its bytes
 apart_bytes : (s : Section) (at n : ℕ) → meets at n s.layout.priv_from s.layout.priv_to ≡ false → (k : ℕ) → at ≤ k → k < at + n → in_private s k ≡ false
@@ -53,8 +41,8 @@ apart_bytes s at n h k a b =
     let some : 0 < n = omega (arith, a, b) in
     let low : at < s.layout.priv_to = omega (arith, a, to) in
     let high : s.layout.priv_from < at + n = omega (arith, b, from) in
-    true≢false (sym (both (ltb 0 n) (ltb at s.layout.priv_to && ltb s.layout.priv_from (at + n)) (lt-ltb 0 n some)
-    (both (ltb at s.layout.priv_to) (ltb s.layout.priv_from (at + n)) (lt-ltb at s.layout.priv_to low) (lt-ltb s.layout.priv_from (at + n) high))) ∙ h))
+    true≢false (sym (and_from (ltb 0 n) (ltb at s.layout.priv_to && ltb s.layout.priv_from (at + n)) (lt-ltb 0 n some)
+    (and_from (ltb at s.layout.priv_to) (ltb s.layout.priv_from (at + n)) (lt-ltb at s.layout.priv_to low) (lt-ltb s.layout.priv_from (at + n) high))) ∙ h))
 
 put_bytes_kept : (s : Section) (bs m0 m : List ℕ) (at : ℕ) → ((k : ℕ) → at ≤ k → k < at + length bs → in_private s k ≡ false) → PrivateKept s m0 m → PrivateKept s m0 (put_bytes m at bs)
 put_bytes_kept s [] m0 m at f h = h
@@ -82,15 +70,15 @@ open_none false false h = refl
 put_open : (a : State) (at n : ℕ) → put_refusal a at n ≡ None → meets_private a.sections.live at n ≡ false
 put_open a at n h =
     let all = open_none (not (a.cur == 0)) (passes_end at n || (meets_public a.sections.live at n || (meets_private a.sections.live at n || meets_device (places_of a.devices) at n))) h in
-    let sections = or_false_right (passes_end at n) (meets_public a.sections.live at n || (meets_private a.sections.live at n || meets_device (places_of a.devices) at n)) all in
-    let private = or_false_right (meets_public a.sections.live at n) (meets_private a.sections.live at n || meets_device (places_of a.devices) at n) sections in
-    or_false_left (meets_private a.sections.live at n) (meets_device (places_of a.devices) at n) private
+    let sections = (or_parts (passes_end at n) (meets_public a.sections.live at n || (meets_private a.sections.live at n || meets_device (places_of a.devices) at n)) all).1 in
+    let private = (or_parts (meets_public a.sections.live at n) (meets_private a.sections.live at n || meets_device (places_of a.devices) at n) sections).1 in
+    (or_parts (meets_private a.sections.live at n) (meets_device (places_of a.devices) at n) private).0
 
 take_open : (a : State) (at n : ℕ) → take_refusal a at n ≡ None → meets_private a.sections.live at n ≡ false
 take_open a at n h =
     let all = open_none (not (a.cur == 0)) (passes_end at n || (meets_private a.sections.live at n || meets_device (places_of a.devices) at n)) h in
-    or_false_left (meets_private a.sections.live at n) (meets_device (places_of a.devices) at n)
-    (or_false_right (passes_end at n) (meets_private a.sections.live at n || meets_device (places_of a.devices) at n) all)
+    let private = (or_parts (passes_end at n) (meets_private a.sections.live at n || meets_device (places_of a.devices) at n) all).1 in
+    (or_parts (meets_private a.sections.live at n) (meets_device (places_of a.devices) at n) private).0
 
 -- no byte of a range that meets no private section is one of s's
 range_apart : (a : State) (s : Section) (at n : ℕ) → Lives a.sections.live s → meets_private a.sections.live at n ≡ false

@@ -1,12 +1,13 @@
 -- Devices: one that answers, and what a read leaves.
-use Rattle.std.proofs.Common.{◌≡◌, ℕ, zero, suc, ◌+◌, ◌<◌, ◌&&◌, inl, inr, Bool, true, cond, List, [], ◌∷◌, Option, Some, None, refl, sym, ◌∙◌, ap, subst, arith}
+use Rattle.std.proofs.Common.{◌≡◌, ℕ, zero, suc, ◌+◌, ◌<◌, ◌&&◌, inl, inr, Bool, true, cond, List, [], ◌∷◌, Option, Some, None, refl, sym, ◌∙◌, ap, subst, arith, false, if◌then◌else◌}
 use Rattle.std.specs.Prelude.{slice_get, map, nat_le, nat_lt}
 use Rattle.std.proofs.lemmas.Bool.{cases_Bool}
 use Rattle.std.specs.List.{position_from}
 use Rattle.sx_bus.specs.declared.devices.Kind.{Kind}
 use Rattle.sx_bus.specs.declared.devices.Window.{Window}
 use Rattle.sx_bus.specs.Devices.{HaveSamples, places_of, on_word, device_at, with_changed, cleared, with_sample, stale, all_stale}
-use Rattle.sx_machine.specs.Run.{with_window, found, device_of}
+use Rattle.sx_machine.specs.declared.kinds.Touch.TheVariants.{DeviceRead}
+use Rattle.sx_machine.specs.Run.{with_window, found, device_of, Moment, sampled, with_touch}
 use Rattle.sx_machine.specs.NodeLaws.{shapes}
 
 pub some_inj : {A : Type 0} → (a b : A) → ◌≡◌ {A = Option A} (Some a) (Some b) → a ≡ b
@@ -104,3 +105,15 @@ position_is test i (x ∷ xs) j e = elim (cases_Bool (test x)) [
       let p = position_is test (i + 1) xs j (sym (ap (λ b. cond b (Some i) (position_from test (i + 1) xs)) h) ∙ e) in
       (suc p.0, p.1, p.2 ∙ omega arith, p.3, p.4)
 ]
+
+-- a read of a sensor, by whether its sample is fresh
+pub by_sample : (P : ℕ × Moment → Type 0) (device : ℕ) (w : Window) (x : Moment)
+    → P (0x8000 + w.value, record x { devices = cleared x.devices device; touches = with_touch x.touches (DeviceRead device w.value) }) → P (0, x) → P (sampled device w x)
+by_sample P device w x new old = by w.fresh
+  where
+    by : (b : Bool) → P (if b then (
+      0x8000 + w.value,
+      record x { devices = cleared x.devices device; touches = with_touch x.touches (DeviceRead device w.value) },
+    ) else (0, x))
+    by true = new
+    by false = old

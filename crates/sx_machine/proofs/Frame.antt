@@ -19,13 +19,12 @@ use Rattle.sx_rules.proofs.Admits.{admits}
 use Rattle.sx_bus.specs.declared.devices.Kind.{Kind}
 use Rattle.sx_bus.specs.declared.devices.Kind.TheVariants.{Sensor, Actuator}
 use Rattle.sx_bus.specs.declared.devices.Window.{Window}
-use Rattle.sx_bus.specs.Devices.{places_of, device_at, cleared}
+use Rattle.sx_bus.specs.Devices.{places_of, device_at}
 use Rattle.sx_tag.specs.Mac.{Mac}
-use Rattle.sx_machine.specs.declared.kinds.Touch.TheVariants.{DeviceRead}
 use Rattle.sx_machine.specs.Memory.{even, word, write_at, bytes_from, put_bytes, zeroed}
 use Rattle.sx_machine.specs.State.{State, reset}
 use Rattle.sx_machine.specs.Plan.{Plan, Done, Tell, Stop, Fetch, Load, Store, Need, Writable, Bytes, Put}
-use Rattle.sx_machine.specs.Run.{Moment, with_touch, Outcome, Finished, Violated, Module, may_at, may_range, may_each, sampled, read_device, read_place, load}
+use Rattle.sx_machine.specs.Run.{Moment, Outcome, Finished, Violated, Module, may_at, may_range, may_each, sampled, read_device, read_place, load}
 use Rattle.sx_machine.specs.Run.{write_device, write_place, store, fetch, device_of, after_read, after_write, after_fetch, exec}
 use Rattle.sx_machine.specs.Rows.{program}
 use Rattle.sx_machine.specs.Given.{Given, own_section, untouched_with}
@@ -36,7 +35,7 @@ use Rattle.sx_machine.specs.Step.{own_of, pc_of, start, is_module_word, given_at
 use Rattle.sx_machine.specs.Acts.{interrupt, interrupted, irq_refusal}
 use Rattle.sx_machine.specs.Frame.{Framed, StepsFramed, InterruptsFramed}
 use Rattle.sx_machine.proofs.PlanGuard.{passes}
-use Rattle.sx_machine.proofs.Devices.{some_inj}
+use Rattle.sx_machine.proofs.Devices.{some_inj, by_sample}
 use Rattle.sx_machine.proofs.Stays.{found_lives}
 use Rattle.sx_machine.proofs.Sparse.{done_is}
 
@@ -72,15 +71,7 @@ ReadFramed live own m0 (Ok r) = Framed live own m0 r.1.mem
 ReadFramed live own m0 (Err v) = Unit {0}
 
 sampled_framed : (live : List Section) (own : ℕ) (m0 : List ℕ) (device : ℕ) (w : Window) (x : Moment) → Framed live own m0 x.mem → ReadFramed live own m0 (Ok (sampled device w x))
-sampled_framed live own m0 device w x h = by w.fresh
-  where
-    by : (b : Bool) → (let p : ℕ × Moment = if b then (
-      0x8000 + w.value,
-      record { mem = x.mem; devices = cleared x.devices device; touches = with_touch x.touches (DeviceRead device w.value) },
-    ) else
-        (0, x) in Framed live own m0 p.1.mem)
-    by true = h
-    by false = h
+sampled_framed live own m0 device w x h = by_sample (λ r. Framed live own m0 r.1.mem) device w x h h
 
 device_framed : (live : List Section) (own : ℕ) (m0 : List ℕ) (wide : Bool) (device : ℕ) (w : Window) (k : Kind) (x : Moment)
     → Framed live own m0 x.mem → ReadFramed live own m0 (read_device wide device w k x)

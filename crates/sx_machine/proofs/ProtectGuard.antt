@@ -17,7 +17,7 @@ use Rattle.sx_machine.specs.Protect.{identity_at, layout_in, provider_in, protec
 use Rattle.sx_machine.specs.Guard.{Alike, PrivateKept}
 use Rattle.sx_machine.proofs.PlanGuard.{passes, set_alike, set_kept, bytes_alike, SameOutcome, KeptBy}
 
-abbrev chosen : Bool → Bool → Bool → Bool → Bool → Option Refusal
+abbrev pub chosen : Bool → Bool → Bool → Bool → Bool → Option Refusal
 chosen a b c d e = cond (not a) (Some Bounds) (cond (not b) (Some Overlap) (cond (not c) (Some Device) (cond d (Some Full) (cond e (Some Ids) None))))
 
 no_second : (a b c d e : Bool) → chosen a b c d e ≡ None → b ≡ true
@@ -57,7 +57,7 @@ zeroed_kept s m at zero f = λ k p. refl
 zeroed_kept s m at (suc len) f =
     set_kept s m (zeroed m at len) (at + len) 0 (f (at + len) (omega arith) (omega arith)) (zeroed_kept s m at len (λ k a b. f k a (omega (arith, b))))
 
-lives_on : (live : List Section) (s new : Section) → Lives live s → Lives (live ++ new ∷ []) s
+pub lives_on : (live : List Section) (s new : Section) → Lives live s → Lives (live ++ new ∷ []) s
 lives_on [] s new l = absurd l
 lives_on (x ∷ xs) s new l = elim l [ inl e ↦ inl e | inr r ↦ inr (lives_on xs s new r) ]
 

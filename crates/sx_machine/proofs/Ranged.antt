@@ -25,11 +25,10 @@ use Rattle.sx_rules.specs.Access.{Sections}
 use Rattle.sx_bus.specs.declared.devices.Kind.{Kind}
 use Rattle.sx_bus.specs.declared.devices.Kind.TheVariants.{Sensor, Actuator}
 use Rattle.sx_bus.specs.declared.devices.Window.{Window}
-use Rattle.sx_bus.specs.Devices.{HaveSamples, cleared}
-use Rattle.sx_machine.specs.declared.kinds.Touch.TheVariants.{DeviceRead}
+use Rattle.sx_bus.specs.Devices.{HaveSamples}
 use Rattle.sx_machine.specs.Memory.{bytes_from, put_bytes}
 use Rattle.sx_machine.specs.Plan.{Plan, Done, Tell, Stop, Fetch, Load, Store, Need, Writable, Bytes, Put}
-use Rattle.sx_machine.specs.Run.{Moment, with_touch, Outcome, Finished, Violated, Module, may_at, may_range, may_each, device_of, sampled, read_device}
+use Rattle.sx_machine.specs.Run.{Moment, Outcome, Finished, Violated, Module, may_at, may_range, may_each, device_of, sampled, read_device}
 use Rattle.sx_machine.specs.Run.{read_place, load, write_device, write_place, store, fetch_place, fetch, after_read, after_write, after_fetch, exec}
 use Rattle.sx_machine.specs.Registers.{cut_value, onward, reg, set_reg, at_pc, flags, set_flags, incremented}
 use Rattle.sx_machine.specs.Rows.{from_source, reads, writes, into_register, into_memory, on_memory, onto, lowered, pushed, in_memory, in_place, one, reti}
@@ -42,7 +41,7 @@ use Rattle.sx_machine.specs.NodeLaws.{shapes}
 use Rattle.sx_machine.proofs.Registers.{Holds, holds_pc, holds_sp, holds_zero, pc_even, sp_even, set_registers, set_reg_registers, at_pc_registers}
 use Rattle.sx_machine.proofs.Registers.{flags_registers, lowered_registers, incremented_registers, distance_even, word_small, read_small, write_bytes}
 use Rattle.sx_machine.proofs.Registers.{put_small}
-use Rattle.sx_machine.proofs.Devices.{device_there, sample_small, cleared_shapes}
+use Rattle.sx_machine.proofs.Devices.{device_there, sample_small, cleared_shapes, by_sample}
 use Rattle.sx_lists.specs.Truth.{truth}
 
 -- every way that a plan goes on, when it reads words, stores words and ends in registers in range
@@ -80,15 +79,9 @@ ReadRanged ds (Ok r) = (r.0 < 65536) × Steady ds r.1
 ReadRanged ds (Err v) = Unit {0}
 
 sampled_ranged : (ds : List Window) (k : ℕ) (w : Window) (x : Moment) → w.value < 32768 → Steady ds x → ReadRanged ds (Ok (sampled k w x))
-sampled_ranged ds k w x lt h = by w.fresh
-  where
-    by : (b : Bool) → (let p : ℕ × Moment = if b then (
-      0x8000 + w.value,
-      record { mem = x.mem; devices = cleared x.devices k; touches = with_touch x.touches (DeviceRead k w.value) },
-    ) else
-        (0, x) in (p.0 < 65536) × Steady ds p.1)
-    by true = (omega (arith, lt), record { memory = h.memory; shapes = cleared_shapes x.devices k ∙ h.shapes; samples = HaveSamples-cleared x.devices k h.samples })
-    by false = (omega arith, h)
+sampled_ranged ds k w x lt h =
+    by_sample (λ r. (r.0 < 65536) × Steady ds r.1) k w x
+    (omega (arith, lt), record { memory = h.memory; shapes = cleared_shapes x.devices k ∙ h.shapes; samples = HaveSamples-cleared x.devices k h.samples }) (omega arith, h)
 
 device_ranged : (ds : List Window) (wide : Bool) (k : ℕ) (w : Window) (kind : Kind) (x : Moment) → w.value < 32768 → Steady ds x → ReadRanged ds (read_device wide k w kind x)
 device_ranged ds true k w Sensor x lt h = sampled_ranged ds k w x lt h

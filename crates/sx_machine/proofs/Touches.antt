@@ -248,10 +248,7 @@ module _ (t : Sections) (own : ℕ) (a : List Window) where
       sensor_refuses : (k : Kind) (wide : Bool) → k ≡ Sensor → By (after_write (write_device wide dv.0 v k x) f)
       sensor_refuses Sensor true e = tt
       sensor_refuses Sensor false e = tt
-      sensor_refuses Actuator wide e = absurd (differ e)
-        where
-          differ : ◌≡◌ {A = Kind} Actuator Sensor → ⊥
-          differ e = cc
+      sensor_refuses Actuator wide e = absurd (cc e)
 
   -- a store that may touch an actuator
   after_actuated : (n : ℕ) (last : Option (Bool × ℕ)) (at k v : ℕ) (w : Window) (x : Moment) → Is (suc n) last x

@@ -13,13 +13,14 @@ use Rattle.sx_machine.proofs.PlanGuard.{SameOutcome, KeptBy}
 use Rattle.sx_machine.proofs.ProtectGuard.{outside, zeroed_alike, zeroed_kept}
 use Rattle.sx_machine.proofs.Stays.{found_lives}
 
-lives_without : (s : Section) (live : List Section) (id : ℕ) → Lives live s → id ≢ s.id → Lives (without live id) s
-lives_without s [] id l ne = absurd l
-lives_without s (x ∷ xs) id l ne =
+-- a section stays where another one is removed
+pub lives_still : (s : Section) (live : List Section) (id : ℕ) → Lives live s → id ≢ s.id → Lives (without live id) s
+lives_still s [] id l ne = absurd l
+lives_still s (x ∷ xs) id l ne =
     elim l [
       | inl q ↦ elim (x.id == id) as (λ b. (x.id == id) ≡ b → Lives (cond b xs (x ∷ without xs id)) s)
           [ true ↦ λ e. absurd (ne (sym (eqb-true x.id id e) ∙ ap (λ (z : Section). z.id) q)) | false ↦ λ e. inl q ] refl
-      | inr r ↦ elim (x.id == id) as (λ b. Lives (cond b xs (x ∷ without xs id)) s) [ true ↦ r | false ↦ inr (lives_without s xs id r ne) ]
+      | inr r ↦ elim (x.id == id) as (λ b. Lives (cond b xs (x ∷ without xs id)) s) [ true ↦ r | false ↦ inr (lives_still s xs id r ne) ]
     ]
 
 -- the private parts of two sections that stand beside one another don't meet
@@ -38,7 +39,7 @@ removed_kept s g m (Some u) p l ne e =
     let differ : u.id ≢ s.id = λ q. ne (sym found.1 ∙ q) in
     let clear = privates_apart u s (placed_beside g.sections u s p found.0 l differ) in (
       zeroed_kept s m u.layout.priv_from (u.layout.priv_to - u.layout.priv_from) (λ k a b. outside s u.layout.priv_from u.layout.priv_to k clear a b),
-      lives_without s g.sections.live g.own l ne,
+      lives_still s g.sections.live g.own l ne,
     )
 
 pub unprotect_kept : (s : Section) (g : Given) (m : List ℕ) → Placed g.sections → Lives g.sections.live s → g.own ≢ s.id → KeptBy s m (unprotect g m)
