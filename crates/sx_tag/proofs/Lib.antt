@@ -1,2 +1,3 @@
--- One file: what was wrapped is unwrapped.
+-- UnwrapsWrapped: what was wrapped is unwrapped. TagBytes: the lengths of tags, ciphers and keys.
 pub mod UnwrapsWrapped
+pub mod TagBytes
