@@ -1,27 +1,15 @@
--- Where a run stands after items, and what is there where a module is idle.
-use Rattle.std.proofs.Common.{◌≡◌, Bool, true, false, if◌then◌else◌, List, [], ◌∷◌, ◌++◌, Option, Some, None, refl, ap, ◌∙◌}
-use Rattle.std.specs.Prelude.{is_none}
+-- Where a run stands after items.
+use Rattle.std.proofs.Common.{◌≡◌, List, [], ◌∷◌, ◌++◌, Option, Some, None, refl, ap, ◌∙◌}
 use Rattle.std.proofs.lemmas.Option.{same_Some}
 use Rattle.sx_mean.specs.Application.{AppTree}
 use Rattle.sx_trace.specs.declared.items.Item.{Item}
-use Rattle.sx_model.specs.State.{Model, Present, Standing}
-use Rattle.sx_model.specs.Step.{◌>>?◌, idle, step}
+use Rattle.sx_model.specs.State.{Model}
+use Rattle.sx_model.specs.Step.{◌>>?◌, step}
 use Rattle.sx_model.specs.Legal.{after}
 
 pub some_next : {A B : Type 0} → (o : Option A) (f : A → Option B) (y : B) → (o >>? f) ≡ Some y → (x : A) × (o ≡ Some x) × (f x ≡ Some y)
 some_next None f y h = absurd cc
 some_next (Some x) f y h = (x, refl, h)
-
-pub idle_is : (x : Standing) (p : Present) → idle x ≡ Some p → x.present ≡ Some p
-idle_is x p e = at x.present e
-  where
-    tests : (q : Present) (b : Bool) → (if b then Some q else None) ≡ Some p → Some q ≡ Some p
-    tests q true e = e
-    tests q false e = absurd cc
-
-    at : (o : Option Present) → (o >>? (λ q. if is_none q.pending then Some q else None)) ≡ Some p → o ≡ Some p
-    at None e = absurd cc
-    at (Some q) e = tests q (is_none q.pending) e
 
 -- one item more
 pub after_more : (app : AppTree) (items : List Item) (s t : Model) (item : Item) → after app s items ≡ Some t → after app s (items ++ item ∷ []) ≡ step app t item

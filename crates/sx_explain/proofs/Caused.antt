@@ -27,13 +27,14 @@ use Rattle.sx_model.specs.Epochs.{open_epoch}
 use Rattle.sx_model.specs.Renewal.{takes}
 use Rattle.sx_model.specs.Legal.{Legal, after}
 use Rattle.sx_model.specs.Consequences.{begins_event, ends_event, ends_reading, senses}
-use Rattle.sx_model.proofs.Along.{some_of}
+use Rattle.sx_model.proofs.Along.{some_of, next_of}
 use Rattle.sx_model.proofs.Steps.{Cases, by_step}
 use Rattle.sx_lists.proofs.Lists.{get_same}
 use Rattle.sx_model.proofs.ReadsAreSensed.{reads_are_sensed}
 use Rattle.sx_model.specs.Changes.{is_from}
+use Rattle.sx_model.proofs.Idle.{idle_is}
 use Rattle.sx_explain.specs.Causes.{Among, CausedBy, HasCauses, IsCause, LeadsToSense, OutCaused, TakeCaused, appended, event_of, gives, latest, word_of}
-use Rattle.sx_explain.proofs.After.{idle_is, some_next}
+use Rattle.sx_explain.proofs.After.{some_next}
 use Rattle.sx_explain.proofs.Emitted.{outs_owed}
 use Rattle.sx_explain.proofs.Words.{Grows, SentBy, grows_acts, grows_none, grows_weaker}
 
@@ -264,10 +265,6 @@ taken_word app s t m c i v h =
 
 -- Where a legal trace stands before an item.
 
-next_some : {A : Type 0} → (o : Option A) (f : A → Option Model) → IsSome (o >>? f) → (x : A) × (o ≡ Some x) × IsSome (f x)
-next_some None f h = absurd cc
-next_some (Some x) f h = (x, refl, h)
-
 pub record At (app : AppTree) (s : Model) (before : List Item) (item : Item) : Type 0 where
   pub from : Model
   pub to : Model
@@ -275,9 +272,9 @@ pub record At (app : AppTree) (s : Model) (before : List Item) (item : Item) : T
   pub is : step app from item ≡ Some to
 
 pub at_item : (app : AppTree) (before : List Item) (item : Item) (behind : List Item) (s : Model) → IsSome (after app s (before ++ item ∷ behind)) → At app s before item
-at_item app [] item behind s h = let n = next_some (step app s item) (λ t. after app t behind) h in record { from = s; to = n.0; ran = refl; is = n.1 }
+at_item app [] item behind s h = let n = next_of (step app s item) (λ t. after app t behind) h in record { from = s; to = n.0; ran = refl; is = n.1 }
 at_item app (x ∷ before) item behind s h =
-    let n = next_some (step app s x) (λ t. after app t (before ++ item ∷ behind)) h in
+    let n = next_of (step app s x) (λ t. after app t (before ++ item ∷ behind)) h in
     let a = at_item app before item behind n.0 n.2 in
     record { from = a.from; to = a.to; ran = ap (λ o. o >>? (λ t. after app t before)) n.1 ∙ a.ran; is = a.is }
 

@@ -1,5 +1,5 @@
 -- The value of an output is what its module's latest event emits next.
-use Rattle.std.proofs.Common.{◌≡◌, ℕ, zero, suc, ◌+◌, inl, inr, ◌==◌, Bool, true, false, if◌then◌else◌, nat_lt, List, [], ◌∷◌, ◌++◌, length}
+use Rattle.std.proofs.Common.{◌≡◌, ℕ, zero, suc, ◌+◌, inl, inr, ◌==◌, Bool, true, false, if◌then◌else◌, List, [], ◌∷◌, ◌++◌}
 use Rattle.std.proofs.Common.{Option, Some, None, append_assoc, refl, sym, ap, ◌∙◌, subst}
 use Rattle.std.specs.Prelude.{slice_get, slice_set, map, is_none}
 use Rattle.std.specs.List.{list_any}
@@ -20,33 +20,20 @@ use Rattle.sx_trace.specs.declared.items.Item.{Item}
 use Rattle.sx_trace.specs.declared.items.Item.TheVariants.{Reset, Protect, Sense, Read, Drain, Ask, Attested, Denied, Vouch, Open, Take, Out, Raw, Done, Packet, Forged, Busy, Skip, Budget}
 use Rattle.sx_model.specs.State.{EndView, Model, Pending, Present, Standing, owing, power_on}
 use Rattle.sx_model.specs.Step.{◌>>?◌, absent_at, first_present, step, without_first}
-use Rattle.sx_model.specs.Reaction.{Flow, MOST_SENT, all_done, field_of, sends, sent_over, sent_to}
+use Rattle.sx_model.specs.Reaction.{Flow, all_done, sent_to}
 use Rattle.sx_model.specs.Legal.{Legal, after}
-use Rattle.sx_model.specs.Consequences.{ends_event, is_part_at}
+use Rattle.sx_model.specs.Consequences.{ends_event}
 use Rattle.sx_model.proofs.Along.{Keeps, some_of, step_of}
 use Rattle.sx_model.proofs.Steps.{Cases, by_step, on_out}
 use Rattle.sx_model.proofs.Written.{at_set}
 use Rattle.sx_model.specs.Changes.{with_pending}
+use Rattle.sx_model.proofs.Emits.{emits_to}
+use Rattle.sx_model.proofs.Idle.{idle_is}
+use Rattle.sx_model.proofs.OutsAreCaused.{present_elsewhere}
 use Rattle.sx_explain.specs.Causes.{Reacts, emits_of, event_of, out_of, outs_of}
-use Rattle.sx_explain.proofs.After.{after_more, idle_is}
+use Rattle.sx_explain.proofs.After.{after_more}
 
 -- What the acts of an event emit.
-
-emits_if : (b : Bool) (g h : Flow) (l : List ℕ) → g.emits ≡ l → h.emits ≡ l → (if b then g else h).emits ≡ l
-emits_if true g h l x y = x
-emits_if false g h l x y = y
-
-emits_over : (field v : ℕ) (o : Option (List ℕ)) (f : Flow) → (sent_over field v o f).emits ≡ f.emits
-emits_over field v None f = refl
-emits_over field v (Some words) f = emits_if (nat_lt (length words) MOST_SENT) (record f { sent = slice_set f.sent field (words ++ v ∷ []); pieces = f.pieces + 1 }) f f.emits refl refl
-
-emits_to : (es : List End) (views : List EndView) (output v : ℕ) (f : Flow) → (sent_to es views output v f).emits ≡ f.emits
-emits_to [] views output v f = refl
-emits_to (e ∷ es) [] output v f = refl
-emits_to (e ∷ es) (view ∷ views) output v f =
-    let g = sent_over (field_of e view) v (slice_get f.sent (field_of e view)) f in
-    emits_to es views output v (if sends output e view then g else f)
-    ∙ emits_if (sends output e view) g f f.emits (emits_over (field_of e view) v (slice_get f.sent (field_of e view)) f) refl
 
 emits_all : (es : List End) (views : List EndView) (acts : List Act) (f : Flow) → (all_done es views acts f).emits ≡ f.emits ++ emits_of acts
 emits_all es views [] f = sym (append-nil f.emits)
@@ -143,18 +130,6 @@ owed_first : (x : Standing) (p : Present) (owed left : Pending) (v : ℕ) → x.
     → owed_of x.present ≡ v ∷ left.emits
 owed_first x p owed left v ep eo el = ap (λ o. owed_of o) ep ∙ ap (λ o. pending_owed o) eo ∙ first_owed v owed.emits owed.pieces left el
 
--- a reset leaves present what isn't at its node
-present_elsewhere : (n : ℕ) (qs : List PartTree) (xs : List Standing) (m : ℕ) (x : Standing) (v : ℕ) (more : List ℕ) → slice_get (absent_at n qs xs) m ≡ Some x
-    → owed_of x.present ≡ v ∷ more → (is_part_at n (slice_get qs m) ≡ false) × (slice_get xs m ≡ Some x)
-present_elsewhere n [] xs m x v more e f = (refl, e)
-present_elsewhere n (q ∷ qs) [] m x v more e f = absurd cc
-present_elsewhere n (q ∷ qs) (y ∷ xs) zero x v more e f = here (q.node == n) e
-  where
-    here : (b : Bool) → Some (if b then record y { present = None } else y) ≡ Some x → (b ≡ false) × (Some y ≡ Some x)
-    here true e = absurd (none_owed v more (ap (λ (x : Standing). owed_of x.present) (same_Some (record y { present = None }) x e) ∙ f))
-    here false e = (refl, e)
-present_elsewhere n (q ∷ qs) (y ∷ xs) (suc m) x v more e f = present_elsewhere n qs xs m x v more e f
-
 -- the item ends no event of the module, nor is it an output of it
 abbrev Quiet : AppTree → Item → ℕ → Type 0
 Quiet app item m = (ends_event app m item ≡ false) × (out_of m item ≡ [])
@@ -208,7 +183,7 @@ module _ (app : AppTree) (items : List Item) (xs : List Standing) (h : Caused ap
 
   reset : (n : ℕ) (cause : Cause) → Caused app (items ++ Reset n cause ∷ []) (absent_at n app.parts xs)
   reset n cause m x e v more f =
-      let p = present_elsewhere n app.parts xs m x v more e f in
+      let p = present_elsewhere n app.parts xs m x e (λ none. none_owed v more (sym (ap (λ o. owed_of o) none) ∙ f)) in
       stays (Reset n cause) m (v ∷ more) (p.0, refl) (h m x p.1 v more f)
 
   -- a module is refused while it owes nothing

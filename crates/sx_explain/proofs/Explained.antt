@@ -22,7 +22,7 @@ none_before (i ∷ is) = at (is_forged i) refl (none_before is)
     at true e h = refl
     at false e h = rw e h
 
-none_front : (front rest : List Item) → list_any is_forged (front ++ rest) ≡ false → list_any is_forged front ≡ false
+pub none_front : (front rest : List Item) → list_any is_forged (front ++ rest) ≡ false → list_any is_forged front ≡ false
 none_front [] rest h = refl
 none_front (i ∷ is) rest h =
     let b = or_parts (is_forged i) (list_any is_forged (is ++ rest)) h in

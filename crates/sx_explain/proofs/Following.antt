@@ -35,6 +35,7 @@ use Rattle.sx_explain.specs.Followed.{FillsFor, Follows, HasAll, IsFullFor, IsOf
 use Rattle.sx_explain.proofs.Filled.{field_word, full_all, get_full, length_full, length_under, none_at}
 use Rattle.sx_explain.proofs.After.{after_more, some_next}
 use Rattle.sx_explain.proofs.Caused.{field_low, step_grows}
+use Rattle.sx_explain.specs.Wants.{IsBehindEvent}
 
 -- One item more.
 
@@ -259,25 +260,13 @@ put_latest test xs items item at n is number within old k =
 
 -- The numbers of what the latest event sent are written.
 
-pub tried : (app : AppTree) (items : List Item) (j : Seen) (o : Option Latest) (causes : List (List ℕ)) → j.behind ≡ o → Stands app items j → FillsFor o j.model.sent j.causes causes
-    → Stands app items (record j { causes = causes })
-tried app items j None causes e h fills =
-    let at : (f : ℕ) → at_field causes f ≡ at_field j.causes f = (λ f. ap (λ cs. at_field cs f) fills) in
-    record {
-      ran = h.ran;
-      taken = h.taken;
-      devices = h.devices;
-      senses = h.senses;
-      parts = h.parts;
-      events = h.events;
-      wide = h.wide;
-      width = ap (λ (cs : List (List ℕ)). length cs) fills ∙ h.width;
-      sent = λ f p. ap (λ (cs : List ℕ). slice_get (numbers_of j.behind (length (at_field j.model.sent f)) cs) p) (at f) ∙ h.sent f p;
-      few = λ f. (let l = ap (λ (cs : List ℕ). length cs) (at f) in let m = h.few f in omega (arith, l, m));
-      all = λ f. subst (λ n. HasAll app j.model j.behind f (length (at_field j.model.sent f)) n) (sym (ap (λ (cs : List ℕ). length cs) (at f))) (h.all f);
-      late = h.late;
-    }
-tried app items j (Some l) causes e h fills = record {
+-- causes are written beside what was sent; all else stays
+with_causes : (app : AppTree) (items : List Item) (j : Seen) (causes : List (List ℕ)) (o : Option Latest) → Stands app items j → length causes ≡ FIELDS
+    → ((f p : ℕ) → slice_get (numbers_of o (length (at_field j.model.sent f)) (at_field causes f)) p ≡ appended app f p 1 (power_on app) items)
+    → ((f : ℕ) → length (at_field causes f) ≤ length (at_field j.model.sent f))
+    → ((f : ℕ) → HasAll app j.model o f (length (at_field j.model.sent f)) (length (at_field causes f)))
+    → (is_some o ≡ true → IsBehindEvent items) → Stands app items (record j { causes = causes; behind = o })
+with_causes app items j causes o h width sent few all late = record {
   ran = h.ran;
   taken = h.taken;
   devices = h.devices;
@@ -285,15 +274,31 @@ tried app items j (Some l) causes e h fills = record {
   parts = h.parts;
   events = h.events;
   wide = h.wide;
-  width = fills.width ∙ h.width;
-  sent = λ f p. subst (λ o. slice_get (numbers_of o (length (at_field j.model.sent f)) (at_field causes f)) p ≡ appended app f p 1 (power_on app) items) (sym e)
-      (ap (λ (cs : List ℕ). slice_get cs p) (fills.keeps f)
-      ∙ subst (λ o. slice_get (numbers_of o (length (at_field j.model.sent f)) (at_field j.causes f)) p ≡ appended app f p 1 (power_on app) items) e (h.sent f p));
+  width = width;
+  sent = sent;
   few = few;
-  all = λ f. subst (λ o. HasAll app j.model o f (length (at_field j.model.sent f)) (length (at_field causes f))) (sym e)
-      (at f (subst (λ o. HasAll app j.model o f (length (at_field j.model.sent f)) (length (at_field j.causes f))) e (h.all f)));
-  late = h.late;
+  all = all;
+  late = late;
 }
+
+pub tried : (app : AppTree) (items : List Item) (j : Seen) (o : Option Latest) (causes : List (List ℕ)) → j.behind ≡ o → Stands app items j → FillsFor o j.model.sent j.causes causes
+    → Stands app items (record j { causes = causes })
+tried app items j None causes e h fills =
+    let at : (f : ℕ) → at_field causes f ≡ at_field j.causes f = (λ f. ap (λ cs. at_field cs f) fills) in
+    with_causes app items j causes j.behind h (ap (λ (cs : List (List ℕ)). length cs) fills ∙ h.width)
+    (λ f p. ap (λ (cs : List ℕ). slice_get (numbers_of j.behind (length (at_field j.model.sent f)) cs) p) (at f) ∙ h.sent f p)
+    (λ f. (let l = ap (λ (cs : List ℕ). length cs) (at f) in let m = h.few f in omega (arith, l, m)))
+    (λ f. subst (λ n. HasAll app j.model j.behind f (length (at_field j.model.sent f)) n) (sym (ap (λ (cs : List ℕ). length cs) (at f))) (h.all f))
+    h.late
+tried app items j (Some l) causes e h fills =
+    with_causes app items j causes j.behind h (fills.width ∙ h.width)
+    (λ f p. subst (λ o. slice_get (numbers_of o (length (at_field j.model.sent f)) (at_field causes f)) p ≡ appended app f p 1 (power_on app) items) (sym e)
+    (ap (λ (cs : List ℕ). slice_get cs p) (fills.keeps f)
+    ∙ subst (λ o. slice_get (numbers_of o (length (at_field j.model.sent f)) (at_field j.causes f)) p ≡ appended app f p 1 (power_on app) items) e (h.sent f p)))
+    few
+    (λ f. subst (λ o. HasAll app j.model o f (length (at_field j.model.sent f)) (length (at_field causes f))) (sym e)
+    (at f (subst (λ o. HasAll app j.model o f (length (at_field j.model.sent f)) (length (at_field j.causes f))) e (h.all f))))
+    h.late
   where
     few : (f : ℕ) → length (at_field causes f) ≤ length (at_field j.model.sent f)
     few f =
@@ -311,36 +316,19 @@ pub caught : (app : AppTree) (items : List Item) (j : Seen) (o : Option Latest) 
     → FillsFor o j.model.sent j.causes causes → IsFullFor o app.links j.model causes → Stands app items (record j { causes = causes; behind = None })
 caught app items j None causes e h fills all =
     let at : (f : ℕ) → at_field causes f ≡ at_field j.causes f = (λ f. ap (λ cs. at_field cs f) fills) in
-    record {
-      ran = h.ran;
-      taken = h.taken;
-      devices = h.devices;
-      senses = h.senses;
-      parts = h.parts;
-      events = h.events;
-      wide = h.wide;
-      width = ap (λ (cs : List (List ℕ)). length cs) fills ∙ h.width;
-      sent = λ f p. ap (λ (cs : List ℕ). slice_get cs p) (at f)
-          ∙ subst (λ o. slice_get (numbers_of o (length (at_field j.model.sent f)) (at_field j.causes f)) p ≡ appended app f p 1 (power_on app) items) e (h.sent f p);
-      few = λ f. (let l = ap (λ (cs : List ℕ). length cs) (at f) in let m = h.few f in omega (arith, l, m));
-      all = λ f. ap (λ (cs : List ℕ). length cs) (at f) ∙ subst (λ o. HasAll app j.model o f (length (at_field j.model.sent f)) (length (at_field j.causes f))) e (h.all f);
-      late = λ w. absurd (cc w);
-    }
-caught app items j (Some l) causes e h fills all = record {
-  ran = h.ran;
-  taken = h.taken;
-  devices = h.devices;
-  senses = h.senses;
-  parts = h.parts;
-  events = h.events;
-  wide = h.wide;
-  width = fills.width ∙ h.width;
-  sent = λ f p. ap (λ (cs : List ℕ). slice_get cs p) (sym (full_all l.number (length (at_field j.model.sent f)) (at_field causes f) (enough f)) ∙ fills.keeps f)
-      ∙ subst (λ o. slice_get (numbers_of o (length (at_field j.model.sent f)) (at_field j.causes f)) p ≡ appended app f p 1 (power_on app) items) e (h.sent f p);
-  few = λ f. (let s = same f in omega (arith, s));
-  all = same;
-  late = λ w. absurd (cc w);
-}
+    with_causes app items j causes None h (ap (λ (cs : List (List ℕ)). length cs) fills ∙ h.width)
+    (λ f p. ap (λ (cs : List ℕ). slice_get cs p) (at f)
+    ∙ subst (λ o. slice_get (numbers_of o (length (at_field j.model.sent f)) (at_field j.causes f)) p ≡ appended app f p 1 (power_on app) items) e (h.sent f p))
+    (λ f. (let l = ap (λ (cs : List ℕ). length cs) (at f) in let m = h.few f in omega (arith, l, m)))
+    (λ f. ap (λ (cs : List ℕ). length cs) (at f) ∙ subst (λ o. HasAll app j.model o f (length (at_field j.model.sent f)) (length (at_field j.causes f))) e (h.all f))
+    (λ w. absurd (cc w))
+caught app items j (Some l) causes e h fills all =
+    with_causes app items j causes None h (fills.width ∙ h.width)
+    (λ f p. ap (λ (cs : List ℕ). slice_get cs p) (sym (full_all l.number (length (at_field j.model.sent f)) (at_field causes f) (enough f)) ∙ fills.keeps f)
+    ∙ subst (λ o. slice_get (numbers_of o (length (at_field j.model.sent f)) (at_field j.causes f)) p ≡ appended app f p 1 (power_on app) items) e (h.sent f p))
+    (λ f. (let s = same f in omega (arith, s)))
+    same
+    (λ w. absurd (cc w))
   where
     under : (f : ℕ) → (length (at_field j.causes f) ≡ length (at_field j.model.sent f)) ⊎ IsOf app j.model l.part f → length (at_field j.model.sent f) ≤ length (at_field causes f)
     under f (inl s) = let g = fills.grows f in omega (arith, s, g)

@@ -13,13 +13,14 @@ use Rattle.sx_trace.specs.declared.items.Item.{Item}
 use Rattle.sx_trace.specs.declared.items.Item.TheVariants.{Open, Take}
 use Rattle.sx_model.specs.State.{EndView, Model, Present, Standing}
 use Rattle.sx_model.specs.Renewal.{boot_of, is_of, may_open, opens, renewed, takes}
-use Rattle.sx_model.specs.Step.{◌>>?◌, absent_at, changed_views, first_present, idle, is_vouched}
+use Rattle.sx_model.specs.Step.{◌>>?◌, absent_at, changed_views, first_present, is_vouched}
 use Rattle.sx_model.proofs.EndViews.{changed_at, changed_other, first_closed, same_side-true, view_at}
 use Rattle.sx_model.proofs.HeldEnd.{Held, held_attested, held_opened, held_protected, held_raised, held_reset, held_taken, held_vouched, is_open}
 use Rattle.sx_model.proofs.Renewed.{renewed_at}
 use Rattle.sx_model.proofs.Rising.{On}
 use Rattle.sx_model.proofs.Steps.{Cases}
 use Rattle.sx_model.proofs.Written.{get_other}
+use Rattle.sx_model.proofs.Idle.{idle_is}
 use Rattle.sx_lists.proofs.Lists.{get_same}
 
 -- the epoch with which an item opens the end, if it does
@@ -50,17 +51,6 @@ pub record Moved (app : AppTree) (m c : ℕ) (side : Side) (node : ℕ) (opening
   pub opens : On opening low next
   pub takes : On taking count number
   pub held : HeldIn app m c side node next number boots xs epochs
-
-idle_is : (x : Standing) (p : Present) → idle x ≡ Some p → x.present ≡ Some p
-idle_is x p e = at x.present e
-  where
-    tests : (q : Present) (b : Bool) → (if b then Some q else None) ≡ Some p → Some q ≡ Some p
-    tests q true e = e
-    tests q false e = absurd cc
-
-    at : (o : Option Present) → (o >>? (λ q. if is_none q.pending then Some q else None)) ≡ Some p → o ≡ Some p
-    at None e = absurd cc
-    at (Some q) e = tests q (is_none q.pending) e
 
 absent_own : (n : ℕ) (qs : List PartTree) (xs : List Standing) (m : ℕ) (q : PartTree) (x : Standing) → slice_get qs m ≡ Some q → slice_get xs m ≡ Some x
     → slice_get (absent_at n qs xs) m ≡ Some (if q.node == n then record x { present = None } else x)

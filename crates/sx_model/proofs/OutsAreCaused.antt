@@ -31,16 +31,16 @@ abbrev Caused : AppTree → List Item → List Standing → Type 0
 Caused app items xs = (m : ℕ) (x : Standing) → slice_get xs m ≡ Some x → present_owes x.present ≡ true → Since (begins_event m) (ends_event app m) items
 
 -- a reset leaves present what isn't at its node
-present_elsewhere : (n : ℕ) (qs : List PartTree) (xs : List Standing) (m : ℕ) (x : Standing) → slice_get (absent_at n qs xs) m ≡ Some x → present_owes x.present ≡ true
+pub present_elsewhere : (n : ℕ) (qs : List PartTree) (xs : List Standing) (m : ℕ) (x : Standing) → slice_get (absent_at n qs xs) m ≡ Some x → (x.present ≡ None → ⊥)
     → (is_part_at n (slice_get qs m) ≡ false) × (slice_get xs m ≡ Some x)
-present_elsewhere n [] xs m x e f = (refl, e)
-present_elsewhere n (q ∷ qs) [] m x e f = absurd cc
-present_elsewhere n (q ∷ qs) (y ∷ xs) zero x e f = here (q.node == n) e
+present_elsewhere n [] xs m x e some = (refl, e)
+present_elsewhere n (q ∷ qs) [] m x e some = absurd cc
+present_elsewhere n (q ∷ qs) (y ∷ xs) zero x e some = here (q.node == n) e
   where
     here : (b : Bool) → Some (if b then record y { present = None } else y) ≡ Some x → (b ≡ false) × (Some y ≡ Some x)
-    here true e = absurd (let z = ap (λ (x : Standing). present_owes x.present) (same_Some _ x e) in cc)
+    here true e = absurd (some (sym (ap (λ (x : Standing). x.present) (same_Some (record y { present = None }) x e))))
     here false e = (refl, e)
-present_elsewhere n (q ∷ qs) (y ∷ xs) (suc m) x e f = present_elsewhere n qs xs m x e f
+present_elsewhere n (q ∷ qs) (y ∷ xs) (suc m) x e some = present_elsewhere n qs xs m x e some
 
 nothing_owed : (o : Option Pending) → is_none o ≡ true → pending_owes o ≡ false
 nothing_owed None h = refl
@@ -82,7 +82,7 @@ module _ (app : AppTree) (items : List Item) (xs : List Standing) (h : Caused ap
 
   reset : (n : ℕ) (cause : Cause) → Caused app (items ++ Reset n cause ∷ []) (absent_at n app.parts xs)
   reset n cause m x e f =
-      let p = present_elsewhere n app.parts xs m x e f in
+      let p = present_elsewhere n app.parts xs m x e (λ none. absurd (let z = ap (λ o. present_owes o) none in cc)) in
       since_still (begins_event m) (ends_event app m) items (Reset n cause) (h m x p.1 f) p.0
 
   -- a module is refused while it owes nothing

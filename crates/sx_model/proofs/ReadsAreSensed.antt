@@ -95,7 +95,8 @@ cases app items s h =
       budget = λ n. quiet (Budget n) (λ d. refl);
     }
 
-first_stale : (ds : List AppDevice) (d : ℕ) (r : Reading) → slice_get (map (λ d. record { value = 0; fresh = false }) ds) d ≡ Some r → r.fresh ≡ false
+-- no device's reading is fresh at first
+pub first_stale : (ds : List AppDevice) (d : ℕ) (r : Reading) → slice_get (map (λ d. record { value = 0; fresh = false }) ds) d ≡ Some r → r.fresh ≡ false
 first_stale [] d r e = absurd cc
 first_stale (x ∷ ds) zero r e = sym (ap (λ (r : Reading). r.fresh) (same_Some _ r e))
 first_stale (x ∷ ds) (suc d) r e = first_stale ds d r e

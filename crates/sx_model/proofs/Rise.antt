@@ -4,10 +4,11 @@ use Rattle.std.specs.Prelude.{map, slice_get}
 use Rattle.std.proofs.lemmas.Bool.{and_from, eq-eqb}
 use Rattle.std.proofs.lemmas.Option.{same_Some}
 use Rattle.sx_lang.specs.declared.sides.Side.{Side}
-use Rattle.sx_lang.specs.declared.sides.Side.TheVariants.{From, To}
+use Rattle.sx_lang.specs.declared.sides.Side.TheVariants.{To}
 use Rattle.sx_mean.specs.declared.apps.Link.{Link}
 use Rattle.sx_mean.specs.Application.{AppTree, PartTree}
 use Rattle.sx_mean.specs.Ends.{ends_of, same_side}
+use Rattle.sx_mean.proofs.Ends.{same_side-refl}
 use Rattle.sx_trace.specs.declared.items.Item.{Item}
 use Rattle.sx_trace.specs.declared.items.Item.TheVariants.{Open, Take}
 use Rattle.sx_model.specs.State.{Model, Standing, power_on}
@@ -107,11 +108,7 @@ one_receiver : (app : AppTree) (m k c : ℕ) → OneEnd app m c To → OneEnd ap
 one_receiver app m k c a b = let same : a.link ≡ b.link = same_Some a.link b.link (sym a.is_link ∙ b.is_link) in sym b.own ∙ sym (ap (λ (l : Link). l.to) same) ∙ a.own
 
 at_end : (k m c : ℕ) (side : Side) → k ≡ m → ((k == m) && ((c == c) && same_side side side)) ≡ true
-at_end k m c side e = and_from (k == m) ((c == c) && same_side side side) (eq-eqb k m e) (and_from (c == c) (same_side side side) (eq-eqb c c refl) (same side))
-  where
-    same : (s : Side) → same_side s s ≡ true
-    same From = refl
-    same To = refl
+at_end k m c side e = and_from (k == m) ((c == c) && same_side side side) (eq-eqb k m e) (and_from (c == c) (same_side side side) (eq-eqb c c refl) (same_side-refl side))
 
 pub opens_rise : (app : AppTree) (items : List Item) → Legal app items → OpensRise items
 opens_rise app items legal before between behind m c side d e place =
