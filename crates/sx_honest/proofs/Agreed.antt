@@ -27,10 +27,11 @@ use Rattle.sx_honest.proofs.Lists.{words-append, words-few}
 use Rattle.sx_honest.proofs.Course.{total}
 use Rattle.sx_honest.proofs.AsPlain.{IsLinked, IsTold, driver, goes}
 use Rattle.sx_honest.proofs.Sending.{Comes, SentAs, comes}
-use Rattle.sx_honest.proofs.Events.{event_done, event_ran, idle_as, ran_first, ran_on, read_step, small, take_step}
+use Rattle.sx_honest.proofs.Events.{event_done, event_ran, ran_first, ran_on, read_step, small, take_step}
 use Rattle.sx_honest.proofs.Views.{other_views, taken_views}
 use Rattle.sx_model.proofs.Written.{at_set, get_other}
 use Rattle.sx_model.specs.Changes.{is_fresh_with}
+use Rattle.sx_model.proofs.Idle.{idle_as}
 use Rattle.sx_lists.proofs.Lists.{get_same, get_some, get_mid}
 
 -- there are fields for each connection

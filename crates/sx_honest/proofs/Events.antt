@@ -74,9 +74,6 @@ module _ (app : AppTree) (s : Model) (p : ℕ) (q : PartTree) (x y : Standing) (
 
 -- The beginning of an event.
 
-pub idle_as : (x : Standing) (r : Present) → x.present ≡ Some r → r.pending ≡ None → idle x ≡ Some r
-idle_as x r e n = rw (e, n) refl
-
 pub read_step : (app : AppTree) (s : Model) (p v d : ℕ) (q : PartTree) (x : Standing) (r : Present) (g : Reading) → slice_get app.parts p ≡ Some q → slice_get s.modules p ≡ Some x
     → idle x ≡ Some r → q.device ≡ Some d → slice_get s.devices d ≡ Some g → kind_is is_sensor (slice_get app.devices d) ≡ true → is_fresh_with v g ≡ true
     → step app s (item.Read p v) ≡ Some (reacts app (with_device s d (record g { fresh = false })) p q x r (event.Sample v))

@@ -9,7 +9,6 @@ use Rattle.std.proofs.lemmas.List.{length-append, set-set}
 use Rattle.std.proofs.lemmas.Option.{get_or_from_slice_get, same_Some, slice_get_within}
 use Rattle.sx_lang.specs.declared.sides.Side.{Side}
 use Rattle.sx_lang.specs.declared.sides.Side.TheVariants.{From, To}
-use Rattle.sx_mean.specs.declared.apps.AppDevice.{AppDevice}
 use Rattle.sx_mean.specs.declared.apps.Link.{Link}
 use Rattle.sx_mean.specs.declared.events.End.{End}
 use Rattle.sx_mean.specs.Application.{AppTree, PartTree}
@@ -29,9 +28,11 @@ use Rattle.sx_honest.specs.Plain.{plain_start}
 use Rattle.sx_honest.specs.Course.{open_items, packet_items, part_items, parts_items}
 use Rattle.sx_honest.proofs.Agreement.{Agrees, IsPresent, next_of, present_as, view_of}
 use Rattle.sx_honest.proofs.Sending.{SentAs}
-use Rattle.sx_honest.proofs.Events.{done_step, idle_as, owing, ran_first, ran_on, ran_packets}
+use Rattle.sx_honest.proofs.Events.{done_step, owing, ran_first, ran_on, ran_packets}
 use Rattle.sx_model.proofs.Written.{get_other}
 use Rattle.sx_model.specs.Changes.{with_pending}
+use Rattle.sx_model.proofs.Idle.{idle_as}
+use Rattle.sx_model.proofs.ReadsAreSensed.{first_stale}
 use Rattle.sx_lists.proofs.Lists.{get_same}
 
 -- The ends open one by one.
@@ -289,11 +290,6 @@ map_at f y h (x ∷ xs) (suc k) lt = map_at f y h xs k (omega (arith, lt))
 pub map_long : {X Y : Type 0} (f : X → Y) (xs : List X) → length (map f xs) ≡ length xs
 map_long f [] = refl
 map_long f (x ∷ xs) = ap (λ (n : ℕ). suc n) (map_long f xs)
-
-first_stale : (ds : List AppDevice) (d : ℕ) (r : Reading) → slice_get (map (λ d. record { value = 0; fresh = false }) ds) d ≡ Some r → r.fresh ≡ false
-first_stale [] d r e = absurd cc
-first_stale (x ∷ ds) zero r e = sym (ap (λ (r : Reading). r.fresh) (same_Some _ r e))
-first_stale (x ∷ ds) (suc d) r e = first_stale ds d r e
 
 ready_first : (app : AppTree) → Ready app 0 (power_on app)
 ready_first app = record {
