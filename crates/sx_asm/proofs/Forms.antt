@@ -1,8 +1,9 @@
 -- The tests of operands tell which instructions there are.
-use Rattle.std.proofs.Common.{◌≡◌, ℕ, ◌<◌, ◌≤◌, ◌%◌, Bool, true, false, ◌&&◌, ◌||◌, List, [], refl, sym, ap, ◌∙◌, arith}
+use Rattle.std.proofs.Common.{◌≡◌, ℕ, ◌<◌, ◌≤◌, ◌%◌, Bool, true, false, ◌&&◌, ◌||◌, List, [], refl, ap, ◌∙◌, arith}
 use Rattle.std.specs.Prelude.{IsTrue, ◌↔◌, ◌==◌, nat_lt, nat_le}
 use Rattle.std.proofs.lemmas.Bool.Decides.{nat_tests}
 use Rattle.std.proofs.lemmas.Bool.{and_parts, and_from}
+use Rattle.std.specs.Bool.{one_answer}
 use Rattle.sx_isa.specs.declared.instruction.Operand.{Operand}
 use Rattle.sx_isa.specs.declared.instruction.Operand.TheVariants.{Reg, Indexed, Indirect, Increment, Symbolic, Absolute, Immediate, Const}
 use Rattle.sx_isa.specs.declared.instruction.Op1.{Op1}
@@ -61,25 +62,21 @@ destination_test (Increment r) h = absurd h
 destination_test (Immediate x) h = absurd h
 destination_test (Const c) h = absurd h
 
--- a test is what it tests
-tested : (r b : Bool) → (r ≡ true → b ≡ true) → (b ≡ true → r ≡ true) → r ≡ b
-tested true b f g = sym (f refl)
-tested false true f g = g refl
-tested false false f g = refl
-
 pub two_tested : (op : Op2) (byte : Bool) (s d : Operand) (r : Bool) → HasWord s → HasWord d → (IsTrue r ↔ IsInstruction (Two op byte s d))
     → r ≡ (is_source s && is_destination d)
 two_tested op byte s d r v w e =
-    tested r (is_source s && is_destination d)
-    (λ h. and_from (is_source s) (is_destination d) (source_test s (e.0 h).0) (destination_test d (e.0 h).1))
-    (λ h. e.1 (source_true s v (and_parts (is_source s) (is_destination d) h).0, destination_true d w (and_parts (is_source s) (is_destination d) h).1))
+    one_answer {P = r ≡ true} r (is_source s && is_destination d) (λ h. h, λ h. h) (
+      λ h. e.1 (source_true s v (and_parts (is_source s) (is_destination d) h).0, destination_true d w (and_parts (is_source s) (is_destination d) h).1),
+      λ h. and_from (is_source s) (is_destination d) (source_test s (e.0 h).0) (destination_test d (e.0 h).1),
+    )
 
 pub one_tested : (op : Op1) (byte : Bool) (s : Operand) (r : Bool) → HasWord s → (IsTrue r ↔ IsInstruction (One op byte s))
     → r ≡ (is_source s && is_allowed op byte s)
 one_tested op byte s r v e =
-    tested r (is_source s && is_allowed op byte s)
-    (λ h. and_from (is_source s) (is_allowed op byte s) (source_test s (e.0 h).0) (e.0 h).1)
-    (λ h. e.1 (source_true s v (and_parts (is_source s) (is_allowed op byte s) h).0, (and_parts (is_source s) (is_allowed op byte s) h).1))
+    one_answer {P = r ≡ true} r (is_source s && is_allowed op byte s) (λ h. h, λ h. h) (
+      λ h. e.1 (source_true s v (and_parts (is_source s) (is_allowed op byte s) h).0, (and_parts (is_source s) (is_allowed op byte s) h).1),
+      λ h. and_from (is_source s) (is_allowed op byte s) (source_test s (e.0 h).0) (e.0 h).1,
+    )
 
 -- the labels' addresses change no form
 pub same_source : (labels : List Label) (at : ℕ) (w : Written) → is_source (operand_at labels at w) ≡ is_source (operand_at [] 0 w)

@@ -6,8 +6,9 @@ use Rattle.std.specs.List.{list_all}
 use Rattle.std.proofs.lemmas.Bool.Decides.{nat_tests}
 use Rattle.sx_isa.specs.declared.instruction.Operand.{Operand}
 use Rattle.sx_isa.specs.declared.instruction.Operand.TheVariants as operand
-use Rattle.sx_isa.specs.Spelling.{constant, is_constant}
+use Rattle.sx_isa.specs.Spelling.{is_constant}
 use Rattle.sx_isa.specs.Instructions.{IsSource, IsDestination, IsWord}
+use Rattle.sx_isa.proofs.Bare.{constant_words}
 use Rattle.sx_asm.specs.declared.written.Token.{Token}
 use Rattle.sx_asm.specs.declared.written.Token.TheVariants as token
 use Rattle.sx_asm.specs.declared.written.Value.TheVariants.{Number}
@@ -196,18 +197,6 @@ operand_back p (operand.Immediate x) w h = by_test (is_constant x) refl
     by_test true e = rw e refl
     by_test false e = rw e (rw e refl)
 operand_back p (operand.Const c) w h = rw h refl
-
--- a constant has no extension word
-constant_words : (c : ℕ) → (constant c).words ≡ []
-constant_words c = by_tests (c == 0) (c == 1) (c == 2) (c == 4) (c == 8) refl refl refl refl refl
-  where
-    by_tests : (s t u v w : Bool) → (c == 0) ≡ s → (c == 1) ≡ t → (c == 2) ≡ u → (c == 4) ≡ v → (c == 8) ≡ w → (constant c).words ≡ []
-    by_tests true t u v w a b d e f = rw a refl
-    by_tests false true u v w a b d e f = rw (a, b) refl
-    by_tests false false true v w a b d e f = rw (a, b, d) refl
-    by_tests false false false true w a b d e f = rw (a, b, d, e) refl
-    by_tests false false false false true a b d e f = rw (a, b, d, e, f) refl
-    by_tests false false false false false a b d e f = rw (a, b, d, e, f) refl
 
 pub extension_back : (p : ℕ) (o : Operand) → HasPlace o → 2 * extension (written_of p o) ≡ source_size o
 extension_back p (operand.Reg r) h = refl

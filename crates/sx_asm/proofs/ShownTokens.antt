@@ -93,24 +93,27 @@ four_digits n a b c d k f g h e = (
   omega arith,
 )
 
-pub hex_fact : (n : ℕ) → n < 65536 → IsHex n (hex_digits n)
-hex_fact n h = by_range (nat_lt n 16) (nat_lt n 256) (nat_lt n 4096) refl refl refl
+-- the digits of a number, by their count
+pub by_digits : (P : List ℕ → Type 0) (n : ℕ) → (n < 16 → P (hex_digit (n / 1 % 16) ∷ []))
+    → (n < 256 → P (hex_digit (n / 16 % 16) ∷ hex_digit (n / 1 % 16) ∷ []))
+    → (n < 4096 → P (hex_digit (n / 256 % 16) ∷ hex_digit (n / 16 % 16) ∷ hex_digit (n / 1 % 16) ∷ []))
+    → P (hex_digit (n / 4096 % 16) ∷ hex_digit (n / 256 % 16) ∷ hex_digit (n / 16 % 16) ∷ hex_digit (n / 1 % 16) ∷ []) → P (hex_digits n)
+by_digits P n one two three four = by_range (nat_lt n 16) (nat_lt n 256) (nat_lt n 4096) refl refl refl
   where
-    by_range : (s t u : Bool) → nat_lt n 16 ≡ s → nat_lt n 256 ≡ t → nat_lt n 4096 ≡ u → IsHex n (hex_digits n)
-    by_range true t u e f g =
-        let k : n < 16 = grind (arith, nat_tests, e) in
-        rw e (one_digit n (n / 1 % 16) (low (n / 1)) (omega (arith, k)))
-    by_range false true u e f g =
-        let k : n < 256 = grind (arith, nat_tests, f) in
-        rw (e, f) (two_digits n (n / 16 % 16) (n / 1 % 16) (low (n / 16)) (low (n / 1)) (omega (arith, k)))
-    by_range false false true e f g =
-        let k : n < 4096 = grind (arith, nat_tests, g) in
-        rw (e, f, g)
-        (three_digits n (n / 256 % 16) (n / 16 % 16) (n / 1 % 16) (low (n / 256)) (low (n / 16)) (low (n / 1)) (omega (arith, k)))
-    by_range false false false e f g =
-        rw (e, f, g)
-        (four_digits n (n / 4096 % 16) (n / 256 % 16) (n / 16 % 16) (n / 1 % 16) (low (n / 4096)) (low (n / 256)) (low (n / 16)) (low (n / 1))
-        (omega (arith, h)))
+    by_range : (s t u : Bool) → nat_lt n 16 ≡ s → nat_lt n 256 ≡ t → nat_lt n 4096 ≡ u → P (hex_digits n)
+    by_range true t u e f g = let k : n < 16 = grind (arith, nat_tests, e) in rw e (one k)
+    by_range false true u e f g = let k : n < 256 = grind (arith, nat_tests, f) in rw (e, f) (two k)
+    by_range false false true e f g = let k : n < 4096 = grind (arith, nat_tests, g) in rw (e, f, g) (three k)
+    by_range false false false e f g = rw (e, f, g) four
+
+pub hex_fact : (n : ℕ) → n < 65536 → IsHex n (hex_digits n)
+hex_fact n h =
+    by_digits (IsHex n) n
+    (λ k. one_digit n (n / 1 % 16) (low (n / 1)) (omega (arith, k)))
+    (λ k. two_digits n (n / 16 % 16) (n / 1 % 16) (low (n / 16)) (low (n / 1)) (omega (arith, k)))
+    (λ k. three_digits n (n / 256 % 16) (n / 16 % 16) (n / 1 % 16) (low (n / 256)) (low (n / 16)) (low (n / 1)) (omega (arith, k)))
+    (four_digits n (n / 4096 % 16) (n / 256 % 16) (n / 16 % 16) (n / 1 % 16) (low (n / 4096)) (low (n / 256)) (low (n / 16)) (low (n / 1))
+    (omega (arith, h)))
 
 -- a word and its token
 abbrev pub IsToken : Token → List ℕ → Type 0

@@ -177,7 +177,7 @@ data OperandWords (o : Operand) : Type 0 where
   Without : (place_of o).words ≡ [] → has_word o ≡ false → ((x : ℕ) → with_word o x ≡ o) → OperandWords o
   With : (y : ℕ) → (place_of o).words ≡ y ∷ [] → has_word o ≡ true → with_word o y ≡ o → OperandWords o
 
-constant_words : (c : ℕ) → (constant c).words ≡ []
+pub constant_words : (c : ℕ) → (constant c).words ≡ []
 constant_words c = pick (c == 0) (c == 1) (c == 2) (c == 4) (c == 8)
   where
     pick : (c0 c1 c2 c4 c8 : Bool) → (if c0 then at 3 0 [] else if c1 then at 3 1 [] else if c2 then at 3 2 [] else if c4 then at 2 2 [] else if c8 then at 2 3 [] else at 3 3 []).words ≡ []

@@ -47,7 +47,7 @@ this_line n l line e h = let same : l ≡ line = cc in let P : Line → Type 0 =
 place_fits : (names : List (List ℕ)) (w : List ℕ) (i : ℕ) → ok_or (place_of names w) no_name ≡ Ok i → i < length names
 place_fits names w i h = (position-Some (λ x. bytes_eq x w) names i [] (ok_some (place_of names w) no_name i h)).0
 
-sensor_get : (sensors : List Bool) (d i : ℕ) → if_sensor sensors d ≡ Some i → (d ≡ i) × (slice_get sensors d ≡ Some true)
+pub sensor_get : (sensors : List Bool) (d i : ℕ) → if_sensor sensors d ≡ Some i → (d ≡ i) × (slice_get sensors d ≡ Some true)
 sensor_get sensors d i h = by_get (slice_get sensors d) refl h
   where
     by_get : (o : Option Bool) → slice_get sensors d ≡ o → (if unwrap_or o false then Some d else None) ≡ Some i → (d ≡ i) × (slice_get sensors d ≡ Some true)
@@ -105,7 +105,7 @@ within limit (Some m) k h = by_test (nat_le m limit) refl h
     by_test true e f = let same : m ≡ k = cc in let fits : m ≤ limit = grind (arith, nat_tests, e) in omega arith
     by_test false e f = absurd (cc)
 
-number_within : (w : List ℕ) (limit k : ℕ) → number_of w limit ≡ Some k → k ≤ limit
+pub number_within : (w : List ℕ) (limit k : ℕ) → number_of w limit ≡ Some k → k ≤ limit
 unfolding number_of
 number_within w limit k h = within limit (written_number w) k h
 

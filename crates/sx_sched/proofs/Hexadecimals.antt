@@ -1,11 +1,12 @@
 -- A hexadecimal number is a word, and is read back as that number.
-use Rattle.std.proofs.Common.{◌≡◌, ℕ, ◌+◌, ◌*◌, ◌/◌, ◌%◌, ◌<◌, Bool, true, false, nat_le, nat_lt, List, [], ◌∷◌, Some, refl, ap, ◌∙◌, arith}
+use Rattle.std.proofs.Common.{◌≡◌, ℕ, ◌+◌, ◌*◌, ◌/◌, ◌%◌, ◌<◌, true, nat_le, List, [], ◌∷◌, Some, refl, ap, ◌∙◌, arith}
 use Rattle.std.specs.Prelude.{Ok, Option, ok_or}
 use Rattle.std.specs.List.{list_all}
 use Rattle.std.specs.Char.{digit_value, is_digit}
 use Rattle.std.proofs.lemmas.Bool.Decides.{nat_tests}
 use Rattle.sx_asm.specs.Shown.{hex_digit, hex_digits, hex}
 use Rattle.sx_asm.proofs.Parts.{each}
+use Rattle.sx_asm.proofs.ShownTokens.{by_digits}
 use Rattle.sx_io.specs.Numbers.{numeral, written_number, number_of, up_to}
 use Rattle.sx_sched.specs.Reading.{at_least, no_number, number16}
 use Rattle.sx_sched.proofs.Spaced.{is_plain, is_word}
@@ -66,27 +67,16 @@ four_digits n x y z w a b c d m i j f e =
     (rw (m.0, m.1, i.0, i.1, j.0, j.1, f.0, f.1) (ap Some (omega (arith, e))), rw (m.2, i.2, j.2, f.2) refl)
 
 digits : (n : ℕ) → n < 65536 → IsHex n (hex_digits n)
-digits n h = by_range (nat_lt n 16) (nat_lt n 256) (nat_lt n 4096) refl refl refl
-  where
-    by_range : (s t u : Bool) → nat_lt n 16 ≡ s → nat_lt n 256 ≡ t → nat_lt n 4096 ≡ u → IsHex n (hex_digits n)
-    by_range true t u e f g =
-        let k : n < 16 = grind (arith, nat_tests, e) in
-        rw e (one_digit n (hex_digit (n / 1 % 16)) (n / 1 % 16) (at_place (n / 1)) (omega (arith, k)))
-    by_range false true u e f g =
-        let k : n < 256 = grind (arith, nat_tests, f) in
-        rw (e, f)
-        (two_digits n (hex_digit (n / 16 % 16)) (hex_digit (n / 1 % 16)) (n / 16 % 16) (n / 1 % 16) (at_place (n / 16)) (at_place (n / 1))
-        (omega (arith, k)))
-    by_range false false true e f g =
-        let k : n < 4096 = grind (arith, nat_tests, g) in
-        rw (e, f, g)
-        (three_digits n (hex_digit (n / 256 % 16)) (hex_digit (n / 16 % 16)) (hex_digit (n / 1 % 16)) (n / 256 % 16) (n / 16 % 16) (n / 1 % 16)
-        (at_place (n / 256)) (at_place (n / 16)) (at_place (n / 1)) (omega (arith, k)))
-    by_range false false false e f g =
-        rw (e, f, g)
-        (four_digits n (hex_digit (n / 4096 % 16)) (hex_digit (n / 256 % 16)) (hex_digit (n / 16 % 16)) (hex_digit (n / 1 % 16))
-        (n / 4096 % 16) (n / 256 % 16) (n / 16 % 16) (n / 1 % 16)
-        (at_place (n / 4096)) (at_place (n / 256)) (at_place (n / 16)) (at_place (n / 1)) (omega (arith, h)))
+digits n h =
+    by_digits (IsHex n) n
+    (λ k. one_digit n (hex_digit (n / 1 % 16)) (n / 1 % 16) (at_place (n / 1)) (omega (arith, k)))
+    (λ k. two_digits n (hex_digit (n / 16 % 16)) (hex_digit (n / 1 % 16)) (n / 16 % 16) (n / 1 % 16) (at_place (n / 16)) (at_place (n / 1))
+    (omega (arith, k)))
+    (λ k. three_digits n (hex_digit (n / 256 % 16)) (hex_digit (n / 16 % 16)) (hex_digit (n / 1 % 16)) (n / 256 % 16) (n / 16 % 16) (n / 1 % 16)
+    (at_place (n / 256)) (at_place (n / 16)) (at_place (n / 1)) (omega (arith, k)))
+    (four_digits n (hex_digit (n / 4096 % 16)) (hex_digit (n / 256 % 16)) (hex_digit (n / 16 % 16)) (hex_digit (n / 1 % 16))
+    (n / 4096 % 16) (n / 256 % 16) (n / 16 % 16) (n / 1 % 16)
+    (at_place (n / 4096)) (at_place (n / 256)) (at_place (n / 16)) (at_place (n / 1)) (omega (arith, h)))
 
 pub hex_word : (n : ℕ) → n < 65536 → is_word (hex n) ≡ true
 hex_word n h = (digits n h).1
