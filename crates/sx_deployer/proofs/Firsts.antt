@@ -2,10 +2,10 @@
 use Rattle.std.proofs.Common.{◌≡◌, ℕ, zero, suc, ◌+◌, ◌<◌, false, List, [], ◌∷◌, length, map, Option, Some, None, get_or, refl, sym, ap, subst, ◌∙◌, arith, replicate}
 use Rattle.std.specs.Prelude.{slice_index_or}
 use Rattle.std.proofs.lemmas.List.{length-map}
+use Rattle.std.proofs.lemmas.Bool.{or_parts}
 use Rattle.sx_mean.specs.declared.events.End.{End}
 use Rattle.sx_deployer.specs.declared.target.Target.{Target}
 use Rattle.sx_deployer.specs.Keeping.{AreFirst, Known, has_link, is_held, known, raised_from, renewed}
-use Rattle.sx_deployer.proofs.Raised.{first, second}
 
 zeros : (n c : ℕ) → ◌≡◌ {A = ℕ} (get_or (replicate n 0) c 0) 0
 zeros zero c = refl
@@ -20,9 +20,9 @@ first_at_all targets n = λ c h. zeros n c
 not_had : (ts : List Target) (i : ℕ) (t : Target) (c : ℕ) → i < length ts → t ≡ slice_index_or ts i t → is_held (map known ts) c ≡ false → has_link t.ends.items c ≡ false
 not_had [] i t c lt e h = absurd (omega (arith, lt))
 not_had (s ∷ ts) zero t c lt e h =
-    subst (λ (x : Target). has_link x.ends.items c ≡ false) (sym e) (first (has_link s.ends.items c) (is_held (map known ts) c) h)
+    subst (λ (x : Target). has_link x.ends.items c ≡ false) (sym e) (or_parts (has_link s.ends.items c) (is_held (map known ts) c) h).0
 not_had (s ∷ ts) (suc i) t c lt e h =
-    not_had ts i t c (omega (arith, lt)) e (second (has_link s.ends.items c) (is_held (map known ts) c) h)
+    not_had ts i t c (omega (arith, lt)) e (or_parts (has_link s.ends.items c) (is_held (map known ts) c) h).1
 
 -- a connection that no end is of isn't raised
 not_raised : (k c : ℕ) (es : List End) (epochs : List ℕ) → has_link es (k + c) ≡ false → get_or (raised_from k es epochs) c 0 ≡ get_or epochs c 0

@@ -1,7 +1,7 @@
 -- The epochs that are raised, one after the other.
 use Rattle.std.proofs.Common.{◌≡◌, ℕ, ◌+◌, ◌<◌, ◌≤◌, ◌==◌, ◌||◌, Bool, true, false, nat_le, if◌then◌else◌, List, [], ◌∷◌, ◌++◌, length, take, drop, drop-cons}
 use Rattle.std.proofs.Common.{add-one, set, get_or, refl, sym, ap, subst, ◌∙◌, arith, append_assoc}
-use Rattle.std.proofs.lemmas.Bool.{eqb-true}
+use Rattle.std.proofs.lemmas.Bool.{eqb-true, or_parts}
 use Rattle.std.proofs.lemmas.Bool.Decides.{nat_tests}
 use Rattle.std.proofs.lemmas.List.{take_more_set, take_all, append-nil}
 use Rattle.std.proofs.Math.ListN.{drop_of_length-le}
@@ -11,23 +11,15 @@ use Rattle.sx_deployer.specs.Keeping.{has_link, is_spent, raised_from}
 above : (a b : ℕ) → nat_le a b ≡ false → b < a
 above a b h = grind (arith, nat_tests)
 
-pub first : (a b : Bool) → (a || b) ≡ false → a ≡ false
-first true b h = absurd (cc)
-first false b h = refl
-
-pub second : (a b : Bool) → (a || b) ≡ false → b ≡ false
-second true b h = absurd (cc)
-second false b h = h
-
 -- a connection that isn't spent has an epoch below the last
 pub below_last : (es : List End) (epochs : List ℕ) (c : ℕ) → is_spent es epochs ≡ false → has_link es c ≡ true → get_or epochs c 0 < 255
 below_last [] epochs c h g = absurd (cc)
-below_last (e ∷ es) epochs c h g = go (e.link == c) refl g (below_last es epochs c (second (nat_le 255 (get_or epochs e.link 0)) (is_spent es epochs) h))
+below_last (e ∷ es) epochs c h g = go (e.link == c) refl g (below_last es epochs c (or_parts (nat_le 255 (get_or epochs e.link 0)) (is_spent es epochs) h).1)
   where
     go : (b : Bool) → (e.link == c) ≡ b → (b || has_link es c) ≡ true → (has_link es c ≡ true → get_or epochs c 0 < 255) → get_or epochs c 0 < 255
     go true same g rest =
         let P : ℕ → Type 0 = λ k. get_or epochs k 0 < 255 in
-        subst P (eqb-true e.link c same) (above 255 (get_or epochs e.link 0) (first (nat_le 255 (get_or epochs e.link 0)) (is_spent es epochs) h))
+        subst P (eqb-true e.link c same) (above 255 (get_or epochs e.link 0) (or_parts (nat_le 255 (get_or epochs e.link 0)) (is_spent es epochs) h).0)
     go false same g rest = rest g
 
 -- one more is raised

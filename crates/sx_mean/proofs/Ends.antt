@@ -29,7 +29,7 @@ abbrev to_end : ℕ → Link → End
 to_end n l = record { link = n; side = To; port = l.input }
 
 -- those that are held, before others
-abbrev held : Bool → Bool → ℕ → Link → List End → List End
+abbrev pub held : Bool → Bool → ℕ → Link → List End → List End
 held a b n l es = cons_option (if a then Some (from_end n l) else None) (cons_option (if b then Some (to_end n l) else None) es)
 
 -- Numbers

@@ -6,19 +6,14 @@ use Rattle.std.specs.List.{list_any, cons_option}
 use Rattle.std.proofs.lemmas.Bool.{eq-eqb, ne_eqb, ltb-true, ltb-false}
 use Rattle.std.proofs.lemmas.List.{get_or_past}
 use Rattle.std.proofs.Math.ListN.{drop_of_length-le}
-use Rattle.sx_lang.specs.declared.sides.Side.TheVariants.{From, To}
+use Rattle.sx_lang.specs.declared.sides.Side.TheVariants.{To}
 use Rattle.sx_mean.specs.declared.apps.Link.{Link}
 use Rattle.sx_mean.specs.declared.events.End.{End}
 use Rattle.sx_mean.specs.Ends.{ends_after}
+use Rattle.sx_mean.proofs.Ends.{held}
 use Rattle.sx_model.specs.Renewal as model
 use Rattle.sx_deployer.specs.Keeping.{has_link, raised_from}
 use Rattle.sx_run.specs.Renewed.{RenewsAsTheModel}
-
--- the ends of a connection and of those after it
-abbrev held : Bool → Bool → ℕ → Link → List End → List End
-held a b n l es =
-    cons_option (if a then Some (record { link = n; side = From; port = l.output }) else None)
-    (cons_option (if b then Some (record { link = n; side = To; port = l.input }) else None) es)
 
 -- another connection's end isn't one of this
 skipped : (a b : Bool) (n c : ℕ) (l : Link) (es : List End) → (n == c) ≡ false → has_link (held a b n l es) c ≡ has_link es c
