@@ -3,7 +3,7 @@ use Rattle.std.proofs.Common.{◌≡◌, ℕ, ◌+◌, ◌*◌, ◌/◌, ◌%◌
 use Rattle.byteorder.specs.Endian.{little_bytes}
 use Rattle.sx_wire.specs.Headers.{header, set_key_header}
 
-field_low : (link epoch : ℕ) → link < 256 → (link + 256 * epoch) % 256 ≡ link
+pub field_low : (link epoch : ℕ) → link < 256 → (link + 256 * epoch) % 256 ≡ link
 field_low link epoch h = omega arith
 
 field_high : (link epoch : ℕ) → link < 256 → epoch < 256 → (link + 256 * epoch) / 256 % 256 ≡ epoch

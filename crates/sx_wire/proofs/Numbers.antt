@@ -7,7 +7,7 @@ use Rattle.std.proofs.Math.Seq.{drop-cons}
 use Rattle.std.proofs.lemmas.List.{append-nil}
 use Rattle.byteorder.specs.Endian.{little_bytes, little_from}
 use Rattle.byteorder.specs.Numbers.{little_from-bytes}
-use Rattle.sx_wire.specs.Headers.{number_in}
+use Rattle.sx_wire.specs.Headers.{number_in, ask_packet, challenge_in}
 
 past : (xs : List ℕ) (i : ℕ) → length xs ≡ i → drop i xs ≡ []
 past [] zero e = refl
@@ -34,3 +34,7 @@ low_number n v h =
     ∙ little_from-bytes n 0 v []
     ∙ ap (λ k. k % 256 ^ n) (div-one v)
     ∙ mod-eq_of_lt h
+
+-- an ask's challenge
+pub challenge_same : (a : ℕ) → a < 4294967295 → challenge_in (ask_packet a) ≡ a
+challenge_same a h = low_number 16 a (omega (arith, h))
