@@ -23,7 +23,7 @@ use Rattle.sx_model.specs.Renewal.{may_attest, boot_of, renewed}
 use Rattle.sx_tag.specs.Wrap.{wrapped}
 use Rattle.sx_run.specs.Setting.{Site, Setting}
 use Rattle.sx_wire.specs.Headers.{ask_packet, challenge_in, is_ask}
-use Rattle.sx_wire.proofs.Numbers.{low_number}
+use Rattle.sx_wire.proofs.Numbers.{challenge_same}
 use Rattle.sx_run.specs.Ledger.{Made, NO_TARGET, made_entry, is_made}
 use Rattle.sx_deployer.specs.Granting.{DeployerState, Grant, after_ask, grants_of, grant_to, grant_beyond, grants_beyond, grants_after}
 use Rattle.sx_run.specs.Deployer.{key_of, accepts, after_acceptance, set_key, set_key_entry}
@@ -41,10 +41,6 @@ use Rattle.sx_lists.proofs.Lists.{get_same}
 -- the tag that answers an ask at a boot
 abbrev pub expected : Setting → Site → ℕ → List ℕ → List ℕ
 expected set site boot ask = (wrapped set.mac (key_of set site boot) ask []).tag
-
--- a challenge's bytes tell it
-challenge_of : (a : ℕ) → a < 65536 → challenge_in (ask_packet a) ≡ a
-challenge_of a h = low_number 16 a (omega (arith, h))
 
 -- a standing with the same presence
 pub same_presence : (set : Setting) (n m : ℕ) (q : PartTree) (site : Site) (s : State) (x y : Standing) (sent : List (List ℕ))
@@ -506,7 +502,7 @@ module _ (set : Setting) (w : World) (mo : Model) (m : ℕ) (site : Site) (boot 
       let v = (t.ledger entry was).0 ask_is in
       let vx : v.x ≡ x = some_inj v.x x (sym v.there ∙ there) in
       let vow : is_vouched a boot x.vouched ≡ true =
-      subst (λ c. is_vouched c boot x.vouched ≡ true) (ap challenge_in same ∙ challenge_of a lt) (subst (λ (z : Standing). is_vouched (challenge_in ask) boot z.vouched ≡ true) vx v.vouched) in
+      subst (λ c. is_vouched c boot x.vouched ≡ true) (ap challenge_in same ∙ challenge_same a (omega (arith, lt))) (subst (λ (z : Standing). is_vouched (challenge_in ask) boot z.vouched ≡ true) vx v.vouched) in
       let may2 : may_attest m set.app.links mo.epochs (boot_of x.attested) boot ≡ true =
       subst (λ o. may_attest m set.app.links mo.epochs o boot ≡ true) was_last (subst (λ es. may_attest m set.app.links es last boot ≡ true) t.epochs may) in
       let epochs : d.epochs ≡ renewed m set.app.links (boot_of x.attested) mo.epochs = ap

@@ -1,11 +1,9 @@
 -- An interrupt, which is run as code outside every module, keeps the world tied.
-use Rattle.std.proofs.Common.{◌≡◌, ◌≢◌, ℕ, ◌<◌, inl, true, List, [], ◌++◌, length, Option, Some, None, Ok, refl, sym, ◌∙◌, ap, subst, arith}
+use Rattle.std.proofs.Common.{◌≡◌, ◌≢◌, ℕ, inl, true, List, [], ◌++◌, Option, Some, None, Ok, refl, sym, ◌∙◌, ap, subst, arith}
 use Rattle.std.specs.Prelude.{slice_get}
 use Rattle.sx_rules.specs.declared.section.Section.{Section}
 use Rattle.sx_rules.specs.Access.{Sections, Lives}
-use Rattle.sx_bus.specs.declared.devices.Window.{Window}
 use Rattle.sx_mean.specs.declared.apps.AppDevice.{AppDevice}
-use Rattle.sx_ledger.specs.declared.entry.Maker.{Maker}
 use Rattle.sx_ledger.specs.declared.entry.Maker.TheVariants as maker
 use Rattle.sx_machine.specs.declared.kinds.Refused.{Refused}
 use Rattle.sx_machine.specs.State.{State}
@@ -27,20 +25,19 @@ use Rattle.sx_image.specs.Watched.{marks_of_touches}
 use Rattle.sx_mean.specs.Application.{PartTree}
 use Rattle.sx_mean.specs.Ends.{ends_of}
 use Rattle.sx_model.specs.State.{Reading, Standing, Model}
-use Rattle.sx_run.specs.Setting.{Site, Setting, is_at_site, device_number, devices_at}
-use Rattle.sx_run.specs.Ledger.{Made}
+use Rattle.sx_run.specs.Setting.{Site, Setting, is_at_site, device_number}
 use Rattle.sx_run.specs.State.{World}
 use Rattle.sx_run.specs.Acts.{with_node, after_interrupt}
 use Rattle.sx_run.specs.Observation.{touch_items, cause_of}
 use Rattle.sx_run.specs.Law.{IsSoundSetting}
 use Rattle.sx_run.proofs.tie.Lists.{get_some, get_within, some_inj}
 use Rattle.sx_run.proofs.tie.Verdicts.{judge, Fares, fares_map}
-use Rattle.sx_run.proofs.tie.Tied.{SameState, Known, NodeTied, ModuleTied, Absent, Rests, Runs, Tied}
+use Rattle.sx_run.proofs.tie.Tied.{SameState, NodeTied, ModuleTied, Absent, Rests, Runs, Tied}
 use Rattle.sx_run.proofs.acts.Compose.{Keeps}
 use Rattle.sx_run.proofs.steps.Stretch.{readings_all}
 use Rattle.sx_run.proofs.steps.Bystanders.{DevicesTied, Apart, replayed, replayed_shapes, at_site_same, kept_bytes}
-use Rattle.sx_run.proofs.steps.Steps.{nonzero, increasing, readings_long, readings_other}
-use Rattle.sx_run.proofs.steps.Nodes.{tied_node, device_here, index_get, shapes_long, windows_long, reset_fares, reset_is_node}
+use Rattle.sx_run.proofs.steps.Steps.{nonzero, readings_long, readings_other, apart_there}
+use Rattle.sx_run.proofs.steps.Nodes.{tied_node, device_here, reset_fares, reset_is_node, known_devices}
 use Rattle.sx_run.proofs.acts.Outside.{same_tied, refused_fares}
 use Rattle.sx_run.proofs.steps.Protecting.{append_none}
 use Rattle.sx_run.proofs.steps.Foreign.{touches_fare}
@@ -84,21 +81,8 @@ module _ (set : Setting) (w : World) (mo : Model) (n : ℕ) (s : State) (sound :
   tied_i : DevicesTied set.app n s.devices mo.devices
   tied_i k x y a b = t.devices n k s x y here a b
 
-  number_i : (k : ℕ) (x : Window) → slice_get s.devices k ≡ Some x → slice_get (devices_at n 0 set.app.devices) k ≡ Some (device_number set.app n k)
-  number_i k x e =
-      let lt : k < length (devices_at n 0 set.app.devices) = omega (
-        arith,
-        get_within s.devices k x e,
-        shapes_long s.devices,
-        ap length node_i.windows,
-        windows_long n 0 set.app.devices set.places sound.places,
-      ) in
-      let v : (v : ℕ) × (slice_get (devices_at n 0 set.app.devices) k ≡ Some v) = get_some (devices_at n 0 set.app.devices) k lt in
-      subst (λ z. slice_get (devices_at n 0 set.app.devices) k ≡ Some z) (sym (index_get (devices_at n 0 set.app.devices) k v.0 v.1)) v.1
-
   apart_i : Apart set.app n s.devices
-  apart_i j k x y xj yk e =
-      increasing n 0 set.app.devices j k (device_number set.app n j) (number_i j x xj) (subst (λ v. slice_get (devices_at n 0 set.app.devices) k ≡ Some v) (sym e) (number_i k y yk))
+  apart_i = apart_there set n s.devices sound node_i.windows
 
   strange : (k : ℕ) (site : Site) (sec : Section) → slice_get set.sites k ≡ Some site → Lives s.sections.live sec → is_at_site n s.mem sec site ≡ true → (0 ≢ sec.id) × (s.cur ≢ sec.id)
   strange k site sec sk l at = (λ e. nonzero s sec node_i.node l (sym e), λ e. nonzero s sec node_i.node l (sym e ∙ idle))
@@ -114,22 +98,6 @@ module _ (set : Setting) (w : World) (mo : Model) (n : ℕ) (s : State) (sound :
 
     abbrev mo2 : Model
     mo2 = record { boots = mo.boots; devices = reads; modules = mo.modules; sent = mo.sent; asks = mo.asks; epochs = mo.epochs }
-
-    same_known : (k : Maker) (e : Made) → Known set.app mo k e → Known set.app mo2 k e
-    same_known maker.Deployer e h = record {
-      x = h.x;
-      there = h.there;
-      attested = h.attested;
-      a = h.a;
-      older = h.older;
-      «end» = h.«end»;
-      held = h.held;
-      epoch = h.epoch;
-      header = h.header;
-      floor = h.floor;
-      given = h.given;
-    }
-    same_known (maker.Module k) e h = (λ a. let f = h.0 a in record { x = f.x; there = f.there; vouched = f.vouched }, h.1)
 
     ended_tied : Tied set (with_node w n s2 w.ledger w.steps) mo2
     ended_tied = tied_node set w n mo s s2 w.ledger w.steps mo2 here t (record {
@@ -158,7 +126,7 @@ module _ (set : Setting) (w : World) (mo : Model) (n : ℕ) (s : State) (sound :
           (subst (λ j. ModuleTied set j m q site s z mo.sent) on_node (t.modules m q site s z pk sk (subst (λ j. slice_get w.nodes j ≡ Some s) (sym on_node) here) zk));
       modules_else = λ m q site z y pk ne sk zk yk. t.modules m q site z y pk sk zk yk;
       standing = λ m z zk. (z, zk, refl, refl);
-      known = λ e h. same_known e.maker e (t.ledger e h);
+      known = λ e h. known_devices set.app mo reads e.maker e (t.ledger e h);
       sane = record { small = t.sane.small; timely = t.sane.timely; unsent = t.sane.unsent };
     })
 

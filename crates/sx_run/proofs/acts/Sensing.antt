@@ -7,7 +7,6 @@ use Rattle.std.specs.Prelude.{unwrap_or}
 use Rattle.sx_bus.specs.declared.devices.Window.{Window}
 use Rattle.sx_bus.specs.Devices.{with_sample}
 use Rattle.sx_mean.specs.declared.apps.AppDevice.{AppDevice}
-use Rattle.sx_ledger.specs.declared.entry.Maker.{Maker}
 use Rattle.sx_ledger.specs.declared.entry.Maker.TheVariants as maker
 use Rattle.sx_trace.specs.declared.items.Item.TheVariants as item
 use Rattle.sx_machine.specs.declared.kinds.Refused.{Refused}
@@ -18,18 +17,17 @@ use Rattle.sx_mean.specs.Application.{PartTree, is_sensor}
 use Rattle.sx_model.specs.State.{Reading, Standing, Model}
 use Rattle.sx_model.specs.Step.{step, with_device}
 use Rattle.sx_run.specs.Setting.{Site, Setting, devices_at, device_number}
-use Rattle.sx_run.specs.Ledger.{Made}
 use Rattle.sx_run.specs.State.{World}
 use Rattle.sx_run.specs.Acts.{with_node, done_on}
 use Rattle.sx_run.specs.Run.{place_at}
 use Rattle.sx_run.specs.Law.{IsSoundSetting}
 use Rattle.sx_run.proofs.tie.Lists.{get_other, get_some, get_within, length_set, some_inj}
 use Rattle.sx_run.proofs.tie.Verdicts.{Going, judge_on, judge, Fares}
-use Rattle.sx_run.proofs.steps.Nodes.{tied_node, device_here, index_get, shapes_long, windows_long}
+use Rattle.sx_run.proofs.steps.Nodes.{tied_node, device_here, index_get, shapes_long, windows_long, known_devices}
 use Rattle.sx_run.proofs.steps.Steps.{nonzero, increasing}
 use Rattle.sx_run.proofs.steps.Foreign.{position_some}
 use Rattle.sx_run.proofs.acts.Outside.{same_tied, refused_fares}
-use Rattle.sx_run.proofs.tie.Tied.{Known, NodeTied, ModuleTied, Absent, Rests, Runs, Tied}
+use Rattle.sx_run.proofs.tie.Tied.{NodeTied, ModuleTied, Absent, Rests, Runs, Tied}
 use Rattle.sx_run.proofs.acts.Compose.{Keeps}
 use Rattle.sx_lists.proofs.Lists.{get_same}
 use Rattle.sx_machine.proofs.Devices.{sensed_shapes, position_is}
@@ -108,23 +106,6 @@ module _ (set : Setting) (sound : IsSoundSetting set) (w : World) (mo : Model) (
     windows_long x.node 0 set.app.devices set.places sound.places,
   ))
 
-  same_known : (m : Maker) (e : Made) → Known set.app mo m e → Known set.app mo2 m e
-  same_known maker.Deployer e h = record {
-    x = h.x;
-    there = h.there;
-    attested = h.attested;
-    a = h.a;
-    older =
-        h.older;
-    «end» = h.«end»;
-    held = h.held;
-    epoch = h.epoch;
-    header = h.header;
-    floor = h.floor;
-    given = h.given;
-  }
-  same_known (maker.Module m) e h = (λ a. let f = h.0 a in record { x = f.x; there = f.there; vouched = f.vouched }, h.1)
-
   same_module : (m : ℕ) (q : PartTree) (site : Site) (z : Standing) → ModuleTied set x.node m q site s z mo.sent → ModuleTied set x.node m q site s2 z mo.sent
   same_module m q site z (Absent none f) = Absent none f
   same_module m q site z (Rests sec pr p i c pend h) = Rests sec pr p (record { lives = i.lives; here = i.here }) c pend h
@@ -171,7 +152,7 @@ module _ (set : Setting) (sound : IsSoundSetting set) (w : World) (mo : Model) (
         (t.modules m q site s z pm sm (subst (λ j. slice_get w.nodes j ≡ Some s) (sym on_node) here) zm));
     modules_else = λ m q site z y pm ne sm zm ym. t.modules m q site z y pm sm zm ym;
     standing = λ m z zm. (z, zm, refl, refl);
-    known = λ e h. same_known e.maker e (t.ledger e h);
+    known = λ e h. known_devices set.app mo mo2.devices e.maker e (t.ledger e h);
     sane = record { small = t.sane.small; timely = t.sane.timely; unsent = t.sane.unsent };
   })
     where

@@ -1,5 +1,5 @@
 -- A step of code that is no deployed module's: what it does at devices, and what it leaves of the modules.
-use Rattle.std.proofs.Common.{◌≡◌, ◌≢◌, ℕ, zero, suc, ◌+◌, ◌<◌, ◌⊎◌, inl, inr, ◌==◌, ◌&&◌, not}
+use Rattle.std.proofs.Common.{◌≡◌, ◌≢◌, ℕ, zero, suc, ◌+◌, ◌⊎◌, inl, inr, ◌==◌, ◌&&◌, not}
 use Rattle.std.proofs.Common.{Bool, true, false, cond, if◌then◌else◌, List, [], ◌∷◌, ◌++◌, length}
 use Rattle.std.proofs.Common.{Option, Some, None, refl, sym, ◌∙◌, ap, subst, arith}
 use Rattle.std.specs.Prelude.{slice_get, slice_set, nat_lt, nat_le, is_some}
@@ -43,10 +43,11 @@ use Rattle.sx_run.proofs.tie.Verdicts.{judge, Fares}
 use Rattle.sx_run.proofs.tie.Tied.{Known, IsSane, NodeTied, IsModule, ModuleTied, Absent, Rests, Runs, Tied, shapes}
 use Rattle.sx_run.proofs.steps.Entry.{at_site}
 use Rattle.sx_run.proofs.steps.Stretch.{readings_all}
-use Rattle.sx_run.proofs.steps.Nodes.{NodeGoes, tied_node, device_here, index_get, shapes_long, windows_long}
+use Rattle.sx_run.proofs.steps.Nodes.{NodeGoes, tied_node, device_here, index_get}
 use Rattle.sx_machine.specs.Touches.{Replays}
 use Rattle.sx_run.proofs.steps.Machine.{MachineLaws, Onward, onward}
 use Rattle.sx_run.proofs.steps.Bystanders.{DevicesTied, Apart, replayed, replayed_shapes, onlooker}
+use Rattle.sx_run.proofs.steps.Steps.{apart_there}
 
 -- A node's windows are the application's devices, in place and kind.
 
@@ -185,20 +186,14 @@ module _ (set : Setting) (w : World) (mo : Model) (n : ℕ) (s : State) (boot : 
     where
       by_kind : (kd : DeviceKind) → kind_of kd ≡ Sensor → is_sensor kd ≡ true
       by_kind declared.Sensor e = refl
-      by_kind declared.Actuator e = absurd (differ e)
-        where
-          differ : ◌≡◌ {A = Kind} Actuator Sensor → ⊥
-          differ e = cc
+      by_kind declared.Actuator e = absurd (cc e)
 
   kind_actuator : (k : ℕ) (x : Window) (d : Device set n k x) → x.kind ≡ Actuator → is_sensor d.device.kind ≡ false
   kind_actuator k x d e = by_kind d.device.kind (d.kind ∙ e)
     where
       by_kind : (kd : DeviceKind) → kind_of kd ≡ Actuator → is_sensor kd ≡ false
       by_kind declared.Actuator e = refl
-      by_kind declared.Sensor e = absurd (differ e)
-        where
-          differ : ◌≡◌ {A = Kind} Sensor Actuator → ⊥
-          differ e = cc
+      by_kind declared.Sensor e = absurd (cc e)
 
   drain_step : (rs : List Reading) (d : ℕ) (dev : AppDevice) (r : Reading) → slice_get set.app.devices d ≡ Some dev
       → is_sensor dev.kind ≡ true → slice_get rs d ≡ Some r → r.fresh ≡ true → is_undriven set.app.parts mo.modules d ≡ true
@@ -288,22 +283,8 @@ module _ (set : Setting) (w : World) (mo : Model) (n : ℕ) (s : State) (sound :
   tied_n : DevicesTied set.app n s.devices mo.devices
   tied_n k x y a b = t.devices n k s x y here a b
 
-  number_n : (k : ℕ) (x : Window) → slice_get s.devices k ≡ Some x → slice_get (devices_at n 0 set.app.devices) k ≡ Some (device_number set.app n k)
-  number_n k x e =
-      let lt : k < length (devices_at n 0 set.app.devices) = omega (
-        arith,
-        get_within s.devices k x e,
-        shapes_long s.devices,
-        ap length node_n.windows,
-        windows_long n 0 set.app.devices set.places sound.places,
-      ) in
-      let v : (v : ℕ) × (slice_get (devices_at n 0 set.app.devices) k ≡ Some v) = get_some (devices_at n 0 set.app.devices) k lt in
-      subst (λ z. slice_get (devices_at n 0 set.app.devices) k ≡ Some z) (sym (index_get (devices_at n 0 set.app.devices) k v.0 v.1)) v.1
-
   apart_n : Apart set.app n s.devices
-  apart_n j k x y xj yk e =
-      Rattle.sx_run.proofs.steps.Steps.increasing n 0 set.app.devices j k (device_number set.app n j)
-      (number_n j x xj) (subst (λ v. slice_get (devices_at n 0 set.app.devices) k ≡ Some v) (sym e) (number_n k y yk))
+  apart_n = apart_there set n s.devices sound node_n.windows
 
   -- the touches, and the source after them
   pub touches_n : Fares (judge set.app mo (touch_items set.app n None r.shown.touch))

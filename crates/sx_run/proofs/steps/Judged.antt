@@ -33,6 +33,7 @@ use Rattle.sx_run.proofs.tie.Lists.{get_some, some_inj}
 use Rattle.sx_run.proofs.tie.Ends.{found_at, renumbered, takes_at, opens_at, below_at, open_stays, opens_stays, open_same, takes_leaves, newly_open, open_small, EndOf, has_link, linked, has_end-found}
 use Rattle.sx_run.proofs.tie.Flows.{Flows, flows_same, flows_all, AllSending}
 use Rattle.sx_model.specs.Legal.{is_forged}
+use Rattle.sx_model.proofs.Idle.{idle_as}
 use Rattle.sx_run.proofs.tie.Unique.{distinct, sending_open}
 use Rattle.sx_run.proofs.tie.Verdicts.{judge, Fares}
 use Rattle.sx_run.proofs.tie.Tied.{place_in, HasLength, SameEnds, SameState, WasSent, Settled}
@@ -61,9 +62,6 @@ pub record Next (app : AppTree) (m : ℕ) (q : PartTree) (x : Standing) (mo : Mo
 
 flows_weaken : (P Q : ℕ → Type 0) (a b : List (List ℕ)) → ((c : ℕ) → P c → Q c) → Flows P a b → Flows Q a b
 flows_weaken P Q a b f h = record { size = h.size; grown = h.grown; only = λ c. elim (h.only c) [ inl e ↦ inl e | inr p ↦ inr (f c p) ] }
-
-idle_of : (x : Standing) (pr : Present) → x.present ≡ Some pr → pr.pending ≡ None → idle x ≡ Some pr
-idle_of x pr a b = rw (a, b) refl
 
 module _ (app : AppTree) (m : ℕ) (q : PartTree) (x : Standing) (pr : Present) (boot : ℕ) (mo : Model) (ledger : List Made)
     (part : slice_get app.parts m ≡ Some q) (there : slice_get mo.modules m ≡ Some x) (boots : slice_get mo.boots q.node ≡ Some boot) (present : x.present ≡ Some pr)
@@ -206,7 +204,7 @@ module _ (app : AppTree) (m : ℕ) (q : PartTree) (x : Standing) (pr : Present) 
       → step app mo (item.Take m link i value) ≡ Some (behind views (event.Input l.input value) mo.devices)
   taken_step link epoch last value place i l words views ie il pe pend lk wk word ch =
       let there2 : slice_get mo.sent (link + 256 * epoch) ≡ Some words = subst (λ f. slice_get mo.sent f ≡ Some words) pe wk in
-      rw (part, there, idle_of x pr present pend, lk, ie, il, there2, ch, is_word_same value (slice_get words last) word) refl
+      rw (part, there, idle_as x pr present pend, lk, ie, il, there2, ch, is_word_same value (slice_get words last) word) refl
 
   take_fares : (devices : List Window) (st : ModuleState) (k : ℕ) (e : End) (header body : List ℕ) (ms : List Mark) (result : Invoked)
       → pr.pending ≡ None → SameState (ends_of app m) st pr.cells pr.ends mo.sent
@@ -334,7 +332,7 @@ module _ (app : AppTree) (m : ℕ) (q : PartTree) (x : Standing) (pr : Present) 
   opened_step : (link epoch : ℕ) (side : Side) (views : List EndView) → pr.pending ≡ None → changed_views (opens epoch) link side (ends_of app m) pr.ends ≡ Some views
       → may_open x.attested boot link epoch (slice_index mo.epochs link) ≡ true
       → step app mo (item.Open m link side epoch) ≡ Some (with_end_of (opened_with views))
-  opened_step link epoch side views pend ch may = rw (part, there, idle_of x pr present pend, boots, ch, may) refl
+  opened_step link epoch side views pend ch may = rw (part, there, idle_as x pr present pend, boots, ch, may) refl
 
   -- a key that the deployer gave for the module at this boot
   pub record Given (link epoch : ℕ) : Type 0 where
@@ -467,7 +465,7 @@ module _ (app : AppTree) (m : ℕ) (q : PartTree) (x : Standing) (pr : Present) 
   vouched_model a = record { boots = mo.boots; devices = mo.devices; modules = slice_set mo.modules m (vouched_as a); epochs = mo.epochs; sent = mo.sent; asks = mo.asks }
 
   vouched_step : (a : ℕ) → pr.pending ≡ None → step app mo (item.Vouch m a) ≡ Some (vouched_model a)
-  vouched_step a pend = rw (part, there, idle_of x pr present pend, boots) refl
+  vouched_step a pend = rw (part, there, idle_as x pr present pend, boots) refl
 
   vouch_fares : (st : ModuleState) (header : List ℕ) (result : Invoked) → pr.pending ≡ None → SameState (ends_of app m) st pr.cells pr.ends mo.sent → is_ask header ≡ true → Vouched st result
       → (let o = has_wrapped m boot header [] true ledger in Fares (judge app mo o.items) (Next app m q x mo (Wrapped header [] true) o.ledger [] result))
@@ -604,7 +602,7 @@ module _ (app : AppTree) (m : ℕ) (q : PartTree) (x : Standing) (pr : Present) 
       → step app mo (item.Read m v) ≡ Some (behind pr.ends (event.Sample v) (stale_devices d v))
   read_step d v r dev there_r sensor fresh value pend =
       let whole : pr ≡ idle_with pr.cells pr.ends = ap (λ (z : Option Pending). record { cells = pr.cells; ends = pr.ends; pending = z }) pend in
-      let idle2 : idle x ≡ Some (idle_with pr.cells pr.ends) = idle_of x pr present pend ∙ ap Some whole in
+      let idle2 : idle x ≡ Some (idle_with pr.cells pr.ends) = idle_as x pr present pend ∙ ap Some whole in
       rw (part, there, idle2, dev, there_r, sensor, fresh, value, eq-eqb v v refl) refl
 
   sample_fares : (devices : List Window) (st : ModuleState) (k : ℕ) (w : Window) (ms : List Mark) (result : Invoked) (r : Reading) → pr.pending ≡ None

@@ -14,7 +14,7 @@ use Rattle.sx_machine.specs.State.{State, reset}
 use Rattle.sx_machine.specs.Node.{IsNode}
 use Rattle.sx_mean.specs.declared.apps.AppDevice.{AppDevice}
 use Rattle.sx_invoke.specs.ModuleState.{link_of, epoch_of}
-use Rattle.sx_mean.specs.Application.{PartTree}
+use Rattle.sx_mean.specs.Application.{PartTree, AppTree}
 use Rattle.sx_mean.specs.Ends.{ends_of}
 use Rattle.sx_model.specs.State.{Reading, Present, Standing, Model}
 use Rattle.sx_model.specs.Step.{step, reset_at, absent_at, stale_at, is_vouched}
@@ -29,6 +29,8 @@ use Rattle.sx_run.proofs.tie.Lists.{get_other, get_some, get_within, length_set,
 use Rattle.sx_run.proofs.tie.Verdicts.{Going, judge, Fares}
 use Rattle.sx_run.proofs.tie.Tied.{Known, IsTimely, HasSent, IsSane, NodeTied, DeviceTied, ModuleTied, Absent, Tied, shapes}
 use Rattle.sx_lists.proofs.Lists.{get_same}
+use Rattle.sx_ledger.specs.declared.entry.Maker.{Maker}
+use Rattle.sx_ledger.specs.declared.entry.Maker.TheVariants as maker
 
 -- what is owed where a node goes from s to s2 and the source from mo to mo2
 pub record NodeGoes (set : Setting) (w : World) (n : ℕ) (mo : Model) (s2 : State) (ledger : List Made) (mo2 : Model) : Type 0 where
@@ -203,14 +205,20 @@ pub shapes_long : (ws : List Window) → length (shapes ws) ≡ length ws
 shapes_long [] = refl
 shapes_long (w ∷ ws) = ap suc (shapes_long ws)
 
+-- a node's window has its device's number
+pub number_there : (set : Setting) (n k : ℕ) (ws : List Window) (x : Window) → IsSoundSetting set → shapes ws ≡ windows_at n set.app.devices set.places → slice_get ws k ≡ Some x
+    → slice_get (devices_at n 0 set.app.devices) k ≡ Some (device_number set.app n k)
+number_there set n k ws x sound e h =
+    let lt : k < length (devices_at n 0 set.app.devices) = omega (arith, get_within ws k x h, shapes_long ws, ap length e, windows_long n 0 set.app.devices set.places sound.places) in
+    let v : (v : ℕ) × (slice_get (devices_at n 0 set.app.devices) k ≡ Some v) = get_some (devices_at n 0 set.app.devices) k lt in
+    subst (λ z. slice_get (devices_at n 0 set.app.devices) k ≡ Some z) (sym (index_get (devices_at n 0 set.app.devices) k v.0 v.1)) v.1
+
 -- a node's window is a device of the application, at that node
 pub device_here : (set : Setting) (n k : ℕ) (ws : List Window) (x : Window) → IsSoundSetting set → shapes ws ≡ windows_at n set.app.devices set.places → slice_get ws k ≡ Some x
     → (d : AppDevice) × (slice_get set.app.devices (device_number set.app n k) ≡ Some d) × (d.node ≡ n)
 device_here set n k ws x sound e h =
-    let lt : k < length (devices_at n 0 set.app.devices) = omega (arith, get_within ws k x h, shapes_long ws, ap length e, windows_long n 0 set.app.devices set.places sound.places) in
-    let v : (v : ℕ) × (slice_get (devices_at n 0 set.app.devices) k ≡ Some v) = get_some (devices_at n 0 set.app.devices) k lt in
-    let r = at_node_from n 0 set.app.devices k v.0 v.1 in
-    let at : device_number set.app n k ≡ r.0 = index_get (devices_at n 0 set.app.devices) k v.0 v.1 ∙ r.2 ∙ omega arith in
+    let r = at_node_from n 0 set.app.devices k (device_number set.app n k) (number_there set n k ws x sound e h) in
+    let at : device_number set.app n k ≡ r.0 = r.2 ∙ omega arith in
     (r.1, subst (λ j. slice_get set.app.devices j ≡ Some r.1) (sym at) r.3, r.4)
 
 all_stale_get : (ws : List Window) (k : ℕ) (x : Window) → slice_get (all_stale ws) k ≡ Some x → (w : Window) × (slice_get ws k ≡ Some w) × (x ≡ stale w)
@@ -377,3 +385,20 @@ module _ (set : Setting) (w : World) (mo : Model) (n : ℕ) (s : State) (sound :
       let next : step set.app mo (item.Reset n cause) ≡ Some again = ap (λ o. Rattle.std.specs.Option.option_and_then (λ b. Some (reset_at set.app mo n b)) o) boot_here.1 in
       subst (λ (o : Option Model). Fares (Rattle.sx_run.proofs.tie.Verdicts.judge_on o (λ z. Going z)) (Tied set (with_node w n (reset s) w.ledger steps))) (sym next)
       (tied_node set w n mo s (reset s) w.ledger steps again here t reset_goes)
+
+-- what is known of an entry stays where readings alone change
+pub known_devices : (app : AppTree) (mo : Model) (rs : List Reading) (k : Maker) (e : Made) → Known app mo k e → Known app (record mo { devices = rs }) k e
+known_devices app mo rs maker.Deployer e h = record {
+  x = h.x;
+  there = h.there;
+  attested = h.attested;
+  a = h.a;
+  older = h.older;
+  «end» = h.«end»;
+  held = h.held;
+  epoch = h.epoch;
+  header = h.header;
+  floor = h.floor;
+  given = h.given;
+}
+known_devices app mo rs (maker.Module k) e h = (λ a. let f = h.0 a in record { x = f.x; there = f.there; vouched = f.vouched }, h.1)

@@ -23,6 +23,7 @@ use Rattle.sx_mean.specs.Ends.{ends_of}
 use Rattle.sx_model.specs.State.{EndView}
 use Rattle.sx_model.specs.Reaction.{Flow, MOST_SENT, field_at, field_of, sent_over, sends, sent_to, all_done}
 use Rattle.sx_model.specs.Changes.{is_from}
+use Rattle.sx_model.proofs.Emits.{emits_to}
 use Rattle.sx_run.specs.Setting.{device_number}
 use Rattle.sx_wire.specs.Headers.{last_in, value_in}
 use Rattle.sx_run.specs.Observation.{sender_of}
@@ -341,21 +342,6 @@ module _ (app : AppTree) (m n : ℕ) (q : PartTree) (s : Setup) (c : Call) (cell
       subst (λ z. DoesOwed (and_on (with_packets s c output v 0 z p) (with_acts s c acts)) (emits_of acts) p.marks) (sym ends_same)
       (packets_owed output v 0 es views (emits_of acts) (with_acts s c acts) size suffix_all p f st flows
       (λ p1 h. acts_owed ends_same acts p1 f1 em size h count last))
-
-  emits_to : (ends : List End) (vs : List EndView) (output v : ℕ) (f : Flow) → (sent_to ends vs output v f).emits ≡ f.emits
-  emits_to [] vs output v f = refl
-  emits_to (e ∷ ends) [] output v f = refl
-  emits_to (e ∷ ends) (w ∷ vs) output v f = emits_to ends vs output v (sent_by output v e w f)
-      ∙ emits_if (sends output e w) (sent_over (field_of e w) v (slice_get f.sent (field_of e w)) f) f f.emits
-      (emits_over (field_of e w) v (slice_get f.sent (field_of e w)) f) refl
-    where
-      emits_if : (b : Bool) (g h : Flow) (l : List ℕ) → g.emits ≡ l → h.emits ≡ l → (if b then g else h).emits ≡ l
-      emits_if true g h l x y = x
-      emits_if false g h l x y = y
-
-      emits_over : (link v : ℕ) (o : Option (List ℕ)) (f : Flow) → (sent_over link v o f).emits ≡ f.emits
-      emits_over link v None f = refl
-      emits_over link v (Some words) f = emits_if (nat_lt (length words) MOST_SENT) (record { sent = longer f.sent link words v; emits = f.emits; pieces = f.pieces + 1 }) f f.emits refl refl
 
   emits_all : (acts : List Act) (f : Flow) → (all_done es views acts f).emits ≡ f.emits ++ emits_of acts
   emits_all [] f = sym (append-nil f.emits)

@@ -35,7 +35,7 @@ use Rattle.sx_image.specs.Realizes.{Exited}
 use Rattle.sx_mean.specs.Ends.{ends_of}
 use Rattle.sx_model.specs.State.{Reading, Present, Standing, Model}
 use Rattle.sx_machine.proofs.Devices.{position_is}
-use Rattle.sx_run.specs.Setting.{Site, Setting, module_of, is_at_site, device_number, devices_at}
+use Rattle.sx_run.specs.Setting.{Site, Setting, module_of, is_at_site, device_number, devices_at, windows_at}
 use Rattle.sx_run.specs.Ledger.{Made, is_made}
 use Rattle.sx_run.specs.State.{World}
 use Rattle.sx_run.specs.Observation.{Observed, observed}
@@ -52,7 +52,7 @@ use Rattle.sx_run.proofs.steps.UnderWay.{StillRuns, RestsNow, under_way_fares, u
 use Rattle.sx_run.proofs.steps.Entry.{at_site, under_way_at_entry}
 use Rattle.sx_run.proofs.steps.Sends.{Emits}
 use Rattle.sx_run.proofs.steps.Story.{story}
-use Rattle.sx_run.proofs.steps.Nodes.{NodeGoes, tied_node, device_here, reset_is_node, reset_fares, at_node_from, index_get}
+use Rattle.sx_run.proofs.steps.Nodes.{NodeGoes, tied_node, device_here, reset_is_node, reset_fares, at_node_from, number_there}
 use Rattle.sx_machine.specs.Touches.{Replays}
 use Rattle.sx_run.proofs.steps.Machine.{MachineLaws, violates, Onward, onward}
 use Rattle.sx_run.proofs.steps.Bystanders.{bystander, at_site_same, one_section, DevicesTied, Apart, replayed, replayed_shapes}
@@ -87,6 +87,12 @@ increasing n i (d ∷ ds) j k v a b = head (d.node == n) j k a b (λ j k. increa
     head true (suc j) zero a b f g = absurd (omega (arith, g j a, some_inj i v b))
     head true (suc j) (suc k) a b f g = ap suc (f j k a b)
     head false j k a b f g = f j k a b
+
+-- so no two windows of a node are one device
+pub apart_there : (set : Setting) (n : ℕ) (ws : List Window) → IsSoundSetting set → shapes ws ≡ windows_at n set.app.devices set.places → Apart set.app n ws
+apart_there set n ws sound e j k x y xj yk same =
+    increasing n 0 set.app.devices j k (device_number set.app n j) (number_there set n j ws x sound e xj)
+    (subst (λ v. slice_get (devices_at n 0 set.app.devices) k ≡ Some v) (sym same) (number_there set n k ws y sound e yk))
 
 head_marks : (xs ys : List Mark) → xs ++ ys ≡ [] → xs ≡ []
 head_marks [] ys e = refl
@@ -198,22 +204,7 @@ module _ (set : Setting) (w : World) (mo : Model) (m : ℕ) (q : PartTree) (site
   devices_here_tied k x2 r2 xk rk = t.devices q.node k s x2 r2 here xk rk
 
   apart_here : Apart set.app q.node s.devices
-  apart_here j k x2 y2 xj yk e =
-      let a = number_there j x2 xj in
-      let b = number_there k y2 yk in
-      increasing q.node 0 set.app.devices j k (device_number set.app q.node j) a (subst (λ v. slice_get (devices_at q.node 0 set.app.devices) k ≡ Some v) (sym e) b)
-    where
-      number_there : (k : ℕ) (x : Window) → slice_get s.devices k ≡ Some x → slice_get (devices_at q.node 0 set.app.devices) k ≡ Some (device_number set.app q.node k)
-      number_there k x e =
-          let lt : k < length (devices_at q.node 0 set.app.devices) = omega (
-            arith,
-            get_within s.devices k x e,
-            Rattle.sx_run.proofs.steps.Nodes.shapes_long s.devices,
-            ap length node.windows,
-            Rattle.sx_run.proofs.steps.Nodes.windows_long q.node 0 set.app.devices set.places sound.places,
-          ) in
-          let v : (v : ℕ) × (slice_get (devices_at q.node 0 set.app.devices) k ≡ Some v) = get_some (devices_at q.node 0 set.app.devices) k lt in
-          subst (λ z. slice_get (devices_at q.node 0 set.app.devices) k ≡ Some z) (sym (index_get (devices_at q.node 0 set.app.devices) k v.0 v.1)) v.1
+  apart_here = apart_there set q.node s.devices sound node.windows
 
   abbrev made_marks : List Mark
   made_marks = marks_of r.shown r.state.exchange

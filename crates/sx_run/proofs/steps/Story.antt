@@ -1,5 +1,5 @@
 -- An invocation as the source sees it: it is refused, or it begins with a mark that the source may allow and does what is then owed.
-use Rattle.std.proofs.Common.{◌≡◌, ℕ, zero, suc, ◌+◌, ◌*◌, ◌%◌, ◌/◌, ◌<◌, ◌≤◌, ◌⊎◌, inl, inr, ◌==◌}
+use Rattle.std.proofs.Common.{◌≡◌, ℕ, zero, suc, ◌+◌, ◌*◌, ◌/◌, ◌<◌, ◌≤◌, ◌⊎◌, inl, inr, ◌==◌}
 use Rattle.std.proofs.Common.{◌&&◌, ◌||◌, not, Bool, true, false, if◌then◌else◌, List, [], ◌∷◌}
 use Rattle.std.proofs.Common.{length, take, Option, Some, None, Result, Ok, Err, refl, sym, ◌∙◌, ap}
 use Rattle.std.proofs.Common.{subst, arith}
@@ -33,6 +33,7 @@ use Rattle.sx_mean.specs.Ends.{ends_of}
 use Rattle.sx_model.specs.State.{EndView}
 use Rattle.sx_model.specs.Reaction.{Flow, flow_of}
 use Rattle.sx_wire.specs.Headers.{begins, is_ask, is_set_key_header, value_in}
+use Rattle.sx_wire.proofs.Fields.{field_low}
 use Rattle.sx_run.specs.Observation.{side_in}
 use Rattle.sx_run.proofs.tie.Ends.{renumbered, takes_at, found_at}
 use Rattle.sx_run.proofs.tie.Tied.{SameEnds, Settles, idle_with, Reacts, OwnSensor, Begun, Refuses, Breaks, Opens, Vouches, Takes, Samples, shapes}
@@ -64,17 +65,14 @@ cons_bytes n b bs lt h = record { long = ap suc h.long; small = small }
     small zero = lt
     small (suc i) = h.small i
 
-ok_inj : (a b : List ℕ) → ◌≡◌ {A = Result (List ℕ) Violation} (Ok a) (Ok b) → a ≡ b
-ok_inj a b e = cc
-
 pub read_all : (s : Setup) (devices : List Window) (mem : List ℕ) (small : (k : ℕ) → slice_index mem k < 256) (n at : ℕ) (bs : List ℕ) → read_bytes s devices mem at n ≡ Ok bs → Bytes n bs
 unfolding read_bytes
-read_all s devices mem small zero at bs e = subst (λ z. Bytes 0 z) (ok_inj [] bs e) (record { long = refl; small = λ i. omega arith })
+read_all s devices mem small zero at bs e = let same : [] ≡ bs = cc in subst (λ z. Bytes 0 z) same (record { long = refl; small = λ i. omega arith })
 read_all s devices mem small (suc n) at bs e = first (read_byte s devices mem at) refl (read_bytes s devices mem (at + 1) n) (read_all s devices mem small n (at + 1)) e
   where
     last : (b : ℕ) → b < 256 → (r : Result (List ℕ) Violation) → ((xs : List ℕ) → r ≡ Ok xs → Bytes n xs) → then_ r (λ xs. Ok (b ∷ xs)) ≡ Ok bs → Bytes (suc n) bs
     last b lt (Err v) f e = absurd cc
-    last b lt (Ok xs) f e = subst (λ z. Bytes (suc n) z) (ok_inj (b ∷ xs) bs e) (cons_bytes n b xs lt (f xs refl))
+    last b lt (Ok xs) f e = let same : b ∷ xs ≡ bs = cc in subst (λ z. Bytes (suc n) z) same (cons_bytes n b xs lt (f xs refl))
 
     first : (r : Result ℕ Violation) → read_byte s devices mem at ≡ r → (r2 : Result (List ℕ) Violation) → ((xs : List ℕ) → r2 ≡ Ok xs → Bytes n xs)
         → then_ r (λ b. then_ r2 (λ xs. Ok (b ∷ xs))) ≡ Ok bs → Bytes (suc n) bs
@@ -85,9 +83,6 @@ value_two : (body : List ℕ) → value_in (take 2 body) ≡ slice_index body 0 
 value_two [] = refl
 value_two (a ∷ []) = refl
 value_two (a ∷ b ∷ body) = refl
-
-low_field : (c d : ℕ) → c < 256 → (c + 256 * d) % 256 ≡ c
-low_field c d h = omega arith
 
 high_field : (c d : ℕ) → c < 256 → (c + 256 * d) / 256 ≡ d
 high_field c d h = omega arith
@@ -209,7 +204,7 @@ module _ (app : AppTree) (m n : ℕ) (q : PartTree) (s : Setup) (c : Call) (st :
       (λ nk. opened_key 0 e0 t cc0 d rest e _ lt isk is_t found nk)
 
   same_found : (cc0 d : ℕ) (t : Side) → cc0 < 256 → end_found (link_of (cc0 + 256 * d)) t 0 s.ends ≡ end_found cc0 t 0 (ends_of app m)
-  same_found cc0 d t lt = ap (λ k. end_found k t 0 s.ends) (low_field cc0 d lt) ∙ ap (λ z. end_found cc0 t 0 z) ends_same
+  same_found cc0 d t lt = ap (λ k. end_found k t 0 s.ends) (field_low cc0 d lt) ∙ ap (λ z. end_found cc0 t 0 z) ends_same
 
   key_literal : (e0 : ℕ) (t : Side) (cc0 d : ℕ) (rest : List ℕ) → cc0 < 256 → is_set_key_header (1 ∷ 0 ∷ cc0 ∷ d ∷ e0 ∷ 0 ∷ []) ≡ true → side_in (1 ∷ 0 ∷ cc0 ∷ d ∷ e0 ∷ 0 ∷ []) ≡ t
       → Tells (set_key_at s (1 ∷ 0 ∷ cc0 ∷ d ∷ e0 ∷ 0 ∷ rest) (end_found (link_of (cc0 + 256 * d)) t 0 s.ends) p0)
