@@ -1,6 +1,7 @@
 -- An ask is answered.
 use Rattle.std.proofs.Common.{◌≤◌, true, [], ◌∷◌, length, refl, ap, ◌∙◌, arith}
 use Rattle.sx_tag.specs.Wrap.{wrapped, crypt}
+use Rattle.sx_tag.proofs.TagBytes.{tag_short}
 use Rattle.sx_invoke.specs.Protocol.{attest_entry, ask_size, ask_kind}
 use Rattle.sx_invoke.specs.Pieces.{tag_size}
 use Rattle.sx_invoke.specs.Marks.{Wrapped}
@@ -11,7 +12,6 @@ use Rattle.sx_gives.specs.Gives.{beginning, low_call}
 use Rattle.sx_gives.specs.Laws.{AttestReturns}
 use Rattle.sx_gives.proofs.Making.{piece_made}
 use Rattle.sx_gives.proofs.Entering.{enters, receives}
-use Rattle.sx_gives.proofs.Wraps.{tag_short}
 
 pub attest_returns : AttestReturns
 unfolding entered

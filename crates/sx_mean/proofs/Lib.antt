@@ -1,5 +1,6 @@
 -- Steps is of meaning; ValidApplications, Ends and LinkEnds are of applications; Words, Scope and
--- ActsGrow say what a run of a handler keeps. Fine is what the compiler takes.
+-- ActsGrow say what a run of a handler keeps, SendsCounted how much it sends. Fine is what the
+-- compiler takes.
 pub mod Steps
 pub mod Kept
 pub mod Turns
@@ -12,3 +13,4 @@ pub mod ActsGrow
 pub mod Words
 pub mod Variables
 pub mod Fine
+pub mod SendsCounted
