@@ -3,18 +3,18 @@ use Rattle.std.proofs.Common.{◌≡◌, ℕ, ◌+◌, ◌<◌, Bool, cond, List
 use Rattle.sx_bus.specs.declared.devices.Window.{Window}
 use Rattle.sx_bus.specs.Devices.{on_word, places_of, device_at}
 use Rattle.std.specs.List.{position_from}
+use Rattle.std.proofs.lemmas.Bool.{or_parts}
 use Rattle.sx_machine.specs.Ranges.{meets, meets_device}
 use Rattle.sx_machine.specs.Run.{device_of, found}
 use Rattle.sx_executor.specs.Machine.{IsClear}
-use Rattle.sx_executor.proofs.Rights.{or_left, or_right, byte_apart}
+use Rattle.sx_executor.proofs.Rights.{byte_apart}
 
 none_at : (devices : List Window) (at n i j : ℕ) → IsClear devices at n → i < n → position_from (on_word (at + i)) j devices ≡ None
 none_at [] at n i j clear below = refl
 none_at (w ∷ rest) at n i j clear below =
-    let here = or_left (meets at n w.at (w.at + 2)) (meets_device (places_of rest) at n) clear in
-    let later = or_right (meets at n w.at (w.at + 2)) (meets_device (places_of rest) at n) clear in
-    ap (λ (b : Bool). cond b (Some j) (position_from (on_word (at + i)) (j + 1) rest)) (byte_apart at n w.at (w.at + 2) i here below)
-    ∙ none_at rest at n i (j + 1) later below
+    let parts = or_parts (meets at n w.at (w.at + 2)) (meets_device (places_of rest) at n) clear in
+    ap (λ (b : Bool). cond b (Some j) (position_from (on_word (at + i)) (j + 1) rest)) (byte_apart at n w.at (w.at + 2) i parts.0 below)
+    ∙ none_at rest at n i (j + 1) parts.1 below
 
 -- no device's word holds a byte of such a range
 pub each_clear : (devices : List Window) (at n i : ℕ) → IsClear devices at n → i < n → device_of devices (at + i) ≡ None

@@ -1,14 +1,10 @@
 -- Ranges of bytes that may be reached.
 use Rattle.std.proofs.Common.{◌≡◌, ◌<◌, ℕ, zero, suc, ◌+◌, Bool, true, false, ◌&&◌, List, [], ◌∷◌, length, inl, inr, refl, sym, ap, subst, ◌∙◌, arith}
-use Rattle.std.proofs.lemmas.Bool.{and_parts, cases_lt}
+use Rattle.std.proofs.lemmas.Bool.{and_parts, cases_lt, and_from, and_right}
 use Rattle.sx_rules.specs.declared.access.Access.{Access}
 use Rattle.sx_rules.specs.declared.section.Section.{Section}
 use Rattle.sx_rules.specs.Access.{may}
 use Rattle.sx_machine.specs.Run.{may_range, may_each}
-
-and_false : (a b : Bool) → b ≡ false → (a && b) ≡ false
-and_false true b h = h
-and_false false b h = refl
 
 and_swap : (a b c : Bool) → (a && (b && c)) ≡ (b && (a && c))
 and_swap true true c = refl
@@ -16,15 +12,11 @@ and_swap true false c = refl
 and_swap false true c = refl
 and_swap false false c = refl
 
-pub both_true : (a b : Bool) → a ≡ true → b ≡ true → (a && b) ≡ true
-both_true true b h g = g
-both_true false b h g = h
-
 -- one byte that may not be reached
 pub one_closed : (live : List Section) (own : ℕ) (access : Access) (at n i : ℕ) → i < n → may live own access (at + i) ≡ false
     → may_range live own access at n ≡ false
 one_closed live own access at zero i h closed = absurd (omega arith)
-one_closed live own access at (suc n) i h closed = grind (arith, and_false, one_closed live own access at n i)
+one_closed live own access at (suc n) i h closed = grind (arith, and_right, one_closed live own access at n i)
 
 -- each byte of a range that may be reached
 pub each_open : (live : List Section) (own : ℕ) (access : Access) (at n i : ℕ) → may_range live own access at n ≡ true → i < n
@@ -44,7 +36,7 @@ pub all_open : (live : List Section) (own : ℕ) (access : Access) (at n : ℕ) 
     → may_range live own access at n ≡ true
 all_open live own access at zero each = refl
 all_open live own access at (suc n) each =
-    both_true (may live own access (at + n)) (may_range live own access at n) (each n (omega arith))
+    and_from (may live own access (at + n)) (may_range live own access at n) (each n (omega arith))
     (all_open live own access at n (λ i h. each i (omega arith)))
 
 -- the first byte, and those after it

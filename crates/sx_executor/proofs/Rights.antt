@@ -1,6 +1,6 @@
 -- What a test of PC, of an extension word, of a range or of a layout says of the access table.
 use Rattle.std.proofs.Common.{◌≡◌, ℕ, ◌+◌, ◌-◌, ◌<◌, Bool, true, false, not, ◌&&◌, ◌||◌, ◌==◌, leb, ltb, List, [], ◌∷◌, None, refl, sym, ◌∙◌, inl, inr, arith}
-use Rattle.std.proofs.lemmas.Bool.{and_parts, or_cases, not-true, leb-true, ltb-true, lt-ltb, true≢false, false_from_ne_true}
+use Rattle.std.proofs.lemmas.Bool.{and_parts, or_cases, not-true, leb-true, ltb-true, lt-ltb, true≢false, false_from_ne_true, and_from, or_parts, not_from_false}
 use Rattle.std.specs.List.{list_all, list_any}
 use Rattle.sx_rules.specs.declared.access.Access.TheVariants.{Read, Write}
 use Rattle.sx_rules.specs.declared.section.Section.{Section}
@@ -12,36 +12,25 @@ use Rattle.sx_machine.specs.Memory.{even}
 use Rattle.sx_machine.specs.Ranges.{meets, meets_private, meets_public}
 use Rattle.sx_machine.specs.Run.{may_at, may_range}
 use Rattle.sx_machine.specs.Step.{word_outside}
-use Rattle.sx_executor.proofs.Reach.{both_true, all_open}
-
-pub or_left : (a b : Bool) → (a || b) ≡ false → a ≡ false
-or_left true b h = absurd (true≢false h)
-or_left false b h = refl
-
-pub or_right : (a b : Bool) → (a || b) ≡ false → b ≡ false
-or_right true b h = absurd (true≢false h)
-or_right false b h = h
+use Rattle.sx_executor.proofs.Reach.{all_open}
 
 unless_true : (a b : Bool) → a ≡ false → (not a || b) ≡ true
 unless_true true b h = absurd (true≢false h)
 unless_true false b h = refl
-
-false_not : (a : Bool) → a ≡ false → not a ≡ true
-false_not true h = absurd (true≢false h)
-false_not false h = refl
 
 -- what all pass that implies another test
 pub all_weaker : (t u : Section → Bool) → ((s : Section) → t s ≡ true → u s ≡ true) → (xs : List Section) → list_all t xs ≡ true → list_all u xs ≡ true
 all_weaker t u f [] h = refl
 all_weaker t u f (x ∷ xs) h =
     let parts = and_parts (t x) (list_all t xs) h in
-    both_true (u x) (list_all u xs) (f x parts.0) (all_weaker t u f xs parts.1)
+    and_from (u x) (list_all u xs) (f x parts.0) (all_weaker t u f xs parts.1)
 
 -- what none meets that implies another test
 none_weaker : (t u : Section → Bool) → ((s : Section) → t s ≡ false → u s ≡ true) → (xs : List Section) → list_any t xs ≡ false → list_all u xs ≡ true
 none_weaker t u f [] h = refl
 none_weaker t u f (x ∷ xs) h =
-    both_true (u x) (list_all u xs) (f x (or_left (t x) (list_any t xs) h)) (none_weaker t u f xs (or_right (t x) (list_any t xs) h))
+    let parts = or_parts (t x) (list_any t xs) h in
+    and_from (u x) (list_all u xs) (f x parts.0) (none_weaker t u f xs parts.1)
 
 -- a byte outside every private section may be read
 outside_readable : (live : List Section) (own at : ℕ) → outside_private live at ≡ true → may live own Read at ≡ true
@@ -59,7 +48,7 @@ extends_outside live own at h =
 pub outside_word : (live : List Section) (own at : ℕ) → word_outside live at ≡ true → may_at true live own Read at ≡ true
 outside_word live own at h =
     let parts = and_parts (outside_private live (even at)) (outside_private live (even at + 1)) h in
-    both_true (may live own Read (even at)) (may live own Read (even at + 1))
+    and_from (may live own Read (even at)) (may live own Read (even at + 1))
     (outside_readable live own (even at) parts.0) (outside_readable live own (even at + 1) parts.1)
 
 -- a word where an extension word may stand
@@ -68,7 +57,7 @@ pub extends_readable : (live : List Section) (own at : ℕ) → (extends live ow
 extends_readable live own at h =
     let parts = and_parts (extends live own (even at)) (extends live own (even at + 1)) h in
     outside_word live own at
-    (both_true (outside_private live (even at)) (outside_private live (even at + 1))
+    (and_from (outside_private live (even at)) (outside_private live (even at + 1))
     (extends_outside live own (even at) parts.0) (extends_outside live own (even at + 1) parts.1))
 
 -- a byte of a range that doesn't meet another one
@@ -81,8 +70,8 @@ byte_apart at n from to i h below =
     let some : 0 < n = omega arith in
     let before : at < to = omega arith in
     let behind : from < at + n = omega arith in
-    true≢false (sym (both_true (ltb 0 n) (ltb at to && ltb from (at + n)) (lt-ltb 0 n some)
-    (both_true (ltb at to) (ltb from (at + n)) (lt-ltb at to before) (lt-ltb from (at + n) behind))) ∙ h))
+    true≢false (sym (and_from (ltb 0 n) (ltb at to && ltb from (at + n)) (lt-ltb 0 n some)
+    (and_from (ltb at to) (ltb from (at + n)) (lt-ltb at to before) (lt-ltb from (at + n) behind))) ∙ h))
 
 -- a range that meets no private section may be read
 pub apart_readable : (live : List Section) (own at n : ℕ) → meets_private live at n ≡ false → may_range live own Read at n ≡ true
@@ -96,14 +85,13 @@ byte_writable : (live : List Section) (own at n i : ℕ) → i < n → meets_pub
     → list_all (allows own Write (at + i)) live ≡ true
 byte_writable [] own at n i below public private = refl
 byte_writable (s ∷ rest) own at n i below public private =
-    let in_none = or_left (meets at n s.layout.pub_from s.layout.pub_to) (meets_public rest at n) public in
-    let in_no_private = or_left (meets at n s.layout.priv_from s.layout.priv_to) (meets_private rest at n) private in
-    both_true (allows own Write (at + i) s) (list_all (allows own Write (at + i)) rest)
-    (both_true (not (in_public s (at + i))) (not (in_private s (at + i)) || own == s.id)
-    (false_not (in_public s (at + i)) (byte_apart at n s.layout.pub_from s.layout.pub_to i in_none below))
-    (unless_true (in_private s (at + i)) (own == s.id) (byte_apart at n s.layout.priv_from s.layout.priv_to i in_no_private below)))
-    (byte_writable rest own at n i below (or_right (meets at n s.layout.pub_from s.layout.pub_to) (meets_public rest at n) public)
-    (or_right (meets at n s.layout.priv_from s.layout.priv_to) (meets_private rest at n) private))
+    let no_public = or_parts (meets at n s.layout.pub_from s.layout.pub_to) (meets_public rest at n) public in
+    let no_private = or_parts (meets at n s.layout.priv_from s.layout.priv_to) (meets_private rest at n) private in
+    and_from (allows own Write (at + i) s) (list_all (allows own Write (at + i)) rest)
+    (and_from (not (in_public s (at + i))) (not (in_private s (at + i)) || own == s.id)
+    (not_from_false (in_public s (at + i)) (byte_apart at n s.layout.pub_from s.layout.pub_to i no_public.0 below))
+    (unless_true (in_private s (at + i)) (own == s.id) (byte_apart at n s.layout.priv_from s.layout.priv_to i no_private.0 below)))
+    (byte_writable rest own at n i below no_public.1 no_private.1)
 
 -- one that meets no section may be written
 pub apart_writable : (live : List Section) (own at n : ℕ) → meets_public live at n ≡ false → meets_private live at n ≡ false

@@ -2,10 +2,7 @@
 use Rattle.std.proofs.Common.{◌≡◌, ℕ, zero, suc, ◌+◌, List, [], ◌∷◌, ◌++◌, refl, sym, ap, ◌∙◌, arith, append_assoc, append-nil}
 use Rattle.std.specs.Prelude.{slice_index}
 use Rattle.sx_machine.specs.Memory.{bytes_from}
-
-pub no_bytes : (mem : List ℕ) (at : ℕ) → bytes_from mem at 0 ≡ []
-unfolding bytes_from
-no_bytes mem at = refl
+use Rattle.sx_machine.proofs.BytesFrom.{bytes_none}
 
 last_byte : (mem : List ℕ) (at n : ℕ) → bytes_from mem at (suc n) ≡ bytes_from mem at n ++ slice_index mem (at + n) ∷ []
 unfolding bytes_from
@@ -14,7 +11,7 @@ last_byte mem at n = refl
 in_two : (mem : List ℕ) (at n k : ℕ) → bytes_from mem at n ++ bytes_from mem (at + n) k ≡ bytes_from mem at (n + k)
 in_two mem at n zero =
     let same : n ≡ n + 0 = omega arith in
-    ap (λ (bytes : List ℕ). bytes_from mem at n ++ bytes) (no_bytes mem (at + n)) ∙ append-nil (bytes_from mem at n) ∙ ap (bytes_from mem at) same
+    ap (λ (bytes : List ℕ). bytes_from mem at n ++ bytes) (bytes_none mem (at + n)) ∙ append-nil (bytes_from mem at n) ∙ ap (bytes_from mem at) same
 in_two mem at n (suc k) =
     let place : at + n + k ≡ at + (n + k) = omega arith in let more : suc (n + k) ≡ n + suc k = omega arith in
     let byte : ℕ → List ℕ = λ i. slice_index mem i ∷ [] in

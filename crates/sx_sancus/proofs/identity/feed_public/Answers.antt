@@ -1,11 +1,12 @@
 use Rattle.std.proofs.Common.{◌≡◌, ◌+◌, ◌-◌, ◌*◌, ◌%◌, ◌++◌, List, ℕ, subst, append-nil, ap, ◌∙◌, arith}
 use Rattle.sx_tag.specs.Stream.{Leads}
 use Rattle.sx_machine.specs.Memory.{bytes_from}
-use Rattle.sx_sancus.proofs.Stretches.{no_bytes, fed_on}
+use Rattle.sx_machine.proofs.BytesFrom.{bytes_none}
+use Rattle.sx_sancus.proofs.Stretches.{fed_on}
 use Rattle.sx_sancus.proofs.identity.feed_public.Goals as goal
 
 pub loop-i-init : goal.loop-i-init
-loop-i-init g c = λ answer fed h. rw (no_bytes c.args.executor.now.mem c.args.layout.now.pub_from, append-nil) h
+loop-i-init g c = λ answer fed h. rw (bytes_none c.args.executor.now.mem c.args.layout.now.pub_from, append-nil) h
 
 pub loop-i-preserved : goal.loop-i-preserved
 loop-i-preserved g c = λ answer fed h.
