@@ -1,8 +1,8 @@
 //! What a command that deploys does before its own part: it reads the head, judges the deployment,
 //! and makes the images.
 //!
-//! Each function makes one thing and hands it on at once, since what is owned where a function ends
-//! is dropped there, and each such drop of a deployment costs a second of proof or two.
+//! The deployment that was read is handed on at once, by value, to the one function that ends with
+//! it: it is dropped where that function ends, and each such drop costs a second of proof or two.
 
 ghost use Rattle.std.specs.Prelude.{◌≡◌, ℕ, List, IfErr, IfOk, IsTrue, OnErr, Ok};
 ghost use Rattle.sx_told.specs.Told.{command_at};
@@ -24,29 +24,8 @@ use sx_io::{Lines, Sink, Source};
 use sx_tag::Tag;
 use sx_told::OUT_OF_MEMORY;
 
-/// Makes the images of a deployment's modules, and does the command's own part with them.
-fn deploy_modules<C: Deploys, S: Source, K: Sink, T: Tag + Copy>(
-    alloc: Global,
-    tag: T,
-    lines: &mut Lines,
-    input: &mut S,
-    output: &mut K,
-    plan: &Deployment,
-) -> u8
-    requires sound { IsSoundDeployment (deployed_as plan.now) }
-    requires names { IsTrue (are_valid (deployed_as plan.now).names) }
-    ensures { (text : List ℕ) → IsRead text (Ok (deployed_as plan.now))
-        → DeploysOrRanOut T.mac (C.behind T.mac) C.may S.tells K.tells lines.old
-        (command_at (S.at input.old) (K.at output.old))
-        (command_at (S.at input.new) (K.at output.new)) result text }
-{
-    match compile_all(alloc, &tag, plan) {
-        Ok(images) => C::perform(alloc, tag, lines, input, output, plan, &images),
-        Err(_) => OUT_OF_MEMORY,
-    }
-}
-
-/// Does what follows the head of a text by what reading the text gave. To say which rule it breaks
+/// Does what follows the head of a text by what reading the text gave: it makes the images of the
+/// deployment's modules, and does the command's own part with them. To say which rule a text breaks
 /// takes no memory, and reads nothing.
 fn deploy_read<C: Deploys, S: Source, K: Sink, T: Tag + Copy>(
     alloc: Global,
@@ -67,32 +46,12 @@ fn deploy_read<C: Deploys, S: Source, K: Sink, T: Tag + Copy>(
     ensures unread { OnErr read (S.at input.new ≡ S.at input.old) }
 {
     match read {
-        Ok(plan) => deploy_modules::<C, S, K, T>(alloc, tag, lines, input, output, &plan),
+        Ok(plan) => match compile_all(alloc, &tag, &plan) {
+            Ok(images) => C::perform(alloc, tag, lines, input, output, &plan, &images),
+            Err(_) => OUT_OF_MEMORY,
+        },
         Err(error) => refuse(error, output),
     }
-}
-
-/// Does what follows the head of this text.
-fn deploy_text<C: Deploys, S: Source, K: Sink, T: Tag + Copy>(
-    alloc: Global,
-    tag: T,
-    text: &[u8],
-    lines: &mut Lines,
-    input: &mut S,
-    output: &mut K,
-) -> u8
-    ensures { DeploysOrRanOut T.mac (C.behind T.mac) C.may S.tells K.tells lines.old
-        (command_at (S.at input.old) (K.at output.old))
-        (command_at (S.at input.new) (K.at output.new)) result text.now }
-{
-    deploy_read::<C, S, K, T>(
-        alloc,
-        tag,
-        read_deployment(alloc, text),
-        lines,
-        input,
-        output,
-    )
 }
 
 /// A command that deploys, over any tag: the input is a deployment, the line `%%`, and what the
@@ -111,7 +70,14 @@ pub fn deploy_over<C: Deploys, S: Source, K: Sink, T: Tag + Copy>(
 {
     let mut lines = Lines::new();
     match read_head(alloc, &mut lines, input) {
-        Ok(text) => deploy_text::<C, S, K, T>(alloc, tag, &text, &mut lines, input, output),
+        Ok(text) => deploy_read::<C, S, K, T>(
+            alloc,
+            tag,
+            read_deployment(alloc, &text),
+            &mut lines,
+            input,
+            output,
+        ),
         Err(fault) => refuse_head(fault, output),
     }
 }
