@@ -4,15 +4,16 @@ ghost use Rattle.sx_asm.specs.Assembled.{assembled};
 ghost use Rattle.sx_told.specs.Told.{command_at};
 ghost use Rattle.sx_command_run.specs.Runs.{RunTold};
 
-use crate::schedule::run_built;
+use crate::schedule::run_lines;
 use std::alloc::Global;
 use sx_command_deploy::{Deploys, deploy_over};
+use sx_command_world::images::begin_trace;
 use sx_command_world::worlds::new_world;
 use sx_deploy::deployment::Deployment;
 use sx_image::Image;
 use sx_io::{Lines, Sink, Source};
 use sx_tag::Tag;
-use sx_told::OUT_OF_MEMORY;
+use sx_told::{OUT_OF_MEMORY, Turned};
 
 /// The command `run`, as one that deploys.
 struct RunCommand;
@@ -26,8 +27,9 @@ impl Deploys for RunCommand {
 
     ghost may = { run_may assembled };
 
-    /// Runs the schedule of a deployment with these images of its modules. The nodes are made
-    /// before the first line is written: if memory runs out there, nothing is written.
+    /// The images' lines, `trace`, and the schedule, in a world where all was just switched on. Its
+    /// nodes are made before the first line is written: if memory runs out there, nothing is
+    /// written.
     fn perform<S: Source, K: Sink, T: Tag + Copy>(
         alloc: Global,
         tag: T,
@@ -38,7 +40,10 @@ impl Deploys for RunCommand {
         images: &[Image],
     ) -> u8 {
         match new_world(alloc, tag, plan, images) {
-            Ok(mut world) => run_built(alloc, lines, input, output, plan, images, &mut world),
+            Ok(mut world) => match begin_trace(alloc, &plan.names, images, output) {
+                Turned::On => run_lines(alloc, lines, input, output, plan, &mut world),
+                Turned::Stop(status) => status,
+            },
             Err(_) => OUT_OF_MEMORY,
         }
     }

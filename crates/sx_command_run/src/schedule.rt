@@ -1,77 +1,39 @@
 //! The lines of a schedule. Each is judged and performed, and its items are written, before the
 //! next is read.
 
-ghost use Rattle.std.specs.Prelude.{◌≡◌, ◌+◌, ◌<◌, ◌≤◌, [], IsTrue};
+ghost use Rattle.std.specs.Prelude.{◌≡◌, ◌+◌, ◌≤◌, IsTrue};
 ghost use Rattle.sx_asm.specs.Assembled.{assembled};
 ghost use Rattle.sx_trace.specs.ValidNames.{are_valid};
-ghost use Rattle.sx_sched.specs.Seen.{line_of};
-ghost use Rattle.sx_sched.specs.InForm.{IsLine};
 ghost use Rattle.sx_told.specs.Told.{command_at, out_of_memory};
 ghost use Rattle.sx_told.specs.Parts.{Rest};
 ghost use Rattle.sx_head.specs.Head.{head_lines};
 ghost use Rattle.sx_deploy.specs.SeenDeployment.{deployed_as};
 ghost use Rattle.sx_deploy.specs.Law as deployment;
-ghost use Rattle.sx_world.specs.InMemory.{image_setting, world_setting};
-ghost use Rattle.sx_image.specs.InMemory.{texts_of};
+ghost use Rattle.sx_world.specs.InMemory.{world_setting};
 ghost use Rattle.sx_run.specs.Law.{IsSoundSetting};
 ghost use Rattle.sx_world.specs.Standing.{IsGoing, Stands};
 ghost use Rattle.sx_run.specs.State.{switched_on};
 ghost use Rattle.sx_command_head.specs.Given.{RanOutSince};
-ghost use Rattle.sx_command_run.specs.Run.{run_at_start, run_deployed};
+ghost use Rattle.sx_command_run.specs.Run.{run_at_start};
 ghost use Rattle.sx_command_run.specs.Runs.{run_may};
 ghost use Rattle.sx_command_world.specs.Schedule.{judged_line};
-ghost use Rattle.sx_command_run.specs.Turns.{Advances, TellsLine, TellsMade, TurnsFrom};
+ghost use Rattle.sx_command_run.specs.Turns.{TellsMade, TurnsFrom};
 ghost use Rattle.sx_command_world.specs.Turning.{MayRunOut};
 
 use crate::trace::put_items;
 use std::alloc::Global;
 use sx_bus::Copied;
-use sx_command_world::images::begin_trace;
 use sx_command_world::judging::{TOO_LONG, break_off, judge};
 use sx_deploy::deployment::Deployment;
-use sx_image::Image;
 use sx_io::{LineRead, Lines, Sink, Source};
-use sx_sched::lines::{Line, LineError};
+use sx_sched::lines::LineError;
 use sx_tag::Tag;
 use sx_told::{OUT_OF_MEMORY, READ_FAILED, Turned, finish};
 use sx_trace::items::Item;
 use sx_world::world::World;
 
-/// Performs a line, and writes its items; where memory runs out, those that were made before.
-fn tell<K: Sink, B: Copied, T: Tag>(
-    output: &mut K,
-    world: &mut World<B, T>,
-    plan: &Deployment,
-    items: &mut Vec<Item>,
-    line: &Line,
-) -> Turned
-    requires sound { deployment.IsSoundDeployment (deployed_as plan.now) }
-    requires images { IsSoundSetting (world_setting T.mac plan.now world.old) }
-    requires going { IsGoing (world_setting T.mac plan.now world.old) world.old }
-    requires form { IsLine (deployed_as plan.now).names (line_of line.now) }
-    requires few { world.old.lines < 65536 }
-    requires none { items.old.items ≡ [] }
-    ensures does { TellsLine K.tells (K.at output.old) (K.at output.new)
-        (deployed_as plan.now).names (world_setting T.mac plan.now world.old)
-        (line_of line.now) world.old result }
-    ensures made { TellsMade K.tells (K.at output.old) (K.at output.new)
-        (deployed_as plan.now).names world.old world.new items.new.items result }
-    ensures stands { result ≡ Turned.On
-        → Advances (world_setting T.mac plan.now world.old) (line_of line.now) world.old world.new }
-    ensures sites { world.new.sites ≡ world.old.sites }
-    ensures counts { result ≡ Turned.On → world.new.lines ≡ world.old.lines + 1 }
-{
-    match world.act(plan, line, items) {
-        Ok(()) => put_items(output, &plan.names, items),
-        Err(_) => match put_items(output, &plan.names, items) {
-            Turned::On => Turned::Stop(OUT_OF_MEMORY),
-            Turned::Stop(status) => Turned::Stop(status),
-        },
-    }
-}
-
-/// Does what a line says, and writes its items. `items` is the loop's, so that lines use its memory
-/// one after the other.
+/// Does what a line says, and writes its items; where memory runs out, those that were made before.
+/// `items` is the loop's, so that lines use its memory one after the other.
 fn turn<K: Sink, B: Copied, T: Tag>(
     alloc: Global,
     output: &mut K,
@@ -99,7 +61,13 @@ fn turn<K: Sink, B: Copied, T: Tag>(
 {
     items.clear();
     match judge(alloc, &plan.names, said, number) {
-        Ok(line) => tell(output, world, plan, items, &line),
+        Ok(line) => match world.act(plan, &line, items) {
+            Ok(()) => put_items(output, &plan.names, items),
+            Err(_) => match put_items(output, &plan.names, items) {
+                Turned::On => Turned::Stop(OUT_OF_MEMORY),
+                Turned::Stop(status) => Turned::Stop(status),
+            },
+        },
         Err(LineError::Fault(rule)) => Turned::Stop(break_off(output, rule, number)),
         Err(LineError::OutOfMemory) => Turned::Stop(OUT_OF_MEMORY),
     }
@@ -150,36 +118,5 @@ pub(crate) fn run_lines<S: Source, K: Sink, B: Copied, T: Tag>(
                 Turned::Stop(status) => return status,
             },
         }
-    }
-}
-
-/// The images' lines, `trace`, and the schedule, in a world where all was just switched on.
-pub(crate) fn run_built<S: Source, K: Sink, B: Copied, T: Tag>(
-    alloc: Global,
-    lines: &mut Lines,
-    input: &mut S,
-    output: &mut K,
-    plan: &Deployment,
-    images: &[Image],
-    world: &mut World<B, T>,
-) -> u8
-    requires sound { deployment.IsSoundDeployment (deployed_as plan.now) }
-    requires images { IsSoundSetting (world_setting T.mac plan.now world.old) }
-    requires names { IsTrue (are_valid (deployed_as plan.now).names) }
-    requires new { world.old.lines ≡ 0 }
-    requires sites { world.old.sites ≡ (image_setting T.mac plan.now images.now).sites }
-    requires stands { Stands (world_setting T.mac plan.now world.old) world.old
-        (switched_on (world_setting T.mac plan.now world.old)) }
-    ensures rest { Rest S.tells K.tells head_lines lines.old
-        (command_at (S.at input.old) (K.at output.old))
-        (command_at (S.at input.new) (K.at output.new)) result
-        (run_deployed assembled T.mac (deployed_as plan.now) (texts_of images.now)) }
-    ensures wanted { result ≡ out_of_memory → RanOutSince head_lines head_lines
-        (run_may assembled (deployed_as plan.now)) S.tells (S.at input.old) (S.at input.new)
-        lines.old lines.new }
-{
-    match begin_trace(alloc, &plan.names, images, output) {
-        Turned::Stop(status) => status,
-        Turned::On => run_lines(alloc, lines, input, output, plan, world),
     }
 }

@@ -15,7 +15,8 @@ returns-in-Ok g c =
     let does = c.deploy_read.ensures in
     told_behind {s1 = read} {k0 = k0} {now = c.read_head.new.lines} {m2 = left} {status = c.deploy_read.result} mac own g.C.Deploys.may c.in-Ok.text.items c.in-Ok.ensures
     (subst P c.deref.ensures.value
-    (does_read {now = c.read_head.new.lines} mac own g.C.Deploys.may c.deref.result.now c.read_deployment.result c.read_deployment.ensures.read does.deploys does.refused does.unread))
+    (does_read {tells = g.S.Source.tells} {to_tell = g.K.Sink.tells} {now = c.read_head.new.lines} {s0 = read} {s1 = g.S.Source.at c.deploy_read.new.input} {k0 = k0}
+    {k1 = g.K.Sink.at c.deploy_read.new.output} {status = c.deploy_read.result} mac own g.C.Deploys.may c.deref.result.now c.read_deployment.result c.read_deployment.ensures.read does.deploys does.refused does.unread))
 
 pub returns-in-Err : goal.returns-in-Err
 returns-in-Err g c =

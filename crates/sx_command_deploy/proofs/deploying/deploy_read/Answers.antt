@@ -1,4 +1,4 @@
-use Rattle.std.proofs.Common.{◌≡◌, ◌∙◌, ℕ, inl, inr, List, map, refl, subst, sym, Result, Ok}
+use Rattle.std.proofs.Common.{◌≡◌, ℕ, inl, inr, List, refl, subst, sym, Result, Ok}
 use Rattle.std.specs.Prelude.{IfOk}
 use Rattle.sx_told.specs.Told.{command_at}
 use Rattle.sx_told.specs.Parts.{Rest}

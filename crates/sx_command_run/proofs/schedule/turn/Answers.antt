@@ -1,24 +1,55 @@
-use Rattle.std.proofs.Common.{◌∙◌, ◌+◌, ◌∷◌, ap, refl, Err}
+use Rattle.std.proofs.Common.{◌≡◌, ◌∙◌, List, ◌∷◌, ◌++◌, ap, refl, Err}
 use Rattle.sx_asm.specs.Assembled.{assembled}
 use Rattle.sx_io.specs.Reading.{Line}
-use Rattle.sx_told.proofs.Laws.{does-same, ends-same, ends-out-of-memory, prefix-none}
+use Rattle.sx_told.specs.Told.{unread_output}
+use Rattle.sx_told.proofs.Laws.{ends-same, ends-out-of-memory, prefix-none}
+use Rattle.sx_trace.specs.declared.items.Item.{Item}
 use Rattle.sx_sched.specs.Seen.{line_of}
 use Rattle.sx_deploy.specs.SeenDeployment.{deployed_as}
 use Rattle.sx_run.specs.Accepted.{setting}
 use Rattle.sx_command_world.specs.Turning.{after_next}
 use Rattle.sx_command_run.specs.Run.{run_from}
-use Rattle.sx_command_run.proofs.Written.{run_line, run_breaks}
+use Rattle.sx_command_run.proofs.Written.{line_told, line_unwritten, line_wanted, made_front, run_breaks}
 use Rattle.sx_command_run.proofs.schedule.turn.Goals as goal
 
-pub returns-in-Ok-clause-turns : goal.returns-in-Ok-clause-turns
-returns-in-Ok-clause-turns g c = λ w shows.
+pub returns-in-Ok-act-clause-turns : goal.returns-in-Ok-act-clause-turns
+returns-in-Ok-act-clause-turns g c = λ w shows.
     let d = deployed_as c.args.plan.now in
     let set = setting g.T.Tag.mac d c.args.world.now.sites in
-    let line = line_of c.in-Ok.line in record {
-      next = (after_next set w line).world;
-      stands = λ on. c.tell.ensures.stands on w shows;
-      does = does-same _ _ _ _ _ _ _ (λ more. run_line d.names set w c.args.number c.args.said.now line more c.in-Ok.ensures.line)
-          (c.tell.ensures.does w shows (λ v more. run_from assembled d.names set v (c.args.number + 1) more));
+    let line = line_of c.in-Ok.line in
+    let next = after_next set w line in
+    let acted = c.in-Ok-act.ensures.acted w shows in
+    let made : c.deref.result.now ≡ next.items = c.deref.ensures.value ∙ acted.1 ∙ ap (λ (front : List Item). front ++ next.items) c.clear.ensures.items in record {
+      next = next.world;
+      stands = λ on. acted.0;
+      does = line_told g.K.Sink.tells (g.K.Sink.at c.args.output.now) (g.K.Sink.at c.put_items.new.output) c.put_items.result d.names set w c.args.number c.args.said.now
+          line c.deref.result.now c.in-Ok.ensures.line made c.put_items.ensures.does;
+    }
+
+pub returns-in-On-clause-turns : goal.returns-in-On-clause-turns
+returns-in-On-clause-turns g c = λ w shows.
+    let d = deployed_as c.args.plan.now in
+    let set = setting g.T.Tag.mac d c.args.world.now.sites in
+    let line = line_of c.in-Ok.line in
+    let next = after_next set w line in
+    let made = c.deref-in-Err.result.now in
+    let front = made_front _ _ made next.items c.clear.ensures.items c.deref-in-Err.ensures.value (c.in-Err.ensures.front w shows) in record {
+      next = next.world;
+      stands = λ on. absurd (cc on);
+      does = line_wanted d.names set w c.args.number c.args.said.now line made c.in-Ok.ensures.line front (c.in-On.ensures.whole refl) (c.in-On.ensures.does (λ more. unread_output)).no_fault;
+    }
+
+pub returns-in-Stop-clause-turns : goal.returns-in-Stop-clause-turns
+returns-in-Stop-clause-turns g c = λ w shows.
+    let d = deployed_as c.args.plan.now in
+    let set = setting g.T.Tag.mac d c.args.world.now.sites in
+    let line = line_of c.in-Ok.line in
+    let next = after_next set w line in
+    let made = c.deref-in-Err.result.now in
+    let front = made_front _ _ made next.items c.clear.ensures.items c.deref-in-Err.ensures.value (c.in-Err.ensures.front w shows) in record {
+      next = next.world;
+      stands = λ on. absurd (cc on);
+      does = line_unwritten d.names set w c.args.number c.args.said.now line made c.in-Ok.ensures.line front c.in-Stop.ensures.does;
     }
 
 pub returns-in-Err-Fault-clause-turns : goal.returns-in-Err-Fault-clause-turns

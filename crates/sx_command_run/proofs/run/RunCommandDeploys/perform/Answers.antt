@@ -1,29 +1,46 @@
-use Rattle.std.proofs.Common.{List, [], inl, map, refl, subst, sym}
+use Rattle.std.proofs.Common.{List, [], inl, map, ap, refl, subst, sym}
 use Rattle.sx_asm.specs.Assembled.{assembled}
-use Rattle.sx_told.proofs.Laws.{told-stop, ends-out-of-memory, prefix-none}
+use Rattle.sx_told.proofs.Laws.{begun-put, begun-same, told-stop, ends-out-of-memory, prefix-none}
 use Rattle.sx_deploy.specs.SeenDeployment.{deployed_as}
-use Rattle.sx_run.specs.Accepted.{setting}
+use Rattle.sx_run.specs.Accepted.{setting, setting_of}
 use Rattle.sx_run.specs.Law.{IsSoundSetting}
 use Rattle.sx_run.specs.Setting.{Site}
 use Rattle.sx_world.specs.Standing.{Stands}
 use Rattle.sx_run.specs.State.{switched_on}
 use Rattle.sx_run.proofs.accepted.Settled.{settled}
 use Rattle.sx_command_head.proofs.Given.{given_none}
-use Rattle.sx_command_run.specs.Run.{run_deployed}
+use Rattle.sx_command_run.specs.Run.{run_at_start, run_from, run_deployed}
 use Rattle.sx_command_run.proofs.run.RunCommandDeploys.perform.Goals as goal
 
-pub run_built-requires-clause-images : goal.run_built-requires-clause-images
-run_built-requires-clause-images g c =
+pub run_lines-requires-clause-images : goal.run_lines-requires-clause-images
+run_lines-requires-clause-images g c =
     let d = deployed_as c.args.plan.now in
     let texts = map (λ i. i.text.items) c.args.images.now in
     let P : List Site → Type 0 = λ sites. IsSoundSetting (setting g.T.Tag.mac d sites) in
     subst P (sym c.in-Ok.ensures.sites) (settled g.T.Tag.mac d texts c.requires.sound c.requires.images g.met.T.Tag.is_tag)
 
-pub run_built-requires-clause-stands : goal.run_built-requires-clause-stands
-run_built-requires-clause-stands g c =
+pub run_lines-requires-clause-stands : goal.run_lines-requires-clause-stands
+run_lines-requires-clause-stands g c =
     let d = deployed_as c.args.plan.now in
     let P : List Site → Type 0 = λ sites. Stands (setting g.T.Tag.mac d sites) c.in-Ok.world (switched_on (setting g.T.Tag.mac d sites)) in
     subst P (sym c.in-Ok.ensures.sites) c.in-Ok.ensures.stands
+
+pub returns-in-Stop-clause-rest : goal.returns-in-Stop-clause-rest
+returns-in-Stop-clause-rest g c = λ limit m0 defined aside noted b.
+    let d = deployed_as c.args.plan.now in
+    told-stop b (c.in-Stop.ensures (run_at_start assembled d.names (setting_of g.T.Tag.mac d (map (λ i. i.text.items) c.args.images.now))))
+
+pub returns-in-On-clause-rest : goal.returns-in-On-clause-rest
+returns-in-On-clause-rest g c = λ limit m0 defined aside noted b.
+    let d = deployed_as c.args.plan.now in
+    let mac = g.T.Tag.mac in
+    let texts = map (λ i. i.text.items) c.args.images.now in
+    let set = setting mac d c.in-Ok.world.sites in
+    let left = run_at_start assembled d.names (setting_of mac d texts) in
+    c.run_lines.ensures.rest limit m0 defined aside noted
+    (begun-same (run_from assembled d.names set (switched_on set) 1)
+    (λ more. ap (λ (sites : List Site). run_from assembled d.names (setting mac d sites) (switched_on (setting mac d sites)) 1 more) (sym c.in-Ok.ensures.sites))
+    (begun-put (run_deployed assembled mac d texts) left b (c.in-On.ensures left)))
 
 pub returns-in-Err-clause-rest : goal.returns-in-Err-clause-rest
 returns-in-Err-clause-rest g c = λ limit m0 defined aside noted b.
@@ -32,3 +49,9 @@ returns-in-Err-clause-rest g c = λ limit m0 defined aside noted b.
 
 pub returns-in-Err-clause-wanted : goal.returns-in-Err-clause-wanted
 returns-in-Err-clause-wanted g c = λ six. ([], given_none _ _ _ _, inl refl)
+
+pub returns-in-Stop-clause-wanted : goal.returns-in-Stop-clause-wanted
+returns-in-Stop-clause-wanted g c = λ six. ([], given_none _ _ _ _, inl refl)
+
+pub returns-in-On-clause-wanted : goal.returns-in-On-clause-wanted
+returns-in-On-clause-wanted g c = c.run_lines.ensures.wanted
