@@ -11,8 +11,8 @@ ghost use Rattle.sx_deploy.specs.Deployment.{IsRead};
 ghost use Rattle.sx_deploy.specs.Law as deployment;
 ghost use Rattle.sx_deploy.specs.SeenDeployment.{deployed_as};
 ghost use Rattle.sx_run.specs.Accepted.{AreImages};
-ghost use Rattle.sx_world.specs.InMemory.{image_setting, world_setting};
 ghost use Rattle.sx_image.specs.InMemory.{texts_of};
+ghost use Rattle.sx_world.specs.InMemory.{world_setting};
 ghost use Rattle.sx_run.specs.Law.{IsSoundSetting};
 ghost use Rattle.sx_world.specs.Standing.{Stands};
 ghost use Rattle.sx_run.specs.State.{switched_on};
@@ -75,32 +75,6 @@ fn tell_run<K: Sink, B: Copied, T: Tag>(
 }
 
 /// The images' lines, and the run in a world where all was just switched on.
-fn gen_built<K: Sink, B: Copied, T: Tag>(
-    alloc: Global,
-    samples: u32,
-    plan: &Deployment,
-    images: &[Image],
-    world: &mut World<B, T>,
-    output: &mut K,
-) -> u8
-    requires few { samples ≤ MOST_SAMPLES }
-    requires sound { deployment.IsSoundDeployment (deployed_as plan.now) }
-    requires images { IsSoundSetting (world_setting T.mac plan.now world.old) }
-    requires names { IsTrue (are_valid (deployed_as plan.now).names) }
-    requires new { world.old.lines ≡ 0 }
-    requires sites { world.old.sites ≡ (image_setting T.mac plan.now images.now).sites }
-    requires stands { Stands (world_setting T.mac plan.now world.old) world.old
-        (switched_on (world_setting T.mac plan.now world.old)) }
-    ensures { CommandEnds K.tells (K.at output.old) (K.at output.new) result
-        (gen_deployed T.mac (texts_of images.now) samples (deployed_as plan.now)) }
-{
-    match put_images(alloc, &plan.names, images, output) {
-        Turned::Stop(status) => status,
-        Turned::On => tell_run(alloc, samples, plan, world, output),
-    }
-}
-
-/// Runs the workload with these images of its modules.
 fn gen_images<K: Sink, T: Tag + Copy>(
     alloc: Global,
     tag: T,
@@ -118,7 +92,10 @@ fn gen_images<K: Sink, T: Tag + Copy>(
         (gen_deployed T.mac (texts_of images.now) samples (deployed_as plan.now)) }
 {
     match new_world(alloc, tag, plan, images) {
-        Ok(mut world) => gen_built(alloc, samples, plan, images, &mut world, output),
+        Ok(mut world) => match put_images(alloc, &plan.names, images, output) {
+            Turned::On => tell_run(alloc, samples, plan, &mut world, output),
+            Turned::Stop(status) => status,
+        },
         Err(_) => OUT_OF_MEMORY,
     }
 }
@@ -143,17 +120,6 @@ fn gen_deployment<K: Sink, T: Tag + Copy>(
     }
 }
 
-/// Reads the workload's deployment, and runs the workload.
-fn gen_head<K: Sink, T: Tag + Copy>(alloc: Global, tag: T, samples: u32, output: &mut K) -> u8
-    requires { samples ≤ MOST_SAMPLES }
-    ensures { GenWrote T.mac samples K.tells (K.at output.old) (K.at output.new) result }
-{
-    match read_deployment(alloc, head()) {
-        Ok(plan) => gen_deployment(alloc, tag, samples, &plan, output),
-        Err(error) => refuse(error, output),
-    }
-}
-
 /// The command `gen` over any tag: it reads nothing, writes the images of the workload's modules,
 /// runs as many of its lines as carry this many samples, and writes how many lines, items, outputs,
 /// outputs of the value 1 and node steps there were. No line is kept. Gives the exit status, as
@@ -162,5 +128,8 @@ pub fn gen_over<K: Sink, T: Tag + Copy>(alloc: Global, tag: T, samples: u32, out
     requires { samples ≤ MOST_SAMPLES }
     ensures { GenTold T.mac samples K.tells (K.at output.old) (K.at output.new) result }
 {
-    gen_head(alloc, tag, samples, output)
+    match read_deployment(alloc, head()) {
+        Ok(plan) => gen_deployment(alloc, tag, samples, &plan, output),
+        Err(error) => refuse(error, output),
+    }
 }

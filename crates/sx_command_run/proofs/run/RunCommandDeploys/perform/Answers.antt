@@ -25,9 +25,9 @@ run_lines-requires-clause-stands g c =
     let P : List Site → Type 0 = λ sites. Stands (setting g.T.Tag.mac d sites) c.in-Ok.world (switched_on (setting g.T.Tag.mac d sites)) in
     subst P (sym c.in-Ok.ensures.sites) c.in-Ok.ensures.stands
 
-pub returns-in-Stop-clause-rest : goal.returns-in-Stop-clause-rest
-returns-in-Stop-clause-rest g c = λ limit m0 defined aside noted b.
-    let d = deployed_as c.args.plan.now in
+pub returns-in-Ok-clause-rest : goal.returns-in-Ok-clause-rest
+returns-in-Ok-clause-rest g c = λ limit m0 defined aside noted b.
+    let d = deployed_as c.args.deployment.now in
     told-stop b (c.in-Stop.ensures (run_at_start assembled d.names (setting_of g.T.Tag.mac d (map (λ i. i.text.items) c.args.images.now))))
 
 pub returns-in-On-clause-rest : goal.returns-in-On-clause-rest
@@ -42,16 +42,16 @@ returns-in-On-clause-rest g c = λ limit m0 defined aside noted b.
     (λ more. ap (λ (sites : List Site). run_from assembled d.names (setting mac d sites) (switched_on (setting mac d sites)) 1 more) (sym c.in-Ok.ensures.sites))
     (begun-put (run_deployed assembled mac d texts) left b (c.in-On.ensures left)))
 
-pub returns-in-Err-clause-rest : goal.returns-in-Err-clause-rest
-returns-in-Err-clause-rest g c = λ limit m0 defined aside noted b.
+pub returns-clause-rest : goal.returns-clause-rest
+returns-clause-rest g c = λ limit m0 defined aside noted b.
     let texts = map (λ i. i.text.items) c.args.images.now in
     told-stop b (λ more. ends-out-of-memory _ _ _ (run_deployed assembled g.T.Tag.mac (deployed_as c.args.plan.now) texts more) (λ t. prefix-none _ _ _ refl) refl)
 
-pub returns-in-Err-clause-wanted : goal.returns-in-Err-clause-wanted
-returns-in-Err-clause-wanted g c = λ six. ([], given_none _ _ _ _, inl refl)
+pub returns-clause-wanted : goal.returns-clause-wanted
+returns-clause-wanted g c = λ six. ([], given_none _ _ _ _, inl refl)
 
-pub returns-in-Stop-clause-wanted : goal.returns-in-Stop-clause-wanted
-returns-in-Stop-clause-wanted g c = λ six. ([], given_none _ _ _ _, inl refl)
+pub returns-in-Ok-clause-wanted : goal.returns-in-Ok-clause-wanted
+returns-in-Ok-clause-wanted g c = λ six. ([], given_none _ _ _ _, inl refl)
 
 pub returns-in-On-clause-wanted : goal.returns-in-On-clause-wanted
 returns-in-On-clause-wanted g c = c.run_lines.ensures.wanted
