@@ -35,9 +35,10 @@ fn deploy_read<C: Deploys, S: Source, K: Sink, T: Tag + Copy>(
     input: &mut S,
     output: &mut K,
 ) -> u8
-    requires sound { IfOk read (λ plan. IsSoundDeployment (deployed_as plan)) }
-    requires names { IfOk read (λ plan. IsTrue (are_valid (deployed_as plan).names)) }
-    ensures deploys { IfOk read (λ plan. (text : List ℕ) → IsRead text (Ok (deployed_as plan))
+    requires sound { IfOk read (λ deployment. IsSoundDeployment (deployed_as deployment)) }
+    requires names { IfOk read (λ deployment. IsTrue (are_valid (deployed_as deployment).names)) }
+    ensures deploys { IfOk read (λ deployment. (text : List ℕ)
+        → IsRead text (Ok (deployed_as deployment))
         → DeploysOrRanOut T.mac (C.behind T.mac) C.may S.tells K.tells lines.old
         (command_at (S.at input.old) (K.at output.old))
         (command_at (S.at input.new) (K.at output.new)) result text) }
@@ -46,8 +47,8 @@ fn deploy_read<C: Deploys, S: Source, K: Sink, T: Tag + Copy>(
     ensures unread { OnErr read (S.at input.new ≡ S.at input.old) }
 {
     match read {
-        Ok(plan) => match compile_all(alloc, &tag, &plan) {
-            Ok(images) => C::perform(alloc, tag, lines, input, output, &plan, &images),
+        Ok(deployment) => match compile_all(alloc, &tag, &deployment) {
+            Ok(images) => C::perform(alloc, tag, lines, input, output, &deployment, &images),
             Err(_) => OUT_OF_MEMORY,
         },
         Err(error) => refuse(error, output),

@@ -35,18 +35,18 @@ pub trait Deploys {
         lines: &mut Lines,
         input: &mut S,
         output: &mut K,
-        plan: &Deployment,
+        deployment: &Deployment,
         images: &[Image],
     ) -> u8
-        requires sound { IsSoundDeployment (deployed_as plan.now) }
-        requires names { IsTrue (are_valid (deployed_as plan.now).names) }
-        requires many { length images.now ≡ length plan.now.app.parts.items }
-        requires images { AreImages T.mac (deployed_as plan.now) (texts_of images.now) }
+        requires sound { IsSoundDeployment (deployed_as deployment.now) }
+        requires names { IsTrue (are_valid (deployed_as deployment.now).names) }
+        requires many { length images.now ≡ length deployment.now.app.parts.items }
+        requires images { AreImages T.mac (deployed_as deployment.now) (texts_of images.now) }
         ensures rest { Rest S.tells K.tells head_lines lines.old
             (command_at (S.at input.old) (K.at output.old))
             (command_at (S.at input.new) (K.at output.new)) result
-            (behind T.mac (deployed_as plan.now) (texts_of images.now)) }
+            (behind T.mac (deployed_as deployment.now) (texts_of images.now)) }
         ensures wanted { result ≡ out_of_memory → RanOutSince head_lines head_lines
-            (may (deployed_as plan.now)) S.tells (S.at input.old) (S.at input.new)
+            (may (deployed_as deployment.now)) S.tells (S.at input.old) (S.at input.new)
             lines.old lines.new };
 }

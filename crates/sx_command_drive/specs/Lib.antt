@@ -1,4 +1,5 @@
--- Begin with Drives: what the command promises. Drive has what it writes, Readings what its lines say.
+-- Begin with Drives: what the command promises. Drive has what it writes, Readings what its lines
+-- say.
 pub mod Drive
 pub mod Drives
 pub mod Laws

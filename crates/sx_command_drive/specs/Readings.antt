@@ -1,5 +1,5 @@
--- From the answers that the lines of an input give to the readings of an honest run. Nothing is said
--- here of what is written.
+-- From the answers that the lines of an input give to the readings of an honest run. Nothing is
+-- said here of what is written.
 use Rattle.std.specs.Prelude.{ℕ, ◌+◌, nat_lt, if◌then◌else◌, List, [], ◌∷◌}
 use Rattle.std.specs.Prelude.{Option, option_and_then, option_map, Result, Ok, Err, ok_or}
 use Rattle.sx_io.specs.Numbers.{number_of}

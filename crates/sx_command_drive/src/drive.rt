@@ -97,11 +97,19 @@ impl Deploys for DriveCommand {
         lines: &mut Lines,
         input: &mut S,
         output: &mut K,
-        plan: &Deployment,
+        deployment: &Deployment,
         images: &[Image],
     ) -> u8 {
-        match new_honest(alloc, tag, plan, images) {
-            Ok(mut honest) => drive_built(alloc, lines, input, output, plan, images, &mut honest),
+        match new_honest(alloc, tag, deployment, images) {
+            Ok(mut honest) => drive_built(
+                alloc,
+                lines,
+                input,
+                output,
+                deployment,
+                images,
+                &mut honest,
+            ),
             Err(_) => OUT_OF_MEMORY,
         }
     }

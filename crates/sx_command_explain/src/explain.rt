@@ -36,23 +36,23 @@ fn explain_read<S: Source, K: Sink>(
     input: &mut S,
     output: &mut K,
 ) -> u8
-    requires app { IfOk read (λ plan. IsTrue (is_valid (app_as plan.app))) }
-    requires names { IfOk read (λ plan. IsTrue (are_valid plan.names)) }
-    ensures explains { IfOk read (λ plan. (means : Meanings) → AreMeanings means
+    requires app { IfOk read (λ deployment. IsTrue (is_valid (app_as deployment.app))) }
+    requires names { IfOk read (λ deployment. IsTrue (are_valid deployment.names)) }
+    ensures explains { IfOk read (λ deployment. (means : Meanings) → AreMeanings means
         → Rest S.tells K.tells image_lines lines.old
         (command_at (S.at input.old) (K.at output.old))
         (command_at (S.at input.new) (K.at output.new)) result
-        (explain_deployed means (deployed_as plan))) }
-    ensures wanted { IfOk read (λ plan. (means : Meanings) → AreMeanings means
+        (explain_deployed means (deployed_as deployment))) }
+    ensures wanted { IfOk read (λ deployment. (means : Meanings) → AreMeanings means
         → result ≡ out_of_memory
-        → RanOutSince image_lines trace_lines (explain_may means (deployed_as plan)) S.tells
+        → RanOutSince image_lines trace_lines (explain_may means (deployed_as deployment)) S.tells
         (S.at input.old) (S.at input.new) lines.old lines.new) }
     ensures refused { IfErr read (λ error.
         EndsRefused K.tells (K.at output.old) (K.at output.new) result error) }
     ensures unread { OnErr read (S.at input.new ≡ S.at input.old) }
 {
     match read {
-        Ok(plan) => explain_images(alloc, lines, input, output, &plan),
+        Ok(deployment) => explain_images(alloc, lines, input, output, &deployment),
         Err(error) => refuse(error, output),
     }
 }

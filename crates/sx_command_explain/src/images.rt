@@ -59,17 +59,17 @@ pub(crate) fn explain_images<S: Source, K: Sink>(
     lines: &mut Lines,
     input: &mut S,
     output: &mut K,
-    plan: &Deployment,
+    deployment: &Deployment,
 ) -> u8
-    requires valid { is_valid (app_as plan.now.app) ≡ true }
-    requires names { IsTrue (are_valid plan.now.names) }
+    requires valid { is_valid (app_as deployment.now.app) ≡ true }
+    requires names { IsTrue (are_valid deployment.now.names) }
     ensures rest { (means : Meanings) → AreMeanings means
         → Rest S.tells K.tells image_lines lines.old
         (command_at (S.at input.old) (K.at output.old))
         (command_at (S.at input.new) (K.at output.new)) result
-        (explain_deployed means (deployed_as plan.now)) }
+        (explain_deployed means (deployed_as deployment.now)) }
     ensures wanted { (means : Meanings) → AreMeanings means → result ≡ out_of_memory
-        → RanOutSince image_lines trace_lines (explain_may means (deployed_as plan.now))
+        → RanOutSince image_lines trace_lines (explain_may means (deployed_as deployment.now))
         S.tells (S.at input.old) (S.at input.new) lines.old lines.new }
 {
     let mut front = [0; 8];
@@ -81,7 +81,7 @@ pub(crate) fn explain_images<S: Source, K: Sink>(
             PassRead::Failed => return finish(output, b"fault read\n", READ_FAILED),
             PassRead::Text(count) => match front_line(number, &front, count) {
                 ImageLine::Image => number += 1,
-                ImageLine::Trace => return explain_trace(alloc, lines, input, output, plan),
+                ImageLine::Trace => return explain_trace(alloc, lines, input, output, deployment),
                 ImageLine::Other => return break_off(output, NO_TRACE, number),
             },
         }

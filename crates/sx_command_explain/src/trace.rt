@@ -98,17 +98,17 @@ fn explain_end<S: Source, K: Sink>(
     lines: &mut Lines,
     input: &mut S,
     output: &mut K,
-    plan: &Deployment,
+    deployment: &Deployment,
     judge: &Judge,
     number: u32,
 ) -> u8
-    requires names { IsTrue (are_valid plan.now.names) }
+    requires names { IsTrue (are_valid deployment.now.names) }
     ensures rest { (means : Meanings) (items : List Listed) → AreMeanings means
-        → Follows (app_as plan.now.app) items judge.now
+        → Follows (app_as deployment.now.app) items judge.now
         → Rest S.tells K.tells trace_lines lines.old
         (command_at (S.at input.old) (K.at output.old))
         (command_at (S.at input.new) (K.at output.new)) result
-        (λ more. stop_output items (stop_behind (means.item plan.now.names) number more)) }
+        (λ more. stop_output items (stop_behind (means.item deployment.now.names) number more)) }
     ensures memory { result ≢ out_of_memory }
 {
     let mut into = [0; 4096];
@@ -116,7 +116,7 @@ fn explain_end<S: Source, K: Sink>(
         LineRead::End => finish_legal(output, judge),
         LineRead::TooLong => break_off(output, NO_ITEM, number),
         LineRead::Failed => finish(output, b"fault read\n", READ_FAILED),
-        LineRead::Text(n) => break_off(output, rule_behind(&plan.names, &into[..n]), number),
+        LineRead::Text(n) => break_off(output, rule_behind(&deployment.names, &into[..n]), number),
     }
 }
 
@@ -125,19 +125,19 @@ fn explain_lines<S: Source, K: Sink>(
     lines: &mut Lines,
     input: &mut S,
     output: &mut K,
-    plan: &Deployment,
+    deployment: &Deployment,
     judge: &mut Judge,
 ) -> u8
-    requires valid { is_valid (app_as plan.now.app) ≡ true }
-    requires names { IsTrue (are_valid plan.now.names) }
-    requires follows { Follows (app_as plan.now.app) [] judge.old }
+    requires valid { is_valid (app_as deployment.now.app) ≡ true }
+    requires names { IsTrue (are_valid deployment.now.names) }
+    requires follows { Follows (app_as deployment.now.app) [] judge.old }
     ensures rest { (means : Meanings) → AreMeanings means
         → Rest S.tells K.tells trace_lines lines.old
         (command_at (S.at input.old) (K.at output.old))
         (command_at (S.at input.new) (K.at output.new)) result
-        (explain_from (app_as plan.now.app) (means.item plan.now.names) []) }
+        (explain_from (app_as deployment.now.app) (means.item deployment.now.names) []) }
     ensures wanted { (means : Meanings) → AreMeanings means → result ≡ out_of_memory
-        → TraceWants (means.item plan.now.names) S.tells (S.at input.old) (S.at input.new)
+        → TraceWants (means.item deployment.now.names) S.tells (S.at input.old) (S.at input.new)
         lines.old lines.new }
 {
     let mut into = [0; 4096];
@@ -149,14 +149,21 @@ fn explain_lines<S: Source, K: Sink>(
             Ok(LineRead::End) => return break_off(output, NO_END, number),
             Ok(LineRead::TooLong) => return break_off(output, NO_ITEM, number),
             Ok(LineRead::Failed) => return finish(output, b"fault read\n", READ_FAILED),
-            Ok(LineRead::Text(n)) => match judge_line(&plan.names, &into[..n], number) {
+            Ok(LineRead::Text(n)) => match judge_line(&deployment.names, &into[..n], number) {
                 Err(rule) => return break_kept(output, &kept, rule, number),
                 Ok(TraceLine::Last) => match put_kept(output, &kept) {
                     Err(_) => return WRITE_FAILED,
-                    Ok(()) => return explain_end(lines, input, output, plan, judge, number + 1),
+                    Ok(()) => return explain_end(
+                        lines,
+                        input,
+                        output,
+                        deployment,
+                        judge,
+                        number + 1,
+                    ),
                 },
                 Ok(TraceLine::Item(item)) => {
-                    match turn(output, &mut kept, judge, &plan.app, &item, number) {
+                    match turn(output, &mut kept, judge, &deployment.app, &item, number) {
                         Turned::On => number += 1,
                         Turned::Stop(status) => return status,
                     }
@@ -172,21 +179,21 @@ pub(crate) fn explain_trace<S: Source, K: Sink>(
     lines: &mut Lines,
     input: &mut S,
     output: &mut K,
-    plan: &Deployment,
+    deployment: &Deployment,
 ) -> u8
-    requires valid { is_valid (app_as plan.now.app) ≡ true }
-    requires names { IsTrue (are_valid plan.now.names) }
+    requires valid { is_valid (app_as deployment.now.app) ≡ true }
+    requires names { IsTrue (are_valid deployment.now.names) }
     ensures rest { (means : Meanings) → AreMeanings means
         → Rest S.tells K.tells trace_lines lines.old
         (command_at (S.at input.old) (K.at output.old))
         (command_at (S.at input.new) (K.at output.new)) result
-        (explain_from (app_as plan.now.app) (means.item plan.now.names) []) }
+        (explain_from (app_as deployment.now.app) (means.item deployment.now.names) []) }
     ensures wanted { (means : Meanings) → AreMeanings means → result ≡ out_of_memory
-        → TraceWants (means.item plan.now.names) S.tells (S.at input.old) (S.at input.new)
+        → TraceWants (means.item deployment.now.names) S.tells (S.at input.old) (S.at input.new)
         lines.old lines.new }
 {
-    match Judge::new(alloc, &plan.app) {
-        Ok(mut judge) => explain_lines(lines, input, output, plan, &mut judge),
+    match Judge::new(alloc, &deployment.app) {
+        Ok(mut judge) => explain_lines(lines, input, output, deployment, &mut judge),
         Err(_) => OUT_OF_MEMORY,
     }
 }

@@ -6,7 +6,7 @@ ghost use Rattle.sx_trace.specs.ValidNames.{are_valid};
 ghost use Rattle.sx_sched.specs.Seen.{line_of};
 ghost use Rattle.sx_sched.specs.InForm.{IsLine};
 ghost use Rattle.sx_deploy.specs.SeenDeployment.{deployed_as};
-ghost use Rattle.sx_deploy.specs.Law as deployment;
+ghost use Rattle.sx_deploy.specs.Law.{IsSoundDeployment};
 ghost use Rattle.sx_world.specs.Continued.{Acts};
 ghost use Rattle.sx_world.specs.InMemory.{world_setting};
 ghost use Rattle.sx_run.specs.Law.{IsSoundSetting};
@@ -34,24 +34,24 @@ pub(crate) enum Stopped {
 
 /// Performs a line, and gives its items alone.
 fn act<B: Copied, T: Tag>(
-    plan: &Deployment,
+    deployment: &Deployment,
     world: &mut World<B, T>,
     line: &Line,
     items: &mut Vec<Item>,
 ) -> Result<(), Stopped>
-    requires sound { deployment.IsSoundDeployment (deployed_as plan.now) }
-    requires images { IsSoundSetting (world_setting T.mac plan.now world.old) }
-    requires going { IsGoing (world_setting T.mac plan.now world.old) world.old }
-    requires form { IsLine (deployed_as plan.now).names (line_of line.now) }
+    requires sound { IsSoundDeployment (deployed_as deployment.now) }
+    requires images { IsSoundSetting (world_setting T.mac deployment.now world.old) }
+    requires going { IsGoing (world_setting T.mac deployment.now world.old) world.old }
+    requires form { IsLine (deployed_as deployment.now).names (line_of line.now) }
     requires few { world.old.lines < 65536 }
-    ensures acts { OnOk result (Acts (world_setting T.mac plan.now world.old)
+    ensures acts { OnOk result (Acts (world_setting T.mac deployment.now world.old)
         (line_of line.now) world.old world.new [] items.new.items) }
     ensures stops { IfErr result (λ e. e ≡ Stopped.OutOfMemory) }
     ensures sites { world.new.sites ≡ world.old.sites }
     ensures counts { OnOk result (world.new.lines ≡ world.old.lines + 1) }
 {
     items.clear();
-    match world.act(plan, line, items) {
+    match world.act(deployment, line, items) {
         Ok(()) => Ok(()),
         Err(_) => Err(Stopped::OutOfMemory),
     }
@@ -60,26 +60,27 @@ fn act<B: Copied, T: Tag>(
 /// Does what a line says, and gives its items alone.
 fn turn<B: Copied, T: Tag>(
     alloc: Global,
-    plan: &Deployment,
+    deployment: &Deployment,
     world: &mut World<B, T>,
     said: &[u8],
     number: u32,
     items: &mut Vec<Item>,
 ) -> Result<(), Stopped>
-    requires sound { deployment.IsSoundDeployment (deployed_as plan.now) }
-    requires images { IsSoundSetting (world_setting T.mac plan.now world.old) }
-    requires going { IsGoing (world_setting T.mac plan.now world.old) world.old }
-    requires names { IsTrue (are_valid (deployed_as plan.now).names) }
+    requires sound { IsSoundDeployment (deployed_as deployment.now) }
+    requires images { IsSoundSetting (world_setting T.mac deployment.now world.old) }
+    requires going { IsGoing (world_setting T.mac deployment.now world.old) world.old }
+    requires names { IsTrue (are_valid (deployed_as deployment.now).names) }
     requires counted { world.old.lines + 1 ≡ number }
-    ensures acts { OnOk result (ActsFrom (deployed_as plan.now).names
-        (world_setting T.mac plan.now world.old) world.old world.new number said.now
+    ensures acts { OnOk result (ActsFrom (deployed_as deployment.now).names
+        (world_setting T.mac deployment.now world.old) world.old world.new number said.now
         items.new.items) }
-    ensures stops { IfErr result (λ e. LineStopsAt (deployed_as plan.now).names number said.now e) }
+    ensures stops { IfErr result (λ e.
+        LineStopsAt (deployed_as deployment.now).names number said.now e) }
     ensures sites { world.new.sites ≡ world.old.sites }
     ensures counts { OnOk result (world.new.lines ≡ number) }
 {
-    match judge(alloc, &plan.names, said, number) {
-        Ok(line) => act(plan, world, &line, items),
+    match judge(alloc, &deployment.names, said, number) {
+        Ok(line) => act(deployment, world, &line, items),
         Err(LineError::Fault(rule)) => Err(Stopped::Broken { rule, number }),
         Err(LineError::OutOfMemory) => Err(Stopped::OutOfMemory),
     }
@@ -90,18 +91,18 @@ fn turn<B: Copied, T: Tag>(
 pub(crate) fn run_workload<B: Copied, T: Tag>(
     alloc: Global,
     samples: u32,
-    plan: &Deployment,
+    deployment: &Deployment,
     world: &mut World<B, T>,
 ) -> Result<Counts, Stopped>
     requires few { samples ≤ MOST_SAMPLES }
-    requires sound { deployment.IsSoundDeployment (deployed_as plan.now) }
-    requires images { IsSoundSetting (world_setting T.mac plan.now world.old) }
-    requires names { IsTrue (are_valid (deployed_as plan.now).names) }
+    requires sound { IsSoundDeployment (deployed_as deployment.now) }
+    requires images { IsSoundSetting (world_setting T.mac deployment.now world.old) }
+    requires names { IsTrue (are_valid (deployed_as deployment.now).names) }
     requires new { world.old.lines ≡ 0 }
-    requires stands { Stands (world_setting T.mac plan.now world.old) world.old
-        (switched_on (world_setting T.mac plan.now world.old)) }
-    ensures { EndsAs samples (deployed_as plan.now).names
-        (world_setting T.mac plan.now world.old) world.new.running.steps result }
+    requires stands { Stands (world_setting T.mac deployment.now world.old) world.old
+        (switched_on (world_setting T.mac deployment.now world.old)) }
+    ensures { EndsAs samples (deployed_as deployment.now).names
+        (world_setting T.mac deployment.now world.old) world.new.running.steps result }
 {
     let count = lines(samples);
     let mut counts = Counts::new();
@@ -109,7 +110,14 @@ pub(crate) fn run_workload<B: Copied, T: Tag>(
     let mut into = [0; 64];
     for i in 0..count {
         let written = line(samples, i, &mut into);
-        turn(alloc, plan, world, &into[..written], i + 1, &mut items)?;
+        turn(
+            alloc,
+            deployment,
+            world,
+            &into[..written],
+            i + 1,
+            &mut items,
+        )?;
         counts.add(&items);
     }
     Ok(counts)

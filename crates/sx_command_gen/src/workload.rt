@@ -8,7 +8,7 @@ ghost use Rattle.std.specs.Prelude.{◌≡◌, ◌≤◌, IsTrue, Ok, length};
 ghost use Rattle.sx_told.specs.Told.{CommandEnds};
 ghost use Rattle.sx_trace.specs.ValidNames.{are_valid};
 ghost use Rattle.sx_deploy.specs.Deployment.{IsRead};
-ghost use Rattle.sx_deploy.specs.Law as deployment;
+ghost use Rattle.sx_deploy.specs.Law.{IsSoundDeployment};
 ghost use Rattle.sx_deploy.specs.SeenDeployment.{deployed_as};
 ghost use Rattle.sx_run.specs.Accepted.{AreImages};
 ghost use Rattle.sx_image.specs.InMemory.{texts_of};
@@ -53,21 +53,22 @@ fn tell<K: Sink>(alloc: Global, samples: u32, counts: &Counts, steps: u64, outpu
 fn tell_run<K: Sink, B: Copied, T: Tag>(
     alloc: Global,
     samples: u32,
-    plan: &Deployment,
+    deployment: &Deployment,
     world: &mut World<B, T>,
     output: &mut K,
 ) -> u8
     requires few { samples ≤ MOST_SAMPLES }
-    requires sound { deployment.IsSoundDeployment (deployed_as plan.now) }
-    requires images { IsSoundSetting (world_setting T.mac plan.now world.old) }
-    requires names { IsTrue (are_valid (deployed_as plan.now).names) }
+    requires sound { IsSoundDeployment (deployed_as deployment.now) }
+    requires images { IsSoundSetting (world_setting T.mac deployment.now world.old) }
+    requires names { IsTrue (are_valid (deployed_as deployment.now).names) }
     requires new { world.old.lines ≡ 0 }
-    requires stands { Stands (world_setting T.mac plan.now world.old) world.old
-        (switched_on (world_setting T.mac plan.now world.old)) }
+    requires stands { Stands (world_setting T.mac deployment.now world.old) world.old
+        (switched_on (world_setting T.mac deployment.now world.old)) }
     ensures { CommandEnds K.tells (K.at output.old) (K.at output.new) result
-        (gen_run samples (deployed_as plan.now).names (world_setting T.mac plan.now world.old)) }
+        (gen_run samples (deployed_as deployment.now).names
+        (world_setting T.mac deployment.now world.old)) }
 {
-    match run_workload(alloc, samples, plan, world) {
+    match run_workload(alloc, samples, deployment, world) {
         Ok(counts) => tell(alloc, samples, &counts, world.steps(), output),
         Err(Stopped::Broken { rule, number }) => break_off(output, rule, number),
         Err(Stopped::OutOfMemory) => OUT_OF_MEMORY,
@@ -79,21 +80,21 @@ fn gen_images<K: Sink, T: Tag + Copy>(
     alloc: Global,
     tag: T,
     samples: u32,
-    plan: &Deployment,
+    deployment: &Deployment,
     images: &[Image],
     output: &mut K,
 ) -> u8
     requires few { samples ≤ MOST_SAMPLES }
-    requires sound { deployment.IsSoundDeployment (deployed_as plan.now) }
-    requires names { IsTrue (are_valid (deployed_as plan.now).names) }
-    requires many { length images.now ≡ length plan.now.app.parts.items }
-    requires images { AreImages T.mac (deployed_as plan.now) (texts_of images.now) }
+    requires sound { IsSoundDeployment (deployed_as deployment.now) }
+    requires names { IsTrue (are_valid (deployed_as deployment.now).names) }
+    requires many { length images.now ≡ length deployment.now.app.parts.items }
+    requires images { AreImages T.mac (deployed_as deployment.now) (texts_of images.now) }
     ensures { CommandEnds K.tells (K.at output.old) (K.at output.new) result
-        (gen_deployed T.mac (texts_of images.now) samples (deployed_as plan.now)) }
+        (gen_deployed T.mac (texts_of images.now) samples (deployed_as deployment.now)) }
 {
-    match new_world(alloc, tag, plan, images) {
-        Ok(mut world) => match put_images(alloc, &plan.names, images, output) {
-            Turned::On => tell_run(alloc, samples, plan, &mut world, output),
+    match new_world(alloc, tag, deployment, images) {
+        Ok(mut world) => match put_images(alloc, &deployment.names, images, output) {
+            Turned::On => tell_run(alloc, samples, deployment, &mut world, output),
             Turned::Stop(status) => status,
         },
         Err(_) => OUT_OF_MEMORY,
@@ -105,17 +106,17 @@ fn gen_deployment<K: Sink, T: Tag + Copy>(
     alloc: Global,
     tag: T,
     samples: u32,
-    plan: &Deployment,
+    deployment: &Deployment,
     output: &mut K,
 ) -> u8
     requires few { samples ≤ MOST_SAMPLES }
-    requires sound { deployment.IsSoundDeployment (deployed_as plan.now) }
-    requires names { IsTrue (are_valid (deployed_as plan.now).names) }
-    requires read { IsRead bulk.head (Ok (deployed_as plan.now)) }
+    requires sound { IsSoundDeployment (deployed_as deployment.now) }
+    requires names { IsTrue (are_valid (deployed_as deployment.now).names) }
+    requires read { IsRead bulk.head (Ok (deployed_as deployment.now)) }
     ensures { GenWrote T.mac samples K.tells (K.at output.old) (K.at output.new) result }
 {
-    match compile_all(alloc, &tag, plan) {
-        Ok(images) => gen_images(alloc, tag, samples, plan, &images, output),
+    match compile_all(alloc, &tag, deployment) {
+        Ok(images) => gen_images(alloc, tag, samples, deployment, &images, output),
         Err(_) => OUT_OF_MEMORY,
     }
 }
@@ -129,7 +130,7 @@ pub fn gen_over<K: Sink, T: Tag + Copy>(alloc: Global, tag: T, samples: u32, out
     ensures { GenTold T.mac samples K.tells (K.at output.old) (K.at output.new) result }
 {
     match read_deployment(alloc, head()) {
-        Ok(plan) => gen_deployment(alloc, tag, samples, &plan, output),
+        Ok(deployment) => gen_deployment(alloc, tag, samples, &deployment, output),
         Err(error) => refuse(error, output),
     }
 }

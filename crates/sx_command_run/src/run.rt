@@ -36,12 +36,12 @@ impl Deploys for RunCommand {
         lines: &mut Lines,
         input: &mut S,
         output: &mut K,
-        plan: &Deployment,
+        deployment: &Deployment,
         images: &[Image],
     ) -> u8 {
-        match new_world(alloc, tag, plan, images) {
-            Ok(mut world) => match begin_trace(alloc, &plan.names, images, output) {
-                Turned::On => run_lines(alloc, lines, input, output, plan, &mut world),
+        match new_world(alloc, tag, deployment, images) {
+            Ok(mut world) => match begin_trace(alloc, &deployment.names, images, output) {
+                Turned::On => run_lines(alloc, lines, input, output, deployment, &mut world),
                 Turned::Stop(status) => status,
             },
             Err(_) => OUT_OF_MEMORY,

@@ -8,7 +8,7 @@ ghost use Rattle.sx_told.specs.Told.{command_at, out_of_memory};
 ghost use Rattle.sx_told.specs.Parts.{Rest};
 ghost use Rattle.sx_head.specs.Head.{head_lines};
 ghost use Rattle.sx_deploy.specs.SeenDeployment.{deployed_as};
-ghost use Rattle.sx_deploy.specs.Law as deployment;
+ghost use Rattle.sx_deploy.specs.Law.{IsSoundDeployment};
 ghost use Rattle.sx_world.specs.InMemory.{world_setting};
 ghost use Rattle.sx_run.specs.Law.{IsSoundSetting};
 ghost use Rattle.sx_world.specs.Standing.{IsGoing, Stands};
@@ -38,32 +38,32 @@ fn turn<K: Sink, B: Copied, T: Tag>(
     alloc: Global,
     output: &mut K,
     world: &mut World<B, T>,
-    plan: &Deployment,
+    deployment: &Deployment,
     items: &mut Vec<Item>,
     said: &[u8],
     number: u32,
 ) -> Turned
-    requires sound { deployment.IsSoundDeployment (deployed_as plan.now) }
-    requires images { IsSoundSetting (world_setting T.mac plan.now world.old) }
-    requires going { IsGoing (world_setting T.mac plan.now world.old) world.old }
-    requires names { IsTrue (are_valid (deployed_as plan.now).names) }
+    requires sound { IsSoundDeployment (deployed_as deployment.now) }
+    requires images { IsSoundSetting (world_setting T.mac deployment.now world.old) }
+    requires going { IsGoing (world_setting T.mac deployment.now world.old) world.old }
+    requires names { IsTrue (are_valid (deployed_as deployment.now).names) }
     requires counted { world.old.lines + 1 ≡ number }
     ensures turns { TurnsFrom K.tells (K.at output.old) (K.at output.new)
-        (deployed_as plan.now).names (world_setting T.mac plan.now world.old) world.old world.new
-        number said.now result }
+        (deployed_as deployment.now).names (world_setting T.mac deployment.now world.old) world.old
+        world.new number said.now result }
     ensures memory { result ≡ Turned.Stop out_of_memory
-        → MayRunOut (judged_line assembled (deployed_as plan.now).names number said.now) }
+        → MayRunOut (judged_line assembled (deployed_as deployment.now).names number said.now) }
     ensures made { TellsMade K.tells (K.at output.old) (K.at output.new)
-        (deployed_as plan.now).names world.old world.new items.new.items result }
+        (deployed_as deployment.now).names world.old world.new items.new.items result }
     ensures few { result ≡ Turned.On → number ≤ 65536 }
     ensures sites { world.new.sites ≡ world.old.sites }
     ensures counts { result ≡ Turned.On → world.new.lines ≡ number }
 {
     items.clear();
-    match judge(alloc, &plan.names, said, number) {
-        Ok(line) => match world.act(plan, &line, items) {
-            Ok(()) => put_items(output, &plan.names, items),
-            Err(_) => match put_items(output, &plan.names, items) {
+    match judge(alloc, &deployment.names, said, number) {
+        Ok(line) => match world.act(deployment, &line, items) {
+            Ok(()) => put_items(output, &deployment.names, items),
+            Err(_) => match put_items(output, &deployment.names, items) {
                 Turned::On => Turned::Stop(OUT_OF_MEMORY),
                 Turned::Stop(status) => Turned::Stop(status),
             },
@@ -79,22 +79,22 @@ pub(crate) fn run_lines<S: Source, K: Sink, B: Copied, T: Tag>(
     lines: &mut Lines,
     input: &mut S,
     output: &mut K,
-    plan: &Deployment,
+    deployment: &Deployment,
     world: &mut World<B, T>,
 ) -> u8
-    requires sound { deployment.IsSoundDeployment (deployed_as plan.now) }
-    requires images { IsSoundSetting (world_setting T.mac plan.now world.old) }
-    requires names { IsTrue (are_valid (deployed_as plan.now).names) }
+    requires sound { IsSoundDeployment (deployed_as deployment.now) }
+    requires images { IsSoundSetting (world_setting T.mac deployment.now world.old) }
+    requires names { IsTrue (are_valid (deployed_as deployment.now).names) }
     requires new { world.old.lines ≡ 0 }
-    requires stands { Stands (world_setting T.mac plan.now world.old) world.old
-        (switched_on (world_setting T.mac plan.now world.old)) }
+    requires stands { Stands (world_setting T.mac deployment.now world.old) world.old
+        (switched_on (world_setting T.mac deployment.now world.old)) }
     ensures rest { Rest S.tells K.tells head_lines lines.old
         (command_at (S.at input.old) (K.at output.old))
         (command_at (S.at input.new) (K.at output.new)) result
-        (run_at_start assembled (deployed_as plan.now).names
-        (world_setting T.mac plan.now world.old)) }
+        (run_at_start assembled (deployed_as deployment.now).names
+        (world_setting T.mac deployment.now world.old)) }
     ensures wanted { result ≡ out_of_memory → RanOutSince head_lines head_lines
-        (run_may assembled (deployed_as plan.now)) S.tells (S.at input.old) (S.at input.new)
+        (run_may assembled (deployed_as deployment.now)) S.tells (S.at input.old) (S.at input.new)
         lines.old lines.new }
 {
     let mut into = [0; 4096];
@@ -109,7 +109,7 @@ pub(crate) fn run_lines<S: Source, K: Sink, B: Copied, T: Tag>(
                 alloc,
                 output,
                 world,
-                plan,
+                deployment,
                 &mut items,
                 &into[..n],
                 number,

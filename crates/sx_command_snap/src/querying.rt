@@ -46,86 +46,96 @@ fn break_query<K: Sink>(output: &mut K, rule: u8, number: u32) -> u8
 #[tactic(auto, unfolding(crate::specs::Answers::answer_text))]
 fn answer_registers<B: Copied, T: Tag + Copy>(
     alloc: Global,
-    plan: &Deployment,
+    deployment: &Deployment,
     timeline: &Timeline<B, T>,
     node: u8,
     at: u32,
 ) -> Result<Vec<u8>, AllocError>
-    requires sound { IsSoundDeployment (deployed_as plan.now) }
-    requires images { IsSoundSetting (setting T.mac (deployed_as plan.now) timeline.now.sites) }
-    requires timeline { IsTimeline T.mac (deployed_as plan.now) timeline.now }
-    requires node { node < length (deployed_as plan.now).names.nodes }
+    requires sound { IsSoundDeployment (deployed_as deployment.now) }
+    requires images { IsSoundSetting
+        (setting T.mac (deployed_as deployment.now) timeline.now.sites) }
+    requires timeline { IsTimeline T.mac (deployed_as deployment.now) timeline.now }
+    requires node { node < length (deployed_as deployment.now).names.nodes }
     requires within { at ≤ length timeline.now.lines }
-    ensures { IfOk result (λ text. text.items ≡ answer_text (deployed_as plan.now).names
-        (setting T.mac (deployed_as plan.now) timeline.now.sites) timeline.now.lines
+    ensures { IfOk result (λ text. text.items ≡ answer_text (deployed_as deployment.now).names
+        (setting T.mac (deployed_as deployment.now) timeline.now.sites) timeline.now.lines
         (Query.Registers node at)) }
 {
-    let world = timeline.seek(plan, at)?;
-    registers_line(alloc, &plan.names, node, at, world.node(node))
+    let world = timeline.seek(deployment, at)?;
+    registers_line(alloc, &deployment.names, node, at, world.node(node))
 }
 
 /// Bytes of a node's memory after so many lines.
 #[tactic(auto, unfolding(crate::specs::Answers::answer_text))]
 fn answer_bytes<B: Copied, T: Tag + Copy>(
     alloc: Global,
-    plan: &Deployment,
+    deployment: &Deployment,
     timeline: &Timeline<B, T>,
     range: Range,
     at: u32,
 ) -> Result<Vec<u8>, AllocError>
-    requires sound { IsSoundDeployment (deployed_as plan.now) }
-    requires images { IsSoundSetting (setting T.mac (deployed_as plan.now) timeline.now.sites) }
-    requires timeline { IsTimeline T.mac (deployed_as plan.now) timeline.now }
-    requires node { range.number < length (deployed_as plan.now).names.nodes }
+    requires sound { IsSoundDeployment (deployed_as deployment.now) }
+    requires images { IsSoundSetting
+        (setting T.mac (deployed_as deployment.now) timeline.now.sites) }
+    requires timeline { IsTimeline T.mac (deployed_as deployment.now) timeline.now }
+    requires node { range.number < length (deployed_as deployment.now).names.nodes }
     requires memory { range.from + range.len ≤ 65536 }
     requires within { at ≤ length timeline.now.lines }
-    ensures { IfOk result (λ text. text.items ≡ answer_text (deployed_as plan.now).names
-        (setting T.mac (deployed_as plan.now) timeline.now.sites) timeline.now.lines
+    ensures { IfOk result (λ text. text.items ≡ answer_text (deployed_as deployment.now).names
+        (setting T.mac (deployed_as deployment.now) timeline.now.sites) timeline.now.lines
         (Query.Bytes range.number range.from range.len at)) }
 {
-    let world = timeline.seek(plan, at)?;
-    bytes_line(alloc, &plan.names, range, at, world.node(range.number))
+    let world = timeline.seek(deployment, at)?;
+    bytes_line(
+        alloc,
+        &deployment.names,
+        range,
+        at,
+        world.node(range.number),
+    )
 }
 
 /// The items of the last of so many lines.
 #[tactic(auto, unfolding(crate::specs::Answers::answer_text))]
 fn answer_items<B: Copied, T: Tag + Copy>(
     alloc: Global,
-    plan: &Deployment,
+    deployment: &Deployment,
     timeline: &Timeline<B, T>,
     at: u32,
 ) -> Result<Vec<u8>, AllocError>
-    requires sound { IsSoundDeployment (deployed_as plan.now) }
-    requires images { IsSoundSetting (setting T.mac (deployed_as plan.now) timeline.now.sites) }
-    requires timeline { IsTimeline T.mac (deployed_as plan.now) timeline.now }
+    requires sound { IsSoundDeployment (deployed_as deployment.now) }
+    requires images { IsSoundSetting
+        (setting T.mac (deployed_as deployment.now) timeline.now.sites) }
+    requires timeline { IsTimeline T.mac (deployed_as deployment.now) timeline.now }
     requires some { 1 ≤ at }
     requires within { at ≤ length timeline.now.lines }
-    ensures { IfOk result (λ text. text.items ≡ answer_text (deployed_as plan.now).names
-        (setting T.mac (deployed_as plan.now) timeline.now.sites) timeline.now.lines
+    ensures { IfOk result (λ text. text.items ≡ answer_text (deployed_as deployment.now).names
+        (setting T.mac (deployed_as deployment.now) timeline.now.sites) timeline.now.lines
         (Query.Items at)) }
 {
-    let items = timeline.items(plan, at)?;
-    items_text(alloc, &plan.names, at, &items)
+    let items = timeline.items(deployment, at)?;
+    items_text(alloc, &deployment.names, at, &items)
 }
 
 /// The answer to a query.
 #[tactic(auto, unfolding(crate::specs::Answers::answer_text))]
 fn answer<B: Copied, T: Tag + Copy>(
     alloc: Global,
-    plan: &Deployment,
+    deployment: &Deployment,
     timeline: &Timeline<B, T>,
     query: Query,
 ) -> Result<Vec<u8>, AllocError>
-    requires sound { IsSoundDeployment (deployed_as plan.now) }
-    requires images { IsSoundSetting (setting T.mac (deployed_as plan.now) timeline.now.sites) }
-    requires timeline { IsTimeline T.mac (deployed_as plan.now) timeline.now }
-    requires asked { IsAsked (deployed_as plan.now).names (length timeline.now.lines) query }
-    ensures { IfOk result (λ text. text.items ≡ answer_text (deployed_as plan.now).names
-        (setting T.mac (deployed_as plan.now) timeline.now.sites) timeline.now.lines query) }
+    requires sound { IsSoundDeployment (deployed_as deployment.now) }
+    requires images { IsSoundSetting
+        (setting T.mac (deployed_as deployment.now) timeline.now.sites) }
+    requires timeline { IsTimeline T.mac (deployed_as deployment.now) timeline.now }
+    requires asked { IsAsked (deployed_as deployment.now).names (length timeline.now.lines) query }
+    ensures { IfOk result (λ text. text.items ≡ answer_text (deployed_as deployment.now).names
+        (setting T.mac (deployed_as deployment.now) timeline.now.sites) timeline.now.lines query) }
 {
     match query {
         Query::Blank => Ok(Vec::new(alloc)),
-        Query::Registers { node, at } => answer_registers(alloc, plan, timeline, node, at),
+        Query::Registers { node, at } => answer_registers(alloc, deployment, timeline, node, at),
         Query::Bytes {
             node,
             from,
@@ -137,9 +147,9 @@ fn answer<B: Copied, T: Tag + Copy>(
                 from,
                 len,
             };
-            answer_bytes(alloc, plan, timeline, range, at)
+            answer_bytes(alloc, deployment, timeline, range, at)
         }
-        Query::Items { at } => answer_items(alloc, plan, timeline, at),
+        Query::Items { at } => answer_items(alloc, deployment, timeline, at),
     }
 }
 
@@ -147,20 +157,21 @@ fn answer<B: Copied, T: Tag + Copy>(
 fn tell<K: Sink, B: Copied, T: Tag + Copy>(
     alloc: Global,
     output: &mut K,
-    plan: &Deployment,
+    deployment: &Deployment,
     timeline: &Timeline<B, T>,
     query: Query,
 ) -> Turned
-    requires sound { IsSoundDeployment (deployed_as plan.now) }
-    requires images { IsSoundSetting (setting T.mac (deployed_as plan.now) timeline.now.sites) }
-    requires timeline { IsTimeline T.mac (deployed_as plan.now) timeline.now }
-    requires asked { IsAsked (deployed_as plan.now).names (length timeline.now.lines) query }
+    requires sound { IsSoundDeployment (deployed_as deployment.now) }
+    requires images { IsSoundSetting
+        (setting T.mac (deployed_as deployment.now) timeline.now.sites) }
+    requires timeline { IsTimeline T.mac (deployed_as deployment.now) timeline.now }
+    requires asked { IsAsked (deployed_as deployment.now).names (length timeline.now.lines) query }
     ensures { (left : List Answer → Output) → DoesPart K.tells (K.at output.old)
-        (K.at output.new) (λ more. behind (answer_text (deployed_as plan.now).names
-        (setting T.mac (deployed_as plan.now) timeline.now.sites) timeline.now.lines query)
+        (K.at output.new) (λ more. behind (answer_text (deployed_as deployment.now).names
+        (setting T.mac (deployed_as deployment.now) timeline.now.sites) timeline.now.lines query)
         (left more)) result left }
 {
-    match answer(alloc, plan, timeline, query) {
+    match answer(alloc, deployment, timeline, query) {
         Ok(text) => put_text(output, &text),
         Err(_) => Turned::Stop(OUT_OF_MEMORY),
     }
@@ -170,25 +181,26 @@ fn tell<K: Sink, B: Copied, T: Tag + Copy>(
 fn turn<K: Sink, B: Copied, T: Tag + Copy>(
     alloc: Global,
     output: &mut K,
-    plan: &Deployment,
+    deployment: &Deployment,
     timeline: &Timeline<B, T>,
     said: &[u8],
     number: u32,
 ) -> Turned
-    requires sound { IsSoundDeployment (deployed_as plan.now) }
-    requires images { IsSoundSetting (setting T.mac (deployed_as plan.now) timeline.now.sites) }
-    requires names { IsTrue (are_valid (deployed_as plan.now).names) }
-    requires timeline { IsTimeline T.mac (deployed_as plan.now) timeline.now }
-    ensures does { let ask = answers_from (deployed_as plan.now).names
-        (setting T.mac (deployed_as plan.now) timeline.now.sites) timeline.now.lines in
+    requires sound { IsSoundDeployment (deployed_as deployment.now) }
+    requires images { IsSoundSetting
+        (setting T.mac (deployed_as deployment.now) timeline.now.sites) }
+    requires names { IsTrue (are_valid (deployed_as deployment.now).names) }
+    requires timeline { IsTimeline T.mac (deployed_as deployment.now) timeline.now }
+    ensures does { let ask = answers_from (deployed_as deployment.now).names
+        (setting T.mac (deployed_as deployment.now) timeline.now.sites) timeline.now.lines in
         DoesPart K.tells (K.at output.old) (K.at output.new)
         (λ more. ask number (Line said.now ∷ more)) result (ask (number + 1)) }
     ensures few { result ≡ Turned.On → number ≤ 64 }
     ensures memory { result ≡ Turned.Stop out_of_memory → IsOk (judged_query
-        (deployed_as plan.now).names (length timeline.now.lines) number said.now) }
+        (deployed_as deployment.now).names (length timeline.now.lines) number said.now) }
 {
-    match judge_query(&plan.names, timeline.count() as u32, number, said) {
-        Ok(query) => tell(alloc, output, plan, timeline, query),
+    match judge_query(&deployment.names, timeline.count() as u32, number, said) {
+        Ok(query) => tell(alloc, output, deployment, timeline, query),
         Err(rule) => Turned::Stop(break_query(output, rule, number)),
     }
 }
@@ -199,19 +211,20 @@ pub(crate) fn answer_queries<S: Source, K: Sink, B: Copied, T: Tag + Copy>(
     lines: &mut Lines,
     input: &mut S,
     output: &mut K,
-    plan: &Deployment,
+    deployment: &Deployment,
     timeline: &Timeline<B, T>,
 ) -> u8
-    requires sound { IsSoundDeployment (deployed_as plan.now) }
-    requires images { IsSoundSetting (setting T.mac (deployed_as plan.now) timeline.now.sites) }
-    requires names { IsTrue (are_valid (deployed_as plan.now).names) }
-    requires timeline { IsTimeline T.mac (deployed_as plan.now) timeline.now }
+    requires sound { IsSoundDeployment (deployed_as deployment.now) }
+    requires images { IsSoundSetting
+        (setting T.mac (deployed_as deployment.now) timeline.now.sites) }
+    requires names { IsTrue (are_valid (deployed_as deployment.now).names) }
+    requires timeline { IsTimeline T.mac (deployed_as deployment.now) timeline.now }
     ensures rest { Rest S.tells K.tells head_lines lines.old
         (command_at (S.at input.old) (K.at output.old))
         (command_at (S.at input.new) (K.at output.new)) result
-        (answers_from (deployed_as plan.now).names
-        (setting T.mac (deployed_as plan.now) timeline.now.sites) timeline.now.lines 1) }
-    ensures wanted { result ≡ out_of_memory → QueriesWant (deployed_as plan.now).names
+        (answers_from (deployed_as deployment.now).names
+        (setting T.mac (deployed_as deployment.now) timeline.now.sites) timeline.now.lines 1) }
+    ensures wanted { result ≡ out_of_memory → QueriesWant (deployed_as deployment.now).names
         (length timeline.now.lines) S.tells (S.at input.old) (S.at input.new)
         lines.old lines.new }
 {
@@ -222,7 +235,14 @@ pub(crate) fn answer_queries<S: Source, K: Sink, B: Copied, T: Tag + Copy>(
             LineRead::End => return finish(output, b"end\n", 0),
             LineRead::TooLong => return break_query(output, TOO_LONG, number),
             LineRead::Failed => return finish(output, b"fault read\n", READ_FAILED),
-            LineRead::Text(n) => match turn(alloc, output, plan, timeline, &into[..n], number) {
+            LineRead::Text(n) => match turn(
+                alloc,
+                output,
+                deployment,
+                timeline,
+                &into[..n],
+                number,
+            ) {
                 Turned::On => number += 1,
                 Turned::Stop(status) => return status,
             },

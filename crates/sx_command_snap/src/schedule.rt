@@ -39,28 +39,29 @@ use sx_told::{OUT_OF_MEMORY, READ_FAILED, Turned, finish, put_text};
 /// that memory ran out.
 fn keep<B: Copied, T: Tag + Copy>(
     alloc: Global,
-    plan: &Deployment,
+    deployment: &Deployment,
     timeline: &mut Timeline<B, T>,
     said: &[u8],
     number: u32,
 ) -> Result<(), LineError>
-    requires sound { IsSoundDeployment (deployed_as plan.now) }
-    requires images { IsSoundSetting (setting T.mac (deployed_as plan.now) timeline.old.sites) }
-    requires names { IsTrue (are_valid (deployed_as plan.now).names) }
-    requires timeline { IsTimeline T.mac (deployed_as plan.now) timeline.old }
+    requires sound { IsSoundDeployment (deployed_as deployment.now) }
+    requires images { IsSoundSetting
+        (setting T.mac (deployed_as deployment.now) timeline.old.sites) }
+    requires names { IsTrue (are_valid (deployed_as deployment.now).names) }
+    requires timeline { IsTimeline T.mac (deployed_as deployment.now) timeline.old }
     requires counted { length timeline.old.lines + 1 ≡ number }
-    ensures timeline { IsTimeline T.mac (deployed_as plan.now) timeline.new }
+    ensures timeline { IsTimeline T.mac (deployed_as deployment.now) timeline.new }
     ensures sites { timeline.new.sites ≡ timeline.old.sites }
-    ensures keeps { OnOk result (KeepsLine (deployed_as plan.now).names said.now
+    ensures keeps { OnOk result (KeepsLine (deployed_as deployment.now).names said.now
         timeline.old.lines timeline.new.lines) }
     ensures few { OnOk result (number ≤ 65536) }
     ensures rule { (rule : ℕ) → result ≡ Err (LineError.Fault rule)
-        → judged_line assembled (deployed_as plan.now).names number said.now ≡ Err rule }
+        → judged_line assembled (deployed_as deployment.now).names number said.now ≡ Err rule }
     ensures memory { result ≡ Err LineError.OutOfMemory
-        → MayRunOut (judged_line assembled (deployed_as plan.now).names number said.now) }
+        → MayRunOut (judged_line assembled (deployed_as deployment.now).names number said.now) }
 {
-    let line = judge(alloc, &plan.names, said, number)?;
-    match timeline.push(plan, line) {
+    let line = judge(alloc, &deployment.names, said, number)?;
+    match timeline.push(deployment, line) {
         Ok(()) => Ok(()),
         Err(_) => Err(LineError::OutOfMemory),
     }
@@ -84,26 +85,28 @@ fn answer_all<S: Source, K: Sink, B: Copied, T: Tag + Copy>(
     lines: &mut Lines,
     input: &mut S,
     output: &mut K,
-    plan: &Deployment,
+    deployment: &Deployment,
     images: &[u8],
     timeline: &Timeline<B, T>,
 ) -> u8
-    requires sound { IsSoundDeployment (deployed_as plan.now) }
-    requires images { IsSoundSetting (setting T.mac (deployed_as plan.now) timeline.now.sites) }
-    requires names { IsTrue (are_valid (deployed_as plan.now).names) }
-    requires timeline { IsTimeline T.mac (deployed_as plan.now) timeline.now }
+    requires sound { IsSoundDeployment (deployed_as deployment.now) }
+    requires images { IsSoundSetting
+        (setting T.mac (deployed_as deployment.now) timeline.now.sites) }
+    requires names { IsTrue (are_valid (deployed_as deployment.now).names) }
+    requires timeline { IsTimeline T.mac (deployed_as deployment.now) timeline.now }
     ensures rest { Rest S.tells K.tells head_lines lines.old
         (command_at (S.at input.old) (K.at output.old))
         (command_at (S.at input.new) (K.at output.new)) result
-        (λ more. behind images.now (answers_from (deployed_as plan.now).names
-        (setting T.mac (deployed_as plan.now) timeline.now.sites) timeline.now.lines 1 more)) }
-    ensures wanted { result ≡ out_of_memory → QueriesWant (deployed_as plan.now).names
+        (λ more. behind images.now (answers_from (deployed_as deployment.now).names
+        (setting T.mac (deployed_as deployment.now) timeline.now.sites) timeline.now.lines 1
+        more)) }
+    ensures wanted { result ≡ out_of_memory → QueriesWant (deployed_as deployment.now).names
         (length timeline.now.lines) S.tells (S.at input.old) (S.at input.new)
         lines.old lines.new }
 {
     match put_text(output, images) {
         Turned::Stop(status) => status,
-        Turned::On => answer_queries(alloc, lines, input, output, plan, timeline),
+        Turned::On => answer_queries(alloc, lines, input, output, deployment, timeline),
     }
 }
 
@@ -114,22 +117,23 @@ fn snap_lines<S: Source, K: Sink, B: Copied, T: Tag + Copy>(
     lines: &mut Lines,
     input: &mut S,
     output: &mut K,
-    plan: &Deployment,
+    deployment: &Deployment,
     images: &[u8],
     timeline: &mut Timeline<B, T>,
 ) -> u8
-    requires sound { IsSoundDeployment (deployed_as plan.now) }
-    requires images { IsSoundSetting (setting T.mac (deployed_as plan.now) timeline.old.sites) }
-    requires names { IsTrue (are_valid (deployed_as plan.now).names) }
-    requires timeline { IsTimeline T.mac (deployed_as plan.now) timeline.old }
+    requires sound { IsSoundDeployment (deployed_as deployment.now) }
+    requires images { IsSoundSetting
+        (setting T.mac (deployed_as deployment.now) timeline.old.sites) }
+    requires names { IsTrue (are_valid (deployed_as deployment.now).names) }
+    requires timeline { IsTimeline T.mac (deployed_as deployment.now) timeline.old }
     requires none { timeline.old.lines ≡ [] }
     ensures rest { Rest S.tells K.tells head_lines lines.old
         (command_at (S.at input.old) (K.at output.old))
         (command_at (S.at input.new) (K.at output.new)) result
-        (snap_from (deployed_as plan.now).names
-        (setting T.mac (deployed_as plan.now) timeline.old.sites) images.now []) }
+        (snap_from (deployed_as deployment.now).names
+        (setting T.mac (deployed_as deployment.now) timeline.old.sites) images.now []) }
     ensures wanted { result ≡ out_of_memory → RanOutSince head_lines head_lines
-        (snap_may (deployed_as plan.now)) S.tells (S.at input.old) (S.at input.new)
+        (snap_may (deployed_as deployment.now)) S.tells (S.at input.old) (S.at input.new)
         lines.old lines.new }
 {
     let mut into = [0; 4096];
@@ -142,9 +146,9 @@ fn snap_lines<S: Source, K: Sink, B: Copied, T: Tag + Copy>(
             LineRead::Text(n) => {
                 let said = &into[..n];
                 if is_mark(said) {
-                    return answer_all(alloc, lines, input, output, plan, images, timeline);
+                    return answer_all(alloc, lines, input, output, deployment, images, timeline);
                 }
-                match keep(alloc, plan, timeline, said, number) {
+                match keep(alloc, deployment, timeline, said, number) {
                     Ok(()) => number += 1,
                     Err(LineError::Fault(rule)) => return break_off(output, rule, number),
                     Err(LineError::OutOfMemory) => return OUT_OF_MEMORY,
@@ -161,27 +165,28 @@ pub(crate) fn snap_built<S: Source, K: Sink, B: Copied, T: Tag + Copy>(
     lines: &mut Lines,
     input: &mut S,
     output: &mut K,
-    plan: &Deployment,
+    deployment: &Deployment,
     images: &[Image],
     timeline: &mut Timeline<B, T>,
 ) -> u8
-    requires sound { IsSoundDeployment (deployed_as plan.now) }
-    requires images { IsSoundSetting (setting T.mac (deployed_as plan.now) timeline.old.sites) }
-    requires names { IsTrue (are_valid (deployed_as plan.now).names) }
-    requires timeline { IsTimeline T.mac (deployed_as plan.now) timeline.old }
+    requires sound { IsSoundDeployment (deployed_as deployment.now) }
+    requires images { IsSoundSetting
+        (setting T.mac (deployed_as deployment.now) timeline.old.sites) }
+    requires names { IsTrue (are_valid (deployed_as deployment.now).names) }
+    requires timeline { IsTimeline T.mac (deployed_as deployment.now) timeline.old }
     requires none { timeline.old.lines ≡ [] }
     ensures rest { Rest S.tells K.tells head_lines lines.old
         (command_at (S.at input.old) (K.at output.old))
         (command_at (S.at input.new) (K.at output.new)) result
-        (snap_from (deployed_as plan.now).names
-        (setting T.mac (deployed_as plan.now) timeline.old.sites)
-        (images_text (deployed_as plan.now).names.modules (texts_of images.now)) []) }
+        (snap_from (deployed_as deployment.now).names
+        (setting T.mac (deployed_as deployment.now) timeline.old.sites)
+        (images_text (deployed_as deployment.now).names.modules (texts_of images.now)) []) }
     ensures wanted { result ≡ out_of_memory → RanOutSince head_lines head_lines
-        (snap_may (deployed_as plan.now)) S.tells (S.at input.old) (S.at input.new)
+        (snap_may (deployed_as deployment.now)) S.tells (S.at input.old) (S.at input.new)
         lines.old lines.new }
 {
-    match image_lines(alloc, &plan.names.modules, images) {
-        Ok(text) => snap_lines(alloc, lines, input, output, plan, &text, timeline),
+    match image_lines(alloc, &deployment.names.modules, images) {
+        Ok(text) => snap_lines(alloc, lines, input, output, deployment, &text, timeline),
         Err(_) => OUT_OF_MEMORY,
     }
 }

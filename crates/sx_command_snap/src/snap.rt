@@ -28,18 +28,19 @@ const EVERY: u32 = 8192;
 fn new_timeline<T: Tag + Copy>(
     alloc: Global,
     tag: T,
-    plan: &Deployment,
+    deployment: &Deployment,
     images: &[Image],
 ) -> Result<Timeline<PagedBus, T>, AllocError>
-    requires sound { IsSoundDeployment (deployed_as plan.now) }
-    requires many { length images.now ≡ length plan.now.app.parts.items }
-    ensures timeline { IfOk result (λ t. IsTimeline T.mac (deployed_as plan.now) t) }
-    ensures sites { IfOk result (λ t. t.sites ≡ (image_setting T.mac plan.now images.now).sites) }
+    requires sound { IsSoundDeployment (deployed_as deployment.now) }
+    requires many { length images.now ≡ length deployment.now.app.parts.items }
+    ensures timeline { IfOk result (λ t. IsTimeline T.mac (deployed_as deployment.now) t) }
+    ensures sites { IfOk result (λ t.
+        t.sites ≡ (image_setting T.mac deployment.now images.now).sites) }
     ensures lines { IfOk result (λ t. t.lines ≡ []) }
     ensures every { IfOk result (λ t. t.every ≡ 8192) }
 {
-    let nodes = nodes_of(alloc, tag, plan)?;
-    Timeline::new(alloc, tag, plan, images, nodes, EVERY)
+    let nodes = nodes_of(alloc, tag, deployment)?;
+    Timeline::new(alloc, tag, deployment, images, nodes, EVERY)
 }
 
 /// The command `snap`, as one that deploys.
@@ -60,12 +61,20 @@ impl Deploys for SnapCommand {
         lines: &mut Lines,
         input: &mut S,
         output: &mut K,
-        plan: &Deployment,
+        deployment: &Deployment,
         images: &[Image],
     ) -> u8 {
-        match new_timeline(alloc, tag, plan, images) {
+        match new_timeline(alloc, tag, deployment, images) {
             Ok(mut timeline) => {
-                snap_built(alloc, lines, input, output, plan, images, &mut timeline)
+                snap_built(
+                    alloc,
+                    lines,
+                    input,
+                    output,
+                    deployment,
+                    images,
+                    &mut timeline,
+                )
             }
             Err(_) => OUT_OF_MEMORY,
         }

@@ -203,15 +203,15 @@ texts_plain : (images : List Made) → map (λ (i : Image). i.text) (map plain i
 texts_plain [] = refl
 texts_plain (x ∷ images) = ap (λ (ts : List (List ℕ)). x.text.items ∷ ts) (texts_plain images)
 
-as_many : (plan : Deployment) (images : List Made) → length images ≡ length plan.app.parts.items → length (map plain images) ≡ length (map part_as plan.app.parts.items)
-as_many plan images all = count_plain images ∙ all ∙ sym (count_parts plan.app.parts.items)
+as_many : (deployment : Deployment) (images : List Made) → length images ≡ length deployment.app.parts.items → length (map plain images) ≡ length (map part_as deployment.app.parts.items)
+as_many deployment images all = count_plain images ∙ all ∙ sym (count_parts deployment.app.parts.items)
 
 -- the images that were compiled realize the modules of the deployment
-pub are_deployed_images : (mac : Mac) (plan : Deployment) (images : List Made) → length images ≡ length plan.app.parts.items → AreBuilt mac (deployed_as plan) (map plain images)
-    → AreByteTexts (texts_of images) → AreImages mac (deployed_as plan) (texts_of images)
-are_deployed_images mac plan images all built bytes =
-    subst (AreImages mac (deployed_as plan)) (texts_plain images)
-    (are_images mac (deployed_as plan) (map plain images) (as_many plan images all) built (subst AreByteTexts (sym (texts_plain images)) bytes))
+pub are_deployed_images : (mac : Mac) (deployment : Deployment) (images : List Made) → length images ≡ length deployment.app.parts.items → AreBuilt mac (deployed_as deployment) (map plain images)
+    → AreByteTexts (texts_of images) → AreImages mac (deployed_as deployment) (texts_of images)
+are_deployed_images mac deployment images all built bytes =
+    subst (AreImages mac (deployed_as deployment)) (texts_plain images)
+    (are_images mac (deployed_as deployment) (map plain images) (as_many deployment images all) built (subst AreByteTexts (sym (texts_plain images)) bytes))
 
 -- ---- which they are
 
@@ -236,12 +236,12 @@ texts_built mac d p (q ∷ qs) (l ∷ ls) (v ∷ vs) (i ∷ is) all fewer given 
     ap (λ (t : List ℕ). t ∷ map (λ (i : Image). i.text) is) here ∙ ap (λ (ts : List (List ℕ)). compiled_text l q.tree (ends_of d.app p) ∷ ts) more
 
 -- the texts of the images that were compiled are those that the compiler makes
-pub are_compiled : (mac : Mac) (plan : Deployment) (images : List Made) → IsSoundDeployment (deployed_as plan) → length images ≡ length plan.app.parts.items
-    → AreBuilt mac (deployed_as plan) (map plain images) → texts_of images ≡ compiled_texts (deployed_as plan)
+pub are_compiled : (mac : Mac) (deployment : Deployment) (images : List Made) → IsSoundDeployment (deployed_as deployment) → length images ≡ length deployment.app.parts.items
+    → AreBuilt mac (deployed_as deployment) (map plain images) → texts_of images ≡ compiled_texts (deployed_as deployment)
 unfolding compiled_texts
-are_compiled mac plan images sound all built =
-    let d = deployed_as plan in
+are_compiled mac deployment images sound all built =
+    let d = deployed_as deployment in
     let laid = laid_long d 0 d.app.parts d.layouts sound.laid in
     sym (texts_plain images)
-    ∙ texts_built mac d 0 d.app.parts d.layouts d.providers (map plain images) (as_many plan images all) (omega (arith, laid)) (omega (arith, sound.parts, sound.providers))
+    ∙ texts_built mac d 0 d.app.parts d.layouts d.providers (map plain images) (as_many deployment images all) (omega (arith, laid)) (omega (arith, sound.parts, sound.providers))
     (λ k image q l v a b c e. let at : k ≡ 0 + k = omega arith in subst (λ (n : ℕ). IsBuilt mac d q l v n image) at (built k image a q l v b c e))

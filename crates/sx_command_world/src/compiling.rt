@@ -23,11 +23,11 @@ use sx_tag::Tag;
 
 /// What the compiler asks of a module holds of one of an accepted deployment. It does nothing, and
 /// is called before `compile` for what it says.
-fn can_be_compiled(plan: &Deployment, number: u8, part: &Part, ends: &[End], layout: &Layout)
-    requires sound { IsSoundDeployment (deployed_as plan.now) }
-    requires part { slice_get plan.now.app.parts.items number ≡ Some part.now }
-    requires layout { slice_get plan.now.layouts.items number ≡ Some layout.now }
-    requires ends { ends.now ≡ ends_of (deployed_as plan.now).app number }
+fn can_be_compiled(deployment: &Deployment, number: u8, part: &Part, ends: &[End], layout: &Layout)
+    requires sound { IsSoundDeployment (deployed_as deployment.now) }
+    requires part { slice_get deployment.now.app.parts.items number ≡ Some part.now }
+    requires layout { slice_get deployment.now.layouts.items number ≡ Some layout.now }
+    requires ends { ends.now ≡ ends_of (deployed_as deployment.now).app number }
     ensures few { length ends.now ≤ 16 }
     ensures packets { let tree = source_tree part.now.code in
         SendFew (senders ends.now) tree tree.handlers }
@@ -38,19 +38,27 @@ fn can_be_compiled(plan: &Deployment, number: u8, part: &Part, ends: &[End], lay
 fn compile_part<T: Tag>(
     alloc: Global,
     tag: &T,
-    plan: &Deployment,
+    deployment: &Deployment,
     number: u8,
 ) -> Result<Image, AllocError>
-    requires sound { IsSoundDeployment (deployed_as plan.now) }
-    requires within { number < length plan.now.app.parts.items }
-    ensures { IfOk result (λ image. BuiltAt T.mac (deployed_as plan.now) number (plain image)) }
+    requires sound { IsSoundDeployment (deployed_as deployment.now) }
+    requires within { number < length deployment.now.app.parts.items }
+    ensures { IfOk result (λ image.
+        BuiltAt T.mac (deployed_as deployment.now) number (plain image)) }
 {
     let place = usize::from(number);
-    let ends = plan.ends(alloc, number)?;
-    let part = &plan.app.parts[place];
-    let layout = &plan.layouts[place];
-    can_be_compiled(plan, number, part, &ends, layout);
-    compile(alloc, tag, &part.code, &ends, layout, plan.providers[place])
+    let ends = deployment.ends(alloc, number)?;
+    let part = &deployment.app.parts[place];
+    let layout = &deployment.layouts[place];
+    can_be_compiled(deployment, number, part, &ends, layout);
+    compile(
+        alloc,
+        tag,
+        &part.code,
+        &ends,
+        layout,
+        deployment.providers[place],
+    )
 }
 
 /// A text is a list of bytes, by its type.
@@ -72,18 +80,19 @@ fn have_bytes(images: &[Image])
 pub fn compile_all<T: Tag>(
     alloc: Global,
     tag: &T,
-    plan: &Deployment,
+    deployment: &Deployment,
 ) -> Result<Vec<Image>, AllocError>
-    requires { IsSoundDeployment (deployed_as plan.now) }
-    ensures all { IfOk result (λ images. length images.items ≡ length plan.now.app.parts.items) }
+    requires { IsSoundDeployment (deployed_as deployment.now) }
+    ensures all { IfOk result (λ images.
+        length images.items ≡ length deployment.now.app.parts.items) }
     ensures built { IfOk result (λ images.
-        AreBuilt T.mac (deployed_as plan.now) (map plain images.items)) }
+        AreBuilt T.mac (deployed_as deployment.now) (map plain images.items)) }
     ensures bytes { IfOk result (λ images. AreByteTexts (texts_of images.items)) }
 {
     let mut images = Vec::new(alloc);
     let mut number: u8 = 0;
-    'modules: while usize::from(number) < plan.app.parts.len() {
-        images.push(compile_part(alloc, tag, plan, number)?)?;
+    'modules: while usize::from(number) < deployment.app.parts.len() {
+        images.push(compile_part(alloc, tag, deployment, number)?)?;
         number += 1;
     }
     have_bytes(&images);

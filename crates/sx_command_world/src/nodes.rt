@@ -51,16 +51,16 @@ fn places_at(
 fn node_at<T: Tag>(
     alloc: Global,
     tag: T,
-    plan: &Deployment,
+    deployment: &Deployment,
     number: u8,
     key: [u8; 16],
 ) -> Result<Node<PagedBus, T>, AllocError>
-    requires sound { IsSoundDeployment (deployed_as plan.now) }
-    ensures { let d = deployed_as plan.now in IfOk result (λ node.
+    requires sound { IsSoundDeployment (deployed_as deployment.now) }
+    ensures { let d = deployed_as deployment.now in IfOk result (λ node.
         node ≡ power_on key (powered_on (windows_at number d.app.devices d.places))) }
 {
     let bus = PagedBus::new(alloc)?;
-    let places = places_at(alloc, &plan.app.devices, &plan.places, number)?;
+    let places = places_at(alloc, &deployment.app.devices, &deployment.places, number)?;
     let windows = Windows::new(alloc, &places)?;
     Ok(Node::new(bus, tag, key, windows))
 }
@@ -70,17 +70,17 @@ fn node_at<T: Tag>(
 pub fn nodes_of<T: Tag + Copy>(
     alloc: Global,
     tag: T,
-    plan: &Deployment,
+    deployment: &Deployment,
 ) -> Result<Vec<Node<PagedBus, T>>, AllocError>
-    requires sound { IsSoundDeployment (deployed_as plan.now) }
-    ensures { let d = deployed_as plan.now in IfOk result (λ nodes.
+    requires sound { IsSoundDeployment (deployed_as deployment.now) }
+    ensures { let d = deployed_as deployment.now in IfOk result (λ nodes.
         (texts : List (List ℕ)) → nodes.items ≡ nodes_from (setting_of T.mac d texts) 0 d.keys) }
 {
     let mut nodes = Vec::new(alloc);
     let mut number: u8 = 0;
-    'nodes: while usize::from(number) < plan.keys.len() {
-        let key = plan.keys[usize::from(number)];
-        nodes.push(node_at(alloc, tag, plan, number, key)?)?;
+    'nodes: while usize::from(number) < deployment.keys.len() {
+        let key = deployment.keys[usize::from(number)];
+        nodes.push(node_at(alloc, tag, deployment, number, key)?)?;
         number += 1;
     }
     Ok(nodes)

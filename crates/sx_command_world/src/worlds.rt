@@ -20,17 +20,18 @@ use sx_world::world::World;
 pub fn new_world<T: Tag + Copy>(
     alloc: Global,
     tag: T,
-    plan: &Deployment,
+    deployment: &Deployment,
     images: &[Image],
 ) -> Result<World<PagedBus, T>, AllocError>
-    requires sound { IsSoundDeployment (deployed_as plan.now) }
-    requires many { length images.now ≡ length plan.now.app.parts.items }
+    requires sound { IsSoundDeployment (deployed_as deployment.now) }
+    requires many { length images.now ≡ length deployment.now.app.parts.items }
     ensures sites { IfOk result (λ world.
-        world.sites ≡ (image_setting T.mac plan.now images.now).sites) }
-    ensures stands { IfOk result (λ world. Stands (image_setting T.mac plan.now images.now) world
-        (switched_on (image_setting T.mac plan.now images.now))) }
+        world.sites ≡ (image_setting T.mac deployment.now images.now).sites) }
+    ensures stands { IfOk result (λ world.
+        Stands (image_setting T.mac deployment.now images.now) world
+        (switched_on (image_setting T.mac deployment.now images.now))) }
     ensures lines { IfOk result (λ world. world.lines ≡ 0) }
 {
-    let nodes = nodes_of(alloc, tag, plan)?;
-    World::new(alloc, tag, plan, images, nodes)
+    let nodes = nodes_of(alloc, tag, deployment)?;
+    World::new(alloc, tag, deployment, images, nodes)
 }

@@ -24,15 +24,15 @@ deployed_same text d other read again = cc (one_meaning text (Ok d) (Ok other) r
 
 pub perform-requires-clause-images : goal.perform-requires-clause-images
 perform-requires-clause-images g c =
-    let Q : List Image → Type 0 = λ images. AreImages g.T.Tag.mac (deployed_as c.in-Ok.plan) (texts_of images) in
+    let Q : List Image → Type 0 = λ images. AreImages g.T.Tag.mac (deployed_as c.in-Ok.deployment) (texts_of images) in
     let made = c.in-Ok-compile_all.ensures in
-    subst Q (sym c.deref.ensures.value) (are_deployed_images g.T.Tag.mac c.in-Ok.plan c.in-Ok-compile_all.images.items made.all made.built made.bytes)
+    subst Q (sym c.deref.ensures.value) (are_deployed_images g.T.Tag.mac c.in-Ok.deployment c.in-Ok-compile_all.images.items made.all made.built made.bytes)
 
 pub returns-in-Ok-compile_all-clause-deploys : goal.returns-in-Ok-compile_all-clause-deploys
 returns-in-Ok-compile_all-clause-deploys g c =
     let mac = g.T.Tag.mac in
-    let plan = c.in-Ok.plan in
-    let d = deployed_as plan in
+    let deployment = c.in-Ok.deployment in
+    let d = deployed_as deployment in
     let images = c.in-Ok-compile_all.images.items in
     let made = c.in-Ok-compile_all.ensures in
     let S : Result Deployment DeployError → Type 0 = λ r. IfOk r (λ (p : Deployment). IsSoundDeployment (deployed_as p)) in
@@ -42,8 +42,8 @@ returns-in-Ok-compile_all-clause-deploys g c =
     let B : List Image → Type 0 = λ images. AreByteTexts (texts_of images) in
     let same = sym c.deref.ensures.value in
     let texts = texts_of c.deref.result.now in
-    let are : AreImages mac d texts = subst Q same (are_deployed_images mac plan images made.all made.built made.bytes) in
-    let compiled : texts ≡ compiled_texts d = subst C same (are_compiled mac plan images sound made.all made.built) in
+    let are : AreImages mac d texts = subst Q same (are_deployed_images mac deployment images made.all made.built made.bytes) in
+    let compiled : texts ≡ compiled_texts d = subst C same (are_compiled mac deployment images sound made.all made.built) in
     let P : Deployed → Type 0 = λ d. AreImages mac d texts in
     let E : Deployed → Type 0 = λ d. texts ≡ compiled_texts d in
     let m1 = command_at (g.S.Source.at c.args.input.now) (g.K.Sink.at c.args.output.now) in

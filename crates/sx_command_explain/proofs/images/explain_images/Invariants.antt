@@ -13,7 +13,7 @@ use Rattle.sx_command_explain.proofs.images.explain_images.Given as goal
 -- Whatever came before, what is left is what is said from the line with this number on.
 abbrev pub invariant-lines : goal.invariant-lines
 invariant-lines g l =
-    let d = deployed_as l.plan in record {
+    let d = deployed_as l.deployment in record {
       few : l.number ≤ 33;
       begun : (means : Meanings) → AreMeanings means → (limit : Limit) (m0 : CommandAt) (defined : List Answer → Output) (aside : List Answer → List ℕ) (noted : List ℕ)
           → Begun g.S.Source.tells g.K.Sink.tells limit image_lines m0 (command_at (g.S.Source.at l.fn.input) (g.K.Sink.at l.fn.output)) l.fn.lines defined

@@ -39,14 +39,14 @@ lines-init g c =
         gave = trace_none _ _ _ _;
         waits = λ means is limit m0 defined aside noted b. subst (λ (t : List ℕ). Waits g.S.Source.tells g.K.Sink.tells limit m0
             (command_at (g.S.Source.at c.args.input.now) (g.K.Sink.at c.args.output.now)) c.args.lines.now defined t
-            (explain_from (app_as c.args.plan.now.app) (means.item c.args.plan.now.names) []) (Notes aside noted)) (sym c.new-kept.ensures) (waits_new b);
+            (explain_from (app_as c.args.deployment.now.app) (means.item c.args.deployment.now.names) []) (Notes aside noted)) (sym c.new-kept.ensures) (waits_new b);
       };
     }
 
 pub returns-in-Err-clause-rest : goal.returns-in-Err-clause-rest
 returns-in-Err-clause-rest g c = λ means is limit m0 defined aside noted b.
     let st = c.lines.invariant.between in
-    let f = explain_from (app_as c.args.plan.now.app) (means.item c.args.plan.now.names) st.items in
+    let f = explain_from (app_as c.args.deployment.now.app) (means.item c.args.deployment.now.names) st.items in
     let e = c.in-Err.ensures.comes in
     subst (λ (s : SourceAt). Told g.S.Source.tells g.K.Sink.tells limit m0 (command_at s (g.K.Sink.at c.next_line.new.output)) write_failed defined (Notes aside noted)) (sym e.1)
     (waits_failed f (st.waits means is limit m0 defined aside noted b) e.0)
@@ -54,7 +54,7 @@ returns-in-Err-clause-rest g c = λ means is limit m0 defined aside noted b.
 pub returns-in-Ok-End-clause-rest : goal.returns-in-Ok-End-clause-rest
 returns-in-Ok-End-clause-rest g c = λ means is limit m0 defined aside noted b.
     let st = c.lines.invariant.between in
-    let f = explain_from (app_as c.args.plan.now.app) (means.item c.args.plan.now.names) st.items in
+    let f = explain_from (app_as c.args.deployment.now.app) (means.item c.args.deployment.now.names) st.items in
     let R : Result LineRead Failed → Type 0 = λ r. ComesNext g.S.Source.tells g.K.Sink.tells (command_at (g.S.Source.at c.lines.input) (g.K.Sink.at c.lines.output))
     (command_at (g.S.Source.at c.next_line.new.input) (g.K.Sink.at c.next_line.new.output)) c.lines.kept.items c.next_line.new.kept.items c.lines.lines c.next_line.new.lines c.next_line.new.into r in
     let comes : R (Ok read.End) = subst R (c.in-Ok-End.is ∙ ap Ok c.in-Ok-End.field-0-is) c.next_line.ensures.comes in
@@ -69,7 +69,7 @@ returns-in-Ok-End-clause-rest g c = λ means is limit m0 defined aside noted b.
 pub returns-in-Ok-TooLong-clause-rest : goal.returns-in-Ok-TooLong-clause-rest
 returns-in-Ok-TooLong-clause-rest g c = λ means is limit m0 defined aside noted b.
     let st = c.lines.invariant.between in
-    let f = explain_from (app_as c.args.plan.now.app) (means.item c.args.plan.now.names) st.items in
+    let f = explain_from (app_as c.args.deployment.now.app) (means.item c.args.deployment.now.names) st.items in
     let R : Result LineRead Failed → Type 0 = λ r. ComesNext g.S.Source.tells g.K.Sink.tells (command_at (g.S.Source.at c.lines.input) (g.K.Sink.at c.lines.output))
     (command_at (g.S.Source.at c.next_line.new.input) (g.K.Sink.at c.next_line.new.output)) c.lines.kept.items c.next_line.new.kept.items c.lines.lines c.next_line.new.lines c.next_line.new.into r in
     let comes : R (Ok read.TooLong) = subst R (c.in-Ok-TooLong.is ∙ ap Ok c.in-Ok-TooLong.field-0-is) c.next_line.ensures.comes in
@@ -85,7 +85,7 @@ pub returns-in-Ok-Failed-clause-rest : goal.returns-in-Ok-Failed-clause-rest
 unfolding read_line
 returns-in-Ok-Failed-clause-rest g c = λ means is limit m0 defined aside noted b.
     let st = c.lines.invariant.between in
-    let f = explain_from (app_as c.args.plan.now.app) (means.item c.args.plan.now.names) st.items in
+    let f = explain_from (app_as c.args.deployment.now.app) (means.item c.args.deployment.now.names) st.items in
     let R : Result LineRead Failed → Type 0 = λ r. ComesNext g.S.Source.tells g.K.Sink.tells (command_at (g.S.Source.at c.lines.input) (g.K.Sink.at c.lines.output))
     (command_at (g.S.Source.at c.next_line.new.input) (g.K.Sink.at c.next_line.new.output)) c.lines.kept.items c.next_line.new.kept.items c.lines.lines c.next_line.new.lines c.next_line.new.into r in
     let comes : R (Ok read.Failed) = subst R (c.in-Ok-Failed.is ∙ ap Ok c.in-Ok-Failed.field-0-is) c.next_line.ensures.comes in
@@ -100,8 +100,8 @@ returns-in-Ok-Failed-clause-rest g c = λ means is limit m0 defined aside noted 
 pub returns-in-Err-judge_line-clause-rest : goal.returns-in-Err-judge_line-clause-rest
 returns-in-Err-judge_line-clause-rest g c = λ means is limit m0 defined aside noted b.
     let st = c.lines.invariant.between in
-    let app = app_as c.args.plan.now.app in
-    let item = means.item c.args.plan.now.names in
+    let app = app_as c.args.deployment.now.app in
+    let item = means.item c.args.deployment.now.names in
     let f = explain_from app item st.items in
     let text = take c.in-Ok-Text.n c.next_line.new.into in
     let line = c.judge_line.ensures.line means is in
@@ -120,8 +120,8 @@ returns-in-Err-judge_line-clause-rest g c = λ means is limit m0 defined aside n
 pub returns-in-Err-put_kept-clause-rest : goal.returns-in-Err-put_kept-clause-rest
 returns-in-Err-put_kept-clause-rest g c = λ means is limit m0 defined aside noted b.
     let st = c.lines.invariant.between in
-    let app = app_as c.args.plan.now.app in
-    let item = means.item c.args.plan.now.names in
+    let app = app_as c.args.deployment.now.app in
+    let item = means.item c.args.deployment.now.names in
     let f = explain_from app item st.items in
     let text = take c.in-Ok-Text.n c.next_line.new.into in
     let line = c.judge_line.ensures.line means is in
@@ -136,8 +136,8 @@ returns-in-Err-put_kept-clause-rest g c = λ means is limit m0 defined aside not
 pub returns-in-Ok-clause-rest : goal.returns-in-Ok-clause-rest
 returns-in-Ok-clause-rest g c = λ means is limit m0 defined aside noted b.
     let st = c.lines.invariant.between in
-    let app = app_as c.args.plan.now.app in
-    let item = means.item c.args.plan.now.names in
+    let app = app_as c.args.deployment.now.app in
+    let item = means.item c.args.deployment.now.names in
     let f = explain_from app item st.items in
     let text = take c.in-Ok-Text.n c.next_line.new.into in
     let line = c.judge_line.ensures.line means is in
@@ -170,8 +170,8 @@ turn-requires-clause-room g c = on_ok _ c.next_line.result _ (c.in-Ok-Text.is �
 pub returns-in-Stop-clause-rest : goal.returns-in-Stop-clause-rest
 returns-in-Stop-clause-rest g c = λ means is limit m0 defined aside noted b.
     let st = c.lines.invariant.between in
-    let app = app_as c.args.plan.now.app in
-    let item = means.item c.args.plan.now.names in
+    let app = app_as c.args.deployment.now.app in
+    let item = means.item c.args.deployment.now.names in
     let f = explain_from app item st.items in
     let text = take c.in-Ok-Text.n c.next_line.new.into in
     let line = c.judge_line.ensures.line means is in
@@ -222,7 +222,7 @@ returns-in-Stop-clause-wanted g c = λ means is six.
 pub lines-preserved : goal.lines-preserved
 lines-preserved g c =
     let st = c.lines.invariant.between in
-    let app = app_as c.args.plan.now.app in
+    let app = app_as c.args.deployment.now.app in
     let i = c.in-Ok-Item.item in
     let j = c.in-On.ensures.judges st.items st.follows st.counted in
     let few = few_of c.judge_line.result _ c.lines.number (c.in-Ok-Item.is ∙ ap Ok c.in-Ok-Item.field-0-is) c.judge_line.ensures.few in record {
@@ -237,7 +237,7 @@ lines-preserved g c =
             c.next_line.new.into c.in-Ok-Text.n c.next_line.result (c.in-Ok-Text.is ∙ ap Ok c.in-Ok-Text.field-0-is) c.next_line.ensures.comes)
             (λ means is. sym (c.judge_line.ensures.line means is) ∙ (c.in-Ok-Item.is ∙ ap Ok c.in-Ok-Item.field-0-is));
         waits = λ means is limit m0 defined aside noted b.
-            let item = means.item c.args.plan.now.names in
+            let item = means.item c.args.deployment.now.names in
             let f = explain_from app item st.items in
             let text = take c.in-Ok-Text.n c.next_line.new.into in
             let line = c.judge_line.ensures.line means is in

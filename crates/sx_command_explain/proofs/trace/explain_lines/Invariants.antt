@@ -9,7 +9,7 @@ use Rattle.sx_command_explain.proofs.trace.explain_lines.Given as goal
 abbrev pub invariant-lines : goal.invariant-lines
 invariant-lines g l = record {
   between : Between g.S.Source.tells g.K.Sink.tells (command_at (g.S.Source.at l.fn.input) (g.K.Sink.at l.fn.output)) (command_at (g.S.Source.at l.input) (g.K.Sink.at l.output)) l.fn.lines l.lines
-      (app_as l.plan.app) l.plan.names l.judge l.number l.kept.items;
+      (app_as l.deployment.app) l.deployment.names l.judge l.number l.kept.items;
 }
 
 abbrev pub decreases-lines : goal.decreases-lines

@@ -7,7 +7,7 @@ use Rattle.sx_command_explain.proofs.trace.explain_trace.Goals as goal
 pub returns-in-Err-clause-rest : goal.returns-in-Err-clause-rest
 returns-in-Err-clause-rest g c = λ means is limit m0 defined aside noted b.
     told-stop b
-    (λ more. ends-out-of-memory _ _ _ (explain_from (app_as c.args.plan.now.app) (means.item c.args.plan.now.names) [] more) (λ t. prefix-none _ _ _ refl) refl)
+    (λ more. ends-out-of-memory _ _ _ (explain_from (app_as c.args.deployment.now.app) (means.item c.args.deployment.now.names) [] more) (λ t. prefix-none _ _ _ refl) refl)
 
 pub returns-in-Ok-clause-wanted : goal.returns-in-Ok-clause-wanted
 returns-in-Ok-clause-wanted g c = c.explain_lines.ensures.wanted

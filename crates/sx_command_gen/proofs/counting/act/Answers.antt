@@ -7,6 +7,6 @@ use Rattle.sx_command_gen.proofs.counting.act.Goals as goal
 
 pub returns-in-Ok-clause-acts : goal.returns-in-Ok-clause-acts
 returns-in-Ok-clause-acts g c = λ w shows.
-    let next = after_next (world_setting g.T.Tag.mac c.args.plan.now c.args.world.now) w (line_of c.args.line.now) in
+    let next = after_next (world_setting g.T.Tag.mac c.args.deployment.now c.args.world.now) w (line_of c.args.line.now) in
     let acted = c.in-Ok.ensures.acted w shows in
     (acted.0, acted.1 ∙ ap (λ (front : List Item). front ++ next.items) c.clear.ensures.items)

@@ -15,7 +15,7 @@ use Rattle.sx_command_gen.proofs.counting.run_workload.Goals as goal
 
 pub loop-i-init : goal.loop-i-init
 loop-i-init g c =
-    let d = deployed_as c.args.plan.now in
+    let d = deployed_as c.args.deployment.now in
     let set = setting g.T.Tag.mac d c.args.world.now.sites in
     let P : Counts → Type 0 = λ x. Tallied c.args.samples d.names set c.args.world.now 0 x in record {
       counted = c.requires.new;
@@ -25,18 +25,18 @@ loop-i-init g c =
 
 pub turn-requires-clause-images : goal.turn-requires-clause-images
 turn-requires-clause-images g c =
-    let P : List Site → Type 0 = λ sites. IsSoundSetting (setting g.T.Tag.mac (deployed_as c.args.plan.now) sites) in
+    let P : List Site → Type 0 = λ sites. IsSoundSetting (setting g.T.Tag.mac (deployed_as c.args.deployment.now) sites) in
     subst P (sym c.loop-i.invariant.sites) c.requires.images
 
 pub turn-requires-clause-going : goal.turn-requires-clause-going
 turn-requires-clause-going g c = λ goes.
     let s = c.loop-i.invariant.tallied in
-    let P : List Site → Type 0 = λ sites. Stands (setting g.T.Tag.mac (deployed_as c.args.plan.now) sites) c.loop-i.world s.world in
+    let P : List Site → Type 0 = λ sites. Stands (setting g.T.Tag.mac (deployed_as c.args.deployment.now) sites) c.loop-i.world s.world in
     (s.world, subst P (sym c.loop-i.invariant.sites) s.stands)
 
 pub loop-i-preserved : goal.loop-i-preserved
 loop-i-preserved g c =
-    let d = deployed_as c.args.plan.now in
+    let d = deployed_as c.args.deployment.now in
     let set = setting g.T.Tag.mac d c.args.world.now.sites in
     let n = c.args.samples in
     let i = c.loop-i.i in
@@ -58,13 +58,13 @@ loop-i-preserved g c =
 
 pub returns : goal.returns
 returns g c =
-    let d = deployed_as c.args.plan.now in
+    let d = deployed_as c.args.deployment.now in
     let set = setting g.T.Tag.mac d c.args.world.now.sites in
     tally_ends c.args.samples d.names set c.loop-i.world c.loop-i.i c.loop-i.counts c.loop-i.invariant.tallied (omega (arith, c.lines-count.ensures))
 
 pub returns-in_err-turn : goal.returns-in_err-turn
 returns-in_err-turn g c =
-    let d = deployed_as c.args.plan.now in
+    let d = deployed_as c.args.deployment.now in
     let set = setting g.T.Tag.mac d c.args.world.now.sites in
     let i = c.loop-i.i in
     let text = take c.line-written.result c.line-written.new.into in

@@ -7,7 +7,7 @@ use Rattle.sx_command_gen.proofs.counting.run_workload.Given as goal
 -- As many lines were acted, and their items are counted.
 abbrev pub invariant-loop-i : goal.invariant-loop-i
 invariant-loop-i g l =
-    let d = deployed_as l.plan in
+    let d = deployed_as l.deployment in
     let set = setting g.T.Tag.mac d l.fn.world.sites in record {
       counted : l.world.lines ≡ l.i;
       sites : l.world.sites ≡ l.fn.world.sites;

@@ -17,20 +17,20 @@ deployed_same d other read again = cc (one_meaning bulk.head (Ok d) (Ok other) r
 
 pub gen_images-requires-clause-images : goal.gen_images-requires-clause-images
 gen_images-requires-clause-images g c =
-    let Q : List Image → Type 0 = λ images. AreImages g.T.Tag.mac (deployed_as c.args.plan.now) (map (λ (i : Image). i.text.items) images) in
-    subst Q (sym c.deref.ensures.value) (are_deployed_images g.T.Tag.mac c.args.plan.now c.in-Ok.images.items c.in-Ok.ensures.all c.in-Ok.ensures.built c.in-Ok.ensures.bytes)
+    let Q : List Image → Type 0 = λ images. AreImages g.T.Tag.mac (deployed_as c.args.deployment.now) (map (λ (i : Image). i.text.items) images) in
+    subst Q (sym c.deref.ensures.value) (are_deployed_images g.T.Tag.mac c.args.deployment.now c.in-Ok.images.items c.in-Ok.ensures.all c.in-Ok.ensures.built c.in-Ok.ensures.bytes)
 
 pub returns-in-Ok : goal.returns-in-Ok
 returns-in-Ok g c =
     let mac = g.T.Tag.mac in
-    let d = deployed_as c.args.plan.now in
+    let d = deployed_as c.args.deployment.now in
     let texts = map (λ (i : Image). i.text.items) c.deref.result.now in
     let Q : List Image → Type 0 = λ images. AreImages mac d (map (λ (i : Image). i.text.items) images) in
     let are : AreImages mac d texts =
-    subst Q (sym c.deref.ensures.value) (are_deployed_images mac c.args.plan.now c.in-Ok.images.items c.in-Ok.ensures.all c.in-Ok.ensures.built c.in-Ok.ensures.bytes) in
+    subst Q (sym c.deref.ensures.value) (are_deployed_images mac c.args.deployment.now c.in-Ok.images.items c.in-Ok.ensures.all c.in-Ok.ensures.built c.in-Ok.ensures.bytes) in
     let C : List Image → Type 0 = λ images. map (λ (i : Image). i.text.items) images ≡ compiled_texts d in
     let compiled : texts ≡ compiled_texts d =
-    subst C (sym c.deref.ensures.value) (are_compiled mac c.args.plan.now c.in-Ok.images.items c.requires.sound c.in-Ok.ensures.all c.in-Ok.ensures.built) in
+    subst C (sym c.deref.ensures.value) (are_compiled mac c.args.deployment.now c.in-Ok.images.items c.requires.sound c.in-Ok.ensures.all c.in-Ok.ensures.built) in
     let P : Deployed → Type 0 = λ d. AreImages mac d texts in
     let E : Deployed → Type 0 = λ d. texts ≡ compiled_texts d in
     inr (record {

@@ -15,26 +15,26 @@ use Rattle.sx_command_gen.proofs.workload.gen_images.Goals as goal
 
 pub tell_run-requires-clause-images : goal.tell_run-requires-clause-images
 tell_run-requires-clause-images g c =
-    let d = deployed_as c.args.plan.now in
+    let d = deployed_as c.args.deployment.now in
     let texts = map (λ i. i.text.items) c.args.images.now in
     let P : List Site → Type 0 = λ sites. IsSoundSetting (setting g.T.Tag.mac d sites) in
     subst P (sym c.in-Ok.ensures.sites) (settled g.T.Tag.mac d texts c.requires.sound c.requires.images g.met.T.Tag.is_tag)
 
 pub tell_run-requires-clause-stands : goal.tell_run-requires-clause-stands
 tell_run-requires-clause-stands g c =
-    let d = deployed_as c.args.plan.now in
+    let d = deployed_as c.args.deployment.now in
     let P : List Site → Type 0 = λ sites. Stands (setting g.T.Tag.mac d sites) c.in-Ok.world (switched_on (setting g.T.Tag.mac d sites)) in
     subst P (sym c.in-Ok.ensures.sites) c.in-Ok.ensures.stands
 
-pub returns-in-Ok : goal.returns-in-Ok
-returns-in-Ok g c =
+pub returns-in-Stop : goal.returns-in-Stop
+returns-in-Stop g c =
     let d = deployed_as c.args.deployment.now in
     let texts = map (λ i. i.text.items) c.args.images.now in
     c.in-Stop.ensures (λ more. gen_run c.args.samples d.names (setting_of g.T.Tag.mac d texts)) []
 
 pub returns-in-On : goal.returns-in-On
 returns-in-On g c =
-    let d = deployed_as c.args.plan.now in
+    let d = deployed_as c.args.deployment.now in
     let texts = map (λ i. i.text.items) c.args.images.now in
     let P : List Site → Type 0 = λ sites. CommandEnds g.K.Sink.tells (g.K.Sink.at c.put_images.new.output) (g.K.Sink.at c.tell_run.new.output) c.tell_run.result
     (gen_run c.args.samples d.names (setting g.T.Tag.mac d sites)) in
@@ -44,4 +44,4 @@ returns-in-On g c =
 pub returns : goal.returns
 returns g c =
     let texts = map (λ i. i.text.items) c.args.images.now in
-    ends-out-of-memory _ _ _ (gen_deployed g.T.Tag.mac texts c.args.samples (deployed_as c.args.plan.now)) (λ t. prefix-none _ _ _ refl) refl
+    ends-out-of-memory _ _ _ (gen_deployed g.T.Tag.mac texts c.args.samples (deployed_as c.args.deployment.now)) (λ t. prefix-none _ _ _ refl) refl

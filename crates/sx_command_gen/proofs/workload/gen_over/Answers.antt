@@ -8,7 +8,7 @@ use Rattle.sx_command_gen.proofs.workload.gen_over.Goals as goal
 
 pub gen_deployment-requires-clause-read : goal.gen_deployment-requires-clause-read
 gen_deployment-requires-clause-read g c =
-    let P : List ℕ → Type 0 = λ text. IsRead text (Ok (deployed_as c.in-Ok.plan)) in subst P c.head.ensures c.in-Ok.ensures.read
+    let P : List ℕ → Type 0 = λ text. IsRead text (Ok (deployed_as c.in-Ok.deployment)) in subst P c.head.ensures c.in-Ok.ensures.read
 
 pub returns-in-Ok : goal.returns-in-Ok
 returns-in-Ok g c = wrote_told c.requires c.gen_deployment.ensures

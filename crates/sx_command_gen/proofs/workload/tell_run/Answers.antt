@@ -17,7 +17,7 @@ returns-in-Ok g c =
 
 pub returns-in-Err-Broken : goal.returns-in-Err-Broken
 returns-in-Err-Broken g c =
-    let d = deployed_as c.args.plan.now in
+    let d = deployed_as c.args.deployment.now in
     let set = setting g.T.Tag.mac d c.args.world.now.sites in
     let P : Stopped → Type 0 = λ e. EndsAs c.args.samples d.names set c.run_workload.new.world.running.steps (Err e) in
     ends-same _ _ _ _ _ _ (subst P c.in-Err-Broken.field-0-is c.in-Err-Broken.ensures)
@@ -25,5 +25,5 @@ returns-in-Err-Broken g c =
 
 pub returns-in-Err-OutOfMemory : goal.returns-in-Err-OutOfMemory
 returns-in-Err-OutOfMemory g c =
-    let d = deployed_as c.args.plan.now in
+    let d = deployed_as c.args.deployment.now in
     ends-out-of-memory _ _ _ (gen_run c.args.samples d.names (setting g.T.Tag.mac d c.args.world.now.sites)) (λ t. prefix-none _ _ _ refl) refl

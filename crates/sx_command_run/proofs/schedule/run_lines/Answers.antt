@@ -22,7 +22,7 @@ use Rattle.sx_command_run.proofs.schedule.run_lines.Goals as goal
 
 pub lines-init : goal.lines-init
 lines-init g c =
-    let set = setting g.T.Tag.mac (deployed_as c.args.plan.now) c.args.world.now.sites in record {
+    let set = setting g.T.Tag.mac (deployed_as c.args.deployment.now) c.args.world.now.sites in record {
       few = omega arith;
       counted = ap (λ (k : ℕ). k + 1) c.requires.new;
       sites = refl;
@@ -32,7 +32,7 @@ lines-init g c =
 pub returns-in-End-clause-rest : goal.returns-in-End-clause-rest
 unfolding end_line
 returns-in-End-clause-rest g c = λ limit m0 defined aside noted b.
-    let d = deployed_as c.args.plan.now in
+    let d = deployed_as c.args.deployment.now in
     let set = setting g.T.Tag.mac d c.args.world.now.sites in
     let st = c.lines.invariant.between in
     told-end {f = run_from assembled d.names set st.world c.lines.number} (run_unread d.names set st.world c.lines.number) (st.begun limit m0 defined aside noted b) c.in-End.ensures.next
@@ -40,7 +40,7 @@ returns-in-End-clause-rest g c = λ limit m0 defined aside noted b.
 
 pub returns-in-TooLong-clause-rest : goal.returns-in-TooLong-clause-rest
 returns-in-TooLong-clause-rest g c = λ limit m0 defined aside noted b.
-    let d = deployed_as c.args.plan.now in
+    let d = deployed_as c.args.deployment.now in
     let set = setting g.T.Tag.mac d c.args.world.now.sites in
     let st = c.lines.invariant.between in
     told-too-long {f = run_from assembled d.names set st.world c.lines.number} (run_unread d.names set st.world c.lines.number) (st.begun limit m0 defined aside noted b)
@@ -49,7 +49,7 @@ returns-in-TooLong-clause-rest g c = λ limit m0 defined aside noted b.
 pub returns-in-Failed-clause-rest : goal.returns-in-Failed-clause-rest
 unfolding read_line
 returns-in-Failed-clause-rest g c = λ limit m0 defined aside noted b.
-    let d = deployed_as c.args.plan.now in
+    let d = deployed_as c.args.deployment.now in
     let set = setting g.T.Tag.mac d c.args.world.now.sites in
     let st = c.lines.invariant.between in
     told-failed {f = run_from assembled d.names set st.world c.lines.number} (run_unread d.names set st.world c.lines.number) (st.begun limit m0 defined aside noted b)
@@ -57,18 +57,18 @@ returns-in-Failed-clause-rest g c = λ limit m0 defined aside noted b.
 
 pub turn-requires-clause-images : goal.turn-requires-clause-images
 turn-requires-clause-images g c =
-    let P : List Site → Type 0 = λ sites. IsSoundSetting (setting g.T.Tag.mac (deployed_as c.args.plan.now) sites) in
+    let P : List Site → Type 0 = λ sites. IsSoundSetting (setting g.T.Tag.mac (deployed_as c.args.deployment.now) sites) in
     subst P (sym c.lines.invariant.sites) c.requires.images
 
 pub turn-requires-clause-going : goal.turn-requires-clause-going
 turn-requires-clause-going g c = λ goes.
     let st = c.lines.invariant.between in
-    let P : List Site → Type 0 = λ sites. Stands (setting g.T.Tag.mac (deployed_as c.args.plan.now) sites) c.lines.world st.world in
+    let P : List Site → Type 0 = λ sites. Stands (setting g.T.Tag.mac (deployed_as c.args.deployment.now) sites) c.lines.world st.world in
     (st.world, subst P (sym c.lines.invariant.sites) st.stands)
 
 pub returns-in-Stop-clause-rest : goal.returns-in-Stop-clause-rest
 returns-in-Stop-clause-rest g c = λ limit m0 defined aside noted b.
-    let d = deployed_as c.args.plan.now in
+    let d = deployed_as c.args.deployment.now in
     let set = setting g.T.Tag.mac d c.args.world.now.sites in
     let st = c.lines.invariant.between in
     let text = take c.in-Text.n c.next.new.into in
@@ -89,14 +89,14 @@ returns-in-Failed-clause-wanted g c = λ six. absurd (omega (arith, six, c.finis
 
 pub returns-in-Stop-clause-wanted : goal.returns-in-Stop-clause-wanted
 returns-in-Stop-clause-wanted g c = λ six.
-    let d = deployed_as c.args.plan.now in
+    let d = deployed_as c.args.deployment.now in
     let gave = c.lines.invariant.between.gave in
     let P : ℕ → Type 0 = λ number. MayRunOut (judged_line assembled d.names number (take c.in-Text.n c.next.new.into)) in
     gave_last (run_may assembled d) c.next.new.into c.in-Text.n gave c.in-Text.ensures.next (subst P gave.numbered (c.in-Stop.ensures.memory (ap Stop six)))
 
 pub lines-preserved : goal.lines-preserved
 lines-preserved g c =
-    let d = deployed_as c.args.plan.now in
+    let d = deployed_as c.args.deployment.now in
     let set = setting g.T.Tag.mac d c.args.world.now.sites in
     let st = c.lines.invariant.between in
     let text = take c.in-Text.n c.next.new.into in

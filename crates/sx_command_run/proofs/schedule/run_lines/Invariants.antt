@@ -8,7 +8,7 @@ use Rattle.sx_command_run.proofs.schedule.run_lines.Given as goal
 -- Whatever came before, what is left is what is defined from the next line on, in the world that stands now.
 abbrev pub invariant-lines : goal.invariant-lines
 invariant-lines g l =
-    let d = deployed_as l.plan in
+    let d = deployed_as l.deployment in
     let set = setting g.T.Tag.mac d l.fn.world.sites in record {
       few : l.number ≤ 65537;
       counted : l.world.lines + 1 ≡ l.number;

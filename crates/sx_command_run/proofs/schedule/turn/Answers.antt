@@ -14,7 +14,7 @@ use Rattle.sx_command_run.proofs.schedule.turn.Goals as goal
 
 pub returns-in-Ok-act-clause-turns : goal.returns-in-Ok-act-clause-turns
 returns-in-Ok-act-clause-turns g c = λ w shows.
-    let d = deployed_as c.args.plan.now in
+    let d = deployed_as c.args.deployment.now in
     let set = setting g.T.Tag.mac d c.args.world.now.sites in
     let line = line_of c.in-Ok.line in
     let next = after_next set w line in
@@ -28,7 +28,7 @@ returns-in-Ok-act-clause-turns g c = λ w shows.
 
 pub returns-in-On-clause-turns : goal.returns-in-On-clause-turns
 returns-in-On-clause-turns g c = λ w shows.
-    let d = deployed_as c.args.plan.now in
+    let d = deployed_as c.args.deployment.now in
     let set = setting g.T.Tag.mac d c.args.world.now.sites in
     let line = line_of c.in-Ok.line in
     let next = after_next set w line in
@@ -39,8 +39,8 @@ returns-in-On-clause-turns g c = λ w shows.
       does = line_wanted d.names set w c.args.number c.args.said.now line made c.in-Ok.ensures.line front (c.in-On.ensures.whole refl) (c.in-On.ensures.does (λ more. unread_output)).no_fault;
     }
 
-pub returns-in-Ok-clause-turns : goal.returns-in-Ok-clause-turns
-returns-in-Ok-clause-turns g c = λ w shows.
+pub returns-in-Stop-clause-turns : goal.returns-in-Stop-clause-turns
+returns-in-Stop-clause-turns g c = λ w shows.
     let d = deployed_as c.args.deployment.now in
     let set = setting g.T.Tag.mac d c.args.world.now.sites in
     let line = line_of c.in-Ok.line in
@@ -54,7 +54,7 @@ returns-in-Ok-clause-turns g c = λ w shows.
 
 pub returns-in-Err-Fault-clause-turns : goal.returns-in-Err-Fault-clause-turns
 returns-in-Err-Fault-clause-turns g c = λ w shows.
-    let d = deployed_as c.args.plan.now in
+    let d = deployed_as c.args.deployment.now in
     let set = setting g.T.Tag.mac d c.args.world.now.sites in
     let rule = c.in-Err-Fault.rule in record {
       next = w;
@@ -65,8 +65,8 @@ returns-in-Err-Fault-clause-turns g c = λ w shows.
           c.break_off.ensures.ends;
     }
 
-pub returns-clause-turns : goal.returns-clause-turns
-returns-clause-turns g c = λ w shows.
+pub returns-in-Err-OutOfMemory-clause-turns : goal.returns-in-Err-OutOfMemory-clause-turns
+returns-in-Err-OutOfMemory-clause-turns g c = λ w shows.
     let d = deployed_as c.args.deployment.now in
     let set = setting g.T.Tag.mac d c.args.world.now.sites in record {
       next = w;

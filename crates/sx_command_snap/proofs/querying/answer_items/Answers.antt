@@ -8,6 +8,6 @@ use Rattle.sx_command_snap.proofs.querying.answer_items.Goals as goal
 pub returns : goal.returns
 unfolding answer_text
 returns g c =
-    let d = deployed_as c.args.plan.now in
+    let d = deployed_as c.args.deployment.now in
     let P : List ℕ → Type 0 = λ due. IfOk c.items_text.result (λ text. text.items ≡ due) in
     subst P (ap (λ (items : List Item). items_text d.names c.args.at items) (c.deref.ensures.value ∙ c.in_ok-items.ensures)) c.items_text.ensures

@@ -20,26 +20,26 @@ queries-init g c = record { few = omega arith; begun = λ limit m0 defined aside
 pub returns-in-End-clause-rest : goal.returns-in-End-clause-rest
 unfolding end_line
 returns-in-End-clause-rest g c = λ limit m0 defined aside noted b.
-    let d = deployed_as c.args.plan.now in
+    let d = deployed_as c.args.deployment.now in
     let ask = answers_from d.names (setting g.T.Tag.mac d c.args.timeline.now.sites) c.args.timeline.now.lines in
     told-end {f = ask c.queries.number} refl (c.queries.invariant.begun limit m0 defined aside noted b) c.in-End.ensures.next c.finish.ensures.ends
 
 pub returns-in-TooLong-clause-rest : goal.returns-in-TooLong-clause-rest
 returns-in-TooLong-clause-rest g c = λ limit m0 defined aside noted b.
-    let d = deployed_as c.args.plan.now in
+    let d = deployed_as c.args.deployment.now in
     let ask = answers_from d.names (setting g.T.Tag.mac d c.args.timeline.now.sites) c.args.timeline.now.lines in
     told-too-long {f = ask c.queries.number} refl (c.queries.invariant.begun limit m0 defined aside noted b) c.in-TooLong.ensures.next c.break_query.ensures.ends
 
 pub returns-in-Failed-clause-rest : goal.returns-in-Failed-clause-rest
 unfolding read_line
 returns-in-Failed-clause-rest g c = λ limit m0 defined aside noted b.
-    let d = deployed_as c.args.plan.now in
+    let d = deployed_as c.args.deployment.now in
     let ask = answers_from d.names (setting g.T.Tag.mac d c.args.timeline.now.sites) c.args.timeline.now.lines in
     told-failed {f = ask c.queries.number} refl (c.queries.invariant.begun limit m0 defined aside noted b) c.in-Failed.ensures.next c.finish-in-Failed.ensures.ends
 
 pub returns-in-Stop-clause-rest : goal.returns-in-Stop-clause-rest
 returns-in-Stop-clause-rest g c = λ limit m0 defined aside noted b.
-    let d = deployed_as c.args.plan.now in
+    let d = deployed_as c.args.deployment.now in
     let left = answers_from d.names (setting g.T.Tag.mac d c.args.timeline.now.sites) c.args.timeline.now.lines in
     let text = take c.in-Text.n c.next.new.into in
     told-stop (begun-line (left c.queries.number) refl (c.queries.invariant.begun limit m0 defined aside noted b) c.in-Text.ensures.next)
@@ -56,7 +56,7 @@ returns-in-Failed-clause-wanted g c = λ six. absurd (omega (arith, six, c.finis
 
 pub returns-in-Stop-clause-wanted : goal.returns-in-Stop-clause-wanted
 returns-in-Stop-clause-wanted g c = λ six.
-    let names = (deployed_as c.args.plan.now).names in
+    let names = (deployed_as c.args.deployment.now).names in
     let last = length c.args.timeline.now.lines in
     let text = take c.in-Text.n c.next.new.into in
     let gave = c.queries.invariant.gave in
@@ -68,7 +68,7 @@ returns-in-Stop-clause-wanted g c = λ six.
 
 pub queries-preserved : goal.queries-preserved
 queries-preserved g c =
-    let d = deployed_as c.args.plan.now in
+    let d = deployed_as c.args.deployment.now in
     let left = answers_from d.names (setting g.T.Tag.mac d c.args.timeline.now.sites) c.args.timeline.now.lines in
     let text = take c.in-Text.n c.next.new.into in
     record {

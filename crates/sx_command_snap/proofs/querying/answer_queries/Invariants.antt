@@ -10,7 +10,7 @@ use Rattle.sx_command_snap.proofs.querying.answer_queries.Given as goal
 -- what is left is what is written from the next query on
 abbrev pub invariant-queries : goal.invariant-queries
 invariant-queries g l =
-    let d = deployed_as l.plan in
+    let d = deployed_as l.deployment in
     let ask = answers_from d.names (setting g.T.Tag.mac d l.timeline.sites) l.timeline.lines in record {
       few : l.number ≤ 65;
       begun : GoesOn g.S.Source.tells g.K.Sink.tells (command_at (g.S.Source.at l.fn.input) (g.K.Sink.at l.fn.output)) (command_at (g.S.Source.at l.input) (g.K.Sink.at l.output))

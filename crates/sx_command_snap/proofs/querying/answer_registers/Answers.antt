@@ -9,7 +9,7 @@ use Rattle.sx_command_snap.proofs.querying.answer_registers.Goals as goal
 pub returns : goal.returns
 unfolding answer_text
 returns g c =
-    let d = deployed_as c.args.plan.now in
+    let d = deployed_as c.args.deployment.now in
     let set = setting g.T.Tag.mac d c.args.timeline.now.sites in
     let P : List ℕ → Type 0 = λ due. IfOk c.registers_line.result (λ text. text.items ≡ due) in
     subst P

@@ -13,6 +13,6 @@ returns-in-Ok g c = λ left.
 
 pub returns-in-Err : goal.returns-in-Err
 returns-in-Err g c = λ left more.
-    let d = deployed_as c.args.plan.now in
+    let d = deployed_as c.args.deployment.now in
     let text = answer_text d.names (setting g.T.Tag.mac d c.args.timeline.now.sites) c.args.timeline.now.lines c.args.query in
     ends-out-of-memory _ _ _ (behind text (left more)) (λ t. prefix-none _ _ _ refl) refl

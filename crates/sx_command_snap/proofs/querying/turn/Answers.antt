@@ -12,12 +12,12 @@ use Rattle.sx_command_snap.proofs.querying.turn.Goals as goal
 
 pub tell-requires-clause-asked : goal.tell-requires-clause-asked
 tell-requires-clause-asked g c =
-    let P : ℕ → Type 0 = λ last. IsAsked (deployed_as c.args.plan.now).names last c.in-Ok.query in
+    let P : ℕ → Type 0 = λ last. IsAsked (deployed_as c.args.deployment.now).names last c.in-Ok.query in
     subst P c.count.ensures c.in-Ok.ensures.asked
 
 pub returns-in-Ok-clause-does : goal.returns-in-Ok-clause-does
 returns-in-Ok-clause-does g c =
-    let d = deployed_as c.args.plan.now in
+    let d = deployed_as c.args.deployment.now in
     let set = setting g.T.Tag.mac d c.args.timeline.now.sites in
     let lines = c.args.timeline.now.lines in
     let n = c.args.number in
@@ -28,7 +28,7 @@ returns-in-Ok-clause-does g c =
 
 pub returns-in-Err-clause-does : goal.returns-in-Err-clause-does
 returns-in-Err-clause-does g c = λ more.
-    let d = deployed_as c.args.plan.now in
+    let d = deployed_as c.args.deployment.now in
     let set = setting g.T.Tag.mac d c.args.timeline.now.sites in
     let lines = c.args.timeline.now.lines in
     let n = c.args.number in
@@ -40,7 +40,7 @@ returns-in-Err-clause-does g c = λ more.
 pub returns-in-Ok-clause-memory : goal.returns-in-Ok-clause-memory
 returns-in-Ok-clause-memory g c = λ six.
     let P : Result Query ℕ → Type 0 = IsOk in
-    let d = deployed_as c.args.plan.now in
+    let d = deployed_as c.args.deployment.now in
     let judged : judged_query d.names (length c.args.timeline.now.lines) c.args.number c.args.said.now ≡ Ok c.in-Ok.query =
     ap (λ (k : ℕ). judged_query d.names k c.args.number c.args.said.now) (sym c.count.ensures) ∙ sym c.in-Ok.ensures.query in
     subst P (sym judged) refl

@@ -9,13 +9,13 @@ use Rattle.sx_command_snap.proofs.schedule.answer_all.Goals as goal
 
 pub returns-in-Stop-clause-rest : goal.returns-in-Stop-clause-rest
 returns-in-Stop-clause-rest g c = λ limit m0 defined aside noted b.
-    let d = deployed_as c.args.plan.now in
+    let d = deployed_as c.args.deployment.now in
     let left = answers_from d.names (setting g.T.Tag.mac d c.args.timeline.now.sites) c.args.timeline.now.lines 1 in
     told-stop b (c.in-Stop.ensures.does left)
 
 pub returns-in-On-clause-rest : goal.returns-in-On-clause-rest
 returns-in-On-clause-rest g c = λ limit m0 defined aside noted b.
-    let d = deployed_as c.args.plan.now in
+    let d = deployed_as c.args.deployment.now in
     let left = answers_from d.names (setting g.T.Tag.mac d c.args.timeline.now.sites) c.args.timeline.now.lines 1 in
     c.answer_queries.ensures.rest limit m0 defined aside noted (begun-put (λ more. behind c.args.images.now (left more)) left b (c.in-On.ensures.does left))
 

@@ -8,6 +8,6 @@ use Rattle.sx_command_snap.proofs.schedule.keep.Goals as goal
 pub returns-in-Ok-clause-keeps : goal.returns-in-Ok-clause-keeps
 returns-in-Ok-clause-keeps g c = record {
   line = line_of c.in_ok-line.line;
-  judged = ap (λ (n : ℕ). judged_line assembled (deployed_as c.args.plan.now).names n c.args.said.now) c.requires.counted ∙ c.in_ok-line.ensures.line;
+  judged = ap (λ (n : ℕ). judged_line assembled (deployed_as c.args.deployment.now).names n c.args.said.now) c.requires.counted ∙ c.in_ok-line.ensures.line;
   kept = c.in-Ok.ensures.added;
 }

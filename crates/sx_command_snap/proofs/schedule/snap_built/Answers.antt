@@ -14,7 +14,7 @@ use Rattle.sx_command_snap.proofs.schedule.snap_built.Goals as goal
 
 pub returns-in-Ok-clause-rest : goal.returns-in-Ok-clause-rest
 returns-in-Ok-clause-rest g c =
-    let d = deployed_as c.args.plan.now in
+    let d = deployed_as c.args.deployment.now in
     let set = setting g.T.Tag.mac d c.args.timeline.now.sites in
     let texts = texts_of c.args.images.now in
     let R : List ℕ → Type 0 = λ images. Rest g.S.Source.tells g.K.Sink.tells head_lines c.args.lines.now
@@ -22,12 +22,12 @@ returns-in-Ok-clause-rest g c =
     c.snap_lines.result (snap_from d.names set images []) in
     subst R
     (c.deref-in-Ok.ensures.value ∙ c.in-Ok.ensures ∙ ap (λ (names : List (List ℕ)). images_text names texts) c.deref.ensures.value
-    ∙ ap (λ (plan : Deployment). images_text plan.names.modules texts) c.plan.view_is)
+    ∙ ap (λ (deployment : Deployment). images_text deployment.names.modules texts) c.deployment.view_is)
     c.snap_lines.ensures.rest
 
 pub returns-in-Err-clause-rest : goal.returns-in-Err-clause-rest
 returns-in-Err-clause-rest g c = λ limit m0 defined aside noted b.
-    let d = deployed_as c.args.plan.now in
+    let d = deployed_as c.args.deployment.now in
     let images = images_text d.names.modules (texts_of c.args.images.now) in
     told-stop b
     (λ more. ends-out-of-memory _ _ _ (snap_from d.names (setting g.T.Tag.mac d c.args.timeline.now.sites) images [] more) (λ t. prefix-none _ _ _ refl) refl)

@@ -26,14 +26,14 @@ lines-init g c = record {
   timeline = c.requires.timeline;
   gave = schedule_none _ _ _;
   begun = λ limit m0 defined aside noted b.
-      let d = deployed_as c.args.plan.now in
+      let d = deployed_as c.args.deployment.now in
       let left = snap_from d.names (setting g.T.Tag.mac d c.args.timeline.now.sites) c.args.images.now in
       begun-same (left c.args.timeline.now.lines) (λ more. ap (λ (ls : List lines.Line). left ls more) (sym c.requires.none)) b;
 }
 
 pub returns-in-End-clause-rest : goal.returns-in-End-clause-rest
 returns-in-End-clause-rest g c = λ limit m0 defined aside noted b.
-    let d = deployed_as c.args.plan.now in
+    let d = deployed_as c.args.deployment.now in
     let set = setting g.T.Tag.mac d c.args.timeline.now.sites in
     let images = c.args.images.now in
     let before = c.lines.timeline.lines in
@@ -42,7 +42,7 @@ returns-in-End-clause-rest g c = λ limit m0 defined aside noted b.
 
 pub returns-in-TooLong-clause-rest : goal.returns-in-TooLong-clause-rest
 returns-in-TooLong-clause-rest g c = λ limit m0 defined aside noted b.
-    let d = deployed_as c.args.plan.now in
+    let d = deployed_as c.args.deployment.now in
     let set = setting g.T.Tag.mac d c.args.timeline.now.sites in
     let images = c.args.images.now in
     let before = c.lines.timeline.lines in
@@ -53,7 +53,7 @@ returns-in-TooLong-clause-rest g c = λ limit m0 defined aside noted b.
 pub returns-in-Failed-clause-rest : goal.returns-in-Failed-clause-rest
 unfolding read_line
 returns-in-Failed-clause-rest g c = λ limit m0 defined aside noted b.
-    let d = deployed_as c.args.plan.now in
+    let d = deployed_as c.args.deployment.now in
     let set = setting g.T.Tag.mac d c.args.timeline.now.sites in
     let images = c.args.images.now in
     let before = c.lines.timeline.lines in
@@ -62,13 +62,13 @@ returns-in-Failed-clause-rest g c = λ limit m0 defined aside noted b.
 
 pub answer_all-requires-clause-images : goal.answer_all-requires-clause-images
 answer_all-requires-clause-images g c =
-    let P : List Site → Type 0 = λ sites. IsSoundSetting (setting g.T.Tag.mac (deployed_as c.args.plan.now) sites) in
+    let P : List Site → Type 0 = λ sites. IsSoundSetting (setting g.T.Tag.mac (deployed_as c.args.deployment.now) sites) in
     subst P (sym c.lines.invariant.sites) c.requires.images
 
 pub returns-then-is_mark-clause-rest : goal.returns-then-is_mark-clause-rest
 returns-then-is_mark-clause-rest g c = λ limit m0 defined aside noted b.
     let mac = g.T.Tag.mac in
-    let d = deployed_as c.args.plan.now in
+    let d = deployed_as c.args.deployment.now in
     let set = setting mac d c.args.timeline.now.sites in
     let images = c.args.images.now in
     let before = c.lines.timeline.lines in
@@ -81,12 +81,12 @@ returns-then-is_mark-clause-rest g c = λ limit m0 defined aside noted b.
 
 pub keep-requires-clause-images : goal.keep-requires-clause-images
 keep-requires-clause-images g c =
-    let P : List Site → Type 0 = λ sites. IsSoundSetting (setting g.T.Tag.mac (deployed_as c.args.plan.now) sites) in
+    let P : List Site → Type 0 = λ sites. IsSoundSetting (setting g.T.Tag.mac (deployed_as c.args.deployment.now) sites) in
     subst P (sym c.lines.invariant.sites) c.requires.images
 
 pub returns-in-Err-Fault-clause-rest : goal.returns-in-Err-Fault-clause-rest
 returns-in-Err-Fault-clause-rest g c = λ limit m0 defined aside noted b.
-    let d = deployed_as c.args.plan.now in
+    let d = deployed_as c.args.deployment.now in
     let set = setting g.T.Tag.mac d c.args.timeline.now.sites in
     let images = c.args.images.now in
     let before = c.lines.timeline.lines in
@@ -104,7 +104,7 @@ returns-in-Err-Fault-clause-rest g c = λ limit m0 defined aside noted b.
 
 pub returns-in-Err-OutOfMemory-clause-rest : goal.returns-in-Err-OutOfMemory-clause-rest
 returns-in-Err-OutOfMemory-clause-rest g c = λ limit m0 defined aside noted b.
-    let d = deployed_as c.args.plan.now in
+    let d = deployed_as c.args.deployment.now in
     let set = setting g.T.Tag.mac d c.args.timeline.now.sites in
     let images = c.args.images.now in
     let before = c.lines.timeline.lines in
@@ -123,7 +123,7 @@ returns-in-Failed-clause-wanted g c = λ six. absurd (omega (arith, six, c.finis
 
 pub returns-then-is_mark-clause-wanted : goal.returns-then-is_mark-clause-wanted
 returns-then-is_mark-clause-wanted g c = λ six.
-    let d = deployed_as c.args.plan.now in
+    let d = deployed_as c.args.deployment.now in
     let st = c.lines.invariant.gave in
     let last = length c.lines.timeline.lines in
     let same : last ≡ length st.gave.lines = (let k = c.lines.invariant.counted in let n = st.gave.numbered in omega (arith, k, n)) in
@@ -135,7 +135,7 @@ returns-in-Err-Fault-clause-wanted g c = λ six. absurd (c.break_off-in-Err-Faul
 
 pub returns-in-Err-OutOfMemory-clause-wanted : goal.returns-in-Err-OutOfMemory-clause-wanted
 returns-in-Err-OutOfMemory-clause-wanted g c = λ six.
-    let d = deployed_as c.args.plan.now in
+    let d = deployed_as c.args.deployment.now in
     let st = c.lines.invariant.gave in
     let text = take c.in-Text.n c.next.new.into in
     let P : ℕ → Type 0 = λ number. MayRunOut (judged_line assembled d.names number text) in
@@ -145,7 +145,7 @@ returns-in-Err-OutOfMemory-clause-wanted g c = λ six.
 
 pub lines-preserved : goal.lines-preserved
 lines-preserved g c =
-    let d = deployed_as c.args.plan.now in
+    let d = deployed_as c.args.deployment.now in
     let set = setting g.T.Tag.mac d c.args.timeline.now.sites in
     let images = c.args.images.now in
     let before = c.lines.timeline.lines in

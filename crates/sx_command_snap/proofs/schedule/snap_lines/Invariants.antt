@@ -11,7 +11,7 @@ use Rattle.sx_command_snap.proofs.schedule.snap_lines.Given as goal
 -- the lines so far are kept, and what is left is what is written from the next line on
 abbrev pub invariant-lines : goal.invariant-lines
 invariant-lines g l =
-    let d = deployed_as l.plan in
+    let d = deployed_as l.deployment in
     let first = snap_from d.names (setting g.T.Tag.mac d l.fn.timeline.sites) l.images in record {
       few : l.number ≤ 65537;
       counted : length l.timeline.lines + 1 ≡ l.number;

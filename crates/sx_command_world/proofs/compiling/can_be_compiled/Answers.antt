@@ -11,20 +11,20 @@ use Rattle.sx_command_world.proofs.compiling.can_be_compiled.Goals as goal
 
 pub returns-clause-few : goal.returns-clause-few
 returns-clause-few c =
-    let d = deployed_as c.args.plan.now in
+    let d = deployed_as c.args.deployment.now in
     subst (λ (es : List End). length es ≤ 16) (sym c.requires.ends)
-    (few_ends d c.args.number (part_as c.args.part.now) c.requires.sound (get_part c.args.plan.now.app.parts.items c.args.number c.args.part.now c.requires.part))
+    (few_ends d c.args.number (part_as c.args.part.now) c.requires.sound (get_part c.args.deployment.now.app.parts.items c.args.number c.args.part.now c.requires.part))
 
 pub returns-clause-packets : goal.returns-clause-packets
 returns-clause-packets c =
-    let d = deployed_as c.args.plan.now in
+    let d = deployed_as c.args.deployment.now in
     let tree = source_tree c.args.part.now.code in
     subst (λ (es : List End). SendFew (senders es) tree tree.handlers) (sym c.requires.ends)
-    (few_packets d c.args.number (part_as c.args.part.now) c.requires.sound (get_part c.args.plan.now.app.parts.items c.args.number c.args.part.now c.requires.part))
+    (few_packets d c.args.number (part_as c.args.part.now) c.requires.sound (get_part c.args.deployment.now.app.parts.items c.args.number c.args.part.now c.requires.part))
 
 pub returns-clause-room : goal.returns-clause-room
 returns-clause-room c =
-    let d = deployed_as c.args.plan.now in
+    let d = deployed_as c.args.deployment.now in
     subst (λ (es : List End). HasSections (source_tree c.args.part.now.code) es c.args.layout.now) (sym c.requires.ends)
     (has_sections d c.args.number (part_as c.args.part.now) c.args.layout.now c.requires.sound
-    (get_part c.args.plan.now.app.parts.items c.args.number c.args.part.now c.requires.part) c.requires.layout)
+    (get_part c.args.deployment.now.app.parts.items c.args.number c.args.part.now c.requires.part) c.requires.layout)

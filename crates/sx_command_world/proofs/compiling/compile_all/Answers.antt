@@ -8,9 +8,9 @@ use Rattle.sx_command_world.proofs.compiling.compile_all.Goals as goal
 
 pub modules-preserved : goal.modules-preserved
 modules-preserved g c = record {
-  within = omega (arith, c.modules-test.true, c.from.ensures, c.len.ensures, c.args.plan.now.app.parts.ok);
+  within = omega (arith, c.modules-test.true, c.from.ensures, c.len.ensures, c.args.deployment.now.app.parts.ok);
   all = ap length c.in_ok-push.ensures.items ∙ one_longer c.modules.images.items c.in_ok-compile_part.field-0 c.modules.number c.modules.invariant.all;
-  built = more_built g.T.Tag.mac (deployed_as c.args.plan.now) c.modules.images.items c.push.new.self.items c.in_ok-compile_part.field-0 c.modules.number c.in_ok-push.ensures.items
+  built = more_built g.T.Tag.mac (deployed_as c.args.deployment.now) c.modules.images.items c.push.new.self.items c.in_ok-compile_part.field-0 c.modules.number c.in_ok-push.ensures.items
       c.modules.invariant.all c.modules.invariant.built c.in_ok-compile_part.ensures;
 }
 

@@ -7,10 +7,10 @@ use Rattle.sx_command_world.proofs.compiling.compile_all.Given as goal
 -- the images of the modules so far
 abbrev pub invariant-modules : goal.invariant-modules
 invariant-modules g l = record {
-  within : l.number ≤ length l.fn.plan.app.parts.items;
+  within : l.number ≤ length l.fn.deployment.app.parts.items;
   all : length l.images.items ≡ l.number;
-  built : AreBuilt g.T.Tag.mac (deployed_as l.fn.plan) (map plain l.images.items);
+  built : AreBuilt g.T.Tag.mac (deployed_as l.fn.deployment) (map plain l.images.items);
 }
 
 abbrev pub decreases-modules : goal.decreases-modules
-decreases-modules g l = length l.fn.plan.app.parts.items - l.number
+decreases-modules g l = length l.fn.deployment.app.parts.items - l.number

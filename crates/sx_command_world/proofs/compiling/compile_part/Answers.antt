@@ -14,25 +14,25 @@ use Rattle.sx_command_world.proofs.compiling.compile_part.Goals as goal
 
 pub index-layout-requires : goal.index-layout-requires
 index-layout-requires g c =
-    let lt = layout_within (deployed_as c.args.plan.now) c.args.plan.now.app.parts.items c.args.number refl c.requires.sound c.requires.within in
-    omega (arith, c.from-place.ensures, c.args.plan.now.layouts.ok, lt)
+    let lt = layout_within (deployed_as c.args.deployment.now) c.args.deployment.now.app.parts.items c.args.number refl c.requires.sound c.requires.within in
+    omega (arith, c.from-place.ensures, c.args.deployment.now.layouts.ok, lt)
 
 pub can_be_compiled-requires-clause-part : goal.can_be_compiled-requires-clause-part
 can_be_compiled-requires-clause-part g c =
-    held_at c.args.plan.now.app.parts.items c.args.number c.index-part.result.now c.requires.within
-    (subst (λ (n : ℕ). c.index-part.result.now ≡ slice_index_or c.args.plan.now.app.parts.items n c.index-part.result.now) c.from-place.ensures c.index-part.ensures)
+    held_at c.args.deployment.now.app.parts.items c.args.number c.index-part.result.now c.requires.within
+    (subst (λ (n : ℕ). c.index-part.result.now ≡ slice_index_or c.args.deployment.now.app.parts.items n c.index-part.result.now) c.from-place.ensures c.index-part.ensures)
 
 pub can_be_compiled-requires-clause-layout : goal.can_be_compiled-requires-clause-layout
 can_be_compiled-requires-clause-layout g c =
-    held_at c.args.plan.now.layouts.items c.args.number c.index-layout.result.now
-    (layout_within (deployed_as c.args.plan.now) c.args.plan.now.app.parts.items c.args.number refl c.requires.sound c.requires.within)
-    (subst (λ (n : ℕ). c.index-layout.result.now ≡ slice_index_or c.args.plan.now.layouts.items n c.index-layout.result.now) c.from-place.ensures c.index-layout.ensures)
+    held_at c.args.deployment.now.layouts.items c.args.number c.index-layout.result.now
+    (layout_within (deployed_as c.args.deployment.now) c.args.deployment.now.app.parts.items c.args.number refl c.requires.sound c.requires.within)
+    (subst (λ (n : ℕ). c.index-layout.result.now ≡ slice_index_or c.args.deployment.now.layouts.items n c.index-layout.result.now) c.from-place.ensures c.index-layout.ensures)
 
 pub returns : goal.returns
 returns g c =
-    let d = deployed_as c.args.plan.now in
+    let d = deployed_as c.args.deployment.now in
     let p = c.args.number in
-    let parts = c.args.plan.now.app.parts.items in
+    let parts = c.args.deployment.now.app.parts.items in
     let part = c.index-part.result.now in
     let here = held_at parts p part c.requires.within
     (subst (λ (n : ℕ). part ≡ slice_index_or parts n part) c.from-place.ensures c.index-part.ensures) in

@@ -7,7 +7,7 @@ use Rattle.sx_command_world.proofs.nodes.node_at.Goals as goal
 
 pub new-requires-2 : goal.new-requires-2
 new-requires-2 g c =
-    let d = deployed_as c.args.plan.now in
+    let d = deployed_as c.args.deployment.now in
     stand_apart d c.args.number c.deref-3.result.now c.requires.sound
     (c.deref-3.ensures.value ∙ c.in_ok-places.ensures ∙ ap (λ (xs : List AppDevice). windows_at c.args.number xs c.deref-2.result.now) c.deref.ensures.value
     ∙ ap (λ (ys : List ℕ). windows_at c.args.number d.app.devices ys) c.deref-2.ensures.value)

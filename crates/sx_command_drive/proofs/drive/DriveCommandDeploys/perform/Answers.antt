@@ -11,8 +11,8 @@ use Rattle.sx_command_drive.proofs.drive.DriveCommandDeploys.perform.Goals as go
 pub drive_built-requires-clause-going : goal.drive_built-requires-clause-going
 drive_built-requires-clause-going g c =
     let mac = g.T.Tag.mac in
-    let d = deployed_as c.args.plan.now in
-    let set = image_setting mac c.args.plan.now c.args.images.now in record {
+    let d = deployed_as c.args.deployment.now in
+    let set = image_setting mac c.args.deployment.now c.args.images.now in record {
       set = set;
       honest = start set;
       follows = c.in-Ok.ensures.starts;
@@ -22,7 +22,7 @@ drive_built-requires-clause-going g c =
 pub returns-in-Err-clause-rest : goal.returns-in-Err-clause-rest
 returns-in-Err-clause-rest g c = λ limit m0 defined aside noted b.
     let texts = map (λ i. i.text.items) c.args.images.now in
-    told-stop b (λ more. ends-out-of-memory _ _ _ (drive_deployed g.T.Tag.mac (deployed_as c.args.plan.now) texts more) (λ t. prefix-none _ _ _ refl) refl)
+    told-stop b (λ more. ends-out-of-memory _ _ _ (drive_deployed g.T.Tag.mac (deployed_as c.args.deployment.now) texts more) (λ t. prefix-none _ _ _ refl) refl)
 
 pub returns-in-Ok-clause-wanted : goal.returns-in-Ok-clause-wanted
 returns-in-Ok-clause-wanted g c = c.drive_built.ensures.wanted

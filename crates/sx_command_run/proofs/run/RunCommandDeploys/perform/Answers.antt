@@ -14,25 +14,25 @@ use Rattle.sx_command_run.proofs.run.RunCommandDeploys.perform.Goals as goal
 
 pub run_lines-requires-clause-images : goal.run_lines-requires-clause-images
 run_lines-requires-clause-images g c =
-    let d = deployed_as c.args.plan.now in
+    let d = deployed_as c.args.deployment.now in
     let texts = map (λ i. i.text.items) c.args.images.now in
     let P : List Site → Type 0 = λ sites. IsSoundSetting (setting g.T.Tag.mac d sites) in
     subst P (sym c.in-Ok.ensures.sites) (settled g.T.Tag.mac d texts c.requires.sound c.requires.images g.met.T.Tag.is_tag)
 
 pub run_lines-requires-clause-stands : goal.run_lines-requires-clause-stands
 run_lines-requires-clause-stands g c =
-    let d = deployed_as c.args.plan.now in
+    let d = deployed_as c.args.deployment.now in
     let P : List Site → Type 0 = λ sites. Stands (setting g.T.Tag.mac d sites) c.in-Ok.world (switched_on (setting g.T.Tag.mac d sites)) in
     subst P (sym c.in-Ok.ensures.sites) c.in-Ok.ensures.stands
 
-pub returns-in-Ok-clause-rest : goal.returns-in-Ok-clause-rest
-returns-in-Ok-clause-rest g c = λ limit m0 defined aside noted b.
+pub returns-in-Stop-clause-rest : goal.returns-in-Stop-clause-rest
+returns-in-Stop-clause-rest g c = λ limit m0 defined aside noted b.
     let d = deployed_as c.args.deployment.now in
     told-stop b (c.in-Stop.ensures (run_at_start assembled d.names (setting_of g.T.Tag.mac d (map (λ i. i.text.items) c.args.images.now))))
 
 pub returns-in-On-clause-rest : goal.returns-in-On-clause-rest
 returns-in-On-clause-rest g c = λ limit m0 defined aside noted b.
-    let d = deployed_as c.args.plan.now in
+    let d = deployed_as c.args.deployment.now in
     let mac = g.T.Tag.mac in
     let texts = map (λ i. i.text.items) c.args.images.now in
     let set = setting mac d c.in-Ok.world.sites in
@@ -45,7 +45,7 @@ returns-in-On-clause-rest g c = λ limit m0 defined aside noted b.
 pub returns-clause-rest : goal.returns-clause-rest
 returns-clause-rest g c = λ limit m0 defined aside noted b.
     let texts = map (λ i. i.text.items) c.args.images.now in
-    told-stop b (λ more. ends-out-of-memory _ _ _ (run_deployed assembled g.T.Tag.mac (deployed_as c.args.plan.now) texts more) (λ t. prefix-none _ _ _ refl) refl)
+    told-stop b (λ more. ends-out-of-memory _ _ _ (run_deployed assembled g.T.Tag.mac (deployed_as c.args.deployment.now) texts more) (λ t. prefix-none _ _ _ refl) refl)
 
 pub returns-clause-wanted : goal.returns-clause-wanted
 returns-clause-wanted g c = λ six. ([], given_none _ _ _ _, inl refl)

@@ -12,7 +12,7 @@ use Rattle.sx_command_snap.proofs.snap.SnapCommandDeploys.perform.Goals as goal
 
 pub snap_built-requires-clause-images : goal.snap_built-requires-clause-images
 snap_built-requires-clause-images g c =
-    let d = deployed_as c.args.plan.now in
+    let d = deployed_as c.args.deployment.now in
     let texts = map (λ i. i.text.items) c.args.images.now in
     let P : List Site → Type 0 = λ sites. IsSoundSetting (setting g.T.Tag.mac d sites) in
     subst P (sym c.in-Ok.ensures.sites) (settled g.T.Tag.mac d texts c.requires.sound c.requires.images g.met.T.Tag.is_tag)
@@ -20,7 +20,7 @@ snap_built-requires-clause-images g c =
 pub returns-in-Ok-clause-rest : goal.returns-in-Ok-clause-rest
 returns-in-Ok-clause-rest g c = λ limit m0 defined aside noted b.
     let mac = g.T.Tag.mac in
-    let d = deployed_as c.args.plan.now in
+    let d = deployed_as c.args.deployment.now in
     let texts = map (λ i. i.text.items) c.args.images.now in
     let set = setting mac d c.in-Ok.timeline.sites in
     c.snap_built.ensures.rest limit m0 defined aside noted
@@ -30,7 +30,7 @@ returns-in-Ok-clause-rest g c = λ limit m0 defined aside noted b.
 pub returns-in-Err-clause-rest : goal.returns-in-Err-clause-rest
 returns-in-Err-clause-rest g c = λ limit m0 defined aside noted b.
     let texts = map (λ i. i.text.items) c.args.images.now in
-    told-stop b (λ more. ends-out-of-memory _ _ _ (snap_deployed g.T.Tag.mac (deployed_as c.args.plan.now) texts more) (λ t. prefix-none _ _ _ refl) refl)
+    told-stop b (λ more. ends-out-of-memory _ _ _ (snap_deployed g.T.Tag.mac (deployed_as c.args.deployment.now) texts more) (λ t. prefix-none _ _ _ refl) refl)
 
 pub returns-in-Ok-clause-wanted : goal.returns-in-Ok-clause-wanted
 returns-in-Ok-clause-wanted g c = c.snap_built.ensures.wanted
