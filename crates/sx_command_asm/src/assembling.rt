@@ -146,7 +146,7 @@ fn code_at(alloc: Global, at: u16, gathered: &GatheredText) -> Result<Vec<u8>, A
 }
 
 /// Lists the code of what was read, or writes which rule it breaks.
-fn judge<K: Sink>(alloc: Global, at: u16, gathered: &GatheredText, output: &mut K) -> u8
+fn tell_code<K: Sink>(alloc: Global, at: u16, gathered: &GatheredText, output: &mut K) -> u8
     ensures { CommandEnds K.tells (K.at output.old) (K.at output.new) result
         (told_code at (code_at at (gathered_bytes gathered.now))) }
 {
@@ -167,7 +167,7 @@ fn asm_told<S: Source, K: Sink>(alloc: Global, at: u16, input: &mut S, output: &
         result (asm_all at) anything }
 {
     match gather(alloc, input) {
-        Ok(gathered) => judge(alloc, at, &gathered, output),
+        Ok(gathered) => tell_code(alloc, at, &gathered, output),
         Err(GatherFault::Failed) => finish(output, b"fault read\n", READ_FAILED),
         Err(GatherFault::OutOfMemory) => OUT_OF_MEMORY,
     }

@@ -79,7 +79,7 @@ fn accept<K: Sink>(alloc: Global, deployment: &Deployment, output: &mut K) -> u8
 
 /// Writes what is said of a text by what reading it gave. To say which rule it breaks takes no
 /// memory.
-fn judge_read<K: Sink>(alloc: Global, read: Result<Deployment, DeployError>, output: &mut K) -> u8
+fn check_read<K: Sink>(alloc: Global, read: Result<Deployment, DeployError>, output: &mut K) -> u8
     ensures accepted { IfOk read (λ deployment.
         CommandEnds K.tells (K.at output.old) (K.at output.new) result
         (check_output (Ok (deployed_as deployment)))) }
@@ -93,12 +93,12 @@ fn judge_read<K: Sink>(alloc: Global, read: Result<Deployment, DeployError>, out
 }
 
 /// Writes what is said of a deployment's text.
-fn judge<K: Sink>(alloc: Global, text: &[u8], output: &mut K) -> u8
+fn check_text<K: Sink>(alloc: Global, text: &[u8], output: &mut K) -> u8
     ensures { (meaning : Meaning) → IsMeaning meaning
         → CommandEnds K.tells (K.at output.old) (K.at output.new) result
         (check_output (meaning text.now)) }
 {
-    judge_read(alloc, read_deployment(alloc, text), output)
+    check_read(alloc, read_deployment(alloc, text), output)
 }
 
 /// What the command `check` writes is that of the head that it took. To say that there is no head
@@ -111,7 +111,7 @@ fn check_told<S: Source, K: Sink>(alloc: Global, input: &mut S, output: &mut K) 
 {
     let mut lines = Lines::new();
     match read_head(alloc, &mut lines, input) {
-        Ok(text) => judge(alloc, &text, output),
+        Ok(text) => check_text(alloc, &text, output),
         Err(fault) => refuse_head(fault, output),
     }
 }

@@ -18,7 +18,7 @@ use crate::counts::Counts;
 use std::alloc::Global;
 use sx_bulk::{MOST_SAMPLES, line, lines};
 use sx_bus::Copied;
-use sx_command_world::judging::judge;
+use sx_command_world::judging::judge_line;
 use sx_deploy::deployment::Deployment;
 use sx_sched::lines::{Line, LineError};
 use sx_tag::Tag;
@@ -79,7 +79,7 @@ fn turn<B: Copied, T: Tag>(
     ensures sites { world.new.sites ≡ world.old.sites }
     ensures counts { OnOk result (world.new.lines ≡ number) }
 {
-    match judge(alloc, &deployment.names, said, number) {
+    match judge_line(alloc, &deployment.names, said, number) {
         Ok(line) => act(deployment, world, &line, items),
         Err(LineError::Fault(rule)) => Err(Stopped::Broken { rule, number }),
         Err(LineError::OutOfMemory) => Err(Stopped::OutOfMemory),

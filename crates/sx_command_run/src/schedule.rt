@@ -23,7 +23,7 @@ ghost use Rattle.sx_command_world.specs.Turning.{MayRunOut};
 use crate::trace::put_items;
 use std::alloc::Global;
 use sx_bus::Copied;
-use sx_command_world::judging::{TOO_LONG, break_off, judge};
+use sx_command_world::judging::{TOO_LONG, break_off, judge_line};
 use sx_deploy::deployment::Deployment;
 use sx_io::{LineRead, Lines, Sink, Source};
 use sx_sched::lines::LineError;
@@ -60,7 +60,7 @@ fn turn<K: Sink, B: Copied, T: Tag>(
     ensures counts { result ≡ Turned.On → world.new.lines ≡ number }
 {
     items.clear();
-    match judge(alloc, &deployment.names, said, number) {
+    match judge_line(alloc, &deployment.names, said, number) {
         Ok(line) => match world.act(deployment, &line, items) {
             Ok(()) => put_items(output, &deployment.names, items),
             Err(_) => match put_items(output, &deployment.names, items) {

@@ -25,7 +25,7 @@ use crate::querying::answer_queries;
 use std::alloc::Global;
 use sx_bus::Copied;
 use sx_command_world::images::image_lines;
-use sx_command_world::judging::{TOO_LONG, break_off, judge};
+use sx_command_world::judging::{TOO_LONG, break_off, judge_line};
 use sx_deploy::deployment::Deployment;
 use sx_head::is_mark;
 use sx_image::Image;
@@ -60,7 +60,7 @@ fn keep<B: Copied, T: Tag + Copy>(
     ensures memory { result ≡ Err LineError.OutOfMemory
         → MayRunOut (judged_line assembled (deployed_as deployment.now).names number said.now) }
 {
-    let line = judge(alloc, &deployment.names, said, number)?;
+    let line = judge_line(alloc, &deployment.names, said, number)?;
     match timeline.push(deployment, line) {
         Ok(()) => Ok(()),
         Err(_) => Err(LineError::OutOfMemory),

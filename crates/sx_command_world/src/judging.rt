@@ -31,7 +31,7 @@ const TOO_MANY: u8 = 2;
 /// The line of this number, counted from 1, or the first rule that it breaks. The number is tested
 /// first: a line too many breaks its rule whatever it says, and that is found without memory.
 #[tactic(auto, unfolding(crate::specs::Schedule::judged_line))]
-pub fn judge(alloc: Global, names: &Names, text: &[u8], number: u32) -> Result<Line, LineError>
+pub fn judge_line(alloc: Global, names: &Names, text: &[u8], number: u32) -> Result<Line, LineError>
     requires { IsTrue (are_valid names.now) }
     ensures line { IfOk result (λ line.
         judged_line assembled names.now number text.now ≡ Ok (line_of line)) }

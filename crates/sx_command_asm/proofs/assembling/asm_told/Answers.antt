@@ -10,7 +10,7 @@ use Rattle.sx_command_asm.proofs.assembling.asm_told.Goals as goal
 pub returns-in-Ok : goal.returns-in-Ok
 returns-in-Ok g c =
     told-reads (asm_input c.args.at) (asm_input c.args.at (Whole (gathered_bytes c.in-Ok.gathered))) refl c.in-Ok.ensures
-    (λ answers e. (ap (asm_input c.args.at) e, tt)) c.judge.ensures
+    (λ answers e. (ap (asm_input c.args.at) e, tt)) c.tell_code.ensures
 
 pub returns-in-Err-Failed : goal.returns-in-Err-Failed
 unfolding read_line

@@ -20,4 +20,4 @@ pub returns-in-Ok-clause-counts : goal.returns-in-Ok-clause-counts
 returns-in-Ok-clause-counts g c = on_ok_weaker c.act.result (λ e. e ∙ c.requires.counted) c.act.ensures.counts
 
 pub returns-in-Err-Fault-clause-stops : goal.returns-in-Err-Fault-clause-stops
-returns-in-Err-Fault-clause-stops g c = (c.judge.ensures.rule c.in-Err-Fault.rule (c.in-Err-Fault.is ∙ ap Err c.in-Err-Fault.field-0-is), refl)
+returns-in-Err-Fault-clause-stops g c = (c.judge_line.ensures.rule c.in-Err-Fault.rule (c.in-Err-Fault.is ∙ ap Err c.in-Err-Fault.field-0-is), refl)

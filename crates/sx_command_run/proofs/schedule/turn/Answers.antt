@@ -61,7 +61,7 @@ returns-in-Err-Fault-clause-turns g c = λ w shows.
       stands = λ on. absurd (cc on);
       does = λ more.
           ends-same _ _ _ _ _ _
-          (run_breaks d.names set w c.args.number rule c.args.said.now more (c.judge.ensures.rule rule (c.in-Err-Fault.is ∙ ap Err c.in-Err-Fault.field-0-is)))
+          (run_breaks d.names set w c.args.number rule c.args.said.now more (c.judge_line.ensures.rule rule (c.in-Err-Fault.is ∙ ap Err c.in-Err-Fault.field-0-is)))
           c.break_off.ensures.ends;
     }
 

@@ -1,7 +1,7 @@
 use Rattle.std.proofs.Common.{arith}
 use Rattle.sx_command_asm.specs.Gathering.{gathered_bytes}
 use Rattle.sx_command_asm.proofs.Coded.{list_stands}
-use Rattle.sx_command_asm.proofs.assembling.judge.Goals as goal
+use Rattle.sx_command_asm.proofs.assembling.tell_code.Goals as goal
 
 pub list-requires-clause-even : goal.list-requires-clause-even
 list-requires-clause-even g c =
