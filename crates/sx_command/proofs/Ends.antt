@@ -1,5 +1,5 @@
 -- What follows for a command from what it wrote and read.
-use Rattle.std.proofs.Common.{◌≡◌, ◌∙◌, ◌⊎◌, inl, inr, ℕ, ◌+◌, Bool, List, [], ◌++◌, sym, ap, arith}
+use Rattle.std.proofs.Common.{◌≡◌, ◌∙◌, ◌⊎◌, inl, inr, ℕ, Bool, List, [], ◌++◌, sym, ap, arith}
 use Rattle.sx_io.specs.Reading.{Answer, Ended, always, longest, scan}
 use Rattle.sx_told.specs.Told.{CommandAt, Output, Told, out_of_memory, write_failed}
 use Rattle.std.specs.Prelude.{IsTrue}

@@ -1,6 +1,6 @@
 //! The lines that an honest run says: those of its schedule, and the items that they show.
 
-ghost use Rattle.std.specs.Prelude.{◌≡◌, ◌≢◌, ◌+◌, ◌≤◌, [], ◌++◌, IsTrue, List, OnOk, length};
+ghost use Rattle.std.specs.Prelude.{◌≡◌, ◌≢◌, ◌+◌, ◌≤◌, [], ◌++◌, IsTrue, List, length};
 ghost use Rattle.sx_io.specs.Reading.{Answer};
 ghost use Rattle.sx_told.specs.Told.{Output, behind, out_of_memory};
 ghost use Rattle.sx_told.specs.Parts.{DoesPart};
@@ -9,31 +9,19 @@ ghost use Rattle.sx_sched.specs.InForm.{IsLine, IsWritten};
 ghost use Rattle.sx_sched.specs.Seen.{line_of};
 ghost use Rattle.sx_drive.specs.Driving.{all_said, said_of};
 ghost use Rattle.sx_drive.specs.Honest.{SaidLine};
-ghost use Rattle.sx_command_run.specs.Batch.{Writes};
-ghost use Rattle.sx_command_run.specs.Run.{item_line, items_text};
+ghost use Rattle.sx_command.specs.Batch.{Writes};
 ghost use Rattle.sx_command_drive.specs.Drive.{said_line, said_text};
 ghost use Rattle.sx_command_drive.specs.Parts.{AreNamed, IsNamed};
 
-use arrayvec::ArrayVec;
+use sx_command::batch::{Batch, make_room};
 use sx_command::text::put;
+use sx_command_run::trace::add_items;
 use sx_drive::said::Said;
 use sx_io::{Failed, Sink, put_all};
 use sx_sched::lines::Line;
 use sx_sched::write_line;
 use sx_told::{Turned, WRITE_FAILED};
-use sx_trace::items::Item;
 use sx_trace::names::Names;
-use sx_trace::writing::write_item;
-
-/// The most bytes that are written together. What a reading shows makes a batch of its own, so this
-/// is no more than most readings need.
-const MOST: usize = 512;
-
-/// The most bytes of a line, with what stands before it and its newline.
-const LONGEST_LINE: usize = 131;
-
-/// Lines that are written together.
-type Batch = ArrayVec<u8, MOST>;
 
 /// A line whose indices, lengths and values are in their ranges can be written: its other numbers
 /// are in those of their types.
@@ -81,32 +69,6 @@ fn push_line(batch: &mut Batch, names: &Names, line: &Line)
     put(batch, b"\n");
 }
 
-/// Appends an item's line, which there is room for.
-#[tactic(auto, unfolding(sx_command_run::specs::Run::item_line))]
-fn push_item(batch: &mut Batch, names: &Names, item: &Item)
-    requires { length batch.old.items + 131 ≤ 512 }
-    ensures { batch.new.items ≡ batch.old.items ++ item_line names.now item.now }
-{
-    let mut into = [0; 128];
-    let count = write_item(names, item, &mut into);
-    put(batch, &into[..count]);
-    put(batch, b"\n");
-}
-
-/// Writes a batch that a further line might not fit in.
-fn make_room<K: Sink>(output: &mut K, batch: &mut Batch) -> Result<(), Failed>
-    ensures room { OnOk result (length batch.new.items + 131 ≤ 512) }
-    ensures writes { Writes K.tells (K.at output.old) (K.at output.new) batch.old.items
-        batch.new.items result }
-{
-    if batch.len() <= MOST - LONGEST_LINE {
-        return Ok(());
-    }
-    put_all(output, batch.as_slice())?;
-    batch.clear();
-    Ok(())
-}
-
 /// Appends a line of the schedule to a batch, which may be written before.
 fn add_line<K: Sink>(
     output: &mut K,
@@ -122,37 +84,6 @@ fn add_line<K: Sink>(
 {
     make_room(output, batch)?;
     push_line(batch, names, line);
-    Ok(())
-}
-
-/// Appends an item to a batch, which may be written before.
-fn add_item<K: Sink>(
-    output: &mut K,
-    batch: &mut Batch,
-    names: &Names,
-    item: &Item,
-) -> Result<(), Failed>
-    ensures { Writes K.tells (K.at output.old) (K.at output.new)
-        (batch.old.items ++ item_line names.now item.now) batch.new.items result }
-{
-    make_room(output, batch)?;
-    push_item(batch, names, item);
-    Ok(())
-}
-
-/// Appends items to a batch, which may be written before each.
-fn add_items<K: Sink>(
-    output: &mut K,
-    batch: &mut Batch,
-    names: &Names,
-    items: &[Item],
-) -> Result<(), Failed>
-    ensures { Writes K.tells (K.at output.old) (K.at output.new)
-        (batch.old.items ++ items_text names.now items.now) batch.new.items result }
-{
-    for item in items {
-        add_item(output, batch, names, item)?;
-    }
     Ok(())
 }
 

@@ -1,6 +1,5 @@
--- Begin with Runs: what the command promises. Run has what it writes, and its status. Batch and
--- Turns are for contracts of functions.
-pub mod Batch
+-- Begin with Runs: what the command promises. Run has what it writes, and its status. Turns is for
+-- contracts of functions.
 pub mod Laws
 pub mod Run
 pub mod Runs

@@ -14,6 +14,6 @@
 pub mod laws;
 mod run;
 mod schedule;
-mod trace;
+pub mod trace;
 
 pub use run::run_over;

@@ -2,7 +2,7 @@ use Rattle.std.proofs.Common.{rules, ◌≡◌, ◌++◌, List, ap, subst, Resul
 use Rattle.sx_trace.specs.declared.items.Item.{Item}
 use Rattle.sx_io.specs.declared.outside.Failed.{Failed}
 use Rattle.sx_drive.specs.Driving.{said_of}
-use Rattle.sx_command_run.specs.Batch.{Writes}
+use Rattle.sx_command.specs.Batch.{Writes}
 use Rattle.sx_command_run.specs.Run.{items_text}
 use Rattle.sx_command_drive.specs.Drive.{said_text}
 use Rattle.sx_command_drive.proofs.Telling.{said_added, said_failed}

@@ -1,8 +1,8 @@
 use Rattle.std.proofs.Common.{rules, ◌≡◌, ◌++◌, ℕ, List, [], length, refl, subst, sym, Result, Err}
 use Rattle.std.proofs.lemmas.Option.{slice_get_read}
 use Rattle.sx_io.specs.declared.outside.Failed.{Failed}
-use Rattle.sx_command_run.specs.Batch.{Writes, WritesUpTo}
-use Rattle.sx_command_run.proofs.Batches.{writes_none, writes_put, writes_then}
+use Rattle.sx_command.specs.Batch.{Writes, WritesUpTo}
+use Rattle.sx_command.proofs.Batches.{writes_none, writes_put, writes_then}
 use Rattle.sx_command_drive.proofs.Named.{named_at}
 use Rattle.sx_command_drive.proofs.Telling.{line_added, line_failed, no_line, told_text}
 use Rattle.sx_command_drive.proofs.saying.put_lines.Goals as goal

@@ -1,5 +1,5 @@
 use Rattle.std.specs.Prelude.{◌++◌, drop}
-use Rattle.sx_command_run.specs.Batch.{WritesUpTo}
+use Rattle.sx_command.specs.Batch.{WritesUpTo}
 use Rattle.sx_command_drive.proofs.Telling.{told_text}
 use Rattle.sx_command_drive.proofs.saying.put_lines.Given as goal
 

@@ -1,5 +1,5 @@
 use Rattle.sx_told.proofs.Laws.{ends-write-failed, prefix-more}
-use Rattle.sx_command_run.proofs.Batches.{does_whole, whole_text}
+use Rattle.sx_command.proofs.Batches.{does_whole, whole_text}
 use Rattle.sx_command_drive.proofs.saying.put_said.Goals as goal
 
 pub returns-in-Ok-clause-does : goal.returns-in-Ok-clause-does
