@@ -20,9 +20,7 @@ use Rattle.sx_explain.proofs.JudgesLegal.{allowed_next, is_not_none, judged_is, 
 use Rattle.sx_command_explain.specs.Explain.{explain_from, illegal_output, stop_output, told_item, told_items}
 use Rattle.sx_command_explain.specs.Laws.{Refused, TracesExplained, cause_line, causes_text}
 use Rattle.sx_command_explain.specs.Trace.{trace}
-
-joined : (a b : List ℕ) (o : Output) → behind a (behind b o) ≡ behind (a ++ b) o
-joined a b o = ap (λ (t : List ℕ). record { text = t; status = o.status }) (sym (append_assoc a b o.text))
+use Rattle.sx_command_explain.proofs.Keeping.{joined}
 
 -- nothing is said behind a forged item
 behind_forged : (app : AppTree) (front items : List Item) (last : Output) → list_any is_forged front ≡ true → told_items app front items last ≡ last

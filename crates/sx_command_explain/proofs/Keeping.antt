@@ -19,7 +19,9 @@ use Rattle.sx_told.specs.Told.{CommandAt, CommandEnds, Output, Told, behind, com
 use Rattle.sx_told.specs.Parts.{Begun}
 use Rattle.sx_told.proofs.Laws.{begun-line, begun-put, ends-behind, ends-same, ends-write-failed, prefix-more, told-stop}
 use Rattle.sx_command_explain.specs.Trace.{trace_lines}
-use Rattle.sx_command_explain.specs.Turns.{ComesNext, Puts, StopsIn, Wrote}
+use Rattle.sx_command.specs.Batch.{WritesPrefix}
+use Rattle.sx_command_head.proofs.Given.{not_at_end}
+use Rattle.sx_command_explain.specs.Turns.{ComesNext, Puts, WasHeld, Wrote}
 
 -- all that is kept was written, or not
 pub puts_all : (to_tell : Bool) (k0 k1 : SinkAt) (kept bytes : List ℕ) (r : Result (Unit {0}) Failed) → bytes ≡ kept
@@ -36,7 +38,7 @@ pub ends_kept : {to_tell : Bool} {k0 k1 k2 : SinkAt} {kept : List ℕ} {status :
 ends_kept {to_tell} {k0} {k1} {k2} {kept} {status} o put ends = ends-behind to_tell k0 k1 k2 kept status o put.wrote put.no_fault ends
 
 -- or in writing it
-pub ends_stopped : {to_tell : Bool} {k0 k1 : SinkAt} {kept : List ℕ} (o : Output) → StopsIn to_tell k0 k1 kept → CommandEnds to_tell k0 k1 write_failed (behind kept o)
+pub ends_stopped : {to_tell : Bool} {k0 k1 : SinkAt} {kept : List ℕ} (o : Output) → WritesPrefix to_tell k0 k1 kept → CommandEnds to_tell k0 k1 write_failed (behind kept o)
 ends_stopped {to_tell} {k0} {k1} {kept} o stop =
     ends-write-failed to_tell k0 k1 (behind kept o) (λ t. prefix-more k0.written k1.written kept o.text (stop.prefix t)) stop.fault
 
@@ -153,9 +155,6 @@ holds_open : (limit : Limit) (lines : List ℕ) (also : List Answer → Type 0) 
     → (e : Ending) (more : List ℕ) → also (scan limit e [] (lines ++ more))
 holds_open limit lines also s o w = let P : ReaderState → Type 0 = λ t. HoldsBehind t limit lines also in subst P o w
 
-not_at_end : (s : ReaderState) → s ≡ reader.Open → s ≡ reader.AtEnd → ⊥
-not_at_end s o e = let z : reader.Open ≡ reader.AtEnd = sym o ∙ e in cc z
-
 -- what was written where the command ends
 record PartOf (to_tell : Bool) (k0 k2 : SinkAt) (said : List ℕ) : Type 0 where
   pub part : List ℕ
@@ -215,7 +214,7 @@ waits_stop {tells} {to_tell} {limit} {m0} {s} {k1} {k2} {now} {defined} {kept} {
 -- one write of what is kept failed
 pub waits_failed : {tells to_tell : Bool} {limit : Limit} {m0 : CommandAt} {s : SourceAt} {k1 k2 : SinkAt} {now : Ahead} {defined : List Answer → Output} {kept : List ℕ}
     {also : List Answer → Type 0} (f : List Answer → Output)
-    → Waits tells to_tell limit m0 (command_at s k1) now defined kept f also → StopsIn to_tell k1 k2 kept → Told tells to_tell limit m0 (command_at s k2) write_failed defined also
+    → Waits tells to_tell limit m0 (command_at s k1) now defined kept f also → WritesPrefix to_tell k1 k2 kept → Told tells to_tell limit m0 (command_at s k2) write_failed defined also
 waits_failed {tells} {to_tell} {limit} {m0} {s} {k1} {k2} {now} {defined} {kept} {also} f w stop =
     waits_stop f w (λ answers. ends_stopped (f answers) stop)
 
@@ -234,7 +233,8 @@ asked_more s0 s1 before line lines a =
       })
     ]
 
-few_left : (held lines now : List ℕ) → held ≡ lines ++ now → length held ≤ longest → length now ≤ longest
+-- of bytes that were held, few are left
+pub few_left : (held lines now : List ℕ) → held ≡ lines ++ now → length held ≤ longest → length now ≤ longest
 few_left held lines now e h =
     let l : length (lines ++ now) ≡ length lines + length now = length-append lines now in
     let same : length held ≡ length (lines ++ now) = ap (λ (v : List ℕ). length v) e in omega (arith, l, same, h)
@@ -288,22 +288,30 @@ waits_written {tells} {to_tell} {limit} {m0} {s} {k1} {k2} {now} {defined} {kept
 -- the next line came, held or read
 pub waits_text : {tells to_tell : Bool} {limit : Limit} {m0 : CommandAt} {s1 : SourceAt} {k1 : SinkAt} {old : Ahead} {defined : List Answer → Output} {kept : List ℕ}
     {also : List Answer → Type 0} (s2 : SourceAt) (k2 : SinkAt) (new : Ahead) (left into : List ℕ) (n : ℕ) (f : List Answer → Output)
-    → f (Fault ∷ []) ≡ unread_output → Waits tells to_tell limit m0 (command_at s1 k1) old defined kept f also
-    → ComesNext tells to_tell (command_at s1 k1) (command_at s2 k2) kept left old new into (Ok (read.Text n))
+    (r : Result LineRead Failed) → r ≡ Ok (read.Text n) → f (Fault ∷ []) ≡ unread_output → Waits tells to_tell limit m0 (command_at s1 k1) old defined kept f also
+    → ComesNext tells to_tell (command_at s1 k1) (command_at s2 k2) kept left old new into r
     → Waits tells to_tell limit m0 (command_at s2 k2) new defined left (λ more. f (Line (take n into) ∷ more)) also
-waits_text {tells} {to_tell} {limit} {m0} {s1} {k1} {old} {defined} {kept} {also} s2 k2 new left into n f unread w comes =
+waits_text {tells} {to_tell} {limit} {m0} {s1} {k1} {old} {defined} {kept} {also} s2 k2 new left into n f r is unread w comes =
     let g : List Answer → Output = λ more. f (Line (take n into) ∷ more) in
     let P : CommandAt → List ℕ → Type 0 = λ m t. Waits tells to_tell limit m0 m new defined t g also in
-    elim comes [
+    let R : Result LineRead Failed → Type 0 = λ r. ComesNext tells to_tell (command_at s1 k1) (command_at s2 k2) kept left old new into r in
+    let here : R (Ok (read.Text n)) = subst R is comes in
+    elim here [
       | inl (same, none, held) ↦ subst (λ (m : CommandAt). P m left) (sym same) (subst (λ (t : List ℕ). P (command_at s1 k1) t) (sym none) (waits_line into n f held w))
       | inr (put, none, next) ↦
           subst (λ (t : List ℕ). P (command_at s2 k2) t) (sym none) (waits_new (begun-line f unread (waits_written f unread w put) next))
     ]
 
--- it wasn't held, so all that was kept was written before it was asked for
-pub waits_asked : {tells to_tell : Bool} {limit : Limit} {m0 : CommandAt} {s1 s2 : SourceAt} {k1 k2 : SinkAt} {old new : Ahead} {defined : List Answer → Output}
-    {kept left into : List ℕ} {also : List Answer → Type 0} (f : List Answer → Output) (answer : LineRead)
-    → f (Fault ∷ []) ≡ unread_output → Waits tells to_tell limit m0 (command_at s1 k1) old defined kept f also
-    → Wrote to_tell k1 k2 kept × (left ≡ []) × Next longest tells s1 s2 old new into answer
+-- an answer that isn't held: all that was kept was written before it was asked for
+pub waits_asked : {tells to_tell : Bool} {limit : Limit} {m0 : CommandAt} {s1 : SourceAt} {k1 : SinkAt} {old : Ahead} {defined : List Answer → Output}
+    {kept : List ℕ} {also : List Answer → Type 0} (s2 : SourceAt) (k2 : SinkAt) (new : Ahead) (left into : List ℕ) (answer : LineRead) (f : List Answer → Output)
+    (r : Result LineRead Failed) → r ≡ Ok answer → (WasHeld old new into answer → ⊥) → f (Fault ∷ []) ≡ unread_output
+    → Waits tells to_tell limit m0 (command_at s1 k1) old defined kept f also → ComesNext tells to_tell (command_at s1 k1) (command_at s2 k2) kept left old new into r
     → Begun tells to_tell limit trace_lines m0 (command_at s1 k2) old defined f also × Next longest tells s1 s2 old new into answer
-waits_asked f answer unread w (put, none, next) = (waits_written f unread w put, next)
+waits_asked {tells} {to_tell} {limit} {m0} {s1} {k1} {old} {defined} {kept} {also} s2 k2 new left into answer f r is unheld unread w comes =
+    let R : Result LineRead Failed → Type 0 = λ r. ComesNext tells to_tell (command_at s1 k1) (command_at s2 k2) kept left old new into r in
+    let here : R (Ok answer) = subst R is comes in
+    elim here [
+      | inl held ↦ absurd (unheld held.2)
+      | inr (put, none, next) ↦ (waits_written f unread w put, next)
+    ]

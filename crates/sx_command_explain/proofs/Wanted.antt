@@ -33,7 +33,7 @@ use Rattle.sx_explain.specs.Wants.{IsBehindEvent, item_may}
 use Rattle.sx_command_head.specs.Given.{GivenSince, RanOutSince, WantsLast}
 use Rattle.sx_command_head.specs.Headless.{EndsHeadless}
 use Rattle.sx_command_head.specs.Wanting.{RanOutAt}
-use Rattle.sx_command_head.proofs.Given.{given_line, given_none, given_then, ran_out_at, ran_out_behind, wants_last}
+use Rattle.sx_command_head.proofs.Given.{given_line, given_none, given_then, not_at_end, ran_out_at, ran_out_behind, wants_last}
 use Rattle.sx_command_explain.specs.declared.images.ImageLine.{ImageLine}
 use Rattle.sx_command_explain.specs.declared.images.ImageLine.TheVariants as image
 use Rattle.sx_command_explain.specs.declared.lines.TraceLine.{TraceLine}
@@ -43,6 +43,7 @@ use Rattle.sx_command_explain.specs.Trace.{Start, explain_lines, image_line, ima
 use Rattle.sx_command_explain.specs.Turns.{ComesNext, ReadWants, TraceWants}
 use Rattle.sx_command_explain.specs.Wants.{explain_may, line_may, start_may, trace_may}
 use Rattle.sx_command_explain.proofs.Heads.{got_longer}
+use Rattle.sx_command_explain.proofs.Keeping.{few_left}
 use Rattle.sx_command_explain.proofs.Starting.{image_is, lines_by, trace_is}
 
 -- ---- a line that was held, or read
@@ -60,14 +61,6 @@ came_text tells to_tell m0 m1 kept left old new into n r is comes =
       | inr reads ↦ record { how = inr reads.2 }
     ]
 
-not_at_end : (s : ReaderState) → s ≡ reader.Open → s ≡ reader.AtEnd → ⊥
-not_at_end s o e = let z : reader.Open ≡ reader.AtEnd = sym o ∙ e in cc z
-
-fewer : (held raw now : List ℕ) → held ≡ raw ++ now → length held ≤ longest → length now ≤ longest
-fewer held raw now e h =
-    let l : length (raw ++ now) ≡ length raw + length now = length-append raw now in
-    let same : length held ≡ length (raw ++ now) = ap (λ (v : List ℕ). length v) e in omega (arith, l, same, h)
-
 -- one that was held is the next, and nothing is read for it
 held_next : (tells : Bool) (s : SourceAt) (old new : Ahead) (into : List ℕ) (n : ℕ) → length old.held ≤ longest → GivesHeld old new into (Some n) → Next longest tells s s old new into (read.Text n)
 held_next tells s old new into n few held =
@@ -80,7 +73,7 @@ held_next tells s old new into n few held =
         at_end = λ e. absurd (not_at_end new.state held.1 e);
         no_end = λ e t. refl;
         asked = λ t. inl refl;
-        few = fewer old.held held.2.1 new.held held.2.2 few;
+        few = few_left old.held held.2.1 new.held held.2.2 few;
       };
       again = λ c. absurd (c held.0);
     }

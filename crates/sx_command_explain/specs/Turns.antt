@@ -4,8 +4,6 @@ use Rattle.std.specs.Prelude.{◌≡◌, ℕ, ◌+◌, ◌==◌, ◌&&◌, nat_l
 use Rattle.std.specs.Prelude.{◌++◌, ◌⊎◌, codes, length, take, IsTrue, Option, Some, Result, Ok}
 use Rattle.std.specs.Prelude.{Err}
 use Rattle.std.specs.Str.{bytes_eq}
-use Rattle.sx_io.specs.Counts.{next_count}
-use Rattle.sx_io.specs.Prefixes.{AppendsPrefix}
 use Rattle.sx_io.specs.Streams.{SinkAt, SourceAt}
 use Rattle.sx_io.specs.Reading.{Answer, longest}
 use Rattle.sx_io.specs.Next.{Ahead, GivesHeld, Next}
@@ -21,6 +19,7 @@ use Rattle.sx_deploy.specs.Deployment.{Deployed, IsRead}
 use Rattle.sx_explain.specs.Followed.{Follows, Seen}
 use Rattle.sx_explain.specs.Judging.{judged}
 use Rattle.sx_explain.specs.declared.judge.Judged.{Judged}
+use Rattle.sx_command.specs.Batch.{WritesPrefix}
 use Rattle.sx_command_head.specs.Given.{GivenSince, RanOutSince, WantsLast}
 use Rattle.sx_command_explain.specs.declared.images.ImageLine.{ImageLine}
 use Rattle.sx_command_explain.specs.declared.images.ImageLine.TheVariants as image
@@ -42,15 +41,10 @@ pub record Wrote (to_tell : Bool) (k0 k1 : SinkAt) (text : List ℕ) : Type 0 wh
   pub wrote : IsTrue to_tell → k1.written ≡ k0.written ++ text
   pub no_fault : k1.faults ≡ k0.faults
 
--- one write failed, after a prefix of a text
-pub record StopsIn (to_tell : Bool) (k0 k1 : SinkAt) (text : List ℕ) : Type 0 where
-  pub prefix : IsTrue to_tell → AppendsPrefix k0.written k1.written text
-  pub fault : k1.faults ≡ next_count k0.faults
-
--- the one or the other, by the answer
+-- that, or one write failed, by the answer
 abbrev pub Puts : Bool → SinkAt → SinkAt → List ℕ → Result (Unit {0}) Failed → Type 0
 Puts to_tell k0 k1 text (Ok done) = Wrote to_tell k0 k1 text
-Puts to_tell k0 k1 text (Err failed) = StopsIn to_tell k0 k1 text
+Puts to_tell k0 k1 text (Err failed) = WritesPrefix to_tell k0 k1 text
 
 -- the line was held
 abbrev pub WasHeld : Ahead → Ahead → List ℕ → LineRead → Type 0
@@ -66,7 +60,7 @@ ComesNext tells to_tell m0 m1 kept left old new into (Ok answer) =
     ⊎ (Wrote to_tell m0.sink m1.sink kept × (left ≡ [])
     × Next longest tells m0.source m1.source old new into answer)
 ComesNext tells to_tell m0 m1 kept left old new into (Err failed) =
-    StopsIn to_tell m0.sink m1.sink kept × (m1.source ≡ m0.source)
+    WritesPrefix to_tell m0.sink m1.sink kept × (m1.source ≡ m0.source)
 
 -- What was said of an item is kept behind what was kept before, and nothing was written; or the
 -- command ended.

@@ -46,7 +46,8 @@ is_open limit limit' lines n f reader.AtEnd w again = absurd (let e = again (λ 
 is_open limit limit' lines n f reader.TooLong w again = absurd w
 is_open limit limit' lines n f reader.Failed w again = absurd w
 
-not_at_end : (s : ReaderState) → s ≡ reader.Open → s ≡ reader.AtEnd → ⊥
+-- an open reader isn't at the end
+pub not_at_end : (s : ReaderState) → s ≡ reader.Open → s ≡ reader.AtEnd → ⊥
 not_at_end s o e = let z : reader.Open ≡ reader.AtEnd = sym o ∙ e in cc z
 
 -- the input where its end ended the line

@@ -55,47 +55,29 @@ pub returns-in-Ok-End-clause-rest : goal.returns-in-Ok-End-clause-rest
 returns-in-Ok-End-clause-rest g c = λ means is limit m0 defined aside noted b.
     let st = c.lines.invariant.between in
     let f = explain_from (app_as c.args.deployment.now.app) (means.item c.args.deployment.now.names) st.items in
-    let R : Result LineRead Failed → Type 0 = λ r. ComesNext g.S.Source.tells g.K.Sink.tells (command_at (g.S.Source.at c.lines.input) (g.K.Sink.at c.lines.output))
-    (command_at (g.S.Source.at c.next_line.new.input) (g.K.Sink.at c.next_line.new.output)) c.lines.kept.items c.next_line.new.kept.items c.lines.lines c.next_line.new.lines c.next_line.new.into r in
-    let comes : R (Ok read.End) = subst R (c.in-Ok-End.is ∙ ap Ok c.in-Ok-End.field-0-is) c.next_line.ensures.comes in
-    elim comes [
-      | inl held ↦ absurd held.2
-      | inr reads ↦
-          let now = waits_asked f read.End (said_unread _ _ st.items []) (st.waits means is limit m0 defined aside noted b) reads in
-          told-end {f = f} (said_unread _ _ st.items []) now.0 now.1
-          (ends-same _ _ _ _ _ _ (said_end _ _ st.items [] ∙ ap (broken_output 3) (sym st.counted)) c.break_off.ensures.ends)
-    ]
+    let now = waits_asked (g.S.Source.at c.next_line.new.input) (g.K.Sink.at c.next_line.new.output) c.next_line.new.lines c.next_line.new.kept.items c.next_line.new.into read.End f
+    c.next_line.result (c.in-Ok-End.is ∙ ap Ok c.in-Ok-End.field-0-is) (λ h. h) (said_unread _ _ st.items []) (st.waits means is limit m0 defined aside noted b) c.next_line.ensures.comes in
+    told-end {f = f} (said_unread _ _ st.items []) now.0 now.1
+    (ends-same _ _ _ _ _ _ (said_end _ _ st.items [] ∙ ap (broken_output 3) (sym st.counted)) c.break_off.ensures.ends)
 
 pub returns-in-Ok-TooLong-clause-rest : goal.returns-in-Ok-TooLong-clause-rest
 returns-in-Ok-TooLong-clause-rest g c = λ means is limit m0 defined aside noted b.
     let st = c.lines.invariant.between in
     let f = explain_from (app_as c.args.deployment.now.app) (means.item c.args.deployment.now.names) st.items in
-    let R : Result LineRead Failed → Type 0 = λ r. ComesNext g.S.Source.tells g.K.Sink.tells (command_at (g.S.Source.at c.lines.input) (g.K.Sink.at c.lines.output))
-    (command_at (g.S.Source.at c.next_line.new.input) (g.K.Sink.at c.next_line.new.output)) c.lines.kept.items c.next_line.new.kept.items c.lines.lines c.next_line.new.lines c.next_line.new.into r in
-    let comes : R (Ok read.TooLong) = subst R (c.in-Ok-TooLong.is ∙ ap Ok c.in-Ok-TooLong.field-0-is) c.next_line.ensures.comes in
-    elim comes [
-      | inl held ↦ absurd held.2
-      | inr reads ↦
-          let now = waits_asked f read.TooLong (said_unread _ _ st.items []) (st.waits means is limit m0 defined aside noted b) reads in
-          told-too-long {f = f} (said_unread _ _ st.items []) now.0 now.1
-          (ends-same _ _ _ _ _ _ (said_long _ _ st.items [] ∙ ap (broken_output 2) (sym st.counted)) c.break_off-in-Ok-TooLong.ensures.ends)
-    ]
+    let now = waits_asked (g.S.Source.at c.next_line.new.input) (g.K.Sink.at c.next_line.new.output) c.next_line.new.lines c.next_line.new.kept.items c.next_line.new.into read.TooLong f
+    c.next_line.result (c.in-Ok-TooLong.is ∙ ap Ok c.in-Ok-TooLong.field-0-is) (λ h. h) (said_unread _ _ st.items []) (st.waits means is limit m0 defined aside noted b) c.next_line.ensures.comes in
+    told-too-long {f = f} (said_unread _ _ st.items []) now.0 now.1
+    (ends-same _ _ _ _ _ _ (said_long _ _ st.items [] ∙ ap (broken_output 2) (sym st.counted)) c.break_off-in-Ok-TooLong.ensures.ends)
 
 pub returns-in-Ok-Failed-clause-rest : goal.returns-in-Ok-Failed-clause-rest
 unfolding read_line
 returns-in-Ok-Failed-clause-rest g c = λ means is limit m0 defined aside noted b.
     let st = c.lines.invariant.between in
     let f = explain_from (app_as c.args.deployment.now.app) (means.item c.args.deployment.now.names) st.items in
-    let R : Result LineRead Failed → Type 0 = λ r. ComesNext g.S.Source.tells g.K.Sink.tells (command_at (g.S.Source.at c.lines.input) (g.K.Sink.at c.lines.output))
-    (command_at (g.S.Source.at c.next_line.new.input) (g.K.Sink.at c.next_line.new.output)) c.lines.kept.items c.next_line.new.kept.items c.lines.lines c.next_line.new.lines c.next_line.new.into r in
-    let comes : R (Ok read.Failed) = subst R (c.in-Ok-Failed.is ∙ ap Ok c.in-Ok-Failed.field-0-is) c.next_line.ensures.comes in
-    elim comes [
-      | inl held ↦ absurd held.2
-      | inr reads ↦
-          let now = waits_asked f read.Failed (said_unread _ _ st.items []) (st.waits means is limit m0 defined aside noted b) reads in
-          told-failed {f = f} (said_unread _ _ st.items []) now.0 now.1
-          (ends-same _ _ _ _ _ _ (said_unread _ _ st.items []) c.finish.ensures.ends)
-    ]
+    let now = waits_asked (g.S.Source.at c.next_line.new.input) (g.K.Sink.at c.next_line.new.output) c.next_line.new.lines c.next_line.new.kept.items c.next_line.new.into read.Failed f
+    c.next_line.result (c.in-Ok-Failed.is ∙ ap Ok c.in-Ok-Failed.field-0-is) (λ h. h) (said_unread _ _ st.items []) (st.waits means is limit m0 defined aside noted b) c.next_line.ensures.comes in
+    told-failed {f = f} (said_unread _ _ st.items []) now.0 now.1
+    (ends-same _ _ _ _ _ _ (said_unread _ _ st.items []) c.finish.ensures.ends)
 
 pub returns-in-Err-judge_line-clause-rest : goal.returns-in-Err-judge_line-clause-rest
 returns-in-Err-judge_line-clause-rest g c = λ means is limit m0 defined aside noted b.
@@ -106,11 +88,9 @@ returns-in-Err-judge_line-clause-rest g c = λ means is limit m0 defined aside n
     let text = take c.in-Ok-Text.n c.next_line.new.into in
     let line = c.judge_line.ensures.line means is in
     let here : List Answer → Output = λ more. f (Line text ∷ more) in
-    let R : Result LineRead Failed → Type 0 = λ r. ComesNext g.S.Source.tells g.K.Sink.tells (command_at (g.S.Source.at c.lines.input) (g.K.Sink.at c.lines.output))
-    (command_at (g.S.Source.at c.next_line.new.input) (g.K.Sink.at c.next_line.new.output)) c.lines.kept.items c.next_line.new.kept.items c.lines.lines c.next_line.new.lines c.next_line.new.into r in
-    let comes : R (Ok (read.Text c.in-Ok-Text.n)) = subst R (c.in-Ok-Text.is ∙ ap Ok c.in-Ok-Text.field-0-is) c.next_line.ensures.comes in
     let now = waits_text (g.S.Source.at c.next_line.new.input) (g.K.Sink.at c.next_line.new.output) c.next_line.new.lines c.next_line.new.kept.items
-    c.next_line.new.into c.in-Ok-Text.n f (said_unread _ _ st.items []) (st.waits means is limit m0 defined aside noted b) comes in
+    c.next_line.new.into c.in-Ok-Text.n f c.next_line.result (c.in-Ok-Text.is ∙ ap Ok c.in-Ok-Text.field-0-is) (said_unread _ _ st.items [])
+    (st.waits means is limit m0 defined aside noted b) c.next_line.ensures.comes in
     let rule = c.in-Err-judge_line.rule in
     let kept : List ℕ = c.next_line.new.kept.items in
     waits_stop here now (λ more. ends-same _ _ _ _ _ _ (ap (behind kept)
@@ -120,17 +100,11 @@ returns-in-Err-judge_line-clause-rest g c = λ means is limit m0 defined aside n
 pub returns-in-Err-put_kept-clause-rest : goal.returns-in-Err-put_kept-clause-rest
 returns-in-Err-put_kept-clause-rest g c = λ means is limit m0 defined aside noted b.
     let st = c.lines.invariant.between in
-    let app = app_as c.args.deployment.now.app in
-    let item = means.item c.args.deployment.now.names in
-    let f = explain_from app item st.items in
-    let text = take c.in-Ok-Text.n c.next_line.new.into in
-    let line = c.judge_line.ensures.line means is in
-    let here : List Answer → Output = λ more. f (Line text ∷ more) in
-    let R : Result LineRead Failed → Type 0 = λ r. ComesNext g.S.Source.tells g.K.Sink.tells (command_at (g.S.Source.at c.lines.input) (g.K.Sink.at c.lines.output))
-    (command_at (g.S.Source.at c.next_line.new.input) (g.K.Sink.at c.next_line.new.output)) c.lines.kept.items c.next_line.new.kept.items c.lines.lines c.next_line.new.lines c.next_line.new.into r in
-    let comes : R (Ok (read.Text c.in-Ok-Text.n)) = subst R (c.in-Ok-Text.is ∙ ap Ok c.in-Ok-Text.field-0-is) c.next_line.ensures.comes in
+    let f = explain_from (app_as c.args.deployment.now.app) (means.item c.args.deployment.now.names) st.items in
+    let here : List Answer → Output = λ more. f (Line (take c.in-Ok-Text.n c.next_line.new.into) ∷ more) in
     let now = waits_text (g.S.Source.at c.next_line.new.input) (g.K.Sink.at c.next_line.new.output) c.next_line.new.lines c.next_line.new.kept.items
-    c.next_line.new.into c.in-Ok-Text.n f (said_unread _ _ st.items []) (st.waits means is limit m0 defined aside noted b) comes in
+    c.next_line.new.into c.in-Ok-Text.n f c.next_line.result (c.in-Ok-Text.is ∙ ap Ok c.in-Ok-Text.field-0-is) (said_unread _ _ st.items [])
+    (st.waits means is limit m0 defined aside noted b) c.next_line.ensures.comes in
     waits_failed here now c.in-Err-put_kept.ensures
 
 pub returns-in-Ok-clause-rest : goal.returns-in-Ok-clause-rest
@@ -142,11 +116,9 @@ returns-in-Ok-clause-rest g c = λ means is limit m0 defined aside noted b.
     let text = take c.in-Ok-Text.n c.next_line.new.into in
     let line = c.judge_line.ensures.line means is in
     let here : List Answer → Output = λ more. f (Line text ∷ more) in
-    let R : Result LineRead Failed → Type 0 = λ r. ComesNext g.S.Source.tells g.K.Sink.tells (command_at (g.S.Source.at c.lines.input) (g.K.Sink.at c.lines.output))
-    (command_at (g.S.Source.at c.next_line.new.input) (g.K.Sink.at c.next_line.new.output)) c.lines.kept.items c.next_line.new.kept.items c.lines.lines c.next_line.new.lines c.next_line.new.into r in
-    let comes : R (Ok (read.Text c.in-Ok-Text.n)) = subst R (c.in-Ok-Text.is ∙ ap Ok c.in-Ok-Text.field-0-is) c.next_line.ensures.comes in
     let now = waits_text (g.S.Source.at c.next_line.new.input) (g.K.Sink.at c.next_line.new.output) c.next_line.new.lines c.next_line.new.kept.items
-    c.next_line.new.into c.in-Ok-Text.n f (said_unread _ _ st.items []) (st.waits means is limit m0 defined aside noted b) comes in
+    c.next_line.new.into c.in-Ok-Text.n f c.next_line.result (c.in-Ok-Text.is ∙ ap Ok c.in-Ok-Text.field-0-is) (said_unread _ _ st.items [])
+    (st.waits means is limit m0 defined aside noted b) c.next_line.ensures.comes in
     let last : List Answer → Output = λ more. stop_output st.items (stop_behind item (c.lines.number + 1) more) in
     let said : (more : List Answer) → here more ≡ last more = λ more.
     said_last _ item st.items text more (ap (λ (n : ℕ). judged_line n (line_of item text)) (sym st.counted) ∙ sym line ∙ (c.in-Ok-Last.is ∙ ap Ok c.in-Ok-Last.field-0-is))
@@ -176,11 +148,9 @@ returns-in-Stop-clause-rest g c = λ means is limit m0 defined aside noted b.
     let text = take c.in-Ok-Text.n c.next_line.new.into in
     let line = c.judge_line.ensures.line means is in
     let here : List Answer → Output = λ more. f (Line text ∷ more) in
-    let R : Result LineRead Failed → Type 0 = λ r. ComesNext g.S.Source.tells g.K.Sink.tells (command_at (g.S.Source.at c.lines.input) (g.K.Sink.at c.lines.output))
-    (command_at (g.S.Source.at c.next_line.new.input) (g.K.Sink.at c.next_line.new.output)) c.lines.kept.items c.next_line.new.kept.items c.lines.lines c.next_line.new.lines c.next_line.new.into r in
-    let comes : R (Ok (read.Text c.in-Ok-Text.n)) = subst R (c.in-Ok-Text.is ∙ ap Ok c.in-Ok-Text.field-0-is) c.next_line.ensures.comes in
     let now = waits_text (g.S.Source.at c.next_line.new.input) (g.K.Sink.at c.next_line.new.output) c.next_line.new.lines c.next_line.new.kept.items
-    c.next_line.new.into c.in-Ok-Text.n f (said_unread _ _ st.items []) (st.waits means is limit m0 defined aside noted b) comes in
+    c.next_line.new.into c.in-Ok-Text.n f c.next_line.result (c.in-Ok-Text.is ∙ ap Ok c.in-Ok-Text.field-0-is) (said_unread _ _ st.items [])
+    (st.waits means is limit m0 defined aside noted b) c.next_line.ensures.comes in
     let i = c.in-Ok-Item.item in
     let j = c.in-Stop.ensures.judges st.items st.follows st.counted in
     let kept : List ℕ = c.next_line.new.kept.items in
@@ -242,11 +212,9 @@ lines-preserved g c =
             let text = take c.in-Ok-Text.n c.next_line.new.into in
             let line = c.judge_line.ensures.line means is in
             let here : List Answer → Output = λ more. f (Line text ∷ more) in
-            let R : Result LineRead Failed → Type 0 = λ r. ComesNext g.S.Source.tells g.K.Sink.tells (command_at (g.S.Source.at c.lines.input) (g.K.Sink.at c.lines.output))
-            (command_at (g.S.Source.at c.next_line.new.input) (g.K.Sink.at c.next_line.new.output)) c.lines.kept.items c.next_line.new.kept.items c.lines.lines c.next_line.new.lines c.next_line.new.into r in
-            let comes : R (Ok (read.Text c.in-Ok-Text.n)) = subst R (c.in-Ok-Text.is ∙ ap Ok c.in-Ok-Text.field-0-is) c.next_line.ensures.comes in
             let now = waits_text (g.S.Source.at c.next_line.new.input) (g.K.Sink.at c.next_line.new.output) c.next_line.new.lines c.next_line.new.kept.items
-            c.next_line.new.into c.in-Ok-Text.n f (said_unread _ _ st.items []) (st.waits means is limit m0 defined aside noted b) comes in
+            c.next_line.new.into c.in-Ok-Text.n f c.next_line.result (c.in-Ok-Text.is ∙ ap Ok c.in-Ok-Text.field-0-is) (said_unread _ _ st.items [])
+            (st.waits means is limit m0 defined aside noted b) c.next_line.ensures.comes in
             let next : List Answer → Output = explain_from app item (st.items ++ i ∷ []) in
             let kept : List ℕ = c.next_line.new.kept.items in
             let said : (more : List Answer) → behind c.turn.new.kept.items (next more) ≡ behind kept (here more) = λ more. j.does.1 (next more)
