@@ -1,9 +1,7 @@
 -- Read Written first: what is written reading by reading. Ways has the one induction over an honest
 -- run; Named, Quiet and Ran are what it shows. Playing leads from what a part says to what is
 -- written of it, Statuses has the exit status, Owing what is due of some lines, and Said what follows
--- for the whole command. Numbers and Replaying: the lines that are written are read as the same lines;
--- Again: so `run` gives the same items.
-pub mod Again
+-- for the whole command. Numbers and Replaying: the lines that are written are read as the same lines.
 pub mod Between
 pub mod Named
 pub mod Numbers

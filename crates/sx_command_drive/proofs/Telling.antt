@@ -13,7 +13,7 @@ use Rattle.sx_drive.specs.declared.said.Said.{Said as Told}
 use Rattle.sx_drive.specs.Honest.{Said, SaidItem, SaidLine}
 use Rattle.sx_drive.specs.Driving.{all_said, said_of}
 use Rattle.sx_command.specs.Batch.{Writes, WritesPrefix, WritesUpTo}
-use Rattle.sx_command_run.specs.Run.{item_line, items_text}
+use Rattle.sx_command_world.specs.Items.{item_line, items_text}
 use Rattle.sx_command.proofs.Batches.{prefix_more, prefix_then, up_to_then, writes_more, writes_then}
 use Rattle.sx_command_drive.specs.Drive.{said_line, said_text}
 

@@ -6,6 +6,7 @@ use Rattle.sx_io.specs.Reading as answer
 use Rattle.sx_told.specs.Told.{CommandAt, out_of_memory}
 use Rattle.sx_tag.specs.Mac.{Mac}
 use Rattle.sx_asm.specs.Assembled.{assembled}
+use Rattle.sx_trace.specs.declared.items.Item.{Item}
 use Rattle.sx_trace.specs.Names.{NameLists}
 use Rattle.sx_sched.specs.Lines.{Line}
 use Rattle.sx_sched.specs.Written.{line_text}
@@ -84,6 +85,10 @@ pub record DrivesWith (mac : Mac) (deployment : Option (List ℕ)) (texts : List
   pub status : (d : Deployed) → Deploys deployment d → (readings : List Answer)
       → (drive_deployed mac d texts readings).status
       ≡ (if (driven_of mac d texts readings).honest.long then left_out else drive_status d readings)
+
+-- the items that are said with these images
+abbrev pub items_said : Mac → Deployed → List (List ℕ) → List Answer → List Item
+items_said mac d texts readings = items_of (driven_of mac d texts readings).said
 
 -- memory may run out at this line of readings, behind these
 abbrev pub drive_may : Deployed → List Answer → List ℕ → Type 0

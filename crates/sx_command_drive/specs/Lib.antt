@@ -2,7 +2,6 @@
 -- say.
 pub mod Drive
 pub mod Drives
-pub mod Laws
 pub mod Parts
 pub mod Readings
 pub mod Statuses

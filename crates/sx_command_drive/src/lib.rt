@@ -10,7 +10,6 @@
 #![tactic(auto)]
 
 mod drive;
-pub mod laws;
 mod lines;
 mod parts;
 mod readings;

@@ -15,7 +15,7 @@ ghost use Rattle.sx_command_drive.specs.Parts.{AreNamed, IsNamed};
 
 use sx_command::batch::{Batch, make_room};
 use sx_command::text::put;
-use sx_command_run::trace::add_items;
+use sx_command_world::items::add_items;
 use sx_drive::said::Said;
 use sx_io::{Failed, Sink, put_all};
 use sx_sched::lines::Line;

@@ -2,7 +2,6 @@
 -- loop over lines. Legality and Moving are what `run` alone promises, Owing is what is due of some
 -- lines, and Said what follows for the whole command.
 pub mod Between
-pub mod ItemLines
 pub mod Legality
 pub mod Moving
 pub mod Owing

@@ -8,7 +8,8 @@ use Rattle.sx_sched.specs.Lines as lines
 use Rattle.sx_deploy.specs.Deployment.{Deployed}
 use Rattle.sx_command_world.specs.Schedule.{Stop, AtEnd, Breaks, judged_line, schedule}
 use Rattle.sx_command_world.specs.Schedule as sched
-use Rattle.sx_command_run.specs.Run.{stop_output, run_from, run_deployed, items_text, run_at_start}
+use Rattle.sx_command_world.specs.Items.{items_text}
+use Rattle.sx_command_run.specs.Run.{stop_output, run_from, run_deployed, run_at_start}
 use Rattle.sx_command_run.specs.Runs.{run_part}
 use Rattle.sx_command_world.specs.Statuses.{schedule_status, stop_status}
 use Rattle.sx_command_world.proofs.Stops.{not_zero, not_four, not_two}

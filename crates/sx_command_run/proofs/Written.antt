@@ -21,7 +21,8 @@ use Rattle.sx_observe.specs.Observing.{AddsFront, IsFront}
 use Rattle.sx_observe.proofs.Fronts.{as_front}
 use Rattle.sx_command.specs.Output.{end_line}
 use Rattle.sx_command_world.specs.Schedule.{Schedule, judged_line, on_line, schedule}
-use Rattle.sx_command_run.specs.Run.{item_line, items_text, schedule_output, run_from, stop_output}
+use Rattle.sx_command_world.specs.Items.{item_line, items_text}
+use Rattle.sx_command_run.specs.Run.{schedule_output, run_from, stop_output}
 use Rattle.sx_command_world.specs.Turning.{after_next}
 use Rattle.sx_command_world.specs.Broken.{broken_output}
 

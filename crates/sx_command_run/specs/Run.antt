@@ -1,32 +1,24 @@
 -- What the command `run` writes behind the head of a deployment, and its exit status: a function
 -- of the assembler, of the texts of the modules' images, and of the answers that the lines of its
 -- input give.
-use Rattle.std.specs.Prelude.{ℕ, List, ◌++◌, flat_map}
+use Rattle.std.specs.Prelude.{ℕ, List, ◌++◌}
 use Rattle.sx_io.specs.Reading.{Answer}
 use Rattle.sx_told.specs.Told.{Output, behind, unread_output}
 use Rattle.sx_tag.specs.Mac.{Mac}
 use Rattle.sx_trace.specs.declared.items.Item.{Item}
 use Rattle.sx_trace.specs.Names.{NameLists}
-use Rattle.sx_trace.specs.Items.{item_text}
 use Rattle.sx_deploy.specs.Deployment.{Deployed}
 use Rattle.sx_run.specs.Setting.{Setting}
 use Rattle.sx_run.specs.State.{World, switched_on}
 use Rattle.sx_run.specs.Accepted.{setting_of}
 use Rattle.sx_run.specs.Run.{run}
 use Rattle.sx_sched.specs.Reading.{Assembler}
-use Rattle.sx_command.specs.Output.{line, trace_line, end_line}
+use Rattle.sx_command.specs.Output.{trace_line, end_line}
 use Rattle.sx_command_world.specs.Schedule.{Stop, AtEnd, Breaks, Schedule, schedule}
 use Rattle.sx_command_world.specs.Schedule as sched
 use Rattle.sx_command_world.specs.Images.{images_text}
+use Rattle.sx_command_world.specs.Items.{items_text}
 use Rattle.sx_command_world.specs.Broken.{broken_output}
-
--- the line of an item
-unfoldable pub item_line : NameLists → Item → List ℕ
-item_line names i = line (item_text names i)
-
--- the lines of items
-abbrev pub items_text : NameLists → List Item → List ℕ
-items_text names items = flat_map (item_line names) items
 
 -- the last line, and the status
 abbrev pub stop_output : Stop → Output

@@ -13,7 +13,8 @@ use Rattle.sx_run.specs.Setting.{Setting}
 use Rattle.sx_run.specs.State.{World}
 use Rattle.sx_world.specs.Held.{Held}
 use Rattle.sx_world.specs.Standing.{Stands}
-use Rattle.sx_command_run.specs.Run.{items_text, run_from}
+use Rattle.sx_command_world.specs.Items.{items_text}
+use Rattle.sx_command_run.specs.Run.{run_from}
 
 -- Where memory ran out, the items that were made before stand written, all of them: as many as the
 -- line's act made, if the line was performed.

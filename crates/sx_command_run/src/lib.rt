@@ -14,6 +14,6 @@
 pub mod laws;
 mod run;
 mod schedule;
-pub mod trace;
+mod trace;
 
 pub use run::run_over;

@@ -1,7 +1,8 @@
 -- Begin with Building: the images that the compiler gives realize the modules. Powering is of the
--- nodes as they are switched on, Stops of a schedule's status.
+-- nodes as they are switched on, Stops of a schedule's status, ItemLines of the lines of items.
 pub mod Building
 pub mod Bytes
 pub mod ImageLines
+pub mod ItemLines
 pub mod Powering
 pub mod Stops

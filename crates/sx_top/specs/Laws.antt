@@ -1,11 +1,20 @@
--- What the commands that deploy have in common.
+-- What the commands that deploy have in common, and what `run` makes of the lines of `drive`.
+use Rattle.std.specs.Prelude.{ℕ, ◌≡◌, List, ◌++◌, Option}
+use Rattle.sx_io.specs.Reading.{Answer}
+use Rattle.sx_told.specs.Told.{behind}
 use Rattle.sx_asm.specs.Assembled.{assembled}
 use Rattle.sx_tag.specs.Mac.{Mac}
 use Rattle.sx_deploy.specs.Deployment.{Deployed}
 use Rattle.sx_run.specs.Setting.{Setting}
+use Rattle.sx_command.specs.Output.{trace_line, end_line}
+use Rattle.sx_command_head.specs.Begun.{Deploys}
+use Rattle.sx_command_world.specs.Images.{images_text}
+use Rattle.sx_command_world.specs.Items.{items_text}
 use Rattle.sx_command_deploy.specs.Same.{RunsIn}
+use Rattle.sx_command_run.specs.Run.{run_deployed}
 use Rattle.sx_command_run.specs.Runs.{run_part}
-use Rattle.sx_command_drive.specs.Drives.{drive_part}
+use Rattle.sx_command_drive.specs.Drive.{driven_of}
+use Rattle.sx_command_drive.specs.Drives.{DrivesWith, drive_part, items_said, lines_in, written}
 use Rattle.sx_command_snap.specs.Snaps.{snap_part}
 
 -- Each deployment has one setting: `run`, `drive` and `snap` run it in this, in each call.
@@ -14,3 +23,14 @@ OneSetting = (mac : Mac) (d : Deployed) → (set : Setting)
     × RunsIn mac (run_part assembled mac) d set
     × RunsIn mac (drive_part mac) d set
     × RunsIn mac (snap_part mac) d set
+
+-- With the same deployment and the same images, `run` writes of the lines that `drive` says exactly
+-- the items that `drive` says, and reads to the end.
+abbrev pub LinesRunAgain : Type 0
+LinesRunAgain = (mac : Mac) (deployment : Option (List ℕ)) (texts : List (List ℕ))
+    → DrivesWith mac deployment texts
+    → (d : Deployed) → Deploys deployment d → (readings : List Answer)
+    → let said = (driven_of mac d texts readings).said in
+    run_deployed assembled mac d texts (written d.names (lines_in said))
+    ≡ behind (images_text d.names.modules texts ++ trace_line)
+    (record { text = items_text d.names (items_said mac d texts readings) ++ end_line; status = 0 })

@@ -1,5 +1,5 @@
 -- Begin with Promises: what the program promises. Commands says which command the words name,
--- Chosen what holds of it, and Laws what the commands that deploy have in common.
+-- Chosen what holds of it, and Laws what holds of two commands together.
 pub mod Commands
 pub mod Laws
 pub mod Chosen

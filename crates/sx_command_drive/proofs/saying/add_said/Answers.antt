@@ -3,7 +3,7 @@ use Rattle.sx_trace.specs.declared.items.Item.{Item}
 use Rattle.sx_io.specs.declared.outside.Failed.{Failed}
 use Rattle.sx_drive.specs.Driving.{said_of}
 use Rattle.sx_command.specs.Batch.{Writes}
-use Rattle.sx_command_run.specs.Run.{items_text}
+use Rattle.sx_command_world.specs.Items.{items_text}
 use Rattle.sx_command_drive.specs.Drive.{said_text}
 use Rattle.sx_command_drive.proofs.Telling.{said_added, said_failed}
 use Rattle.sx_command_drive.proofs.saying.add_said.Goals as goal

@@ -2,7 +2,7 @@ use Rattle.std.proofs.Common.{rules, ◌≡◌, ◌++◌, ℕ, List, [], subst, 
 use Rattle.sx_io.specs.declared.outside.Failed.{Failed}
 use Rattle.sx_command.specs.Batch.{Writes, WritesPrefix}
 use Rattle.sx_command.proofs.Batches.{writes_batch, writes_put, writes_then}
-use Rattle.sx_command_run.specs.Run.{items_text}
+use Rattle.sx_command_world.specs.Items.{items_text}
 use Rattle.sx_command_run.proofs.trace.put_lines.Goals as goal
 
 pub returns-in_err-add_items : goal.returns-in_err-add_items

@@ -1,7 +1,7 @@
 use Rattle.std.specs.Prelude.{◌++◌, drop}
 use Rattle.sx_command.specs.Batch.{WritesUpTo}
-use Rattle.sx_command_run.specs.Run.{items_text}
-use Rattle.sx_command_run.proofs.trace.add_items.Given as goal
+use Rattle.sx_command_world.specs.Items.{items_text}
+use Rattle.sx_command_world.proofs.items.add_items.Given as goal
 
 -- All was written but the batch and the items that are left.
 abbrev pub invariant-loop-item : goal.invariant-loop-item

@@ -1,10 +1,10 @@
 use Rattle.std.proofs.Common.{rules, ◌≡◌, ◌++◌, refl, subst, Result, Err}
 use Rattle.sx_io.specs.declared.outside.Failed.{Failed}
 use Rattle.sx_command.specs.Batch.{Writes}
-use Rattle.sx_command_run.specs.Run.{items_text}
+use Rattle.sx_command_world.specs.Items.{items_text}
 use Rattle.sx_command.proofs.Batches.{writes_none}
-use Rattle.sx_command_run.proofs.ItemLines.{line_added, line_failed, no_line}
-use Rattle.sx_command_run.proofs.trace.add_items.Goals as goal
+use Rattle.sx_command_world.proofs.ItemLines.{line_added, line_failed, no_line}
+use Rattle.sx_command_world.proofs.items.add_items.Goals as goal
 
 pub loop-item-init : goal.loop-item-init
 loop-item-init g c = record { writes = writes_none g.K.Sink.tells (g.K.Sink.at c.args.output.now) (c.args.batch.now.items ++ items_text c.args.names.now c.args.items.now) }

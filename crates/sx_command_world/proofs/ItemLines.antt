@@ -6,7 +6,7 @@ use Rattle.sx_trace.specs.declared.items.Item.{Item}
 use Rattle.sx_trace.specs.Names.{NameLists}
 use Rattle.sx_command.specs.Batch.{WritesPrefix, WritesUpTo}
 use Rattle.sx_command.proofs.Batches.{prefix_more, prefix_then, up_to_then, writes_more}
-use Rattle.sx_command_run.specs.Run.{item_line, items_text}
+use Rattle.sx_command_world.specs.Items.{item_line, items_text}
 
 -- the lines of the items from one on: its own, and those after it
 next_line : (names : NameLists) (items : List Item) (i : ℕ) (batch : List ℕ) (d : Item) → i < length items

@@ -7,8 +7,9 @@ use Rattle.sx_run.specs.Accepted.{setting_of}
 use Rattle.sx_command.specs.Output.{trace_line, end_line}
 use Rattle.sx_command_world.specs.Images.{images_text}
 use Rattle.sx_command_world.specs.Schedule.{Schedule}
-use Rattle.sx_command_run.specs.Run.{items_text, run_from, schedule_output}
-use Rattle.sx_command_drive.specs.Laws.{LinesRunAgain}
+use Rattle.sx_command_world.specs.Items.{items_text}
+use Rattle.sx_command_run.specs.Run.{run_from, schedule_output}
+use Rattle.sx_top.specs.Laws.{LinesRunAgain}
 
 pub lines_run_again : LinesRunAgain
 unfolding run_from
