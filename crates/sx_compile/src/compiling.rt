@@ -1,7 +1,6 @@
 //! From a checked module to its image.
 
-ghost use Rattle.std.specs.Prelude.{All, ◌≡◌, ◌+◌, ◌<◌, ◌≤◌, ◌++◌, IfOk, OnOk, length};
-ghost use Rattle.std.specs.Prelude.{replicate};
+ghost use Rattle.std.specs.Prelude.{All, ◌≡◌, ◌<◌, ◌≤◌, IfOk, OnOk, length};
 ghost use Rattle.sx_check.specs.Source.{source_tree};
 ghost use Rattle.sx_mean.specs.EndLaws.{senders};
 ghost use Rattle.sx_lower.specs.Lowering.{IsLowerable, SendFew};
@@ -19,22 +18,11 @@ use sx_stub::{links_fit, stub};
 use sx_tag::Tag;
 use sx_tmpl::emit;
 
-/// Appends `count` zeros.
-fn put_zeros(text: &mut Vec<u8>, count: usize) -> Result<(), OutOfMemory>
-    ensures { OnOk result (text.new.items ≡ text.old.items ++ replicate count 0) }
-{
-    for _byte in 0..count {
-        text.push(0)?;
-    }
-    Ok(())
-}
-
 /// Appends zeros up to this length.
 fn pad(text: &mut Vec<u8>, len: usize) -> Result<(), OutOfMemory>
     ensures { OnOk result (text.new.items ≡ padded_to len text.old.items) }
 {
-    let count = len.saturating_sub(text.len());
-    put_zeros(text, count)
+    text.resize(len.max(text.len()), 0)
 }
 
 /// What is asked of a module and its ends holds of a checked one.
