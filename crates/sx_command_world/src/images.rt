@@ -8,7 +8,7 @@ ghost use Rattle.sx_image.specs.InMemory.{texts_of};
 ghost use Rattle.sx_command.specs.Output.{trace_line};
 ghost use Rattle.sx_command_world.specs.Images.{image_line, images_text};
 
-use hex::encode;
+use crate::digits::push_digits;
 use std::alloc::{AllocError, Global};
 use sx_image::Image;
 use sx_io::Sink;
@@ -18,20 +18,14 @@ use sx_trace::names::Names;
 
 /// Appends the line of an image.
 #[tactic(auto, unfolding(crate::specs::Images::image_line))]
-fn push_image(
-    alloc: Global,
-    text: &mut Vec<u8>,
-    name: &Name,
-    image: &Image,
-) -> Result<(), AllocError>
+fn push_image(text: &mut Vec<u8>, name: &Name, image: &Image) -> Result<(), AllocError>
     ensures { OnOk result
         (text.new.items ≡ text.old.items ++ image_line name.now image.now.text.items) }
 {
-    let digits = encode(alloc, image.text.as_slice())?;
     text.extend_from_slice(b"image ")?;
     text.extend_from_slice(name.bytes())?;
     text.extend_from_slice(b" ")?;
-    text.extend_from_slice(digits.as_bytes())?;
+    push_digits(text, &image.text)?;
     text.extend_from_slice(b"\n")
 }
 
@@ -42,7 +36,7 @@ pub fn image_lines(alloc: Global, names: &[Name], images: &[Image]) -> Result<Ve
     let mut text = Vec::new(alloc);
     let mut i = 0;
     'images: while i < names.len() && i < images.len() {
-        push_image(alloc, &mut text, &names[i], &images[i])?;
+        push_image(&mut text, &names[i], &images[i])?;
         i += 1;
     }
     Ok(text)

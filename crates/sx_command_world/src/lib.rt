@@ -5,6 +5,7 @@
 #![tactic(auto)]
 
 pub mod compiling;
+mod digits;
 pub mod images;
 pub mod items;
 pub mod judging;
