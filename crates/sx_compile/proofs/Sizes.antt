@@ -29,12 +29,12 @@ sending_before [] k = 0
 sending_before (e ∷ es) zero = 0
 sending_before (e ∷ es) (suc k) = (if is_receiving e then 0 else 1) + sending_before es k
 
-pub before_bytes : (ends : List End) (k : ℕ) → 112 * sending_before ends k ≤ routine_bytes ends
+pub before_bytes : (ends : List End) (k : ℕ) → 140 * sending_before ends k ≤ routine_bytes ends
 before_bytes [] k = omega arith
 before_bytes (e ∷ es) zero = omega arith
 before_bytes (e ∷ es) (suc k) = go (is_receiving e) (before_bytes es k)
   where
-    go : (b : Bool) → 112 * sending_before es k ≤ routine_bytes es → 112 * ((if b then 0 else 1) + sending_before es k) ≤ (if b then 0 else 112) + routine_bytes es
+    go : (b : Bool) → 140 * sending_before es k ≤ routine_bytes es → 140 * ((if b then 0 else 1) + sending_before es k) ≤ (if b then 0 else 140) + routine_bytes es
     go true le = omega (arith, le)
     go false le = omega (arith, le)
 

@@ -2,8 +2,8 @@
 -- begins with the entry; after it stand the operations' templates in order, the exit, the routine
 -- that opens a slot, a routine for each end that some operation makes a packet of, and a word of
 -- zeros.
-use Rattle.std.specs.Prelude.{ℕ, zero, suc, ◌+◌, ◌*◌, ◌==◌, Bool, false, if◌then◌else◌, List, []}
-use Rattle.std.specs.Prelude.{◌∷◌, take}
+use Rattle.std.specs.Prelude.{ℕ, zero, suc, ◌+◌, ◌*◌, ◌%◌, ◌==◌, Bool, false, if◌then◌else◌, List}
+use Rattle.std.specs.Prelude.{[], ◌∷◌, take}
 use Rattle.std.specs.List.{list_any}
 use Rattle.sx_ir.specs.declared.ir.IrOp.{IrOp}
 use Rattle.sx_ir.specs.declared.ir.IrOp.TheVariants as op
@@ -24,6 +24,10 @@ operator_bytes op.Neg = 8
 operator_bytes op.Inv = 8
 operator_bytes op.Not = 14
 
+-- how many bytes of so many a turn of their copy takes
+abbrev pub turn_size : ℕ → ℕ
+turn_size n = if n % 8 == 0 then 8 else 1
+
 -- the bytes of an operation's template
 abbrev pub op_bytes : Ir → ℕ
 op_bytes (ir.Push n) = 4
@@ -41,8 +45,8 @@ op_bytes ir.Stop = 4
 op_bytes (ir.Saved r) = 4
 op_bytes ir.Inside = 18
 op_bytes (ir.Meets r n) = 28
-op_bytes (ir.CopyIn n o) = 22
-op_bytes (ir.CopyOut n o) = 24
+op_bytes (ir.CopyIn n o) = 18 + 4 * turn_size n
+op_bytes (ir.CopyOut n o) = 20 + 4 * turn_size n
 op_bytes (ir.Seal k h hn b bn) = 32
 op_bytes (ir.Open k h hn b bn) = 32
 op_bytes (ir.SetEnd k) = 8
@@ -69,7 +73,7 @@ slot_bytes = 64
 
 -- the routine that makes the packets of one end
 abbrev pub packet_bytes : ℕ
-packet_bytes = 112
+packet_bytes = 140
 
 -- the word of zeros at the text's end
 abbrev pub last_bytes : ℕ

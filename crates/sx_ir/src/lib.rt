@@ -18,5 +18,5 @@ mod soundness;
 
 pub use ir::{Code, Ir, IrOp};
 pub use joining::join;
-pub use sizes::{bytes, has_routine, offset, op_bytes};
+pub use sizes::{bytes, has_routine, offset, op_bytes, turn_size};
 pub use soundness::sound;

@@ -2,7 +2,7 @@
 
 ghost use Rattle.std.specs.Prelude.{◌≡◌, ◌+◌, ◌*◌, ◌<◌, ◌≤◌, length};
 ghost use Rattle.sx_ir.specs.Sizes.{all_routines, bytes, has_routine, is_packet, offset, op_bytes};
-ghost use Rattle.sx_ir.specs.Sizes.{operator_bytes, ops_bytes, routines};
+ghost use Rattle.sx_ir.specs.Sizes.{operator_bytes, ops_bytes, routines, turn_size};
 
 use crate::ir::{Code, Ir, IrOp};
 
@@ -12,7 +12,7 @@ const EXIT: u64 = 34;
 
 const SLOT: u64 = 64;
 
-const PACKET: u64 = 112;
+const PACKET: u64 = 140;
 
 const LAST: u64 = 2;
 
@@ -28,10 +28,19 @@ fn operator_bytes(op: IrOp) -> u16
     }
 }
 
-/// The bytes of an operation's template, at most 32.
+/// How many bytes a turn of a copy takes.
+pub fn turn_size(count: u16) -> u16
+    ensures size { result ≡ turn_size count }
+    ensures some { 1 ≤ result }
+    ensures small { result ≤ 8 }
+{
+    if count % 8 == 0 { 8 } else { 1 }
+}
+
+/// The bytes of an operation's template, at most 52.
 pub fn op_bytes(op: &Ir) -> u16
     ensures size { result ≡ op_bytes op.now }
-    ensures small { result ≤ 32 }
+    ensures small { result ≤ 52 }
 {
     match op {
         Ir::Drop => 2,
@@ -50,8 +59,8 @@ pub fn op_bytes(op: &Ir) -> u16
         Ir::Handler(_) => 14,
         Ir::StoreAt(_, _) => 16,
         Ir::LoadAt(_, _) | Ir::Inside => 18,
-        Ir::CopyIn(_, _) => 22,
-        Ir::CopyOut(_, _) => 24,
+        Ir::CopyIn(count, _) => 18 + 4 * turn_size(*count),
+        Ir::CopyOut(count, _) => 20 + 4 * turn_size(*count),
         Ir::Meets(_, _) => 28,
         Ir::Seal(_, _, _, _, _) | Ir::Open(_, _, _, _, _) => 32,
         Ir::Op(op) => operator_bytes(*op),
@@ -61,7 +70,7 @@ pub fn op_bytes(op: &Ir) -> u16
 fn ops_bytes(ops: &[Ir]) -> u64
     requires { length ops.now < 65536 }
     ensures size { result ≡ ops_bytes ops.now }
-    ensures small { result ≤ 32 * length ops.now }
+    ensures small { result ≤ 52 * length ops.now }
 {
     let mut total: u64 = 0;
     for op in ops {

@@ -44,7 +44,7 @@ sum_ends [] = omega arith
 sum_ends (e ∷ es) = let a = sum_ends es in go (is_receiving e) a
   where
     go : (b : Bool) → all_ends (λ e. true) 34 es + all_ends (λ e. true) 46 es + all_ends is_receiving 146 es + routine_bytes es ≤ 226 * length es
-        → (34 + all_ends (λ e. true) 34 es) + (46 + all_ends (λ e. true) 46 es) + ((if b then 146 else 0) + all_ends is_receiving 146 es) + ((if b then 0 else 112) + routine_bytes es) ≤ 226 * length
+        → (34 + all_ends (λ e. true) 34 es) + (46 + all_ends (λ e. true) 46 es) + ((if b then 146 else 0) + all_ends is_receiving 146 es) + ((if b then 0 else 140) + routine_bytes es) ≤ 226 * length
         (e ∷ es)
     go true h = omega (arith, h)
     go false h = omega (arith, h)

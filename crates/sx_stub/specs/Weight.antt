@@ -11,10 +11,10 @@ use Rattle.sx_stub.specs.Stub.{is_receiving, stub_ops}
 abbrev pub once_bytes : ℕ
 once_bytes = 124
 
--- the bytes of the routines: 112 for each sending end
+-- the bytes of the routines: 140 for each sending end
 abbrev pub routine_bytes : List End → ℕ
 routine_bytes [] = 0
-routine_bytes (e ∷ es) = (if is_receiving e then 0 else 112) + routine_bytes es
+routine_bytes (e ∷ es) = (if is_receiving e then 0 else 140) + routine_bytes es
 
 -- with what stands once and the packets' routines, they take no more than the weight leaves beside
 -- the source's nodes

@@ -4,6 +4,7 @@ pub mod Branch
 pub mod Arrays
 pub mod Bytes
 pub mod CopyLoop
+pub mod CopyOut
 pub mod Sealing
 pub mod Packet
 pub mod PacketOp

@@ -1,6 +1,6 @@
 -- The instructions of each operation's template, and their words. Nobody has to believe this file
 -- for what an image realizes.
-use Rattle.std.specs.Prelude.{◌-◌, ℕ, zero, suc, ◌+◌, List, [], ◌∷◌, ◌++◌, ℤ}
+use Rattle.std.specs.Prelude.{◌-◌, ℕ, zero, suc, ◌+◌, ◌*◌, ◌/◌, List, [], ◌∷◌, ◌++◌, ℤ}
 use Rattle.sx_rules.specs.declared.section.Layout.{Layout}
 use Rattle.sx_isa.specs.declared.instruction.Instr.{Instr}
 use Rattle.sx_isa.specs.declared.instruction.Operand.{Operand}
@@ -12,6 +12,7 @@ use Rattle.sx_ir.specs.declared.ir.IrOp.{IrOp}
 use Rattle.sx_ir.specs.declared.ir.IrOp.TheVariants as op
 use Rattle.sx_ir.specs.declared.ir.Ir.{Ir}
 use Rattle.sx_ir.specs.declared.ir.Ir.TheVariants as ir
+use Rattle.sx_ir.specs.Sizes.{turn_size}
 use Rattle.sx_tmpl.specs.Scratch as scratch
 use Rattle.sx_isa.specs.Assembly.{sp, sr, r4, r5, r6, r7, r8, r9, r10, r11, r12, r13, r14, r15}
 use Rattle.sx_isa.specs.Assembly.{#◌, ##◌, &◌, ◌⟨◌⟩}
@@ -145,18 +146,22 @@ meets saved from to n =
 abbrev pub meets_words : ℕ → ℕ → ℕ → ℕ → List ℕ
 meets_words saved from to n = words_of (meets saved from to n)
 
+-- n bytes from R13 on go to the i-th after R12 and those that follow
+abbrev pub copies : ℕ → ℕ → List Instr
+copies i zero = []
+copies i (suc n) = mov_b (increment r13) (i ⟨ r12 ⟩) ∷ copies (i + 1) n
+
+-- as many turns as R15 says, each of n bytes
+abbrev pub turns : ℕ → List Instr
+turns n = copies 0 n ++ add (# n) r12 ∷ dec r15 ∷ jnz (back (2 * n + 3)) ∷ []
+
 -- n bytes of the window go to an address
 abbrev pub copy_in : ℕ → ℕ → ℕ → List Instr
 copy_in window to n =
-    mov (& window) r12
-    ∷ mov (## to) r13
-    ∷ mov (## n) r15
-    -- turn:
-    ∷ mov_b (increment r12) (0 ⟨ r13 ⟩)
-    ∷ inc r13
-    ∷ dec r15
-    ∷ jnz (back 5)  -- turn
-    ∷ []
+    mov (& window) r13
+    ∷ mov (## to) r12
+    ∷ mov (## (n / turn_size n)) r15
+    ∷ turns (turn_size n)
 
 abbrev pub copy_in_words : ℕ → ℕ → ℕ → List ℕ
 copy_in_words window to n = words_of (copy_in window to n)
@@ -167,13 +172,8 @@ copy_out window from n =
     pop r12
     ∷ add (& window) r12
     ∷ mov (## from) r13
-    ∷ mov (## n) r15
-    -- turn:
-    ∷ mov_b (increment r13) (0 ⟨ r12 ⟩)
-    ∷ inc r12
-    ∷ dec r15
-    ∷ jnz (back 5)  -- turn
-    ∷ []
+    ∷ mov (## (n / turn_size n)) r15
+    ∷ turns (turn_size n)
 
 abbrev pub copy_out_words : ℕ → ℕ → ℕ → List ℕ
 copy_out_words window from n = words_of (copy_out window from n)
@@ -340,9 +340,9 @@ slot_words base = words_of (open_slot base)
 abbrev pub routine : ℕ → ℕ → List Instr
 routine base k =
     tst (& (base + offsets.end_open_at k))
-    ∷ jz (ahead 52)  -- done
+    ∷ jz (ahead 66)  -- done
     ∷ cmp (# protocol.last_number) (& (base + offsets.end_number_at k))
-    ∷ jz (ahead 49)  -- done
+    ∷ jz (ahead 63)  -- done
     ∷ mov (# protocol.event_kind) (& (base + scratch.kind_at))
     ∷ mov (& (base + offsets.end_at k)) (& (base + scratch.connection_at))
     ∷ mov (& (base + offsets.end_number_at k)) (& (base + scratch.number_at))
@@ -367,14 +367,10 @@ routine base k =
     -- copy
     ∷ add (& (base + scratch.out_window_at)) r12
     ∷ mov (## (base + scratch.kind_at)) r13
-    ∷ mov (# protocol.event_size) r15
-    -- turn:
-    ∷ mov_b (increment r13) (0 ⟨ r12 ⟩)
-    ∷ inc r12
-    ∷ dec r15
-    ∷ jnz (back 5)  -- turn
+    ∷ mov (# (protocol.event_size / 8)) r15
+    ∷ turns 8
     -- count
-    ∷ inc (& (base + offsets.end_number_at k))
+    ++ inc (& (base + offsets.end_number_at k))
     ∷ inc (& (base + working.pieces_at))
     -- done:
     ∷ ret

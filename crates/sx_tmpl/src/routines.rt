@@ -95,9 +95,9 @@ pub fn put_routine(text: &mut Vec<u8>, base: u16, end: u8) -> Result<(), OutOfMe
     put! {
         text;
         tst Absolute(base + end_open_at(end));
-        jz 52;
+        jz 66;
         cmp Const(LAST_NUMBER), number;
-        jz 49;
+        jz 63;
         mov Immediate(EVENT_KIND), Absolute(kind);
         mov Absolute(base + end_at(end)), Absolute(base + CONNECTION);
         mov number, Absolute(base + NUMBER);
@@ -119,11 +119,18 @@ pub fn put_routine(text: &mut Vec<u8>, base: u16, end: u8) -> Result<(), OutOfMe
         add R14, R12;
         add Absolute(base + OUT_WINDOW), R12;
         mov Immediate(kind), R13;
-        mov Immediate(EVENT_SIZE), R15;
+        mov Immediate(EVENT_SIZE / 8), R15;
         mov_b Increment(13), Indexed(12, 0);
-        inc R12;
+        mov_b Increment(13), Indexed(12, 1);
+        mov_b Increment(13), Indexed(12, 2);
+        mov_b Increment(13), Indexed(12, 3);
+        mov_b Increment(13), Indexed(12, 4);
+        mov_b Increment(13), Indexed(12, 5);
+        mov_b Increment(13), Indexed(12, 6);
+        mov_b Increment(13), Indexed(12, 7);
+        add Const(8), R12;
         dec R15;
-        jnz -5;
+        jnz -19;
         inc number;
         inc pieces;
         ret;

@@ -21,7 +21,7 @@ pub const EXIT: u16 = 34;
 pub const SLOT_ROUTINE: u16 = 64;
 
 /// The bytes of an end's packet routine.
-pub const PACKET_ROUTINE: u16 = 112;
+pub const PACKET_ROUTINE: u16 = 140;
 
 /// As many ends as a byte names.
 pub const END_COUNT: usize = 256;

@@ -1,20 +1,21 @@
 //! The template of each operation.
 
 ghost use Rattle.std.specs.Prelude.{◌≡◌, ℕ, ◌≤◌, ◌<◌, ◌+◌, ◌*◌, OnOk, length, true};
-ghost use Rattle.sx_ir.specs.Sizes.{exit_bytes, packet_bytes, routines, slot_bytes};
+ghost use Rattle.sx_isa.specs.Standing.{words_of};
+ghost use Rattle.sx_ir.specs.Sizes.{exit_bytes, packet_bytes, routines, slot_bytes, turn_size};
 ghost use Rattle.sx_tmpl.specs.Scratch.{return_at};
 ghost use Rattle.sx_tmpl.specs.Fits.{AreSealed, OperationFits, IsTable, is_plain};
 ghost use Rattle.sx_tmpl.specs.Template.{Addresses, copy_in_words, copy_out_words, handler_words};
 ghost use Rattle.sx_tmpl.specs.Template.{inside_words, key_word, load_at_words, meets_words};
 ghost use Rattle.sx_tmpl.specs.Template.{multiply_words, opening_words, operator_words};
-ghost use Rattle.sx_tmpl.specs.Template.{sealing_words, store_at_words, template};
+ghost use Rattle.sx_tmpl.specs.Template.{sealing_words, store_at_words, template, turns};
 ghost use Rattle.sx_tmpl.specs.Text.{addresses, part_place, PutsWords};
 
 use crate::put::{put, put_words};
 use crate::scratch::{CALLER, IN_WINDOW, OUT_WINDOW, RETURN};
 use crate::table::{EXIT, PACKET_ROUTINE, SLOT_ROUTINE, Table};
 use std::alloc::AllocError as OutOfMemory;
-use sx_ir::{Code, Ir, IrOp};
+use sx_ir::{Code, Ir, IrOp, turn_size};
 use sx_isa::Operand::{Absolute, Const, Immediate, Increment, Indexed, Indirect};
 use sx_isa::assembly::{POPPED, R9, R10, R11, R12, R13, R14, R15, SP, TOP};
 use sx_mean::offsets::{PIECES, end_at, saved_at};
@@ -131,21 +132,50 @@ fn put_meets(
     }
 }
 
+/// A copy's turns, of as many bytes as this many are copied by.
+fn put_turns(text: &mut Vec<u8>, count: u16) -> Result<(), OutOfMemory>
+    ensures { OnOk result (PutsWords (words_of (turns (turn_size count))) text.old.items
+        text.new.items) }
+{
+    if count % 8 == 0 {
+        put! {
+            text;
+            mov_b Increment(13), Indexed(12, 0);
+            mov_b Increment(13), Indexed(12, 1);
+            mov_b Increment(13), Indexed(12, 2);
+            mov_b Increment(13), Indexed(12, 3);
+            mov_b Increment(13), Indexed(12, 4);
+            mov_b Increment(13), Indexed(12, 5);
+            mov_b Increment(13), Indexed(12, 6);
+            mov_b Increment(13), Indexed(12, 7);
+            add Const(8), R12;
+            dec R15;
+            jnz -19;
+        }
+    } else {
+        put! {
+            text;
+            mov_b Increment(13), Indexed(12, 0);
+            inc R12;
+            dec R15;
+            jnz -5;
+        }
+    }
+}
+
 /// `window` is where the caller's in-window is kept, and `to` where its bytes go.
 fn put_copy_in(text: &mut Vec<u8>, window: u16, to: u16, count: u16) -> Result<(), OutOfMemory>
     ensures { OnOk result (PutsWords (copy_in_words window to count) text.old.items
         text.new.items) }
 {
+    let turns = count / turn_size(count);
     put! {
         text;
-        mov Absolute(window), R12;
-        mov Immediate(to), R13;
-        mov Immediate(count), R15;
-        mov_b Increment(12), Indexed(13, 0);
-        inc R13;
-        dec R15;
-        jnz -5;
-    }
+        mov Absolute(window), R13;
+        mov Immediate(to), R12;
+        mov Immediate(turns), R15;
+    }?;
+    put_turns(text, count)
 }
 
 /// `window` is where the caller's out-window is kept, and `from` where the bytes are.
@@ -153,17 +183,15 @@ fn put_copy_out(text: &mut Vec<u8>, window: u16, from: u16, count: u16) -> Resul
     ensures { OnOk result (PutsWords (copy_out_words window from count) text.old.items
         text.new.items) }
 {
+    let turns = count / turn_size(count);
     put! {
         text;
         pop R12;
         add Absolute(window), R12;
         mov Immediate(from), R13;
-        mov Immediate(count), R15;
-        mov_b Increment(13), Indexed(12, 0);
-        inc R12;
-        dec R15;
-        jnz -5;
-    }
+        mov Immediate(turns), R15;
+    }?;
+    put_turns(text, count)
 }
 
 /// `next` is the address of the next operation, `part` that of the handler's part.

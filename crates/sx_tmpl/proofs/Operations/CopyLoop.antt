@@ -1,208 +1,188 @@
--- A copy of private bytes to a window outside, which the first refused byte ends.
-use Rattle.std.proofs.Common.{◌≡◌, ◌≢◌, ℕ, zero, suc, ◌+◌, ◌*◌, ◌%◌, ◌<◌, ◌≤◌, inl, inr, List, [], ◌∷◌, length, Option, Some, None, refl, sym, ◌∙◌, ap, subst, arith, slice_index}
-use Rattle.sx_isa.specs.Assembly as asm
-use Rattle.sx_isa.specs.Assembly.{dec, inc, increment, jnz, mov_b, r12, r13, r15, ◌⟨◌⟩}
+-- A copy's turns: byte after byte goes from where R13 points to where R12 points.
+use Rattle.std.proofs.Common.{◌≡◌, ℕ, zero, suc, ◌+◌, ◌-◌, ◌*◌, ◌/◌, ◌%◌, ◌<◌, ◌≤◌, inl, inr, Bool, true, false, List, [], ◌∷◌, refl, sym, ◌∙◌, subst, arith}
+use Rattle.std.specs.Prelude.{drop, take, if◌then◌else◌, ◌==◌}
+use Rattle.std.proofs.lemmas.Bool.{cases_eq, eqb-true}
 use Rattle.sx_isa.specs.Spelling.{spelling}
 use Rattle.sx_isa.specs.declared.instruction.Op2.TheVariants as op2
+use Rattle.sx_alu.specs.Status.{flags_of}
 use Rattle.sx_rules.specs.declared.access.Violation.{Violation}
 use Rattle.sx_machine.specs.declared.kinds.Event.TheVariants as event
-use Rattle.std.specs.Prelude.{slice_set, Result, Ok, Err, drop, take}
-use Rattle.std.proofs.lemmas.Option.{none-some, same_Some}
-use Rattle.std.proofs.lemmas.Bool.{cases_Bool, true≢false}
-use Rattle.std.proofs.lemmas.List.{get_or-set_other}
-use Rattle.sx_bus.specs.declared.devices.Window.{Window}
-use Rattle.sx_bus.specs.Devices.{device_at}
-use Rattle.sx_rules.specs.declared.access.Access.TheVariants.{Write}
-use Rattle.sx_rules.specs.declared.access.Violation.TheVariants as bad
-use Rattle.sx_rules.specs.Access.{may, in_private}
-use Rattle.sx_invoke.specs.Windows.{write_byte, write_bytes, unless_device, then_}
-use Rattle.sx_tmpl.proofs.Running.MidRun.{refused, device_refusal, PrivateByte, PrivateRange, Stands, Runs}
-use Rattle.sx_tmpl.proofs.Running.Owes.{Outside, let_through}
-use Rattle.sx_tmpl.proofs.Running.Owned.{read_free, in_private_yes}
-use Rattle.sx_tmpl.proofs.Operations.Bytes.{BytesAt, bytes_same}
-use Rattle.sx_tmpl.proofs.Running.Holding.{are_part, holds_outside}
 use Rattle.sx_invoke.specs.Marks.{Mark}
 use Rattle.sx_image.specs.Watched.{Watched}
+use Rattle.sx_isa.specs.Assembly.{#◌, ◌⟨◌⟩, add, back, dec, increment, jnz, mov_b, r12, r13, r15}
 use Rattle.sx_tmpl.specs.Running.{Regs, Fixed, Data, running, Safe}
-use Rattle.sx_tmpl.specs.Shows.{MemoryHolds}
+use Rattle.sx_tmpl.proofs.Running.MidRun.{Stands, Runs}
 use Rattle.sx_tmpl.proofs.Running.Steps.{Text}
-use Rattle.sx_tmpl.specs.Unseen.{AreShown}
 use Rattle.sx_tmpl.proofs.Running.Instructions.{step}
 use Rattle.sx_tmpl.proofs.Running.Flags.{flags_after, equal, unequal}
 use Rattle.sx_tmpl.proofs.Operations.Plain.{inside}
 
-module _ (f : Fixed) (st : Stands f) (all : List Mark) (B : Watched → Violation → Type 0) (at : ℕ → ℕ) where
-  -- what refuses a byte is what refuses it by the definitions of the windows
-  byte_written : (ds : List Window) (m : List ℕ) (a b : ℕ) → device_at ds a ≡ device_at f.devices a → refused f Write bad.Write a ≡ None → write_byte f.setup ds m a b ≡ Ok (slice_set m a b)
-  unfolding write_byte
-  byte_written ds m a b same h =
-      let t = let_through f st a h in
-      let dev : device_refusal (device_at f.devices a) ≡ None = rw t at h in
-      rw (t, same) (free (device_at f.devices a) dev)
-    where
-      free : (o : Option ℕ) → device_refusal o ≡ None → ◌≡◌ {A = Result (List ℕ) Violation} (unless_device o (slice_set m a b)) (Ok (slice_set m a b))
-      free None e = refl
-      free (Some i) e = absurd (none-some bad.Device (sym e))
+-- the bytes of a turn: eight or one
+abbrev pub size : Bool → ℕ
+size b = if b then 8 else 1
 
-  byte_refused : (ds : List Window) (m : List ℕ) (a b : ℕ) (v : Violation) → device_at ds a ≡ device_at f.devices a → refused f Write bad.Write a ≡ Some v → write_byte f.setup ds m a b ≡ Err v
-  unfolding write_byte
-  byte_refused ds m a b v same h = elim (cases_Bool (may f.setup.live f.setup.section.id Write a)) [
-    | inl t ↦ let dev : device_refusal (device_at f.devices a) ≡ Some v = rw t at h in rw (t, same) (held (device_at f.devices a) dev)
-    | inr t ↦ let w : Some bad.Write ≡ Some v = rw t at h in rw t (ap (λ v. Err v) (same_Some bad.Write v w))
-  ]
-    where
-      held : (o : Option ℕ) → device_refusal o ≡ Some v → ◌≡◌ {A = Result (List ℕ) Violation} (unless_device o (slice_set m a b)) (Err v)
-      held None e = absurd (none-some v e)
-      held (Some i) e = ap (λ v. Err v) (same_Some bad.Device v e)
+-- so many more
+abbrev pub more : ℕ → ℕ → ℕ
+more zero j = j
+more (suc n) j = suc (more n j)
 
-  -- the loop: its four instructions stand from the k-th word on
-  module _ (Q : Watched → Type 0) (P n k : ℕ) (ws : List ℕ) (t : Text f P n ws) (le : k + 5 ≤ n)
-      (i0 : take 2 (drop k ws) ≡ spelling (mov_b (increment r13) (0 ⟨ r12 ⟩))) (i1 : take 1 (drop (k + 2) ws) ≡ spelling (inc r12)) (i2 : take 1 (drop (k + 2 + 1) ws) ≡ spelling (dec r15))
-      (i3 : take 1 (drop (k + 2 + 1 + 1) ws) ≡ spelling (jnz (asm.back 5)))
-      (ds : List Window) (same : (a : ℕ) → device_at ds a ≡ device_at f.devices a) (back : Option ℕ) (stack priv : List ℕ) where
-    abbrev turn_at : Regs → ℕ → ℕ → ℕ → ℕ → Regs
-    turn_at r sr dst src left = record r { pc = P + 2 * k; sr = sr; r12 = dst; r13 = src; r15 = left }
+-- the bytes and the instructions of turns
+abbrev pub all_bytes : Bool → ℕ → ℕ
+all_bytes b zero = 0
+all_bytes b (suc m) = more (size b) (all_bytes b m)
 
-    -- the turn's end: the count falls, and a jump leads back unless it is 0
-    abbrev behind : ℕ → ℕ
-    behind zero = P + 2 * (k + 2 + 1 + 1 + 1)
-    behind (suc n) = P + 2 * k
+abbrev pub all_steps : Bool → ℕ → ℕ → ℕ
+all_steps b zero j = j
+all_steps b (suc m) j = more (size b) (suc (suc (suc (all_steps b m j))))
 
-    count_down : (r : Regs) (d : Data) (sr dst src left j : ℕ) → left < 65535 → Safe f all (running f (record r { pc = P + 2 * (k + 2 + 1); sr = sr; r12 = dst; r13 = src; r15 = suc left }) d)
-        → ((sr : ℕ) → Safe f all (running f (record r { pc = behind left; sr = sr; r12 = dst; r13 = src; r15 = left }) d)
-        → Runs f all B Q j (running f (record r { pc = behind left; sr = sr; r12 = dst; r13 = src; r15 = left }) d))
-        → Runs f all B Q (suc (suc j)) (running f (record r { pc = P + 2 * (k + 2 + 1); sr = sr; r12 = dst; r13 = src; r15 = suc left }) d)
-    count_down r d sr dst src zero j lt safe after =
-        let sr1 = flags_after op2.Cmp 1 (1 % 65536) sr in
-        let z = equal 1 1 sr (omega arith) refl in
-        let r0 = record r { pc = P + 2 * (k + 2 + 1); sr = sr; r12 = dst; r13 = src; r15 = 1 } in
-        let r1 = record r { pc = P + 2 * (k + 2 + 1 + 1); sr = sr1; r12 = dst; r13 = src; r15 = 0 } in
-        let r2 = record r1 { pc = P + 2 * (k + 2 + 1 + 1 + 1) } in
-        step f st all B Q t (k + 2 + 1) (dec r15) i2 (omega arith) refl refl event.Quiet r0 d (suc j) refl safe
-        (λ kept. (
-          r1,
-          refl,
-          inside t (k + 2 + 1 + 1) (omega arith),
-          λ s1.
-              step f st all B Q t (k + 2 + 1 + 1) (jnz (asm.back 5)) i3 (omega arith) refl refl event.Quiet r1 d j refl s1
-              (λ kept. (r2, rw z refl, inside t (k + 2 + 1 + 1 + 1) (omega arith), after sr1)),
-        ))
-    count_down r d sr dst src (suc left) j lt safe after =
-        let sr1 = flags_after op2.Cmp 1 (suc (suc left) % 65536) sr in
-        let z = unequal 1 (suc (suc left) % 65536) sr (omega arith) (omega arith) (omega arith) in
-        let less : (suc (suc left) % 65536 + 65534 + 1) % 65536 ≡ suc left = omega arith in
-        let to : (P + 2 * (k + 2 + 1 + 1 + 1) + 65526) % 65536 ≡ P + 2 * k = omega (arith, t.to, st.below) in
-        let r0 = record r { pc = P + 2 * (k + 2 + 1); sr = sr; r12 = dst; r13 = src; r15 = suc (suc left) } in
-        let r1 = record r { pc = P + 2 * (k + 2 + 1 + 1); sr = sr1; r12 = dst; r13 = src; r15 = suc left } in
-        let r2 = record r1 { pc = P + 2 * k } in
-        step f st all B Q t (k + 2 + 1) (dec r15) i2 (omega arith) refl refl event.Quiet r0 d (suc j) refl safe
-        (λ kept. (
-          r1,
-          rw less refl,
-          inside t (k + 2 + 1 + 1) (omega arith),
-          λ s1.
-              step f st all B Q t (k + 2 + 1 + 1) (jnz (asm.back 5)) i3 (omega arith) refl refl event.Quiet r1 d j refl s1
-              (λ kept. (r2, rw (z, to) refl, inside t k (omega arith), after sr1)),
-        ))
+pub bytes_are : (b : Bool) (m : ℕ) → all_bytes b m ≡ size b * m
+bytes_are true zero = refl
+bytes_are true (suc m) = let h = bytes_are true m in omega (arith, h)
+bytes_are false zero = refl
+bytes_are false (suc m) = let h = bytes_are false m in omega (arith, h)
 
-    abbrev after_turn : Regs → ℕ → ℕ → ℕ → ℕ → Regs
-    after_turn r sr dst src left = record r { pc = behind left; sr = sr; r12 = (dst % 65536 + 1 + 0) % 65536; r13 = src + 1; r15 = left }
+pub few_steps : (b : Bool) (m j : ℕ) → all_steps b m j ≤ 4 * all_bytes b m + j
+few_steps true zero j = omega arith
+few_steps true (suc m) j = let h = few_steps true m j in omega (arith, h)
+few_steps false zero j = omega arith
+few_steps false (suc m) j = let h = few_steps false m j in omega (arith, h)
 
-    -- of these bytes the first
-    first_shown : (a n : ℕ) → AreShown f.setup a n → 1 ≤ n → AreShown f.setup a 1
-    first_shown a n h le = let same : a + 0 ≡ a = omega arith in subst (λ (b : ℕ). AreShown f.setup b 1) same (are_part f.setup a n 0 1 h (omega arith))
+-- there are no more turns than bytes
+pub turns_few : (b : Bool) (m : ℕ) → suc m ≤ all_bytes b (suc m)
+turns_few b m = go b (bytes_are b m)
+  where
+    go : (b : Bool) → all_bytes b m ≡ size b * m → suc m ≤ all_bytes b (suc m)
+    go true h = omega (arith, h)
+    go false h = omega (arith, h)
 
-    -- one byte, or the end
-    one_byte : (r : Regs) (d : Data) (sr dst src b left j : ℕ) (outside : List ℕ) → left < 65535 → f.from ≤ dst → dst < f.to → PrivateByte f src → AreShown f.setup src 1 → slice_index d.mem src ≡ b
-        → MemoryHolds f at back stack priv outside r.sp d.mem → Safe f all (running f (turn_at r sr dst src (suc left)) d)
-        → ((v : Violation) → refused f Write bad.Write dst ≡ Some v → B (running f (turn_at r sr dst src (suc left)) d) v)
-        → (refused f Write bad.Write dst ≡ None → (m : List ℕ) → m ≡ slice_set d.mem dst b → (sr : ℕ) → MemoryHolds f at back stack priv (slice_set outside dst b) r.sp m
-        → Safe f all (running f (after_turn r sr dst src left) (record d { mem = m })) → Runs f all B Q j (running f (after_turn r sr dst src left) (record d { mem = m })))
-        → Runs f all B Q (suc (suc (suc (suc j)))) (running f (turn_at r sr dst src (suc left)) d)
-    one_byte r d sr dst src b left j outside lt d1 d2 p shown is h safe stop allowed =
-        let lim = st.window in
-        let up0 : (dst + 0) % 65536 ≡ dst = omega arith in
-        let up : (src + 1) % 65536 ≡ src + 1 = omega (arith, p.high, st.beneath) in
-        let byte : slice_index d.mem src < 256 = safe.memory.bytes src in
-        let cut : slice_index d.mem src % 256 ≡ b = omega arith in
-        let m1 = slice_set d.mem dst (slice_index d.mem src % 256) in
-        let sr1 = flags_after op2.Mov 0 0 sr in
-        let r1 = record r { pc = P + 2 * (k + 2); sr = sr1; r12 = dst; r13 = src + 1; r15 = suc left } in
-        let r2 = record r1 { pc = P + 2 * (k + 2 + 1); sr = flags_after op2.Add 1 (dst % 65536) sr1; r12 = (dst % 65536 + 1 + 0) % 65536 } in
-        let free = read_free f st src p in
-        step f st all B Q t k (mov_b (increment r13) (0 ⟨ r12 ⟩)) i0 (omega arith) refl refl event.Quiet (turn_at r sr dst src (suc left)) d
-        (suc (suc (suc j))) refl safe (
-          src,
-          refl,
-          inr shown,
-          (λ v e. absurd (none-some v (sym free ∙ e))),
-          λ _. (
-            dst,
-            up0,
-            Outside d1 d2,
-            stop,
-            λ ok kept1. (
-              r1,
-              rw up refl,
-              inside t (k + 2) (omega arith),
-              λ s1.
-                  step f st all B Q t (k + 2) (inc r12) i1 (omega arith) refl refl event.Quiet r1 (record d { mem = m1 }) (suc (suc j)) refl s1
-                  (λ kept2. (
-                    r2,
-                    refl,
-                    inside t (k + 2 + 1) (omega arith),
-                    λ s2.
-                        count_down r (record d { mem = m1 }) (flags_after op2.Add 1 (dst % 65536) sr1) ((dst % 65536 + 1 + 0) % 65536) (src + 1) left j lt s2
-                        (λ sr3 s3. allowed ok m1 (ap (slice_set d.mem dst) cut) sr3
-                        (subst (λ b. MemoryHolds f at back stack priv (slice_set outside dst b) r.sp m1) cut
-                        (holds_outside f st at back stack priv outside r.sp d.mem dst (slice_index d.mem src % 256) safe.memory h (st.window_apart dst d1 d2) (omega arith))) s3),
-                  )),
-            ),
-          ),
-        )
+-- the turns of a copy of so many bytes
+pub turns_of : (b : Bool) (n : ℕ) → (suc n % 8 == 0) ≡ b → (m : ℕ) × (suc n / size b ≡ suc m) × (all_bytes b (suc m) ≡ suc n)
+turns_of true n e =
+    let z = eqb-true (suc n % 8) 0 e in
+    let m = (suc n - 8) / 8 in
+    let c = bytes_are true m in
+    (m, omega (arith, z), omega (arith, z, c))
+turns_of false n e = let c = bytes_are false n in (n, omega arith, omega (arith, c))
 
-    written : (outside : List ℕ) (dst b : ℕ) (bs : List ℕ) → refused f Write bad.Write dst ≡ None
-        → write_bytes f.setup ds outside dst (b ∷ bs) ≡ write_bytes f.setup ds (slice_set outside dst b) (dst + 1) bs
-    unfolding write_bytes
-    written outside dst b bs h = ap (λ r. then_ r (λ m. write_bytes f.setup ds m (dst + 1) bs)) (byte_written ds outside dst b (same dst) h)
+-- copies of so many bytes stand from the k-th word on
+abbrev pub Copies : List ℕ → ℕ → ℕ → ℕ → Type 0
+Copies ws k i zero = Unit {0}
+Copies ws k i (suc n) = (take 2 (drop k ws) ≡ spelling (mov_b (increment r13) (i ⟨ r12 ⟩))) × Copies ws (k + 2) (i + 1) n
 
-    not_written : (outside : List ℕ) (dst b : ℕ) (bs : List ℕ) (v : Violation) → refused f Write bad.Write dst ≡ Some v → write_bytes f.setup ds outside dst (b ∷ bs) ≡ Err v
-    unfolding write_bytes
-    not_written outside dst b bs v h = ap (λ r. then_ r (λ m. write_bytes f.setup ds m (dst + 1) bs)) (byte_refused ds outside dst b v (same dst) h)
+-- and the turns' end behind them
+pub record Turns (ws : List ℕ) (k : ℕ) (b : Bool) : Type 0 where
+  pub copies : Copies ws k 0 (size b)
+  pub add_is : take 1 (drop (k + 2 * size b) ws) ≡ spelling (add (# (size b)) r12)
+  pub dec_is : take 1 (drop (k + 2 * size b + 1) ws) ≡ spelling (dec r15)
+  pub jump_is : take 1 (drop (k + 2 * size b + 2) ws) ≡ spelling (jnz (back (2 * size b + 3)))
 
-    nothing_written : (outside : List ℕ) (dst : ℕ) → write_bytes f.setup ds outside dst [] ≡ Ok outside
-    unfolding write_bytes
-    nothing_written outside dst = refl
+-- a node in a copy, whose places may be the end of memory
+abbrev pub copying : Fixed → Regs → Data → (pc sr dst src left : ℕ) → List ℕ → Watched
+copying f r d pc sr dst src left m = running f (record r { pc = pc; sr = sr; r12 = dst % 65536; r13 = src % 65536; r15 = left }) (record d { mem = m })
 
-    -- the whole copy: it comes to its end where no byte is refused, and else ends at the first that is
-    pub copy_runs : (bs : List ℕ) (b : ℕ) (r : Regs) (d : Data) (sr dst src j : ℕ) (outside : List ℕ) → length bs < 65535 → f.from ≤ dst → dst + suc (length bs) ≤ f.to
-        → PrivateRange f src (suc (length bs)) → AreShown f.setup src (suc (length bs)) → BytesAt d.mem src (b ∷ bs)
-        → MemoryHolds f at back stack priv outside r.sp d.mem → Safe f all (running f (turn_at r sr dst src (suc (length bs))) d)
-        → ((v : Violation) → write_bytes f.setup ds outside dst (b ∷ bs) ≡ Err v → (r2 : Regs) (m2 : List ℕ) → B (running f r2 (record d { mem = m2 })) v)
-        → ((mem : List ℕ) → write_bytes f.setup ds outside dst (b ∷ bs) ≡ Ok mem → (sr a s : ℕ) (m2 : List ℕ) → MemoryHolds f at back stack priv mem r.sp m2
-        → Safe f all (running f (record r { pc = P + 2 * (k + 2 + 1 + 1 + 1); sr = sr; r12 = a; r13 = s; r15 = 0 }) (record d { mem = m2 }))
-        → Runs f all B Q j (running f (record r { pc = P + 2 * (k + 2 + 1 + 1 + 1); sr = sr; r12 = a; r13 = s; r15 = 0 }) (record d { mem = m2 })))
-        → Runs f all B Q (4 * suc (length bs) + j) (running f (turn_at r sr dst src (suc (length bs))) d)
-    copy_runs [] b r d sr dst src j outside lt d1 d2 p shown is h safe stop done =
-        subst (λ j. Runs f all B Q j (running f (turn_at r sr dst src 1) d)) (omega arith)
-        (one_byte r d sr dst src b 0 j outside (omega arith) d1 (omega arith) (record { low = p.low; high = omega (arith, p.high) }) (first_shown src _ shown (omega arith)) is.0 h safe
-        (λ v e. stop v (not_written outside dst b [] v e) (turn_at r sr dst src 1) d.mem)
-        (λ ok m em sr3 h2 s3. done (slice_set outside dst b) (written outside dst b [] ok ∙ nothing_written (slice_set outside dst b) (dst + 1)) sr3 ((dst % 65536 + 1 + 0) % 65536) (src + 1) m h2 s3))
-    copy_runs (b2 ∷ bs) b r d sr dst src j outside lt d1 d2 p shown is h safe stop done =
-        let lim = st.window in
-        let next : (dst % 65536 + 1 + 0) % 65536 ≡ dst + 1 = omega arith in
-        subst (λ j. Runs f all B Q j (running f (turn_at r sr dst src (suc (suc (length bs)))) d)) (omega arith)
-        (one_byte r d sr dst src b (suc (length bs)) (4 * suc (length bs) + j) outside (omega arith) d1 (omega arith) (record { low = p.low; high = omega (arith, p.high) }) (first_shown src _ shown (omega arith)) is.0 h safe
-        (λ v e. stop v (not_written outside dst b (b2 ∷ bs) v e) (turn_at r sr dst src (suc (suc (length bs)))) d.mem)
-        (λ ok m em sr3 h2 s3.
-        let still : BytesAt m (src + 1) (b2 ∷ bs) = bytes_same d.mem m (src + 1) (b2 ∷ bs) (λ c x y. ap (λ (l : List ℕ). slice_index l c) em
-        ∙ get_or-set_other d.mem dst c b 0 (private_apart c (omega arith) (omega (arith, p.high)))) is.1 in
-        subst (λ a. Safe f all (running f (turn_at r sr3 a (src + 1) (suc (length bs))) (record d { mem = m }))
-        → Runs f all B Q (4 * suc (length bs) + j) (running f (turn_at r sr3 a (src + 1) (suc (length bs))) (record d { mem = m }))) (sym next)
-        (λ s. copy_runs bs b2 r (record d { mem = m }) sr3 (dst + 1) (src + 1) j (slice_set outside dst b) (omega arith) (omega arith) (omega arith)
-        (record { low = omega (arith, p.low); high = omega (arith, p.high) }) (are_part f.setup src (suc (suc (length bs))) 1 (suc (length bs)) shown (omega arith)) still h2 s
-        (λ v e. stop v (written outside dst b (b2 ∷ bs) ok ∙ e))
-        (λ mem e. done mem (written outside dst b (b2 ∷ bs) ok ∙ e))) s3))
-      where
-        private_apart : (c : ℕ) → src ≤ c → c < f.setup.section.layout.priv_to → c ≢ dst
-        private_apart c x y e = true≢false (sym (in_private_yes f.setup.section c (omega (arith, p.low)) y) ∙ ap (in_private f.setup.section) e ∙ st.window_apart dst d1 (omega arith))
+module _ (f : Fixed) (st : Stands f) (all : List Mark) (B : Watched → Violation → Type 0) (Q : Watched → Type 0) {P n : ℕ} {ws : List ℕ} (t : Text f P n ws) (r : Regs) (d : Data) where
+  abbrev At : (pc sr dst src left : ℕ) → List ℕ → Watched
+  At pc sr dst src left m = copying f r d pc sr dst src left m
+
+  added : (b : Bool) (k : ℕ) → take 1 (drop k ws) ≡ spelling (add (# (size b)) r12) → k + 1 ≤ n → (pc sr dst src left j : ℕ) (m : List ℕ) → pc ≡ P + 2 * k → Safe f all (At pc sr dst src left m)
+      → ((sr2 : ℕ) → Safe f all (At (P + 2 * (k + 1)) sr2 (dst + size b) src left m) → Runs f all B Q j (At (P + 2 * (k + 1)) sr2 (dst + size b) src left m))
+      → Runs f all B Q (suc j) (At pc sr dst src left m)
+  added true k is le pc sr dst src left j m e safe after =
+      let sum : (dst % 65536 % 65536 + 8 + 0) % 65536 ≡ (dst + 8) % 65536 = omega arith in
+      let sr2 = flags_after op2.Add 8 (dst % 65536 % 65536) sr in
+      step f st all B Q t k (add (# 8) r12) is le refl refl event.Quiet (record r { pc = pc; sr = sr; r12 = dst % 65536; r13 = src % 65536; r15 = left }) (record d { mem = m }) j e safe
+      (λ kept. (record r { pc = P + 2 * (k + 1); sr = sr2; r12 = (dst + 8) % 65536; r13 = src % 65536; r15 = left }, rw sum refl, inside t (k + 1) le, after sr2))
+  added false k is le pc sr dst src left j m e safe after =
+      let sum : (dst % 65536 % 65536 + 1 + 0) % 65536 ≡ (dst + 1) % 65536 = omega arith in
+      let sr2 = flags_after op2.Add 1 (dst % 65536 % 65536) sr in
+      step f st all B Q t k (add (# 1) r12) is le refl refl event.Quiet (record r { pc = pc; sr = sr; r12 = dst % 65536; r13 = src % 65536; r15 = left }) (record d { mem = m }) j e safe
+      (λ kept. (record r { pc = P + 2 * (k + 1); sr = sr2; r12 = (dst + 1) % 65536; r13 = src % 65536; r15 = left }, rw sum refl, inside t (k + 1) le, after sr2))
+
+  -- where the jump leads that stands at this word
+  abbrev goal : Bool → ℕ → ℕ → ℕ
+  goal z k e = if z then P + 2 * (e + 1) else P + 2 * k
+
+  jumped : (b z : Bool) (k e : ℕ) → e ≡ k + 2 * size b + 2 → take 1 (drop e ws) ≡ spelling (jnz (back (2 * size b + 3))) → e + 1 ≤ n → (sr dst src left j : ℕ) (m : List ℕ)
+      → (flags_of sr).z ≡ z → Safe f all (At (P + 2 * e) sr dst src left m)
+      → (Safe f all (At (goal z k e) sr dst src left m) → Runs f all B Q j (At (goal z k e) sr dst src left m)) → Runs f all B Q (suc j) (At (P + 2 * e) sr dst src left m)
+  jumped true true k e at is le sr dst src left j m z safe after =
+      let r1 = record r { pc = P + 2 * e; sr = sr; r12 = dst % 65536; r13 = src % 65536; r15 = left } in
+      step f st all B Q t e (jnz (back 19)) is le refl refl event.Quiet r1 (record d { mem = m }) j refl safe
+      (λ kept. (record r1 { pc = P + 2 * (e + 1) }, rw z refl, inside t (e + 1) le, after))
+  jumped true false k e at is le sr dst src left j m z safe after =
+      let r1 = record r { pc = P + 2 * e; sr = sr; r12 = dst % 65536; r13 = src % 65536; r15 = left } in
+      let to : (P + 2 * (e + 1) + 65498) % 65536 ≡ P + 2 * k = omega (arith, at, le, t.to, st.below) in
+      step f st all B Q t e (jnz (back 19)) is le refl refl event.Quiet r1 (record d { mem = m }) j refl safe
+      (λ kept. (record r1 { pc = P + 2 * k }, rw (z, to) refl, inside t k (omega (arith, at, le)), after))
+  jumped false true k e at is le sr dst src left j m z safe after =
+      let r1 = record r { pc = P + 2 * e; sr = sr; r12 = dst % 65536; r13 = src % 65536; r15 = left } in
+      step f st all B Q t e (jnz (back 5)) is le refl refl event.Quiet r1 (record d { mem = m }) j refl safe
+      (λ kept. (record r1 { pc = P + 2 * (e + 1) }, rw z refl, inside t (e + 1) le, after))
+  jumped false false k e at is le sr dst src left j m z safe after =
+      let r1 = record r { pc = P + 2 * e; sr = sr; r12 = dst % 65536; r13 = src % 65536; r15 = left } in
+      let to : (P + 2 * (e + 1) + 65526) % 65536 ≡ P + 2 * k = omega (arith, at, le, t.to, st.below) in
+      step f st all B Q t e (jnz (back 5)) is le refl refl event.Quiet r1 (record d { mem = m }) j refl safe
+      (λ kept. (record r1 { pc = P + 2 * k }, rw (z, to) refl, inside t k (omega (arith, at, le)), after))
+
+  -- What is left of a copy is said by whoever copies: how many bytes, where the next comes from and goes to, and memory. Of one byte it must follow that what is then left holds.
+  abbrev pub Byte : (ℕ → ℕ → ℕ → List ℕ → Type 0) → Type 0
+  Byte Left =
+      (i k at sr dst src left u j : ℕ) (m : List ℕ) → take 2 (drop k ws) ≡ spelling (mov_b (increment r13) (i ⟨ r12 ⟩)) → k + 2 ≤ n → at ≡ dst + i → Left (suc u) src at m
+      → (pc : ℕ) → pc ≡ P + 2 * k → Safe f all (At pc sr dst src left m)
+      → ((sr2 : ℕ) (m2 : List ℕ) → Left u (src + 1) (at + 1) m2 → Safe f all (At (P + 2 * (k + 2)) sr2 dst (src + 1) left m2) → Runs f all B Q j (At (P + 2 * (k + 2)) sr2 dst (src + 1) left m2))
+      → Runs f all B Q (suc j) (At pc sr dst src left m)
+
+  module _ (Left : ℕ → ℕ → ℕ → List ℕ → Type 0) (byte : Byte Left) where
+    -- bytes one after the other
+    bytes_run : (u i k at sr dst src left v j : ℕ) (m : List ℕ) → Copies ws k i u → k + 2 * u ≤ n → at ≡ dst + i → Left (more u v) src at m
+        → (pc : ℕ) → pc ≡ P + 2 * k → Safe f all (At pc sr dst src left m)
+        → ((pc2 sr2 src2 at2 : ℕ) (m2 : List ℕ) → pc2 ≡ P + 2 * (k + 2 * u) → at2 ≡ at + u → Left v src2 at2 m2 → Safe f all (At pc2 sr2 dst src2 left m2)
+        → Runs f all B Q j (At pc2 sr2 dst src2 left m2))
+        → Runs f all B Q (more u j) (At pc sr dst src left m)
+    bytes_run zero i k at sr dst src left v j m cs le ea x pc e safe after = after pc sr src at m (omega (arith, e)) (omega arith) x safe
+    bytes_run (suc u) i k at sr dst src left v j m cs le ea x pc e safe after =
+        byte i k at sr dst src left (more u v) (more u j) m cs.0 (omega (arith, le)) ea x pc e safe
+        (λ sr2 m2 x2 s2. bytes_run u (i + 1) (k + 2) (at + 1) sr2 dst (src + 1) left v j m2 cs.1 (omega (arith, le)) (omega (arith, ea)) x2 (P + 2 * (k + 2)) refl s2
+        (λ pc3 sr3 src3 at3 m3 ep e3 x3 s3. after pc3 sr3 src3 at3 m3 (omega (arith, ep)) (omega (arith, e3)) x3 s3))
+
+    module _ (b : Bool) (k : ℕ) (turns : Turns ws k b) (le : k + 2 * size b + 3 ≤ n) where
+      -- one turn: its bytes, and its end, where the count falls and a jump leads back unless it is 0
+      one_turn : (z : Bool) (sr dst src left v j : ℕ) (m : List ℕ) → left < 65535 → ((sr : ℕ) → (flags_of (flags_after op2.Cmp 1 (suc left % 65536) sr)).z ≡ z) → Left (more (size b) v) src dst m
+          → Safe f all (At (P + 2 * k) sr dst src (suc left) m)
+          → ((sr2 src2 : ℕ) (m2 : List ℕ) → Left v src2 (dst + size b) m2 → Safe f all (At (goal z k (k + 2 * size b + 2)) sr2 (dst + size b) src2 left m2)
+          → Runs f all B Q j (At (goal z k (k + 2 * size b + 2)) sr2 (dst + size b) src2 left m2))
+          → Runs f all B Q (more (size b) (suc (suc (suc j)))) (At (P + 2 * k) sr dst src (suc left) m)
+      one_turn z sr dst src left v j m lt flags x safe after =
+          bytes_run (size b) 0 k dst sr dst src (suc left) v (suc (suc (suc j))) m turns.copies (omega (arith, le)) (omega arith) x (P + 2 * k) refl safe
+          (λ pc2 sr2 src2 at2 m2 ep ea x2 s2.
+          added b (k + 2 * size b) turns.add_is (omega (arith, le)) pc2 sr2 dst src2 (suc left) (suc (suc j)) m2 ep s2 (λ sr3 s3.
+          let less : (suc left % 65536 + 65534 + 1) % 65536 ≡ left = omega (arith, lt) in
+          let e = k + 2 * size b + 1 in
+          let r3 = record r { pc = P + 2 * e; sr = sr3; r12 = (dst + size b) % 65536; r13 = src2 % 65536; r15 = suc left } in
+          let sr4 = flags_after op2.Cmp 1 (suc left % 65536) sr3 in
+          step f st all B Q t e (dec r15) turns.dec_is (omega (arith, le)) refl refl event.Quiet r3 (record d { mem = m2 }) (suc j) refl s3
+          (λ kept. (
+            record r3 { pc = P + 2 * (e + 1); sr = sr4; r15 = left },
+            rw less refl,
+            inside t (e + 1) (omega (arith, le)),
+            λ s4.
+                ends (e + 1) (omega arith) sr4 (flags sr3) src2 m2 (subst (λ a. Left v src2 a m2) ea x2) s4,
+          ))))
+        where
+          ends : (e : ℕ) → k + 2 * size b + 2 ≡ e → (sr4 : ℕ) → (flags_of sr4).z ≡ z → (src2 : ℕ) (m2 : List ℕ) → Left v src2 (dst + size b) m2
+              → Safe f all (At (P + 2 * e) sr4 (dst + size b) src2 left m2) → Runs f all B Q (suc j) (At (P + 2 * e) sr4 (dst + size b) src2 left m2)
+          ends e at sr4 zero_is src2 m2 x2 s4 =
+              jumped b z k e (sym at) (subst (λ e. take 1 (drop e ws) ≡ spelling (jnz (back (2 * size b + 3)))) at turns.jump_is) (omega (arith, at, le)) sr4 (dst + size b) src2 left j m2 zero_is s4
+              (subst (λ e. Safe f all (At (goal z k e) sr4 (dst + size b) src2 left m2) → Runs f all B Q j (At (goal z k e) sr4 (dst + size b) src2 left m2)) at (after sr4 src2 m2 x2))
+
+      -- all turns
+      pub turns_run : (u sr dst src j : ℕ) (m : List ℕ) → u < 65535 → Left (all_bytes b (suc u)) src dst m → Safe f all (At (P + 2 * k) sr dst src (suc u) m)
+          → ((pc sr2 dst2 src2 : ℕ) (m2 : List ℕ) → pc ≡ P + 2 * (k + 2 * size b + 3) → Left 0 src2 dst2 m2 → Safe f all (At pc sr2 dst2 src2 0 m2) → Runs f all B Q j (At pc sr2 dst2 src2 0 m2))
+          → Runs f all B Q (all_steps b (suc u) j) (At (P + 2 * k) sr dst src (suc u) m)
+      turns_run zero sr dst src j m lt x safe done =
+          one_turn true sr dst src 0 0 j m (omega arith) (λ sr. equal 1 1 sr (omega arith) refl) x safe
+          (λ sr2 src2 m2 x2 s2. done (P + 2 * (k + 2 * size b + 2 + 1)) sr2 (dst + size b) src2 m2 (omega arith) x2 s2)
+      turns_run (suc u) sr dst src j m lt x safe done =
+          one_turn false sr dst src (suc u) (all_bytes b (suc u)) (all_steps b (suc u) j) m (omega (arith, lt))
+          (λ sr. unequal 1 (suc (suc u) % 65536) sr (omega arith) (omega arith) (omega (arith, lt))) x safe
+          (λ sr2 src2 m2 x2 s2. turns_run u sr2 (dst + size b) src2 j m2 (omega (arith, lt)) x2 s2 done)

@@ -18,7 +18,8 @@ use Rattle.sx_tmpl.proofs.Running.Holding.{same_word, holds_under, holds_under_b
 use Rattle.sx_tag.specs.Mac.{IsTag}
 use Rattle.sx_tmpl.proofs.Operations.Bytes.{BytesAt, bytes_same, bytes_append, bytes_put, put_bytes_other, pair, six, bytes_agree, cipher_bytes, tag_bytes, length_cipher}
 use Rattle.sx_tmpl.proofs.Operations.Bytes.{length_tag, length-put_bytes, stand_from}
-use Rattle.sx_tmpl.proofs.Operations.CopyLoop.{copy_runs}
+use Rattle.sx_tmpl.proofs.Operations.CopyLoop.{Turns}
+use Rattle.sx_tmpl.proofs.Operations.CopyOut.{copy_runs}
 use Rattle.sx_machine.specs.declared.kinds.Exchange.{Exchange}
 use Rattle.sx_machine.specs.Memory.{bytes_from, put_bytes, word, put_word}
 use Rattle.sx_tag.specs.Wrap.{wrapped}
@@ -44,7 +45,7 @@ abbrev pub is_ready : EndState → Bool
 is_ready e = e.is_open && nat_lt e.number 65535
 
 module _ (f : Fixed) (st : Stands f) (all : List Mark) (B : Watched → Violation → Type 0) (at : ℕ → ℕ) (Q : Watched
-    → Type 0) (k A : ℕ) (t : Text f A 56 (routine_words (base_of f) k)) (back : Option ℕ) (priv : List ℕ) (slot : offsets.end_at k + 24 ≤ length priv) (one : k < length f.setup.ends) where
+    → Type 0) (k A : ℕ) (t : Text f A 70 (routine_words (base_of f) k)) (back : Option ℕ) (priv : List ℕ) (slot : offsets.end_at k + 24 ≤ length priv) (one : k < length f.setup.ends) where
   abbrev R : ℕ → Watched → Type 0
   R n c = Runs f all B Q n c
 
@@ -60,7 +61,7 @@ module _ (f : Fixed) (st : Stands f) (all : List Mark) (B : Watched → Violatio
 
   -- the two tests
   pub tests_run : (e : EndState) → end_state priv k ≡ e → (r : Regs) (d : Data) (stack outside : List ℕ) (j : ℕ) → r.pc ≡ A + 2 * 0 → H stack outside r.sp d.mem → Safe f all (running f r d)
-      → (is_ready e ≡ false → (sr : ℕ) → Safe f all (running f (record r { pc = A + 110; sr = sr }) d) → R j (running f (record r { pc = A + 110; sr = sr }) d))
+      → (is_ready e ≡ false → (sr : ℕ) → Safe f all (running f (record r { pc = A + 138; sr = sr }) d) → R j (running f (record r { pc = A + 138; sr = sr }) d))
       → (is_ready e ≡ true → (sr : ℕ) → Safe f all (running f (record r { pc = A + 12; sr = sr }) d) → R j (running f (record r { pc = A + 12; sr = sr }) d))
       → R (suc (suc (suc (suc j)))) (running f r d)
   unfolding end_state
@@ -90,19 +91,19 @@ module _ (f : Fixed) (st : Stands f) (all : List Mark) (B : Watched → Violatio
           λ s1.
               elim (cases_eq open_ 0) [
                 | inl z ↦
-                    let to : (A + 6 + 104) % 65536 ≡ A + 110 = omega (arith, t.to, st.below) in
+                    let to : (A + 6 + 132) % 65536 ≡ A + 138 = omega (arith, t.to, st.below) in
                     let no_ : is_ready e ≡ false = ready false (sym (ap (λ (x : EndState). x.is_open) is) ∙ ap not (eq-eqb open_ 0 z)) in
-                    step f st all B Q t 2 (jz (ahead 52)) refl (omega arith) refl refl event.Quiet r1 d _ refl s1
+                    step f st all B Q t 2 (jz (ahead 66)) refl (omega arith) refl refl event.Quiet r1 d _ refl s1
                     (λ kept. (
-                      record r { pc = A + 110; sr = sr1 },
+                      record r { pc = A + 138; sr = sr1 },
                       rw (equal 0 open_ r.sr (omega arith) z, to) refl,
-                      inside t 55 (omega arith),
+                      inside t 69 (omega arith),
                       λ s2. later f all B Q j (suc (suc j)) _ (omega arith)
                           (skip no_ sr1 s2),
                     ))
                 | inr nz ↦
                     let is_open : e.is_open ≡ true = sym (ap (λ (x : EndState). x.is_open) is) ∙ ap not (ne_eqb open_ 0 nz) in
-                    step f st all B Q t 2 (jz (ahead 52)) refl (omega arith) refl refl event.Quiet r1 d _ refl s1
+                    step f st all B Q t 2 (jz (ahead 66)) refl (omega arith) refl refl event.Quiet r1 d _ refl s1
                     (λ kept. (
                       r2,
                       rw (unequal 0 open_ r.sr (omega arith) lo nz) refl,
@@ -121,13 +122,13 @@ module _ (f : Fixed) (st : Stands f) (all : List Mark) (B : Watched → Violatio
                               λ s3.
                                   elim (cases_eq number 65535) [
                                     | inl z ↦
-                                        let to : (A + 12 + 98) % 65536 ≡ A + 110 = omega (arith, t.to, st.below) in
+                                        let to : (A + 12 + 126) % 65536 ≡ A + 138 = omega (arith, t.to, st.below) in
                                         let no_ : is_ready e ≡ false = ready true is_open ∙ le-ltb e.number 65535 (omega (arith, ap (λ (x : EndState). x.number) is)) in
-                                        step f st all B Q t 5 (jz (ahead 49)) refl (omega arith) refl refl event.Quiet r3 d _ refl s3
-                                        (λ kept. (record r { pc = A + 110; sr = sr3 }, rw (equal 65535 number sr1 (omega arith) z, to) refl, inside t 55 (omega arith), λ s4. skip no_ sr3 s4))
+                                        step f st all B Q t 5 (jz (ahead 63)) refl (omega arith) refl refl event.Quiet r3 d _ refl s3
+                                        (λ kept. (record r { pc = A + 138; sr = sr3 }, rw (equal 65535 number sr1 (omega arith) z, to) refl, inside t 69 (omega arith), λ s4. skip no_ sr3 s4))
                                     | inr nz2 ↦
                                         let yes_ : is_ready e ≡ true = ready true is_open ∙ lt-ltb e.number 65535 (omega (arith, ap (λ (x : EndState). x.number) is)) in
-                                        step f st all B Q t 5 (jz (ahead 49)) refl (omega arith) refl refl event.Quiet r3 d _ refl s3
+                                        step f st all B Q t 5 (jz (ahead 63)) refl (omega arith) refl refl event.Quiet r3 d _ refl s3
                                         (λ kept. (record r { pc = A + 12; sr = sr3 }, rw (unequal 65535 number sr1 (omega arith) ln nz2) refl, inside t 6 (omega arith), λ s4. go_on yes_ sr3 s4))
                                   ],
                             ),
@@ -342,7 +343,7 @@ module _ (f : Fixed) (st : Stands f) (all : List Mark) (B : Watched → Violatio
       marks (λ x s. after x mt (record r7 { pc = A + 64; r15 = 1 }) refl refl ht packet s))
 
   -- R12 doubled
-  double_run : (i : ℕ) → take 1 (drop i (routine_words (base_of f) k)) ≡ spelling (rla r12) → i + 1 ≤ 56 → (r : Regs) (d : Data) (x j : ℕ) → x < 32768
+  double_run : (i : ℕ) → take 1 (drop i (routine_words (base_of f) k)) ≡ spelling (rla r12) → i + 1 ≤ 70 → (r : Regs) (d : Data) (x j : ℕ) → x < 32768
       → Safe f all (running f (record r { pc = A + 2 * i; r12 = x }) d)
       → ((sr : ℕ) → Safe f all (running f (record r { pc = A + 2 * (i + 1); sr = sr; r12 = 2 * x }) d) → R j (running f (record r { pc = A + 2 * (i + 1); sr = sr; r12 = 2 * x }) d))
       → R (suc j) (running f (record r { pc = A + 2 * i; r12 = x }) d)
@@ -363,7 +364,7 @@ module _ (f : Fixed) (st : Stands f) (all : List Mark) (B : Watched → Violatio
   -- the place of the packet in the out-window
   pub address_run : (e : Event) (r : Regs) (d : Data) (stack outside : List ℕ) (p out j : ℕ) → r.pc ≡ A + 2 * 32 → H stack outside r.sp d.mem → Safe f all (running_after e f r d)
       → word priv working.pieces_at ≡ p → p < 2048 → word priv 10 ≡ out → out + 24 * p < 65536
-      → ((sr : ℕ) (r14 : ℕ) → let r2 = record r { pc = A + 2 * 46; sr = sr; r12 = out + 24 * p; r13 = base_of f + 106; r14 = r14; r15 = 24 } in Safe f all (running f r2 d) → R j (running f r2 d))
+      → ((sr : ℕ) (r14 : ℕ) → let r2 = record r { pc = A + 2 * 46; sr = sr; r12 = out + 24 * p; r13 = base_of f + 106; r14 = r14; r15 = 3 } in Safe f all (running f r2 d) → R j (running f r2 d))
       → R (suc (suc (suc (suc (suc (suc (suc (suc (suc (suc j)))))))))) (running_after e f r d)
   address_run e r d stack outside p out j pc h safe is lp io lo after =
       let b = base_of f in
@@ -435,12 +436,12 @@ module _ (f : Fixed) (st : Stands f) (all : List Mark) (B : Watched → Violatio
               rw sum refl,
               inside t 42 (omega arith),
               λ s8.
-                  loads f st all B Q t 42 ((## (b + 106), 13) ∷ (## 24, 15) ∷ []) refl (omega arith) refl (omega arith, (omega arith, tt)) r8 d j r8.pc refl s8 (after sr8 r14),
+                  loads f st all B Q t 42 ((## (b + 106), 13) ∷ (## 3, 15) ∷ []) refl (omega arith) refl (omega arith, (omega arith, tt)) r8 d j r8.pc refl s8 (after sr8 r14),
             ),
           )
 
   -- back to where the routine was called
-  pub return_run : (r : Regs) (d : Data) (priv2 stack outside : List ℕ) (ret j : ℕ) → r.pc ≡ A + 2 * 55 → MemoryHolds f at back (ret ∷ stack) priv2 outside r.sp d.mem → InText f ret → ret % 2 ≡ 0
+  pub return_run : (r : Regs) (d : Data) (priv2 stack outside : List ℕ) (ret j : ℕ) → r.pc ≡ A + 2 * 69 → MemoryHolds f at back (ret ∷ stack) priv2 outside r.sp d.mem → InText f ret → ret % 2 ≡ 0
       → Safe f all (running f r d)
       → (MemoryHolds f at back stack priv2 outside (r.sp + 2) d.mem → Safe f all (running f (record r { pc = ret; sp = r.sp + 2 }) d) → R j (running f (record r { pc = ret; sp = r.sp + 2 }) d))
       → R (suc j) (running f r d)
@@ -448,7 +449,7 @@ module _ (f : Fixed) (st : Stands f) (all : List Mark) (B : Watched → Violatio
       let p1 = stack_word f st r.sp (length (ret ∷ stack)) h.top (omega arith) (omega (arith, h.room)) in
       let up : (r.sp + 2) % 65536 ≡ r.sp + 2 = omega (arith, p1.high, st.beneath) in
       let kept_even : ret - ret % 2 ≡ ret = omega arith in
-      step f st all B Q t 55 asm.ret refl (omega arith) refl refl event.Quiet r d j pc safe (
+      step f st all B Q t 69 asm.ret refl (omega arith) refl refl event.Quiet r d j pc safe (
         r.sp,
         refl,
         p1,
@@ -464,7 +465,7 @@ module _ (f : Fixed) (st : Stands f) (all : List Mark) (B : Watched → Violatio
       )
 
   -- number and count of pieces rise
-  pub counts_run : (e : EndState) → end_state priv k ≡ e → (r : Regs) (d : Data) (stack outside : List ℕ) (ret p j : ℕ) → r.pc ≡ A + 2 * 51 → H (ret ∷ stack) outside r.sp d.mem → e.number < 65535
+  pub counts_run : (e : EndState) → end_state priv k ≡ e → (r : Regs) (d : Data) (stack outside : List ℕ) (ret p j : ℕ) → r.pc ≡ A + 2 * 65 → H (ret ∷ stack) outside r.sp d.mem → e.number < 65535
       → word priv working.pieces_at ≡ p → p < 65535 → InText f ret → ret % 2 ≡ 0 → Safe f all (running f r d)
       → ((sr : ℕ) (m : List ℕ) → MemoryHolds f at back stack (put_word (put_word priv (offsets.end_number_at k) (e.number + 1)) working.pieces_at (p + 1)) outside (r.sp + 2) m
       → Safe f all (running f (record r { pc = ret; sp = r.sp + 2; sr = sr }) (record d { mem = m })) → R j (running f (record r { pc = ret; sp = r.sp + 2; sr = sr }) (record d { mem = m })))
@@ -491,9 +492,9 @@ module _ (f : Fixed) (st : Stands f) (all : List Mark) (B : Watched → Violatio
       let m2 = put_cell m1 (b + 4) (p + 1) in
       let sr1 = flags_after op2.Add 1 n r.sr in
       let sr2 = flags_after op2.Add 1 p sr1 in
-      let r1 = record r { pc = A + 106; sr = sr1 } in
-      let r2 = record r { pc = A + 110; sr = sr2 } in
-      step f st all B Q t 51 (inc (& (b + o))) refl (omega arith) refl refl event.Quiet r d _ pc safe (
+      let r1 = record r { pc = A + 134; sr = sr1 } in
+      let r2 = record r { pc = A + 138; sr = sr2 } in
+      step f st all B Q t 65 (inc (& (b + o))) refl (omega arith) refl refl event.Quiet r d _ pc safe (
         b + o,
         refl,
         sn.1,
@@ -509,9 +510,9 @@ module _ (f : Fixed) (st : Stands f) (all : List Mark) (B : Watched → Violatio
           λ kept1. (
             r1,
             refl,
-            inside t 53 (omega arith),
+            inside t 67 (omega arith),
             λ s1.
-                step f st all B Q t 53 (inc (& (b + 4))) refl (omega arith) refl refl event.Quiet r1 (record d { mem = m1 }) _ refl s1 (
+                step f st all B Q t 67 (inc (& (b + 4))) refl (omega arith) refl refl event.Quiet r1 (record d { mem = m1 }) _ refl s1 (
                   b + 4,
                   refl,
                   pp,
@@ -527,7 +528,7 @@ module _ (f : Fixed) (st : Stands f) (all : List Mark) (B : Watched → Violatio
                     λ kept2. (
                       r2,
                       refl,
-                      inside t 55 (omega arith),
+                      inside t 69 (omega arith),
                       λ s2.
                           return_run r2 (record d { mem = m2 }) (put_word priv1 4 (p + 1)) stack outside ret _ refl
                           (holds_store f st at back (ret ∷ stack) priv1 outside r.sp m1 4 (p + 1) kept1 h1 refl i_p (omega arith)) to ev s2
@@ -548,31 +549,34 @@ module _ (f : Fixed) (st : Stands f) (all : List Mark) (B : Watched → Violatio
       → ((mem : List ℕ) → write_bytes f.setup d.devices outside (out + 24 * p) (event_packet f.setup e v) ≡ Ok mem → (r2 : Regs) (d2 : Data) → r2.pc ≡ ret
       → MemoryHolds f at back (v ∷ rest) (put_word (put_word priv (offsets.end_number_at k) (e.number + 1)) working.pieces_at (p + 1)) mem r2.sp d2.mem → d2.devices ≡ d.devices → d2.marks ≡ marks
       → Safe f all (running f r2 d2) → R j (running f r2 d2))
-      → R (121 + j) (running f r d)
+      → R (58 + j) (running f r d)
   send_run tag e is r d ret v rest outside p out j pc h safe ln ip lp io lo w1 w2 to ev kept marks em begins stop done =
       let W = wrapped f.setup.mac e.key (event_header e) (windows.two v) in
-      let bs : List ℕ = 0 ∷ e.field % 256 ∷ e.field / 256 ∷ e.number % 256 ∷ e.number / 256 ∷ (W.cipher ++ W.tag) in
+      let bs = event_packet f.setup e v in
       let lc = length_cipher f.setup.mac tag e.key (event_header e) (windows.two v) (omega arith) in
       let lt = length_tag f.setup.mac tag e.key (event_header e) (windows.two v) in
       let la = Rattle.std.proofs.Common.length-append W.cipher W.tag in
-      let lb : length bs ≡ 23 = omega arith in
-      let count : 24 ≡ suc (length bs) = omega arith in
+      let count : 24 ≡ length bs = omega arith in
+      let stands : Turns (routine_words (base_of f) k) 46 true =
+      record { copies = (refl, (refl, (refl, (refl, (refl, (refl, (refl, (refl, tt)))))))); add_is = refl; dec_is = refl; jump_is = refl } in
       subst (λ n. R n (running f r d)) (omega arith)
-      (header_run e is r d ret v rest outside (108 + suc (suc (suc j)) + 6) pc h safe (λ m h1 c0 c1 c2 cv s1.
+      (header_run e is r d ret v rest outside (45 + suc (suc (suc j)) + 6) pc h safe (λ m h1 c0 c1 c2 cv s1.
       subst (λ n. R n (running f (record r { pc = A + 36 }) (record d { mem = m }))) (omega arith)
-      (wrap_run tag e is (record r { pc = A + 36 }) (record d { mem = m }) v (ret ∷ v ∷ rest) outside (96 + suc (suc (suc j)) + 10) refl h1 s1 c0 c1 c2 cv kept
+      (wrap_run tag e is (record r { pc = A + 36 }) (record d { mem = m }) v (ret ∷ v ∷ rest) outside (33 + suc (suc (suc j)) + 10) refl h1 s1 c0 c1 c2 cv kept
       (subst (λ l. HasPrefix all l) (sym em) begins) (λ x m2 r2 pc2 sp2 h2 packet s2.
       let d2 : Data = record { mem = m2; devices = d.devices; exchange = x; marks = d.marks ++ mark.Wrapped (event_header e) (windows.two v) false ∷ [] } in
+      let hs = subst (λ a. H (ret ∷ v ∷ rest) outside a m2) (sym sp2) h2 in
+      let Ended : List ℕ → Type 0 = λ m5. (mem : List ℕ) × (write_bytes f.setup d.devices outside (out + 24 * p) bs ≡ Ok mem) × MemoryHolds f at back (ret ∷ v ∷ rest) priv mem r2.sp m5 in
       subst (λ n. R n (running_after (event.Wrapped f.setup.section.id) f r2 d2)) (omega arith)
-      (address_run (event.Wrapped f.setup.section.id) r2 d2 (ret ∷ v ∷ rest) outside p out (96 + suc (suc (suc j))) pc2 (subst (λ a. H (ret ∷ v ∷ rest) outside a m2) (sym sp2) h2) s2 ip
+      (address_run (event.Wrapped f.setup.section.id) r2 d2 (ret ∷ v ∷ rest) outside p out (33 + suc (suc (suc j))) pc2 hs s2 ip
       (omega arith) io (omega arith) (λ sr3 r14 s3.
-      subst (λ n. Safe f all (running f (record r2 { pc = A + 92; sr = sr3; r12 = out + 24 * p; r13 = base_of f + 106; r14 = r14; r15 = n }) d2)
-      → R (96 + suc (suc (suc j))) (running f (record r2 { pc = A + 92; sr = sr3; r12 = out + 24 * p; r13 = base_of f + 106; r14 = r14; r15 = n }) d2)) (sym count)
-      (λ s. subst (λ n. R n (running f (record r2 { pc = A + 92; sr = sr3; r12 = out + 24 * p; r13 = base_of f + 106; r14 = r14; r15 = suc (length bs) }) d2)) (omega arith)
-      (copy_runs f st all B at Q A 56 46 (routine_words (base_of f) k) t (omega arith) refl refl refl refl d.devices safe.devices back (ret ∷ v ∷ rest) priv bs 3
-      (record r2 { r14 = r14 }) d2 sr3 (out + 24 * p) (base_of f + 106) (suc (suc (suc j))) outside (omega arith) w1 (omega arith)
-      (record { low = omega arith; high = omega (arith, st.room) }) (106, refl, mid_shown (length f.setup.ends) 106 _ (omega arith) (omega arith)) packet (subst (λ a. H (ret ∷ v ∷ rest) outside a m2) (sym sp2) h2) s
+      let r3 = record r2 { r14 = r14 } in
+      subst (λ n. R n (running f (record r3 { pc = A + 92; sr = sr3; r12 = out + 24 * p; r13 = base_of f + 106; r15 = 3 }) d2)) (omega arith)
+      (copy_runs f st all B at Q t d2.devices safe.devices back (ret ∷ v ∷ rest) priv r3 d2 Ended true 46 stands (omega arith) 2 bs sr3 (out + 24 * p) (base_of f + 106) (suc (suc (suc j))) outside
+      (omega arith) count (omega arith) w1 (omega (arith, count)) (record { low = omega arith; high = omega (arith, st.room, count) })
+      (106, refl, mid_shown (length f.setup.ends) 106 (length bs) (omega arith) (omega (arith, count))) packet hs s3
       (λ x2 bad_ r4 m4. stop x2 bad_ (running f r4 (record d2 { mem = m4 })) em)
-      (λ mem good sr5 a5 a6 m5 h5 s5.
-      counts_run e is (record r2 { pc = A + 102; sr = sr5; r12 = a5; r13 = a6; r14 = r14; r15 = 0 }) (record d2 { mem = m5 }) (v ∷ rest) mem ret p j refl h5 ln ip (omega arith) to ev s5
-      (λ sr6 m6 h6 s6. done mem good (record r2 { pc = ret; sp = r2.sp + 2; sr = sr6; r12 = a5; r13 = a6; r14 = r14; r15 = 0 }) (record d2 { mem = m6 }) refl h6 refl em s6)))) s3))))))
+      (λ mem good m5 h5. (mem, good, h5))
+      (λ m5 ended pc5 sr5 a5 a6 ep s5.
+      counts_run e is (record r3 { pc = pc5; sr = sr5; r12 = a5; r13 = a6; r15 = 0 }) (record d2 { mem = m5 }) (v ∷ rest) ended.0 ret p j ep ended.2 ln ip (omega arith) to ev s5
+      (λ sr6 m6 h6 s6. done ended.0 ended.1 (record r3 { pc = ret; sp = r2.sp + 2; sr = sr6; r12 = a5; r13 = a6; r15 = 0 }) (record d2 { mem = m6 }) refl h6 refl em s6)))))))))

@@ -87,7 +87,7 @@ sending f c k v e = window (has_out_window f.setup c) refl
 module _ (f : Fixed) (st : Stands f) (all : List Mark) (B : Watched → Violation → Type 0) (at : ℕ → ℕ) where
   -- the call and the tests, and then either branch
   packet_core : (Q : Watched → Type 0) → IsTag f.setup.mac → (c : Conf) (k v A : ℕ) (rest : List ℕ) (j : ℕ) → offsets.end_at k + 24 ≤ length c.priv → k < length f.setup.ends → length (v ∷ rest) ≤ 160
-      → (r : Regs) (d : Data) → Text f (at c.place) 2 (words_of (call (## A) ∷ [])) → Text f A 56 (routine_words (base_of f) k) → at (c.place + 1) ≡ at c.place + 2 * 2
+      → (r : Regs) (d : Data) → Text f (at c.place) 2 (words_of (call (## A) ∷ [])) → Text f A 70 (routine_words (base_of f) k) → at (c.place + 1) ≡ at c.place + 2 * 2
       → ShowsConfiguration f at (record c { stack = v ∷ rest }) r d → Safe f all (running f r d)
       → (let e = end_state c.priv k in let marks = c.marks ++ mark.Wrapped (event_header e) (windows.two v) false ∷ [] in
       (is_ready e ≡ true → WasOpen f.setup f.entered k e.key)
@@ -96,7 +96,7 @@ module _ (f : Fixed) (st : Stands f) (all : List Mark) (B : Watched → Violatio
       → (is_ready e ≡ true → (x : Violation) → write_bytes f.setup c.devices c.mem (saved c 14 + 24 * pieces c) (event_packet f.setup e v) ≡ Err x → (w : Watched) → w.marks ≡ marks → B w x)
       → (is_ready e ≡ true → (mem : List ℕ) → write_bytes f.setup c.devices c.mem (saved c 14 + 24 * pieces c) (event_packet f.setup e v) ≡ Ok mem → (r2 : Regs) (d2 : Data)
       → ShowsConfiguration f at (packed (sealed_event (record c { stack = v ∷ rest }) e v) k e mem) r2 d2 → Safe f all (running f r2 d2) → Runs f all B Q j (running f r2 d2))
-      → Runs f all B Q (126 + j) (running f r d))
+      → Runs f all B Q (63 + j) (running f r d))
   packet_core Q tag c k v A rest j slot one len r d t rt on sh safe key_kept idle fine stop done =
       let e = end_state c.priv k in
       let marks = c.marks ++ mark.Wrapped (event_header e) (windows.two v) false ∷ [] in
@@ -117,7 +117,7 @@ module _ (f : Fixed) (st : Stands f) (all : List Mark) (B : Watched → Violatio
       let ev : ret % 2 ≡ 0 = omega (arith, t.is_even) in
       let d1 : Data = record d { mem = m1 } in
       subst (λ n. Runs f all B Q n (running f r d)) (omega arith)
-      (step f st all B Q t 0 (call (## A)) refl (omega arith) refl refl event.Quiet r d (suc (suc (suc (suc (121 + j))))) (omega (arith, sh.pc)) safe (
+      (step f st all B Q t 0 (call (## A)) refl (omega arith) refl refl event.Quiet r d (suc (suc (suc (suc (58 + j))))) (omega (arith, sh.pc)) safe (
         sp,
         down,
         pr,
@@ -129,10 +129,10 @@ module _ (f : Fixed) (st : Stands f) (all : List Mark) (B : Watched → Violatio
           rw (down, target) refl,
           record { from = rt.from; to = omega (arith, rt.to) },
           λ s1.
-              tests_run f st all B at Q k A rt c.back c.priv slot one e refl r1 d1 (ret ∷ stack) c.mem (121 + j) (omega arith) h1 s1
-              (λ nr sr s2. subst (λ n. Runs f all B Q n (running f (record r1 { pc = A + 110; sr = sr }) d1)) (omega arith)
-              (return_run f st all B at Q k A rt c.back c.priv slot one (record r1 { pc = A + 110; sr = sr }) d1 c.priv stack c.mem ret (120 + j) refl h1 to ev s2
-              (λ h3 s3. later f all B Q j (120 + j) _ (omega arith)
+              tests_run f st all B at Q k A rt c.back c.priv slot one e refl r1 d1 (ret ∷ stack) c.mem (58 + j) (omega arith) h1 s1
+              (λ nr sr s2. subst (λ n. Runs f all B Q n (running f (record r1 { pc = A + 138; sr = sr }) d1)) (omega arith)
+              (return_run f st all B at Q k A rt c.back c.priv slot one (record r1 { pc = A + 138; sr = sr }) d1 c.priv stack c.mem ret (57 + j) refl h1 to ev s2
+              (λ h3 s3. later f all B Q j (57 + j) _ (omega arith)
               (idle nr (record r1 { pc = ret; sr = sr; sp = sp + 2 }) d1 (record { pc = sym on; holds = h3; devices = sh.devices; marks = sh.marks }) s3))))
               (λ yr sr s2.
               let ok = fine yr in
@@ -142,7 +142,7 @@ module _ (f : Fixed) (st : Stands f) (all : List Mark) (B : Watched → Violatio
               → ((mem : List ℕ) → write_bytes f.setup ds c.mem (saved c 14 + 24 * pieces c) (event_packet f.setup e v) ≡ Ok mem → (r2 : Regs) (d2 : Data) → r2.pc ≡ ret
               → MemoryHolds f at c.back (v ∷ rest) (put_word (put_word c.priv (offsets.end_number_at k) (e.number + 1)) working.pieces_at (pieces c + 1)) mem r2.sp d2.mem → d2.devices ≡ d.devices
               → d2.marks ≡ marks → Safe f all (running f r2 d2) → Runs f all B Q j (running f r2 d2))
-              → Runs f all B Q (121 + j) (running f (record r1 { pc = A + 12; sr = sr }) d1)) sh.devices
+              → Runs f all B Q (58 + j) (running f (record r1 { pc = A + 12; sr = sr }) d1)) sh.devices
               (send_run f st all B at Q k A rt c.back c.priv slot one tag e refl (record r1 { pc = A + 12; sr = sr }) d1 ret v rest c.mem (pieces c)
               (saved c 14) j refl h1 s2 ln refl ok.1 refl ok.0 ok.2 ok.3 to ev
               (key_kept yr) marks same_marks ok.4)
@@ -162,10 +162,10 @@ module _ (f : Fixed) (st : Stands f) (all : List Mark) (B : Watched → Violatio
   Breaks n ws count c v marks = (r : Regs) (d : Data) → Text f (at c.place) n ws → at (c.place + 1) ≡ at c.place + 2 * n → ShowsConfiguration f at c r d → Safe f all (running f r d)
       → ((w : Watched) → w.marks ≡ marks → B w v) → Runs f all B (λ _. ⊥) count (running f r d)
 
-  pub packet_goes : IsTag f.setup.mac → (c c2 : Conf) (k v A : ℕ) (rest : List ℕ) → offsets.end_at k + 24 ≤ length c.priv → k < length f.setup.ends → IsKept f c → length (v ∷ rest) ≤ 160 → Text f A 56 (routine_words (base_of f) k)
+  pub packet_goes : IsTag f.setup.mac → (c c2 : Conf) (k v A : ℕ) (rest : List ℕ) → offsets.end_at k + 24 ≤ length c.priv → k < length f.setup.ends → IsKept f c → length (v ∷ rest) ≤ 160 → Text f A 70 (routine_words (base_of f) k)
       → send f.setup (record c { stack = v ∷ rest }) k v (end_state c.priv k) ≡ Goes c2 → HasPrefix all c2.marks → saved c 14 ≡ f.from
       → (has_out_window f.setup c ≡ true → (n : ℕ) → n ≤ 384 → n ≤ made_bytes all → f.from + n ≤ f.to)
-      → Leads f st all B at 2 (words_of (call (## A) ∷ [])) 126 (record c { stack = v ∷ rest }) c2
+      → Leads f st all B at 2 (words_of (call (## A) ∷ [])) 63 (record c { stack = v ∷ rest }) c2
   packet_goes tag c c2 k v A rest slot one slots len rt goes begins w1 w2 r d t on sh safe = by_case (sending f (record c { stack = v ∷ rest }) k v e)
     where
       e : EndState
@@ -174,7 +174,7 @@ module _ (f : Fixed) (st : Stands f) (all : List Mark) (B : Watched → Violatio
       shown : (c3 : Conf) (r2 : Regs) (d2 : Data) → c3 ≡ c2 → ShowsConfiguration f at c3 r2 d2 → Safe f all (running f r2 d2) → Runs f all B (Stood f all at c2) 0 (running f r2 d2)
       shown c3 r2 d2 same s safe2 = Here (record { regs = r2; rest = d2; state = refl; safe = safe2; shows = subst (λ c. ShowsConfiguration f at c r2 d2) same s })
 
-      by_case : Sending f (record c { stack = v ∷ rest }) k v e (send f.setup (record c { stack = v ∷ rest }) k v e) → Runs f all B (Stood f all at c2) 126 (running f r d)
+      by_case : Sending f (record c { stack = v ∷ rest }) k v e (send f.setup (record c { stack = v ∷ rest }) k v e) → Runs f all B (Stood f all at c2) 63 (running f r d)
       by_case (Idle nr is) =
           let same = goes_same _ c2 (sym is ∙ goes) in
           packet_core (Stood f all at c2) tag c k v A rest 0 slot one len r d t rt on sh safe (λ yr. end_kept f.setup f.entered c.priv k one slots (and_parts e.is_open (nat_lt e.number 65535) yr).0)
@@ -194,16 +194,16 @@ module _ (f : Fixed) (st : Stands f) (all : List Mark) (B : Watched → Violatio
       by_case (Nothing_said is) = absurd (goes_stops c2 Stuck (sym goes ∙ is))
 
   pub packet_breaks : IsTag f.setup.mac → (c : Conf) (k v A : ℕ) (rest : List ℕ) (x : Violation) (marks : List Mark) → offsets.end_at k + 24 ≤ length c.priv → k < length f.setup.ends → IsKept f c → length (v ∷ rest) ≤ 160
-      → Text f A 56 (routine_words (base_of f) k)
+      → Text f A 70 (routine_words (base_of f) k)
       → send f.setup (record c { stack = v ∷ rest }) k v (end_state c.priv k) ≡ Stops (Violates x marks) → HasPrefix all marks → saved c 14 ≡ f.from
       → (has_out_window f.setup c ≡ true → (n : ℕ) → n ≤ 384 → n ≤ made_bytes all → f.from + n ≤ f.to)
-      → Breaks 2 (words_of (call (## A) ∷ [])) 126 (record c { stack = v ∷ rest }) x marks
+      → Breaks 2 (words_of (call (## A) ∷ [])) 63 (record c { stack = v ∷ rest }) x marks
   packet_breaks tag c k v A rest x marks slot one slots len rt stops begins w1 w2 r d t on sh safe ends = by_case (sending f (record c { stack = v ∷ rest }) k v e)
     where
       e : EndState
       e = end_state c.priv k
 
-      by_case : Sending f (record c { stack = v ∷ rest }) k v e (send f.setup (record c { stack = v ∷ rest }) k v e) → Runs f all B (λ _. ⊥) 126 (running f r d)
+      by_case : Sending f (record c { stack = v ∷ rest }) k v e (send f.setup (record c { stack = v ∷ rest }) k v e) → Runs f all B (λ _. ⊥) 63 (running f r d)
       by_case (Idle nr is) = absurd (goes_stops _ _ (sym is ∙ stops))
       by_case (Sent mem yr ho lo fits room ok is) = absurd (goes_stops _ _ (sym is ∙ stops))
       by_case (Refused y yr ho lo fits room bad_ is) =

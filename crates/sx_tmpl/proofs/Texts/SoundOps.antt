@@ -101,7 +101,7 @@ are_sound ops parts l h =
 module _ (f : Fixed) (st : Stands f) (a : Addresses) (parts : List (ℕ × ℕ)) (ops : List Ir) (sound : AreSound ops parts f.setup.section.layout) (at_parts : (h : ℕ)
     → a.part h ≡ part_place parts h) (target : (q : ℕ) → q ≤ length ops → IsTarget f (a.at q))
     (packet : (p k : ℕ) → slice_get ops p ≡ Some (ir.Packet k) → k < 256
-    → Text f (a.packet k) 56 (routine_words (base_of f) k)) (slots : Text f a.slots 32 (slot_words (base_of f))) (narrow : (p : ℕ) (i : Ir) → slice_get ops p ≡ Some i → IsNarrow i) where
+    → Text f (a.packet k) 70 (routine_words (base_of f) k)) (slots : Text f a.slots 32 (slot_words (base_of f))) (narrow : (p : ℕ) (i : Ir) → slice_get ops p ≡ Some i → IsNarrow i) where
   abbrev size : ℕ
   size = size_of f
 

@@ -1,6 +1,7 @@
 -- The bytes of words, and how many a text has.
-use Rattle.std.proofs.Common.{◌≡◌, ℕ, zero, suc, ◌+◌, ◌*◌, ◌%◌, ◌/◌, Bool, true, false, List, [], ◌∷◌, ◌++◌, length, length-append, refl, ap, arith}
+use Rattle.std.proofs.Common.{◌≡◌, ℕ, zero, suc, ◌+◌, ◌*◌, ◌%◌, ◌/◌, ◌==◌, Bool, true, false, List, [], ◌∷◌, ◌++◌, length, length-append, refl, ap, arith}
 use Rattle.std.specs.Prelude.{if◌then◌else◌}
+use Rattle.sx_isa.specs.Standing as standing
 use Rattle.sx_rules.specs.declared.section.Layout.{Layout}
 use Rattle.sx_ir.specs.declared.ir.Code.{Code}
 use Rattle.sx_ir.specs.declared.ir.IrOp.{IrOp}
@@ -8,7 +9,7 @@ use Rattle.sx_ir.specs.declared.ir.IrOp.TheVariants as op
 use Rattle.sx_ir.specs.declared.ir.Ir.{Ir}
 use Rattle.sx_ir.specs.declared.ir.Ir.TheVariants as ir
 use Rattle.sx_ir.specs.Sizes.{bytes, has_routine, operator_bytes, op_bytes, ops_bytes, routines}
-use Rattle.sx_tmpl.specs.Template.{Addresses, template, entry_words, leave_words, slot_words, routine_words}
+use Rattle.sx_tmpl.specs.Template.{Addresses, template, entry_words, leave_words, slot_words, routine_words, turns}
 use Rattle.sx_tmpl.specs.Text.{addresses, bytes_of, packet_words, text_words, words_of}
 
 pub bytes_append : (xs ys : List ℕ) → bytes_of (xs ++ ys) ≡ bytes_of xs ++ bytes_of ys
@@ -32,6 +33,11 @@ operator_size l a p op.Neg = refl
 operator_size l a p op.Inv = refl
 operator_size l a p op.Not = refl
 
+-- the words of a copy's turns
+turns_length : (b : Bool) → length (standing.words_of (turns (if b then 8 else 1))) ≡ 3 + 2 * (if b then 8 else 1)
+turns_length true = refl
+turns_length false = refl
+
 -- each template has the bytes of its operation
 pub op_size : (l : Layout) (a : Addresses) (p : ℕ) (i : Ir) → 2 * length (template l a p i) ≡ op_bytes i
 op_size l a p (ir.Push n) = refl
@@ -49,8 +55,8 @@ op_size l a p ir.Stop = refl
 op_size l a p (ir.Saved r) = refl
 op_size l a p ir.Inside = refl
 op_size l a p (ir.Meets r n) = refl
-op_size l a p (ir.CopyIn n o) = refl
-op_size l a p (ir.CopyOut n o) = refl
+op_size l a p (ir.CopyIn n o) = let e = turns_length (n % 8 == 0) in omega (arith, e)
+op_size l a p (ir.CopyOut n o) = let e = turns_length (n % 8 == 0) in omega (arith, e)
 op_size l a p (ir.Seal k h hn b bn) = refl
 op_size l a p (ir.Open k h hn b bn) = refl
 op_size l a p (ir.SetEnd k) = refl
@@ -67,13 +73,13 @@ code_size l a p (i ∷ code) =
     let z = length-append (template l a p i) (words_of l a (p + 1) code) in
     omega (arith, x, y, z)
 
--- Each packet routine has 112 bytes.
+-- Each packet routine has 140 bytes.
 
-packets_step : (base n x : ℕ) (b : Bool) (ws : List ℕ) → 2 * length ws ≡ 112 * x → 2 * length (ws ++ (if b then routine_words base n else [])) ≡ 112 * (x + (if b then 1 else 0))
+packets_step : (base n x : ℕ) (b : Bool) (ws : List ℕ) → 2 * length ws ≡ 140 * x → 2 * length (ws ++ (if b then routine_words base n else [])) ≡ 140 * (x + (if b then 1 else 0))
 packets_step base n x true ws e = let y = length-append ws (routine_words base n) in omega (arith, e, y)
 packets_step base n x false ws e = let y = length-append ws [] in omega (arith, e, y)
 
-pub packets_size : (base : ℕ) (ops : List Ir) (n : ℕ) → 2 * length (packet_words base ops n) ≡ 112 * routines ops n
+pub packets_size : (base : ℕ) (ops : List Ir) (n : ℕ) → 2 * length (packet_words base ops n) ≡ 140 * routines ops n
 unfolding packet_words routines
 packets_size base ops zero = refl
 packets_size base ops (suc n) = packets_step base n (routines ops n) (has_routine ops n) (packet_words base ops n) (packets_size base ops n)

@@ -29,7 +29,7 @@ words_in m b (w ∷ ws) rest h =
 
 -- the routine of an end that has one follows those before it
 routine_at : (m : List ℕ) (b base : ℕ) (ops : List Ir) (n k : ℕ) → k < n → has_routine ops k ≡ true → WordsAt m b (packet_words base ops n)
-    → WordsAt m (b + 112 * routines ops k) (routine_words base k)
+    → WordsAt m (b + 140 * routines ops k) (routine_words base k)
 unfolding packet_words
 routine_at m b base ops zero k lt h w = absurd (omega (arith, lt))
 routine_at m b base ops (suc n) k lt h w = elim (cases_lt k n) [
@@ -38,12 +38,12 @@ routine_at m b base ops (suc n) k lt h w = elim (cases_lt k n) [
       let same : n ≡ k = omega (arith, lt, ge) in
       let back = words_back m b (packet_words base ops n) (if has_routine ops n then routine_words base n else []) w in
       let size = packets_size base ops n in
-      let place : b + 2 * length (packet_words base ops n) ≡ b + 112 * routines ops n = omega (arith, size) in
-      let here : WordsAt m (b + 112 * routines ops n) (if has_routine ops n then routine_words base n else []) = subst
+      let place : b + 2 * length (packet_words base ops n) ≡ b + 140 * routines ops n = omega (arith, size) in
+      let here : WordsAt m (b + 140 * routines ops n) (if has_routine ops n then routine_words base n else []) = subst
       (λ a. WordsAt m a (if has_routine ops n then routine_words base n else [])) place back in
-      let there : WordsAt m (b + 112 * routines ops k) (if has_routine ops k then routine_words base k else []) = subst
-      (λ n. WordsAt m (b + 112 * routines ops n) (if has_routine ops n then routine_words base n else [])) same here in
-      subst (λ (x : Bool). WordsAt m (b + 112 * routines ops k) (if x then routine_words base k else [])) h there
+      let there : WordsAt m (b + 140 * routines ops k) (if has_routine ops k then routine_words base k else []) = subst
+      (λ n. WordsAt m (b + 140 * routines ops n) (if has_routine ops n then routine_words base n else [])) same here in
+      subst (λ (x : Bool). WordsAt m (b + 140 * routines ops k) (if x then routine_words base k else [])) h there
 ]
 
 module _ (f : Fixed) (st : Stands f) (code : Code) (text : (k : ℕ) → k < 2 * length (text_words f.setup.section.layout code)
@@ -127,7 +127,7 @@ module _ (f : Fixed) (st : Stands f) (code : Code) (text : (k : ℕ) → k < 2 *
       (text_at (behind + 2 * 17) 32 (slot_words l.priv_from) (omega arith) (omega (arith, room)) (omega (arith, e, c))
       (words_front f.entered (behind + 2 * 17) (slot_words l.priv_from) packets slots_words))
 
-  pub packet_text : (p k : ℕ) → slice_get ops p ≡ Some (ir.Packet k) → k < 256 → Text f (a.packet k) 56 (routine_words (base_of f) k)
+  pub packet_text : (p k : ℕ) → slice_get ops p ≡ Some (ir.Packet k) → k < 256 → Text f (a.packet k) 70 (routine_words (base_of f) k)
   packet_text p k here lt =
       let e = st.from_even in
       let c = even_bytes in
@@ -135,9 +135,9 @@ module _ (f : Fixed) (st : Stands f) (code : Code) (text : (k : ℕ) → k < 2 *
       let one = has_one ops p k here in
       let within = routine_within ops k 256 one lt in
       let front = words_front f.entered (behind + 2 * 17 + 2 * 32) (packet_words l.priv_from ops 256) (0 ∷ []) packets_words in
-      let z : behind + 2 * 17 + 2 * 32 + 112 * routines ops k ≡ a.packet k = omega (arith, x) in
-      subst (λ b. Text f b 56 (routine_words (base_of f) k)) z
-      (text_at (behind + 2 * 17 + 2 * 32 + 112 * routines ops k) 56 (routine_words l.priv_from k) (omega arith) (omega (arith, room, within)) (omega (arith, e, c))
+      let z : behind + 2 * 17 + 2 * 32 + 140 * routines ops k ≡ a.packet k = omega (arith, x) in
+      subst (λ b. Text f b 70 (routine_words (base_of f) k)) z
+      (text_at (behind + 2 * 17 + 2 * 32 + 140 * routines ops k) 70 (routine_words l.priv_from k) (omega arith) (omega (arith, room, within)) (omega (arith, e, c))
       (routine_at f.entered (behind + 2 * 17 + 2 * 32) l.priv_from ops 256 k lt one front))
 
   -- a place of the code, or that after it, is in the text

@@ -77,7 +77,7 @@ IsSoundOp f a (ir.StoreAt o n) = (n < 65536) × IsArray o n (size_of f)
 IsSoundOp f a (ir.Op g) = Unit {0}
 IsSoundOp f a (ir.Jump q) = IsTarget f (a.at q)
 IsSoundOp f a (ir.JumpZero q) = IsTarget f (a.at q)
-IsSoundOp f a (ir.Packet k) = Text f (a.packet k) 56 (routine_words (base_of f) k) × (offsets.end_at k + 24 ≤ size_of f)
+IsSoundOp f a (ir.Packet k) = Text f (a.packet k) 70 (routine_words (base_of f) k) × (offsets.end_at k + 24 ≤ size_of f)
 IsSoundOp f a ir.Drop = Unit {0}
 IsSoundOp f a ir.Emit = Unit {0}
 IsSoundOp f a ir.Stop = Unit {0}
@@ -297,7 +297,7 @@ module _ (f : Fixed) (st : Stands f) (all : List Mark) (BV : Violation → List 
   op_goes (ir.JumpZero q) (suc v ∷ rest) c t here ok u ks g gt e = lift _ 4 8 _ _ t (omega arith) (goes_same _ t e) (jump_not_leads f st all B a.at c q v rest)
   op_goes (ir.Packet k) [] c t here ok u ks g gt e = absurd (never Stuck t e)
   op_goes (ir.Packet k) (v ∷ rest) c t here ok u ks g gt e =
-      with_size _ 200 _ t (λ sz. lift _ 126 200 _ t t (omega arith) refl (packet_goes f st all B a.at tag c t k v (a.packet k) rest (omega (arith, ok.1)) u (are_kept f (record c { stack = v ∷ rest }) ks g.slots) g.stack ok.0 e gt g.from g.to))
+      with_size _ 200 _ t (λ sz. lift _ 63 200 _ t t (omega arith) refl (packet_goes f st all B a.at tag c t k v (a.packet k) rest (omega (arith, ok.1)) u (are_kept f (record c { stack = v ∷ rest }) ks g.slots) g.stack ok.0 e gt g.from g.to))
   op_goes ir.Drop [] c t here ok u ks g gt e = absurd (never Stuck t e)
   op_goes ir.Drop (x ∷ rest) c t here ok u ks g gt e = lift _ 1 8 _ _ t (omega arith) (goes_same _ t e) (drop_leads f st all B a.at c x rest)
   op_goes ir.Emit [] c t here ok u ks g gt e = absurd (never Stuck t e)
@@ -462,7 +462,7 @@ module _ (f : Fixed) (st : Stands f) (all : List Mark) (BV : Violation → List 
   packet_stops k v rest c Stuck here ok u none g e b r d tx on sh safe = absurd b
   packet_stops k v rest c (Violates x marks) here ok u none g e b r d tx on sh safe =
       let sz = sh.holds.size in
-      later f all Bw (λ _. ⊥) 126 200 (running f r d) (omega arith) (packet_breaks f st all Bw a.at tag c k v (a.packet k) rest x marks (omega (arith, ok.1)) u (are_kept f (record c { stack = v ∷ rest }) none g.slots) g.stack ok.0 e
+      later f all Bw (λ _. ⊥) 63 200 (running f r d) (omega arith) (packet_breaks f st all Bw a.at tag c k v (a.packet k) rest x marks (omega (arith, ok.1)) u (are_kept f (record c { stack = v ∷ rest }) none g.slots) g.stack ok.0 e
       (begins x marks b) g.from g.to r d tx on sh safe (λ u m. subst (λ l. BV x l) (sym m) b))
 
   pub op_stops : (i : Ir) (stack : List ℕ) (c : Conf) (w : Halt) → slice_get code c.place ≡ Some i → IsSoundOp f a i → NamesNoKey (length f.setup.ends) i stack
