@@ -24,7 +24,7 @@ operator_bytes op.Neg = 8
 operator_bytes op.Inv = 8
 operator_bytes op.Not = 14
 
--- how many bytes of so many a turn of their copy takes
+-- the bytes that one turn of a copy moves, for a copy of so many
 abbrev pub turn_size : ℕ → ℕ
 turn_size n = if n % 8 == 0 then 8 else 1
 

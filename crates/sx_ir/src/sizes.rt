@@ -28,7 +28,7 @@ fn operator_bytes(op: IrOp) -> u16
     }
 }
 
-/// How many bytes a turn of a copy takes.
+/// The bytes that one turn of a copy of `count` bytes moves.
 pub fn turn_size(count: u16) -> u16
     ensures size { result ≡ turn_size count }
     ensures some { 1 ≤ result }

@@ -146,7 +146,7 @@ meets saved from to n =
 abbrev pub meets_words : ℕ → ℕ → ℕ → ℕ → List ℕ
 meets_words saved from to n = words_of (meets saved from to n)
 
--- n bytes from R13 on go to the i-th after R12 and those that follow
+-- n bytes from R13 on go to the byte i after R12 and those that follow
 abbrev pub copies : ℕ → ℕ → List Instr
 copies i zero = []
 copies i (suc n) = mov_b (increment r13) (i ⟨ r12 ⟩) ∷ copies (i + 1) n

@@ -132,7 +132,7 @@ fn put_meets(
     }
 }
 
-/// A copy's turns, of as many bytes as this many are copied by.
+/// The turns of a copy of `count` bytes: from R13 on to R12 on, as often as R15 says.
 fn put_turns(text: &mut Vec<u8>, count: u16) -> Result<(), OutOfMemory>
     ensures { OnOk result (PutsWords (words_of (turns (turn_size count))) text.old.items
         text.new.items) }

@@ -114,7 +114,7 @@ mov #2, r13
 mov #0x6070, r14
 mov #0x6072, r15
 wrap
-// the packet goes to the out-window, behind the pieces that were made
+// the packet goes to the out-window, behind the pieces that were made, eight bytes a turn
 mov &0x6004, r12
 add r12, r12
 add r12, r12
@@ -124,9 +124,16 @@ add r12, r12
 add r14, r12
 add &0x600a, r12
 mov #0x606a, r13
-mov #24, r15
+mov #3, r15
 turn: mov.b @r13+, 0(r12)
-add #1, r12
+mov.b @r13+, 1(r12)
+mov.b @r13+, 2(r12)
+mov.b @r13+, 3(r12)
+mov.b @r13+, 4(r12)
+mov.b @r13+, 5(r12)
+mov.b @r13+, 6(r12)
+mov.b @r13+, 7(r12)
+add #8, r12
 sub #1, r15
 jne turn
 // one more number, and one more piece
