@@ -22,9 +22,8 @@ fn operator_bytes(op: IrOp) -> u16
     match op {
         IrOp::Add | IrOp::Sub | IrOp::And | IrOp::Or | IrOp::Xor => 4,
         IrOp::Mul => 24,
-        IrOp::Eq | IrOp::Lt => 16,
         IrOp::Neg | IrOp::Inv => 8,
-        IrOp::Not => 14,
+        IrOp::Eq | IrOp::Lt | IrOp::Not => 14,
     }
 }
 

@@ -49,8 +49,7 @@ multiply =
 -- 1 where the comparison of the two topmost words doesn't take this jump over two words, else 0
 abbrev pub comparison : (ℤ → Instr) → List Instr
 comparison jump =
-    pop r12
-    ∷ cmp r12 (0 ⟨ sp ⟩)
+    cmp (increment sp) (0 ⟨ sp ⟩)
     ∷ clr (0 ⟨ sp ⟩)
     ∷ jump (ahead 2)
     ∷ mov (# 1) (0 ⟨ sp ⟩)

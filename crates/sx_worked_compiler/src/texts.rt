@@ -10,10 +10,10 @@ use sx_rules::Layout;
 use sx_tag::Weak;
 use sx_tmpl::emit;
 
-/// PUSH #3; PUSH #9; POP R12; CMP R12, 0(SP); CLR 0(SP); JC .+2; MOV #1, 0(SP); BR #exit
-const COMPARISON: [u8; 28] = [
-    0x30, 0x12, 3, 0, 0x30, 0x12, 9, 0, 0x3c, 0x41, 0x81, 0x9c, 0, 0, 0x81, 0x43, 0, 0, 0x02, 0x2c,
-    0x91, 0x43, 0, 0, 0x30, 0x40, 0x34, 0x40,
+/// PUSH #3; PUSH #9; CMP @SP+, 0(SP); CLR 0(SP); JC .+2; MOV #1, 0(SP); BR #exit
+const COMPARISON: [u8; 26] = [
+    0x30, 0x12, 3, 0, 0x30, 0x12, 9, 0, 0xb1, 0x91, 0, 0, 0x81, 0x43, 0, 0, 0x02, 0x2c, 0x91, 0x43,
+    0, 0, 0x30, 0x40, 0x32, 0x40,
 ];
 
 const LAYOUT: Layout = Layout {
@@ -39,8 +39,8 @@ fn text_of(alloc: Global, code: &Code) -> Result<Vec<u8>, Fail> {
 }
 
 fn compares(rt: &impl Abort, text: &[u8]) {
-    assert!(rt; text.len() == 152);
-    assert!(rt; &text[24..52] == COMPARISON.as_slice());
+    assert!(rt; text.len() == 150);
+    assert!(rt; &text[24..50] == COMPARISON.as_slice());
 }
 
 #[test]

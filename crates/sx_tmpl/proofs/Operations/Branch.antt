@@ -6,7 +6,7 @@ use Rattle.sx_isa.specs.Spelling.{spelling}
 use Rattle.sx_isa.specs.Instructions.{first_word}
 use Rattle.sx_isa.specs.Standing.{words_of}
 use Rattle.sx_isa.specs.Assembly as asm
-use Rattle.sx_isa.specs.Assembly.{##◌, #◌, ◌⟨◌⟩, ahead, br, clr, cmp, jc, jnz, mov, pc, pop, r12, sp, tst}
+use Rattle.sx_isa.specs.Assembly.{##◌, #◌, ◌⟨◌⟩, ahead, br, clr, cmp, increment, jc, jnz, mov, pc, pop, r12, sp, tst}
 use Rattle.sx_tmpl.proofs.Running.Instructions.{step}
 use Rattle.std.proofs.Common.{◌≡◌, ℕ, suc, ◌+◌, ◌-◌, ◌*◌, ◌%◌, ◌<◌, ◌≤◌, inl, inr, Bool, true, false, not, List, [], ◌∷◌, length, refl, sym, ◌∙◌, ap, subst, arith}
 use Rattle.sx_isa.specs.declared.instruction.Op2.TheVariants as op2
@@ -168,8 +168,8 @@ module _ (f : Fixed) (st : Stands f) (all : List Mark) (B : Watched → Violatio
 
   -- A comparison of the two upper words: the first is popped and compared, and 0 takes the place of the other.
   compare_leads : (c : Conf) (x y : ℕ) (rest : List ℕ) (cond : ℕ) (b : Bool) → is_shaped (Jump cond (ahead 2)) ≡ true → is_module_word (first_word (Jump cond (ahead 2))) ≡ false
-      → ((sr : ℕ) → y < 65536 → x < 65536 → jump_taken cond (flags_of (flags_after op2.Mov 0 0 (flags_after op2.Cmp (y % 65536) x sr))) ≡ not b)
-      → L 8 (words_of (comparison (λ n. Jump cond n))) 5 (record c { stack = y ∷ x ∷ rest }) (next c (truth b ∷ rest))
+      → ((sr : ℕ) → y < 65536 → x < 65536 → jump_taken cond (flags_of (flags_after op2.Mov 0 0 (flags_after op2.Cmp y x sr))) ≡ not b)
+      → L 7 (words_of (comparison (λ n. Jump cond n))) 4 (record c { stack = y ∷ x ∷ rest }) (next c (truth b ∷ rest))
   compare_leads c x y rest cond b shaped plain jumps r d t on sh safe =
       let h = sh.holds in
       let top = h.top in
@@ -179,65 +179,59 @@ module _ (f : Fixed) (st : Stands f) (all : List Mark) (B : Watched → Violatio
       let p1 = stack_word f st r.sp (length (y ∷ x ∷ rest)) top (omega arith) (omega (arith, h.room)) in
       let p2 = stack_word f st sp (length (x ∷ rest)) (omega arith) (omega arith) (omega (arith, h.room)) in
       let up : (r.sp + 2) % 65536 ≡ sp = omega (arith, p1.high, st.beneath) in
-      let up0 : (sp + 0) % 65536 ≡ sp = omega (arith, p2.high, st.beneath) in
+      let up0 : ((r.sp + 2) % 65536 + 0) % 65536 ≡ sp = omega (arith, p2.high, st.beneath) in
+      let same : (sp + 0) % 65536 ≡ sp = omega (arith, p2.high, st.beneath) in
       let h1 = holds_pop f st at c.back y (x ∷ rest) c.priv c.mem r.sp d.mem h in
-      let h3 = holds_replace f st at c.back x 0 rest c.priv c.mem sp d.mem safe.memory h1 in
-      let r1 = record r { pc = at c.place + 2; sp = sp; r12 = y; sr = flags_after op2.Mov 0 0 r.sr } in
-      let r2 = record r1 { pc = at c.place + 6; sr = flags_after op2.Cmp (y % 65536) x r1.sr } in
-      let r3 = record r2 { pc = at c.place + 10; sr = flags_after op2.Mov 0 0 r2.sr } in
-      step f st all B _ t 0 (pop r12) refl (omega arith) refl refl event.Quiet r d 4 (omega (arith, sh.pc)) safe (
+      let h2 = holds_replace f st at c.back x 0 rest c.priv c.mem sp d.mem safe.memory h1 in
+      let r1 = record r { pc = at c.place + 4; sp = sp; sr = flags_after op2.Cmp y x r.sr } in
+      let r2 = record r1 { pc = at c.place + 8; sr = flags_after op2.Mov 0 0 r1.sr } in
+      step f st all B _ t 0 (cmp (increment asm.sp) (0 ⟨ asm.sp ⟩)) refl (omega arith) refl refl event.Quiet r d 3 (omega (arith, sh.pc)) safe (
         r.sp,
         refl,
         p1,
         y,
         h.words.0,
-        λ kept. (
-          r1,
-          rw up refl,
-          inside t 1 (omega arith),
-          λ s1.
-              step f st all B _ t 1 (cmp r12 (0 ⟨ asm.sp ⟩)) refl (omega arith) refl refl event.Quiet r1 d 3 refl s1 (
-                sp,
-                up0,
-                p2,
-                x,
-                h.words.1.0,
-                λ kept. (
-                  r2,
+        (
+          sp,
+          up0,
+          p2,
+          x,
+          h.words.1.0,
+          λ kept. (
+            r1,
+            rw up refl,
+            inside t 2 (omega arith),
+            λ s1.
+                step f st all B _ t 2 (clr (0 ⟨ asm.sp ⟩)) refl (omega arith) refl refl event.Quiet r1 d 2 refl s1 (
+                  sp,
+                  same,
+                  p2,
+                  0,
                   refl,
-                  inside t 3 (omega arith),
-                  λ s2.
-                      step f st all B _ t 3 (clr (0 ⟨ asm.sp ⟩)) refl (omega arith) refl refl event.Quiet r2 d 2 refl s2 (
-                        sp,
-                        up0,
-                        p2,
-                        0,
-                        refl,
-                        omega arith,
-                        λ kept3. (
-                          r3,
-                          refl,
-                          inside t 5 (omega arith),
-                          λ s3.
-                              compare_end t 5 (next c (truth b ∷ rest)) rest cond b r3 (record d { mem = put_cell d.mem sp 0 }) refl refl (omega arith) shaped plain
-                              (jumps r1.sr ly lx) refl on refl h3 sh.devices sh.marks s3,
-                        ),
-                      ),
+                  omega arith,
+                  λ kept2. (
+                    r2,
+                    refl,
+                    inside t 4 (omega arith),
+                    λ s2.
+                        compare_end t 4 (next c (truth b ∷ rest)) rest cond b r2 (record d { mem = put_cell d.mem sp 0 }) refl refl (omega arith) shaped plain
+                        (jumps r.sr ly lx) refl on refl h2 sh.devices sh.marks s2,
+                  ),
                 ),
-              ),
+          ),
         ),
       )
 
-  pub lt_leads : (c : Conf) (x y : ℕ) (rest : List ℕ) → L 8 (words_of (comparison jc)) 5 (record c { stack = y ∷ x ∷ rest }) (next c (combine binary.Lt x y ∷ rest))
+  pub lt_leads : (c : Conf) (x y : ℕ) (rest : List ℕ) → L 7 (words_of (comparison jc)) 4 (record c { stack = y ∷ x ∷ rest }) (next c (combine binary.Lt x y ∷ rest))
   lt_leads c x y rest = compare_leads c x y rest 3 (nat_lt x y) refl refl (λ sr ly lx.
-      carry_of (flags_after op2.Cmp (y % 65536) x sr) _ ∙ elim (cases_lt x y) [
-        | inl h ↦ borrow (y % 65536) x sr (omega arith) (omega arith) ∙ sym (ap not (lt-ltb x y h))
-        | inr h ↦ no_borrow (y % 65536) x sr (omega arith) (omega arith) ∙ sym (ap not (le-ltb x y h))
+      carry_of (flags_after op2.Cmp y x sr) _ ∙ elim (cases_lt x y) [
+        | inl h ↦ borrow y x sr ly h ∙ sym (ap not (lt-ltb x y h))
+        | inr h ↦ no_borrow y x sr ly h ∙ sym (ap not (le-ltb x y h))
       ])
 
-  pub eq_leads : (c : Conf) (x y : ℕ) (rest : List ℕ) → L 8 (words_of (comparison jnz)) 5 (record c { stack = y ∷ x ∷ rest }) (next c (combine binary.Eq x y ∷ rest))
+  pub eq_leads : (c : Conf) (x y : ℕ) (rest : List ℕ) → L 7 (words_of (comparison jnz)) 4 (record c { stack = y ∷ x ∷ rest }) (next c (combine binary.Eq x y ∷ rest))
   eq_leads c x y rest = compare_leads c x y rest 0 (x == y) refl refl (λ sr ly lx.
-      ap not (zero_of (flags_after op2.Cmp (y % 65536) x sr) _ ∙ elim (cases_eq x y) [
-        | inl h ↦ equal (y % 65536) x sr (omega arith) (omega arith) ∙ sym (eq-eqb x y h)
-        | inr h ↦ unequal (y % 65536) x sr (omega arith) lx (omega arith) ∙ sym (ne_eqb x y h)
+      ap not (zero_of (flags_after op2.Cmp y x sr) _ ∙ elim (cases_eq x y) [
+        | inl h ↦ equal y x sr ly h ∙ sym (eq-eqb x y h)
+        | inr h ↦ unequal y x sr ly lx h ∙ sym (ne_eqb x y h)
       ]))

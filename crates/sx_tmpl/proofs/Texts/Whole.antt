@@ -176,8 +176,8 @@ module _ (f : Fixed) (st : Stands f) (all : List Mark) (BV : Violation → List 
   operator_goes op.And (y ∷ x ∷ rest) c t e = lift _ 1 8 _ _ t (omega arith) (goes_same _ t e) (and_leads f st all B a.at c x y rest)
   operator_goes op.Or (y ∷ x ∷ rest) c t e = lift _ 1 8 _ _ t (omega arith) (goes_same _ t e) (or_leads f st all B a.at c x y rest)
   operator_goes op.Xor (y ∷ x ∷ rest) c t e = lift _ 1 8 _ _ t (omega arith) (goes_same _ t e) (xor_leads f st all B a.at c x y rest)
-  operator_goes op.Eq (y ∷ x ∷ rest) c t e = lift _ 5 8 _ _ t (omega arith) (goes_same _ t e) (eq_leads f st all B a.at c x y rest)
-  operator_goes op.Lt (y ∷ x ∷ rest) c t e = lift _ 5 8 _ _ t (omega arith) (goes_same _ t e) (lt_leads f st all B a.at c x y rest)
+  operator_goes op.Eq (y ∷ x ∷ rest) c t e = lift _ 4 8 _ _ t (omega arith) (goes_same _ t e) (eq_leads f st all B a.at c x y rest)
+  operator_goes op.Lt (y ∷ x ∷ rest) c t e = lift _ 4 8 _ _ t (omega arith) (goes_same _ t e) (lt_leads f st all B a.at c x y rest)
 
   with_size : (ws : List ℕ) (k : ℕ) (c t : Conf) → (base_of f + length c.priv ≡ f.setup.section.layout.priv_to → Runs_on ws k c t) → Runs_on ws k c t
   with_size ws k c t h r d tx on sh safe = h sh.holds.size r d tx on sh safe
