@@ -1,5 +1,5 @@
 -- Each operation of the stub has the stub's form.
-use Rattle.std.proofs.Common.{◌≡◌, ℕ, suc, ◌+◌, ◌*◌, ◌%◌, ◌<◌, ◌≤◌, Bool, true, false, ◌&&◌, not, cond, List, [], ◌∷◌, ◌++◌, length, length-append, Option, Some, None, refl, ap, ◌∙◌, arith}
+use Rattle.std.proofs.Common.{◌≡◌, ℕ, suc, ◌+◌, ◌*◌, ◌%◌, ◌<◌, ◌≤◌, Bool, true, false, ◌&&◌, cond, List, [], ◌∷◌, ◌++◌, length, length-append, Option, Some, None, refl, ap, ◌∙◌, arith}
 use Rattle.std.specs.Prelude.{if◌then◌else◌, nat_le, nat_lt, ◌==◌, All}
 use Rattle.std.specs.List.{list_all, position_from}
 use Rattle.std.proofs.lemmas.List.Folds.{list_all-append}
@@ -23,7 +23,7 @@ use Rattle.sx_ir.specs.declared.ir.Ir.TheVariants as ir
 use Rattle.sx_ir.specs.declared.ir.IrOp.TheVariants as op
 use Rattle.sx_mean.specs.Handlers.{number_of, number_of_name}
 use Rattle.sx_stub.specs.Stub.{Cases, answer_code, attest_code, case_of, cases, entries, find_any, found_code, handled_by, input_code, input_found}
-use Rattle.sx_stub.specs.Stub.{is_above_three, is_closed_code, is_keyed_code, is_last_number, is_no_sample, is_opened_not, is_other_epoch, is_past_number}
+use Rattle.sx_stub.specs.Stub.{is_above_last, is_closed_code, is_keyed_code, is_last_number, is_opened_not, is_other_epoch, is_past_number}
 use Rattle.sx_stub.specs.Stub.{is_stale_code, is_to, is_wrong_kind, jump_on, key_found, key_place, named_end, open_any, refuse_if, returns, sample_code}
 use Rattle.sx_stub.specs.Stub.{sampled_code, search_code, set_key_code, slot_word, stub_code, stub_ops, take_event, take_receiving, tests}
 use Rattle.sx_stub.proofs.Plain.{is_fit, is_low}
@@ -223,26 +223,24 @@ module _ (tree : ModuleTree) (ends : List End) (ops : ℕ) (few : length ends �
       join (refuse_if (place + 1) (is_wrong_kind event_kind) 4) last (refuses (place + 1) (is_wrong_kind event_kind) 4 refl (omega (arith, short)) refl)
       (one (length ends) ops (length tree.handlers) few (ir.Jump search) (lt-ltb search ops lt))
 
-  no_sample_fit : Fits (is_no_sample tree)
-  no_sample_fit = go (not (is_sensor_driver (declared_kind tree.decls)))
+  above_fit : Fits (is_above_last tree)
+  above_fit = go (is_sensor_driver (declared_kind tree.decls))
     where
-      go : (b : Bool) → Fits (ir.Saved entry_register ∷ ir.Push 3 ∷ ir.Op op.Eq ∷ ir.Push (truth b) ∷ ir.Op op.And ∷ [])
+      go : (b : Bool) → Fits (ir.Push (if b then 3 else 2) ∷ ir.Saved entry_register ∷ ir.Op op.Lt ∷ [])
       go true = refl
       go false = refl
 
-  tests_fit : 27 < ops → Fits (tests tree)
+  tests_fit : 18 < ops → Fits (tests tree)
   tests_fit short =
-      let last = refuse_if 22 (ir.Meets output_register out_window_size ∷ []) 3 in
-      let third = refuse_if 17 (ir.Meets input_register in_window_size ∷ []) 3 in
-      let second = refuse_if 8 (is_no_sample tree) 2 in
-      join (refuse_if 1 is_above_three 2) (second ++ (third ++ last)) (refuses 1 is_above_three 2 refl (omega (arith, short)) refl)
-      (join second (third ++ last) (refuses 8 (is_no_sample tree) 2 refl (omega (arith, short)) no_sample_fit)
-      (join third last (refuses 17 (ir.Meets input_register in_window_size ∷ []) 3 refl (omega (arith, short)) refl)
-      (refuses 22 (ir.Meets output_register out_window_size ∷ []) 3 refl (omega (arith, short)) refl)))
+      let last = refuse_if 13 (ir.Meets output_register out_window_size ∷ []) 3 in
+      let second = refuse_if 8 (ir.Meets input_register in_window_size ∷ []) 3 in
+      join (refuse_if 1 (is_above_last tree) 2) (second ++ last) (refuses 1 (is_above_last tree) 2 refl (omega (arith, short)) above_fit)
+      (join second last (refuses 8 (ir.Meets input_register in_window_size ∷ []) 3 refl (omega (arith, short)) refl)
+      (refuses 13 (ir.Meets output_register out_window_size ∷ []) 3 refl (omega (arith, short)) refl))
 
-  entries_fit : 27 + length (entries tree ends) < ops → Fits (entries tree ends)
+  entries_fit : 18 + length (entries tree ends) < ops → Fits (entries tree ends)
   entries_fit short =
-      let set_key = 39 + length (sample_code tree 39) in
+      let set_key = 30 + length (sample_code tree 30) in
       let attest = set_key + 24 in
       let input = attest + 14 in
       let search = input + 15 in
@@ -250,13 +248,13 @@ module _ (tree : ModuleTree) (ends : List End) (ops : ℕ) (few : length ends �
       let l7 = input_code search input ++ l8 in
       let l6 = attest_code attest ++ l7 in
       let l5 = set_key_code search set_key ++ l6 in
-      let l4 = sample_code tree 39 ++ l5 in
-      let long = length-append (sample_code tree 39) l5 in
+      let l4 = sample_code tree 30 ++ l5 in
+      let long = length-append (sample_code tree 30) l5 in
       let jumps = jump_fit (length ends) ops (length tree.handlers) few in
-      join (jump_on 0 set_key) (jump_on 1 attest ++ (jump_on 2 input ++ l4)) (jumps 0 set_key refl (omega (arith, short, long)))
-      (join (jump_on 1 attest) (jump_on 2 input ++ l4) (jumps 1 attest refl (omega (arith, short, long)))
-      (join (jump_on 2 input) l4 (jumps 2 input refl (omega (arith, short, long)))
-      (join (sample_code tree 39) l5 (sample_fit 39 (omega (arith, short, long)))
+      join (jump_on 2 input) (jump_on 0 set_key ++ (jump_on 1 attest ++ l4)) (jumps 2 input refl (omega (arith, short, long)))
+      (join (jump_on 0 set_key) (jump_on 1 attest ++ l4) (jumps 0 set_key refl (omega (arith, short, long)))
+      (join (jump_on 1 attest) l4 (jumps 1 attest refl (omega (arith, short, long)))
+      (join (sample_code tree 30) l5 (sample_fit 30 (omega (arith, short, long)))
       (join (set_key_code search set_key) l6 (set_key_fit search set_key (omega (arith, short, long)) (omega (arith, short, long)))
       (join (attest_code attest) l7 (attest_fit attest (omega (arith, short, long)))
       (join (input_code search input) l8 (asked_fit search input (omega (arith, short, long)) (omega (arith, short, long)))

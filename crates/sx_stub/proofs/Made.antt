@@ -45,7 +45,7 @@ handled_within (Some h) = omega arith
 stub_short : (tree : ModuleTree) (ends : List End) → length ends ≤ 16 → length (stub_ops tree ends) ≤ 1024
 unfolding stub_code
 stub_short tree ends few =
-    let q_key = 39 + length (sample_code tree 39) in
+    let q_key = 30 + length (sample_code tree 30) in
     let q_attest = q_key + 24 in
     let q_input = q_attest + 14 in
     let q_search = q_input + 15 in
@@ -54,7 +54,7 @@ stub_short tree ends few =
     let find = cases (find_any found) q_search 0 ends in
     let l5 = set_key_code q_search q_key ++ (attest_code q_attest ++ (input_code q_search q_input ++ search_code tree ends q_search)) in
     let h = handled_within (number_of tree (event.Sample 0)) in
-    let a0 = length-append (sample_code tree 39) l5 in
+    let a0 = length-append (sample_code tree 30) l5 in
     let a1 = length-append find (returns 5 ++ found_code tree ends found) in
     let a2 = length-append (input_found tree ends (found + 3)) (key_found ends key) in
     let b1 = length-find found q_search 0 ends in

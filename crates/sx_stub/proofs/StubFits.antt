@@ -52,8 +52,8 @@ sum_ends (e ∷ es) = let a = sum_ends es in go (is_receiving e) a
 pub stub_fits : StubFits
 unfolding stub_code
 stub_fits tree ends few =
-    let n_sample = length (sample_code tree 39) in
-    let q_key = 39 + n_sample in
+    let n_sample = length (sample_code tree 30) in
+    let q_key = 30 + n_sample in
     let q_attest = q_key + 24 in
     let q_input = q_attest + 14 in
     let q_search = q_input + 15 in
@@ -67,7 +67,7 @@ stub_fits tree ends few =
     let l6 = attest_code q_attest ++ l7 in
     let l5 = set_key_code q_search q_key ++ l6 in
     let h = handled_bytes (number_of tree (event.Sample 0)) in
-    let a0 = ops_bytes-append (sample_code tree 39) l5 in
+    let a0 = ops_bytes-append (sample_code tree 30) l5 in
     let a1 = ops_bytes-append c1 r1 in
     let a2 = ops_bytes-append (input_found tree ends (found + 3)) (key_found ends key) in
     let b1 = cases_bytes (find_any found) 8 (λ p k e. omega arith) q_search 0 ends in

@@ -1,6 +1,6 @@
 -- The entry protocol as stack code. Nobody has to believe this file for what an image realizes. It
 -- has what each part of the protocol is, at the place where it begins.
-use Rattle.std.specs.Prelude.{ℕ, ◌+◌, ◌*◌, Bool, true, false, not, if◌then◌else◌, List, [], ◌∷◌}
+use Rattle.std.specs.Prelude.{ℕ, ◌+◌, ◌*◌, Bool, true, false, if◌then◌else◌, List, [], ◌∷◌}
 use Rattle.std.specs.Prelude.{◌++◌, length, Option, Some, None}
 use Rattle.sx_lang.specs.declared.sides.Side.{Side}
 use Rattle.sx_lang.specs.declared.sides.Side.TheVariants.{From, To}
@@ -300,31 +300,28 @@ sample_code tree place =
 
 -- The tests of the entry and the windows, and the way to the four entries.
 
--- there are entries 0 to 3 alone
-abbrev pub is_above_three : List Ir
-is_above_three = ir.Push sample_entry ∷ ir.Saved entry_register ∷ ir.Op op.Lt ∷ []
+-- the last entry of a module: sample is of one that drives a sensor
+abbrev pub last_entry : ModuleTree → ℕ
+last_entry tree = if is_sensor_driver (declared_kind tree.decls) then sample_entry else input_entry
 
--- entry 3 is of a module that drives a sensor
-abbrev pub is_no_sample : ModuleTree → List Ir
-is_no_sample tree =
-    ir.Saved entry_register ∷ ir.Push sample_entry ∷ ir.Op op.Eq
-    ∷ ir.Push (truth (not (is_sensor_driver (declared_kind tree.decls)))) ∷ ir.Op op.And ∷ []
+-- the caller's entry is above it
+abbrev pub is_above_last : ModuleTree → List Ir
+is_above_last tree = ir.Push (last_entry tree) ∷ ir.Saved entry_register ∷ ir.Op op.Lt ∷ []
 
 -- the return address, the entry and the windows, in this order
 abbrev pub tests : ModuleTree → List Ir
 tests tree =
-    ir.Inside ∷ (refuse_if 1 is_above_three no_entry
-    ++ (refuse_if 8 (is_no_sample tree) no_entry
-    ++ (refuse_if 17 (ir.Meets input_register in_window_size ∷ []) bad_window
-    ++ refuse_if 22 (ir.Meets output_register out_window_size ∷ []) bad_window)))
+    ir.Inside ∷ (refuse_if 1 (is_above_last tree) no_entry
+    ++ (refuse_if 8 (ir.Meets input_register in_window_size ∷ []) bad_window
+    ++ refuse_if 13 (ir.Meets output_register out_window_size ∷ []) bad_window))
 
 -- where the ways to the entries begin, behind the tests
 abbrev pub entries_place : ℕ
-entries_place = 27
+entries_place = 18
 
 -- where the entry of sample begins, behind the ways to the three others
 abbrev pub sample_place : ℕ
-sample_place = 39
+sample_place = 30
 
 -- the operations of the entry of set-key
 abbrev pub set_key_length : ℕ
@@ -338,14 +335,15 @@ attest_length = 14
 abbrev pub input_length : ℕ
 input_length = 15
 
--- the four entries' code begins at these places, and the search after them
+-- The four entries' code begins at these places, and the search after them. Input is looked for
+-- first, since it is called most.
 abbrev pub entries : ModuleTree → List End → List Ir
 entries tree ends =
     let set_key = sample_place + length (sample_code tree sample_place) in
     let attest = set_key + set_key_length in
     let input = attest + attest_length in
     let search = input + input_length in
-    jump_on set_key_entry set_key ++ (jump_on attest_entry attest ++ (jump_on input_entry input
+    jump_on input_entry input ++ (jump_on set_key_entry set_key ++ (jump_on attest_entry attest
     ++ (sample_code tree sample_place ++ (set_key_code search set_key ++ (attest_code attest
     ++ (input_code search input ++ search_code tree ends search))))))
 

@@ -1,12 +1,10 @@
 //! The protocol's code as a whole.
 
-ghost use Rattle.std.specs.Prelude.{◌≡◌, ◌<◌, ◌≤◌, All, [], IfOk, OnOk, length, not};
+ghost use Rattle.std.specs.Prelude.{◌≡◌, ◌<◌, ◌≤◌, All, [], IfOk, OnOk, length};
 ghost use Rattle.sx_check.specs.Source.{source_tree};
 ghost use Rattle.sx_lang.specs.View.{module_of};
-ghost use Rattle.sx_invoke.specs.Invocation.{is_sensor_driver};
-ghost use Rattle.sx_mean.specs.Application.{declared_kind};
-ghost use Rattle.sx_stub.specs.Stub.{entries, entries_place, is_above_three, is_no_sample};
-ghost use Rattle.sx_stub.specs.Stub.{stub_ops, tests};
+ghost use Rattle.sx_stub.specs.Stub.{entries, entries_place, is_above_last, last_entry, stub_ops};
+ghost use Rattle.sx_stub.specs.Stub.{tests};
 ghost use Rattle.sx_stub.specs.Puts.{Puts, RefusesWith};
 ghost use Rattle.sx_stub.specs.Stubs.{StubsTo};
 
@@ -29,43 +27,26 @@ use sx_mean::events::End;
 use sx_rules::Layout;
 use sx_tag::Tag;
 
-fn has_no_sensor(tree: &Module) -> bool
-    ensures { result ≡ not (is_sensor_driver (declared_kind tree.now.decls.items)) }
+fn last_entry(tree: &Module) -> u16
+    ensures { result ≡ last_entry (module_of tree.now) }
 {
     match declared_kind(&tree.decls) {
-        Some(DeviceKind::Sensor) => false,
-        _ => true,
+        Some(DeviceKind::Sensor) => SAMPLE_ENTRY,
+        _ => INPUT_ENTRY,
     }
 }
 
-fn put_sample_test(code: &mut Vec<Ir>, tree: &Module) -> Result<(), AllocError>
+fn put_entry_test(code: &mut Vec<Ir>, tree: &Module) -> Result<(), AllocError>
     requires short { length code.old.items < 60000 }
-    ensures { OnOk result (RefusesWith (is_no_sample (module_of tree.now)) 2 code.old.items
+    ensures { OnOk result (RefusesWith (is_above_last (module_of tree.now)) 2 code.old.items
         code.new.items) }
 {
     let test = [
+        Ir::Push(last_entry(tree)),
         Ir::Saved(ENTRY_REGISTER),
-        Ir::Push(SAMPLE_ENTRY),
-        Ir::Op(IrOp::Eq),
-        Ir::Push(u16::from(has_no_sensor(tree))),
-        Ir::Op(IrOp::And),
+        Ir::Op(IrOp::Lt),
     ];
     put_refuse(code, &test, NO_ENTRY)
-}
-
-fn put_entry_test(code: &mut Vec<Ir>) -> Result<(), AllocError>
-    requires short { length code.old.items < 60000 }
-    ensures { OnOk result (RefusesWith is_above_three 2 code.old.items code.new.items) }
-{
-    put_refuse(
-        code,
-        &[
-            Ir::Push(SAMPLE_ENTRY),
-            Ir::Saved(ENTRY_REGISTER),
-            Ir::Op(IrOp::Lt),
-        ],
-        NO_ENTRY,
-    )
 }
 
 fn put_tests(code: &mut Vec<Ir>, tree: &Module) -> Result<(), AllocError>
@@ -73,8 +54,7 @@ fn put_tests(code: &mut Vec<Ir>, tree: &Module) -> Result<(), AllocError>
     ensures { OnOk result (code.new.items ≡ tests (module_of tree.now)) }
 {
     put(code, Ir::Inside)?;
-    put_entry_test(code)?;
-    put_sample_test(code, tree)?;
+    put_entry_test(code, tree)?;
     put_refuse(
         code,
         &[Ir::Meets(INPUT_REGISTER, IN_WINDOW_SIZE)],
@@ -98,9 +78,9 @@ fn put_entries(code: &mut Vec<Ir>, tree: &Module, ends: &[End]) -> Result<(), Al
     let attest = set_key + SET_KEY_LENGTH;
     let input = attest + ATTEST_LENGTH;
     let search = input + INPUT_LENGTH;
+    put_jump_on(code, INPUT_ENTRY, input)?;
     put_jump_on(code, SET_KEY_ENTRY, set_key)?;
     put_jump_on(code, ATTEST_ENTRY, attest)?;
-    put_jump_on(code, INPUT_ENTRY, input)?;
     put_sample(code, tree)?;
     put_set_key(code, search)?;
     put_attest(code)?;
