@@ -79,11 +79,12 @@ abbrev pub load_at : ℕ → ℕ → List Instr
 load_at start n =
     pop r12
     ∷ cmp (## n) r12
-    ∷ jc (ahead 4)
+    ∷ jnc (ahead 2)  -- there
+    ∷ push (# 0)
+    ∷ jmp (ahead 3)
+    -- there:
     ∷ add r12 r12
     ∷ push (start ⟨ r12 ⟩)
-    ∷ jmp (ahead 1)
-    ∷ push (# 0)
     ∷ []
 
 -- the word on the stack goes to the element at the index below it

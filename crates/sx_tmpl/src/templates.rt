@@ -65,11 +65,11 @@ fn put_load_at(text: &mut Vec<u8>, start: u16, length: u16) -> Result<(), OutOfM
         text;
         pop R12;
         cmp Immediate(length), R12;
-        jc 4;
+        jnc 2;
+        push Const(0);
+        jmp 3;
         add R12, R12;
         push Indexed(12, start);
-        jmp 1;
-        push Const(0);
     }
 }
 

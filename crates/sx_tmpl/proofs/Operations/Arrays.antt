@@ -1,6 +1,6 @@
 -- Elements of arrays, by an index at run time.
 use Rattle.sx_tmpl.specs.Template.{load_at_words, store_at_words}
-use Rattle.sx_isa.specs.Assembly.{##◌, #◌, ahead, cmp, jc, jmp, mov, pop, push, r12, r13, rla, sp, ◌⟨◌⟩}
+use Rattle.sx_isa.specs.Assembly.{##◌, #◌, ahead, cmp, jc, jmp, jnc, mov, pop, push, r12, r13, rla, sp, ◌⟨◌⟩}
 use Rattle.sx_tmpl.proofs.Running.Instructions.{step}
 use Rattle.std.proofs.Common.{◌≡◌, ℕ, suc, ◌+◌, ◌*◌, ◌%◌, ◌<◌, ◌≤◌, ◌⊎◌, inl, inr, cond, List, ◌∷◌, length, refl, sym, ap, subst, arith}
 use Rattle.sx_isa.specs.declared.instruction.Op2.TheVariants as op2
@@ -67,7 +67,7 @@ module _ (f : Fixed) (st : Stands f) (all : List Mark) (B : Watched → Violatio
 
   -- an element that is there
   load_element : (c : Conf) (o n i : ℕ) (rest : List ℕ) → n < 65536 → IsArray o n (length c.priv) → HoldsNoKey (length f.setup.ends) (o + 2 * i) 2 → i < n
-      → L 9 (load_words o n) 6 (record c { stack = i ∷ rest }) (next c (word c.priv (o + 2 * i) ∷ rest))
+      → L 9 (load_words o n) 5 (record c { stack = i ∷ rest }) (next c (word c.priv (o + 2 * i) ∷ rest))
   load_element c o n i rest ln a shown lt r d t on sh safe =
       let h = sh.holds in
       let top = h.top in
@@ -88,28 +88,27 @@ module _ (f : Fixed) (st : Stands f) (all : List Mark) (B : Watched → Violatio
       let j = borrow (n % 65536) (i % 65536) (flags_after op2.Mov 0 0 r.sr) (omega arith) (omega arith) in
       let twice : (i % 65536 + i % 65536 + 0) % 65536 ≡ 2 * i = omega arith in
       let place : (2 * i + (base_of f + o)) % 65536 ≡ base_of f + (o + 2 * i) = omega arith in
-      let to : (at c.place + 16 + 2) % 65536 ≡ at c.place + 18 = omega (arith, t.to) in
+      let to : (at c.place + 8 + 4) % 65536 ≡ at c.place + 12 = omega (arith, t.to) in
       let m5 = put_cell d.mem r.sp v in
       let h1 = holds_pop f st at c.back i rest c.priv c.mem r.sp d.mem h in
       let r2 = record r { pc = at c.place + 6; sp = sp; r12 = i; sr = sr2 } in
-      let r3 = record r2 { pc = at c.place + 8 } in
-      let r4 = record r3 { pc = at c.place + 10; r12 = 2 * i; sr = flags_after op2.Add (i % 65536) (i % 65536) sr2 } in
-      let r5 = record r4 { pc = at c.place + 14; sp = r.sp } in
-      let r6 = record r5 { pc = at c.place + 18 } in
-      load_begins _ c o n i 4 rest r d t sh safe (λ s2.
-      step f st all B _ t 3 (jc (ahead 4)) refl (omega arith) refl refl event.Quiet r2 d 3 refl s2
+      let r3 = record r2 { pc = at c.place + 12 } in
+      let r4 = record r3 { pc = at c.place + 14; r12 = 2 * i; sr = flags_after op2.Add (i % 65536) (i % 65536) sr2 } in
+      let r5 = record r4 { pc = at c.place + 18; sp = r.sp } in
+      load_begins _ c o n i 3 rest r d t sh safe (λ s2.
+      step f st all B _ t 3 (jnc (ahead 2)) refl (omega arith) refl refl event.Quiet r2 d 2 refl s2
       (λ kept. (
         r3,
-        rw j refl,
-        inside t 4 (omega arith),
+        rw (j, to) refl,
+        inside t 6 (omega arith),
         λ s3.
-            step f st all B _ t 4 (rla r12) refl (omega arith) refl refl event.Quiet r3 d 2 refl s3
+            step f st all B _ t 6 (rla r12) refl (omega arith) refl refl event.Quiet r3 d 1 refl s3
             (λ kept. (
               r4,
               rw twice refl,
-              inside t 5 (omega arith),
+              inside t 7 (omega arith),
               λ s4.
-                  step f st all B _ t 5 (push ((base_of f + o) ⟨ r12 ⟩)) refl (omega arith) refl refl event.Quiet r4 d 1 refl s4 (
+                  step f st all B _ t 7 (push ((base_of f + o) ⟨ r12 ⟩)) refl (omega arith) refl refl event.Quiet r4 d 0 refl s4 (
                     base_of f + (o + 2 * i),
                     place,
                     po,
@@ -125,17 +124,10 @@ module _ (f : Fixed) (st : Stands f) (all : List Mark) (B : Watched → Violatio
                       λ kept5. (
                         r5,
                         rw down refl,
-                        inside t 7 (omega arith),
+                        inside t 9 (omega arith),
                         λ s5.
-                            step f st all B _ t 7 (jmp (ahead 1)) refl (omega arith) refl refl event.Quiet r5 (record d { mem = m5 }) 0 refl s5
-                            (λ kept. (
-                              r6,
-                              rw to refl,
-                              inside t 9 (omega arith),
-                              λ s6.
-                                  stood f st all B at (next c (v ∷ rest)) r6 m5 d 0 s6 (omega (arith, on)) (holds_push f st at c.back rest c.priv c.mem sp d.mem r.sp v safe.memory h1 refl
-                                  (omega (arith, h.room))) sh.devices sh.marks,
-                            )),
+                            stood f st all B at (next c (v ∷ rest)) r5 m5 d 0 s5 (omega (arith, on)) (holds_push f st at c.back rest c.priv c.mem sp d.mem r.sp v safe.memory h1 refl
+                            (omega (arith, h.room))) sh.devices sh.marks,
                       ),
                     ),
                   ),
@@ -143,7 +135,7 @@ module _ (f : Fixed) (st : Stands f) (all : List Mark) (B : Watched → Violatio
       )))
 
   -- past the end
-  load_past : (c : Conf) (o n i : ℕ) (rest : List ℕ) → n < 65536 → n ≤ i → L 9 (load_words o n) 6 (record c { stack = i ∷ rest }) (next c (0 ∷ rest))
+  load_past : (c : Conf) (o n i : ℕ) (rest : List ℕ) → n < 65536 → n ≤ i → L 9 (load_words o n) 5 (record c { stack = i ∷ rest }) (next c (0 ∷ rest))
   load_past c o n i rest ln ge r d t on sh safe =
       let h = sh.holds in
       let top = h.top in
@@ -154,19 +146,21 @@ module _ (f : Fixed) (st : Stands f) (all : List Mark) (B : Watched → Violatio
       let down : (sp + 65534) % 65536 ≡ r.sp = omega (arith, p1.high, st.beneath) in
       let sr2 = flags_after op2.Cmp (n % 65536) (i % 65536) (flags_after op2.Mov 0 0 r.sr) in
       let j = no_borrow (n % 65536) (i % 65536) (flags_after op2.Mov 0 0 r.sr) (omega arith) (omega arith) in
-      let to : (at c.place + 8 + 8) % 65536 ≡ at c.place + 16 = omega (arith, t.to) in
+      let to : (at c.place + 12 + 6) % 65536 ≡ at c.place + 18 = omega (arith, t.to) in
       let h1 = holds_pop f st at c.back i rest c.priv c.mem r.sp d.mem h in
       let r2 = record r { pc = at c.place + 6; sp = sp; r12 = i; sr = sr2 } in
-      let r3 = record r2 { pc = at c.place + 16 } in
-      let r4 = record r3 { pc = at c.place + 18; sp = r.sp } in
-      load_begins _ c o n i 4 rest r d t sh safe (λ s2.
-      step f st all B _ t 3 (jc (ahead 4)) refl (omega arith) refl refl event.Quiet r2 d 3 refl s2
+      let m4 = put_cell d.mem r.sp 0 in
+      let r3 = record r2 { pc = at c.place + 8 } in
+      let r4 = record r3 { pc = at c.place + 10; sp = r.sp } in
+      let r5 = record r4 { pc = at c.place + 18 } in
+      load_begins _ c o n i 3 rest r d t sh safe (λ s2.
+      step f st all B _ t 3 (jnc (ahead 2)) refl (omega arith) refl refl event.Quiet r2 d 2 refl s2
       (λ kept. (
         r3,
-        rw (j, to) refl,
-        inside t 8 (omega arith),
+        rw j refl,
+        inside t 4 (omega arith),
         λ s3.
-            step f st all B _ t 8 (push (# 0)) refl (omega arith) refl refl event.Quiet r3 d 2 refl s3 (
+            step f st all B _ t 4 (push (# 0)) refl (omega arith) refl refl event.Quiet r3 d 1 refl s3 (
               r.sp,
               down,
               p1,
@@ -176,19 +170,26 @@ module _ (f : Fixed) (st : Stands f) (all : List Mark) (B : Watched → Violatio
               λ kept4. (
                 r4,
                 rw down refl,
-                inside t 9 (omega arith),
+                inside t 5 (omega arith),
                 λ s4.
-                    stood f st all B at (next c (0 ∷ rest)) r4 (put_cell d.mem r.sp 0) d 2 s4 (omega (arith, on)) (holds_push f st at c.back rest c.priv c.mem sp d.mem r.sp 0 safe.memory h1 refl
-                    (omega (arith, h.room))) sh.devices sh.marks,
+                    step f st all B _ t 5 (jmp (ahead 3)) refl (omega arith) refl refl event.Quiet r4 (record d { mem = m4 }) 0 refl s4
+                    (λ kept. (
+                      r5,
+                      rw to refl,
+                      inside t 9 (omega arith),
+                      λ s5.
+                          stood f st all B at (next c (0 ∷ rest)) r5 m4 d 0 s5 (omega (arith, on)) (holds_push f st at c.back rest c.priv c.mem sp d.mem r.sp 0 safe.memory h1 refl
+                          (omega (arith, h.room))) sh.devices sh.marks,
+                    )),
               ),
             ),
       )))
 
-  pub load_at_leads : (c : Conf) (o n i : ℕ) (rest : List ℕ) → n < 65536 → IsArray o n (length c.priv) → (i < n → HoldsNoKey (length f.setup.ends) (o + 2 * i) 2) → L 9 (load_words o n) 6 (record c { stack = i ∷ rest }) (next c (element c.priv o n i ∷ rest))
+  pub load_at_leads : (c : Conf) (o n i : ℕ) (rest : List ℕ) → n < 65536 → IsArray o n (length c.priv) → (i < n → HoldsNoKey (length f.setup.ends) (o + 2 * i) 2) → L 9 (load_words o n) 5 (record c { stack = i ∷ rest }) (next c (element c.priv o n i ∷ rest))
   load_at_leads c o n i rest ln a shown = elim (cases_lt i n) [
-    | inl h ↦ subst (λ v. L 9 (load_words o n) 6 (record c { stack = i ∷ rest }) (next c (v ∷ rest))) (sym (ap (λ b. cond b (word c.priv (o + 2 * i)) 0) (lt-ltb i n h)))
+    | inl h ↦ subst (λ v. L 9 (load_words o n) 5 (record c { stack = i ∷ rest }) (next c (v ∷ rest))) (sym (ap (λ b. cond b (word c.priv (o + 2 * i)) 0) (lt-ltb i n h)))
         (load_element c o n i rest ln a (shown h) h)
-    | inr h ↦ subst (λ v. L 9 (load_words o n) 6 (record c { stack = i ∷ rest }) (next c (v ∷ rest))) (sym (ap (λ b. cond b (word c.priv (o + 2 * i)) 0) (le-ltb i n h))) (load_past c o n i rest ln h)
+    | inr h ↦ subst (λ v. L 9 (load_words o n) 5 (record c { stack = i ∷ rest }) (next c (v ∷ rest))) (sym (ap (λ b. cond b (word c.priv (o + 2 * i)) 0) (le-ltb i n h))) (load_past c o n i rest ln h)
   ]
 
   abbrev store_words : ℕ → ℕ → List ℕ

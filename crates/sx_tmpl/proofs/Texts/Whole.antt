@@ -285,7 +285,7 @@ module _ (f : Fixed) (st : Stands f) (all : List Mark) (BV : Violation → List 
       with_size _ 8 _ t (λ sz. lift _ 1 8 _ _ t (omega arith) (goes_same _ t e) (store_leads f st all B a.at c x rest o ok.0 ok.1 u (omega (arith, ok.2))))
   op_goes (ir.LoadAt o n) [] c t here ok u ks g gt e = absurd (never Stuck t e)
   op_goes (ir.LoadAt o n) (i ∷ rest) c t here ok u ks g gt e =
-      with_size _ 8 _ t (λ sz. lift _ 6 8 _ _ t (omega arith) (goes_same _ t e) (load_at_leads f st all B a.at c o n i rest ok.0 (array_fits o n c.priv sz ok.1) u))
+      with_size _ 8 _ t (λ sz. lift _ 5 8 _ _ t (omega arith) (goes_same _ t e) (load_at_leads f st all B a.at c o n i rest ok.0 (array_fits o n c.priv sz ok.1) u))
   op_goes (ir.StoreAt o n) [] c t here ok u ks g gt e = absurd (never Stuck t e)
   op_goes (ir.StoreAt o n) (v ∷ []) c t here ok u ks g gt e = absurd (never Stuck t e)
   op_goes (ir.StoreAt o n) (v ∷ i ∷ rest) c t here ok u ks g gt e =
