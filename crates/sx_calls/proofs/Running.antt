@@ -154,7 +154,7 @@ module _ (set : Setting) (sound : IsSoundSetting set) (m : ℕ) (q : PartTree) (
   IsComing = Comes Watched Violation (watch set.mac) (λ w. 1) (Underway setup result before) (Aborted result) (Exited setup result before)
 
   -- what a step of the module does in a world
-  after_as : (u : World) (s : State) (seen : List Mark) → Middle sec before s seen → own_of s ≡ sec.id → violation_of (step set.mac s).shown.event ≡ None
+  pub after_as : (u : World) (s : State) (seen : List Mark) → Middle sec before s seen → own_of s ≡ sec.id → violation_of (step set.mac s).shown.event ≡ None
       → (step set.mac s).state.sections ≡ before.sections
       → after_step set u n s
       ≡ (let r = step set.mac s in let o = marks_observed set.app n m before.boot (marks_of r.shown r.state.exchange) u.ledger in
