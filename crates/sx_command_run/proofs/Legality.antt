@@ -20,6 +20,7 @@ use Rattle.sx_run.proofs.AcceptedRunsLegal.{accepted_runs_legal}
 use Rattle.sx_forged.specs.Forgery.{ForgedIsForgery}
 use Rattle.sx_forged.proofs.Unmade.{accepted_forged}
 use Rattle.sx_links.specs.LinksUnseen.{LinksAreUnseen}
+use Rattle.sx_links.specs.Laws.{HidesKeys}
 use Rattle.sx_links.proofs.Final.{accepted_unseen}
 use Rattle.sx_command_world.specs.Schedule.{Schedule, or_rule, judged_line, on_line, schedule}
 use Rattle.sx_command_run.specs.Run.{items_of}
@@ -83,7 +84,7 @@ items_forged mac text d texts tag read images more =
     accepted_forged text d read mac texts tag images (schedule assembled d.names 1 more).lines (omega (arith, k.few)) k.form
 
 pub links_unseen : (mac : Mac) (text : List ℕ) (d : Deployed) (texts : List (List ℕ)) → IsTag mac → IsRead text (Ok d) → AreImages mac d texts
-    → (more : List Answer) → LinksAreUnseen (setting_of mac d texts) (schedule assembled d.names 1 more).lines
-links_unseen mac text d texts tag read images more =
+    → HidesKeys (setting_of mac d texts) → (more : List Answer) → LinksAreUnseen (setting_of mac d texts) (schedule assembled d.names 1 more).lines
+links_unseen mac text d texts tag read images hides more =
     let k = schedule_kept d.names 1 more (omega arith) in
-    accepted_unseen text d read mac texts tag images (schedule assembled d.names 1 more).lines k.form
+    accepted_unseen text d read mac texts tag images hides (schedule assembled d.names 1 more).lines k.form

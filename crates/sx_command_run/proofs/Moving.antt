@@ -1,4 +1,4 @@
--- Where the images of an accepted deployment are the compiler's, there are settings with any other keys of connections.
+-- Where the images of an accepted deployment are the compiler's, they hide keys, and there are settings with any other keys of connections.
 use Rattle.std.proofs.Common.{◌≡◌, ◌∙◌, ℕ, zero, suc, ◌+◌, ◌<◌, ◌≤◌, ◌==◌, Bool, true, false, cond, List, [], ◌∷◌, length, Some, None, Ok, sym, ap, arith}
 use Rattle.std.specs.Prelude.{All, slice_get}
 use Rattle.std.specs.List.{cons_option}
@@ -20,6 +20,7 @@ use Rattle.sx_run.proofs.accepted.LaidSites.{site_at}
 use Rattle.sx_run.proofs.accepted.Settled.{settled}
 use Rattle.sx_run.proofs.tie.Lists.{some_inj}
 use Rattle.sx_links.specs.Compiles.{IsCompiledAt}
+use Rattle.sx_links.specs.Laws.{HidesKeys}
 use Rattle.sx_links.specs.Unlinks.{HasMoved}
 use Rattle.sx_links.proofs.Compiling.{compiled_always}
 use Rattle.sx_links.proofs.Finding.{unlinks_all}
@@ -80,8 +81,11 @@ module _ (mac : Mac) (d : Deployed) (texts : List (List ℕ)) (acc : IsSoundDepl
         sections = has_sections d m q site.layout acc part r.layout;
       }
 
+pub deployed_hides : (mac : Mac) (text : List ℕ) (d : Deployed) (texts : List (List ℕ)) → IsRead text (Ok d) → texts ≡ compiled_texts d → HidesKeys (setting_of mac d texts)
+deployed_hides mac text d texts read made = (compiled_always (setting_of mac d texts) (compiled_at mac d texts (sound text d read) made)).1
+
 pub deployed_moved : (mac : Mac) (text : List ℕ) (d : Deployed) (texts : List (List ℕ)) → IsTag mac → IsRead text (Ok d) → AreImages mac d texts → texts ≡ compiled_texts d
     → HasMoved (setting_of mac d texts)
 deployed_moved mac text d texts tag read images made =
     let acc = sound text d read in
-    unlinks_all (setting_of mac d texts) (settled mac d texts acc images tag) (compiled_always (setting_of mac d texts) (compiled_at mac d texts acc made))
+    unlinks_all (setting_of mac d texts) (settled mac d texts acc images tag) (compiled_always (setting_of mac d texts) (compiled_at mac d texts acc made)).0

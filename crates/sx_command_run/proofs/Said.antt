@@ -19,7 +19,7 @@ use Rattle.sx_links.specs.Unlinks.{HasMoved}
 use Rattle.sx_command_world.specs.Compiled.{compiled_texts}
 use Rattle.sx_command_world.specs.Schedule.{schedule}
 use Rattle.sx_command_run.proofs.Legality.{items_legal, items_forged, links_unseen}
-use Rattle.sx_command_run.proofs.Moving.{deployed_moved}
+use Rattle.sx_command_run.proofs.Moving.{deployed_hides, deployed_moved}
 use Rattle.sx_command_run.proofs.Owing.{run_owes}
 
 legal_by : (mac : Mac) (deployment : Option (List ℕ)) (texts : List (List ℕ)) (d : Deployed) → IsTag mac → Deploys deployment d → AreImages mac d texts
@@ -33,9 +33,9 @@ forged_by mac None texts d tag deploys images answers = absurd deploys
 forged_by mac (Some text) texts d tag deploys images answers = items_forged mac text d texts tag deploys images answers
 
 links_by : (mac : Mac) (deployment : Option (List ℕ)) (texts : List (List ℕ)) (d : Deployed) → IsTag mac → Deploys deployment d → AreImages mac d texts
-    → (answers : List Answer) → LinksAreUnseen (setting_of mac d texts) (schedule assembled d.names 1 answers).lines
-links_by mac None texts d tag deploys images answers = absurd deploys
-links_by mac (Some text) texts d tag deploys images answers = links_unseen mac text d texts tag deploys images answers
+    → texts ≡ compiled_texts d → (answers : List Answer) → LinksAreUnseen (setting_of mac d texts) (schedule assembled d.names 1 answers).lines
+links_by mac None texts d tag deploys images made answers = absurd deploys
+links_by mac (Some text) texts d tag deploys images made answers = links_unseen mac text d texts tag deploys images (deployed_hides mac text d texts deploys made) answers
 
 moved_by : (mac : Mac) (deployment : Option (List ℕ)) (texts : List (List ℕ)) (d : Deployed) → IsTag mac → Deploys deployment d → AreImages mac d texts
     → texts ≡ compiled_texts d → HasMoved (setting_of mac d texts)
@@ -47,7 +47,7 @@ runs_with : (mac : Mac) → IsTag mac → (deployment : Option (List ℕ)) (text
 runs_with mac tag deployment texts realize = record {
   legal = λ d deploys schedule. legal_by mac deployment texts d tag deploys (realize d deploys) schedule;
   forged = λ d deploys answers. forged_by mac deployment texts d tag deploys (realize d deploys) answers;
-  links = λ d deploys answers. links_by mac deployment texts d tag deploys (realize d deploys) answers;
+  links = λ d deploys made answers. links_by mac deployment texts d tag deploys (realize d deploys) made answers;
   moved = λ d deploys made. moved_by mac deployment texts d tag deploys (realize d deploys) made;
   guarded = λ d lines. runs_guarded (setting_of mac d texts) lines;
 }

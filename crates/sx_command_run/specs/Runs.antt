@@ -29,9 +29,9 @@ use Rattle.sx_command_world.specs.Turning.{MayRunOut}
 
 -- Whatever the schedule is, the items of its run with these images are legal up to the first that
 -- is forged (`legal`); at this one a tag was accepted that nobody who holds its key had made
--- (`forged`). Up to it the keys of connections show in nothing but tags (`links`); and if the
--- images are the compiler's, which they are (`made` of `DeploysWith`), there are settings with any
--- other such keys (`moved`). The run is a script, in which each thing that happens leaves each
+-- (`forged`). If the images are the compiler's, which they are (`made` of `DeploysWith`), the keys of
+-- connections show in nothing but tags up to it (`links`), and there are settings with any other
+-- such keys (`moved`). The run is a script, in which each thing that happens leaves each
 -- private section alone (`guarded`).
 pub record RunsWith (assemble : Assembler) (mac : Mac) (deployment : Option (List ℕ))
     (texts : List (List ℕ)) : Type 0 where
@@ -39,7 +39,8 @@ pub record RunsWith (assemble : Assembler) (mac : Mac) (deployment : Option (Lis
       → Legal d.app (before (items_of assemble mac d texts schedule))
   pub forged : (d : Deployed) → Deploys deployment d → (answers : List Answer)
       → ForgedIsForgery (setting_of mac d texts) (schedule assemble d.names 1 answers).lines
-  pub links : (d : Deployed) → Deploys deployment d → (answers : List Answer)
+  pub links : (d : Deployed) → Deploys deployment d → texts ≡ compiled_texts d
+      → (answers : List Answer)
       → LinksAreUnseen (setting_of mac d texts) (schedule assemble d.names 1 answers).lines
   pub moved : (d : Deployed) → Deploys deployment d → texts ≡ compiled_texts d
       → HasMoved (setting_of mac d texts)

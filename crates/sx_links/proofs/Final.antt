@@ -1,5 +1,5 @@
 -- Settings whose connections have keys of their own show the same.
-use Rattle.std.proofs.Common.{◌≡◌, ℕ, zero, suc, ◌+◌, ◌<◌, Bool, List, [], ◌∷◌, length, Option, Some, None, is_some, refl, sym, ◌∙◌, ap, ap₂, subst, arith}
+use Rattle.std.proofs.Common.{◌≡◌, ℕ, zero, suc, ◌+◌, ◌<◌, Bool, inl, List, [], ◌∷◌, length, Option, Some, None, is_some, refl, sym, ◌∙◌, ap, ap₂, subst, arith}
 use Rattle.std.specs.Prelude.{slice_get, map}
 use Rattle.std.proofs.lemmas.Bool.{true≢false}
 use Rattle.sx_bus.specs.declared.devices.Window.{Window}
@@ -18,18 +18,16 @@ use Rattle.sx_guard.specs.Lines.{script_of}
 use Rattle.sx_forged.specs.Bare.{bare_section}
 use Rattle.sx_forged.specs.Moments.{Moment, moment_from, shown_at, NoForged}
 use Rattle.sx_forged.proofs.Reaching.{starts_turning}
-use Rattle.sx_deploy.specs.Law.{IsSoundDeployment}
 use Rattle.sx_deploy.proofs.Sound.{sound}
 use Rattle.sx_run.specs.Accepted.{setting_of, sites_of}
 use Rattle.sx_run.proofs.accepted.Settled.{settled}
 use Rattle.sx_run.proofs.accepted.FormedLines.{lines_in_form}
-use Rattle.sx_run.proofs.accepted.LaidSites.{site_at, laid_at}
-use Rattle.sx_deploy.specs.Deployment.{Deployed}
 use Rattle.sx_links.specs.Unlinked.{Unlinked}
 use Rattle.sx_links.specs.Accepted.{AcceptedUnseen}
-use Rattle.sx_links.specs.LinksUnseen.{TurnsWhole, SameOutside, SameWorldOutside, NothingGuessed, RunsAlike}
-use Rattle.sx_links.specs.Laws.{SparesZero, LinksUnseen}
-use Rattle.sx_links.proofs.Outside.{sites_on, is_deployed, SameSections}
+use Rattle.sx_links.specs.LinksUnseen.{SameOutside, SameWorldOutside, NothingGuessed, RunsAlike}
+use Rattle.sx_links.specs.Laws.{HidesKeys, LinksUnseen}
+use Rattle.sx_links.proofs.Outside.{sites_on, is_deployed, SameSections, AlikeOutside}
+use Rattle.sx_links.proofs.Doing.{outside_turn}
 use Rattle.sx_links.proofs.Opened.{agree_self}
 use Rattle.sx_links.proofs.Upto.{none_clean}
 use Rattle.sx_links.proofs.Linking.{second, SameNode}
@@ -67,7 +65,7 @@ module _ (a : Setting) (nac : Mac) (keys : List (List ℕ)) (secret : List ℕ) 
   nodes_same i [] [] e n k = tt
   nodes_same i [] (l ∷ ls) e n k = absurd (omega (arith, e))
   nodes_same i (x ∷ ks) [] e n k = absurd (omega (arith, e))
-  nodes_same i (x ∷ ks) (l ∷ ls) e zero k = on_same k x l _
+  nodes_same i (x ∷ ks) (l ∷ ls) e zero k = inl (on_same k x l _)
   nodes_same i (x ∷ ks) (l ∷ ls) e (suc n) k = nodes_same (i + 1) ks ls (omega (arith, e)) n k
 
   -- What the worlds have in common outside.
@@ -78,13 +76,13 @@ module _ (a : Setting) (nac : Mac) (keys : List (List ℕ)) (secret : List ℕ) 
   live_same hides (x ∷ xs) [] h = absurd h
   live_same hides (x ∷ xs) (y ∷ ys) h = ap₂ (λ (z : Section) (zs : List Section). z ∷ zs) (ap bare_section h.0.0) (live_same hides xs ys h.1)
 
-  node_outside : (n : ℕ) (s t : State) → SameNode a nac keys secret n s t → SameOutside a n s t
+  node_outside : (n : ℕ) (s t : State) → AlikeOutside a.mac nac (sites_on a.sites n) s t → SameOutside a n s t
   node_outside n s t h = record {
-    rest = h.outside.rest;
-    live = live_same (is_deployed (sites_on a.sites n) s.mem) s.sections.live t.sections.live h.outside.sections;
-    next = h.outside.next;
-    size = sym h.outside.mem.size;
-    mem = λ k free. sym (h.outside.mem.same k (λ x l d. free x l (λ none. true≢false (sym d ∙ ap is_some none))));
+    rest = h.rest;
+    live = live_same (is_deployed (sites_on a.sites n) s.mem) s.sections.live t.sections.live h.sections;
+    next = h.next;
+    size = sym h.mem.size;
+    mem = λ k free. sym (h.mem.same k (λ x l d. free x l (λ none. true≢false (sym d ∙ ap is_some none))));
   }
 
   abbrev Matches : Option State → Option State → Type 0
@@ -108,16 +106,16 @@ module _ (a : Setting) (nac : Mac) (keys : List (List ℕ)) (secret : List ℕ) 
   world_outside : (w v : World) → SameWorld a nac keys secret w v → SameWorldOutside a w v
   world_outside w v h = record {
     count = count_same w.nodes v.nodes (λ n. matches n (slice_get w.nodes n) (slice_get v.nodes n) (h.nodes n));
-    nodes = λ n s t here there. node_outside n s t
-        (subst (λ (o : Option State). SameAt a nac keys secret n o (Some t)) here (subst (λ (o : Option State). SameAt a nac keys secret n (slice_get w.nodes n) o) there (h.nodes n)));
+    nodes = λ n s t here there. node_outside n s t (outside_turn a nac keys secret n s t
+        (subst (λ (o : Option State). SameAt a nac keys secret n o (Some t)) here (subst (λ (o : Option State). SameAt a nac keys secret n (slice_get w.nodes n) o) there (h.nodes n))));
     packets = h.packets;
     deployer = h.deployer;
   }
 
-  of_second : (lines : List Line) → IsSoundSetting a → IsSoundSetting (second a nac keys secret) → Unlinked a (second a nac keys secret) → SparesZero a
-      → LinesInForm a lines → TurnsWhole lines → NothingGuessed a (second a nac keys secret) lines
+  of_second : (lines : List Line) → IsSoundSetting a → IsSoundSetting (second a nac keys secret) → Unlinked a (second a nac keys secret) → HidesKeys a
+      → LinesInForm a lines → NothingGuessed a (second a nac keys secret) lines
       → RunsAlike a (second a nac keys secret) lines
-  of_second lines first_sound sound2 unlinked spares form whole guess =
+  of_second lines first_sound sound2 unlinked hides form guess =
       let start : SameRun a nac keys secret (switched_on a) (switched_on b) = record {
         same = record { nodes = λ n. nodes_same 0 a.keys keys unlinked.count n n; packets = refl; deployer = refl; lines = refl; ledger = tt };
         first = starts_turning a first_sound;
@@ -125,28 +123,22 @@ module _ (a : Setting) (nac : Mac) (keys : List (List ℕ)) (secret : List ℕ) 
       } in
       let none : NoGuesses a b (script_of a lines) (switched_on a) =
       of_moments a b (script_of a lines) (switched_on a) (λ k now e none n s is here runs. guess k now e none n s is here runs) in
-      let h = lines_same a nac keys secret first_sound sound2 unlinked lines (switched_on a) (switched_on b) start spares form whole none in
+      let h = lines_same a nac keys secret first_sound sound2 unlinked hides lines (switched_on a) (switched_on b) start form none in
       let x = run a (switched_on a) lines in
       let y = run b (switched_on b) lines in
       (h.0, λ clean. world_outside x.world y.world (h.1 (none_clean x.items clean)).same)
 
 pub links_unseen : LinksUnseen
-links_unseen a lines first_sound spares form b sound2 unlinked whole guess =
+links_unseen a lines first_sound hides form b sound2 unlinked guess =
     let is = unlinked.rest in
     subst (λ (z : Setting). RunsAlike a z lines) (sym is)
-    (of_second a b.mac b.keys b.secret lines first_sound (subst IsSoundSetting is sound2) (subst (Unlinked a) is unlinked) spares form whole
+    (of_second a b.mac b.keys b.secret lines first_sound (subst IsSoundSetting is sound2) (subst (Unlinked a) is unlinked) hides form
     (subst (λ (z : Setting). NothingGuessed a z lines) is guess))
 
 -- An accepted deployment.
 
-spares_zero : (mac : Mac) (d : Deployed) (texts : List (List ℕ)) → IsSoundDeployment d → SparesZero (setting_of mac d texts)
-spares_zero mac d texts acc m site sited zero_from =
-    let r = site_at d.app.parts d.layouts d.providers texts m site sited in
-    let low = (laid_at d 0 d.app.parts d.layouts m r.part site.layout acc.laid r.found r.layout).text.low in
-    omega (arith, low, zero_from)
-
 pub accepted_unseen : AcceptedUnseen
-accepted_unseen text d read mac texts tag images lines are =
+accepted_unseen text d read mac texts tag images hides lines are =
     let acc = sound text d read in
-    links_unseen (setting_of mac d texts) lines (settled mac d texts acc images tag) (spares_zero mac d texts acc)
+    links_unseen (setting_of mac d texts) lines (settled mac d texts acc images tag) hides
     (lines_in_form mac d (sites_of d.app.parts d.layouts d.providers texts) acc lines are)

@@ -1,6 +1,6 @@
 -- How two runs are related whose settings are unlinked, and what opens in them.
 use Rattle.std.proofs.Common.{◌≡◌, ℕ, ◌+◌, ◌*◌, ◌/◌, ◌%◌, true, List, ◌∷◌, length, length-take-le, sym, subst, arith}
-use Rattle.std.specs.Prelude.{slice_get, Some}
+use Rattle.std.specs.Prelude.{slice_get, slice_index, Some}
 use Rattle.sx_mean.specs.Application.{PartTree}
 use Rattle.sx_mean.specs.Ends.{ends_of}
 use Rattle.sx_rules.specs.declared.section.Section.{Section}
@@ -15,6 +15,7 @@ use Rattle.sx_invoke.specs.Entries.{header_in}
 use Rattle.sx_image.specs.Image.{private_bytes}
 use Rattle.sx_run.specs.Setting.{Setting, Site, is_at_site}
 use Rattle.sx_wire.specs.Headers.{set_key_header}
+use Rattle.sx_tmpl.specs.Unseen.{HoldsNoKey}
 use Rattle.sx_run.specs.Deployer.{key_of, connection_key}
 use Rattle.sx_forged.specs.Tags.{SameTags, rekeyed}
 use Rattle.sx_forged.proofs.Fields.{field_key}
@@ -46,10 +47,16 @@ module _ (a : Setting) (nac : Mac) (keys : List (List ℕ)) (secret : List ℕ) 
   abbrev pub state_in : ℕ → PartTree → Section → List ℕ → ModuleState
   state_in m q x mem = state_of q.tree (ends_of a.app m) (private_bytes x.layout mem)
 
-  -- the states of a module differ in the keys of its open ends, which are so related
+  -- private sections of a module with this many ends agree where no key may be
+  abbrev pub SameShown : ℕ → List ℕ → List ℕ → Type 0
+  SameShown ends p q = (o : ℕ) → HoldsNoKey ends o 1 → slice_index q o ≡ slice_index p o
+
+  -- The private sections agree where no key may be, and the states that they represent differ in
+  -- the keys of open ends, which are so related.
   abbrev pub SameStates : (ℕ → List ℕ → List ℕ → Type 0) → ℕ → PartTree → Section → List ℕ → List ℕ → Type 0
   SameStates Related m q x mem mem2 =
       ((state_in m q x mem2).cells ≡ (state_in m q x mem).cells) × SameEnds Related (state_in m q x mem).ends (state_in m q x mem2).ends
+      × SameShown (length (ends_of a.app m)) (private_bytes x.layout mem) (private_bytes x.layout mem2)
 
   -- the n-th nodes of the two runs, where no deployed module runs
   pub record SameNode (n : ℕ) (s t : State) : Type 0 where

@@ -84,7 +84,7 @@ initial_same L [] = tt
 initial_same L (e ∷ es) = ((refl, λ o. absurd (true≢false (sym o))), initial_same L es)
 
 -- an instruction that isn't let run violates
-stopped_violates : (mac : Mac) (s : State) → is_let_run s ≡ false → (v : Violation) × (violation_of (step mac s).shown.event ≡ Some v)
+pub stopped_violates : (mac : Mac) (s : State) → is_let_run s ≡ false → (v : Violation) × (violation_of (step mac s).shown.event ≡ Some v)
 stopped_violates mac s stopped = outer (word_outside s.sections.live (pc_of s)) (device_at s.devices (pc_of s)) stopped
   where
     inner : (c : Bool) → c ≡ false → (v : Violation) × (violation_of (settled_step s (cond c (instruction mac s) (Violated bad.Order))).shown.event ≡ Some v)
@@ -101,19 +101,10 @@ module _ (a : Setting) (nac : Mac) (keys : List (List ℕ)) (secret : List ℕ) 
   abbrev b : Setting
   b = second a nac keys secret
 
-  module _ (n : ℕ) (s t : State) (h : SameNode a nac keys secret n s t) (ta : NodeTurns a n s) (tb : NodeTurns (second a nac keys secret) n t)
+  module _ (n : ℕ) (s t : State) (outside : AlikeOutside a.mac nac (sites_on a.sites n) s t) (ta : NodeTurns a n s) (tb : NodeTurns (second a nac keys secret) n t)
       (foreign : (module_of a.sites n s (own_of s) ≡ None) ⊎ (is_let_run s ≡ false))
       (guess : module_of a.sites n s (own_of s) ≡ None → GuessesNone a (second a nac keys secret) n s) where
-    abbrev kind : Kind
-    kind = sites_on a.sites n
-
-    abbrev u : State
-    u = (step a.mac s).state
-
-    abbrev v : State
-    v = (step nac t).state
-
-    no_guess : module_of a.sites n s (own_of s) ≡ None → NoGuess a.mac nac (sites_on a.sites n) s t.key
+    pub no_guess : module_of a.sites n s (own_of s) ≡ None → NoGuess a.mac nac (sites_on a.sites n) s t.key
     no_guess none =
         let g = guess none in
         let id = identity_in s.mem (wanted s) in
@@ -126,7 +117,22 @@ module _ (a : Setting) (nac : Mac) (keys : List (List ℕ)) (secret : List ℕ) 
         }
 
     pub stepped : ((step a.mac s).shown ≡ (step nac t).shown) × AlikeOutside a.mac nac (sites_on a.sites n) (step a.mac s).state (step nac t).state
-    stepped = outsiders_see a.mac nac a.sites n s t ta.node.placed ta.node.registers.words foreign no_guess h.outside
+    stepped = outsiders_see a.mac nac a.sites n s t ta.node.placed ta.node.registers.words foreign no_guess outside
+
+  module _ (n : ℕ) (s t : State) (h : SameNode a nac keys secret n s t) (ta : NodeTurns a n s) (tb : NodeTurns (second a nac keys secret) n t)
+      (foreign : (module_of a.sites n s (own_of s) ≡ None) ⊎ (is_let_run s ≡ false))
+      (guess : module_of a.sites n s (own_of s) ≡ None → GuessesNone a (second a nac keys secret) n s) where
+    abbrev kind : Kind
+    kind = sites_on a.sites n
+
+    abbrev u : State
+    u = (step a.mac s).state
+
+    abbrev v : State
+    v = (step nac t).state
+
+    seen_same : ((step a.mac s).shown ≡ (step nac t).shown) × AlikeOutside a.mac nac (sites_on a.sites n) (step a.mac s).state (step nac t).state
+    seen_same = stepped n s t h.outside ta tb foreign guess
 
     -- a section of the code that ran isn't deployed
     own_bare : (x : Section) → violation_of (step a.mac s).shown.event ≡ None → Lives u.sections.live x → own_of s ≡ x.id → is_deployed (sites_on a.sites n) u.mem x ≡ true → ⊥
@@ -162,7 +168,8 @@ module _ (a : Setting) (nac : Mac) (keys : List (List ℕ)) (secret : List ℕ) 
     states : (m : ℕ) (q : PartTree) (site : Site) (x : Section) → slice_get a.app.parts m ≡ Some q → slice_get a.sites m ≡ Some site
         → Lives u.sections.live x → is_at_site n u.mem x site ≡ true → SameStates a nac keys secret (Linked a nac keys secret) m q x u.mem v.mem
     states m q site x part sited l at =
-        by (outsiders_touch_none a.mac nac a.sites n s t ta.node.placed tb.node.placed ta.node.registers.words foreign no_guess h.outside x l (site_deployed a.sites n u.mem x m site sited at))
+        by (outsiders_touch_none a.mac nac a.sites n s t ta.node.placed tb.node.placed ta.node.registers.words foreign
+        (no_guess n s t h.outside ta tb foreign guess) h.outside x l (site_deployed a.sites n u.mem x m site sited at))
       where
         quiet : violation_of (step a.mac s).shown.event ≡ None
         quiet = none (violation_of (step a.mac s).shown.event) refl
@@ -194,10 +201,11 @@ module _ (a : Setting) (nac : Mac) (keys : List (List ℕ)) (secret : List ℕ) 
               ap (λ (z : ModuleState). z.cells) two ∙ sym (ap (λ (z : ModuleState). z.cells) one),
               subst (λ (z : ModuleState). SameEnds (Linked a nac keys secret) z.ends (state_of q.tree es (private_bytes x.layout (step nac t).state.mem)).ends) (sym one)
                   (subst (λ (z : ModuleState). SameEnds (Linked a nac keys secret) (initial_ends es) z.ends) (sym two) (initial_same (Linked a nac keys secret) es)),
+              λ o free. ap (λ (bs : List ℕ). slice_index bs o) (other ∙ sym first),
             )
 
     pub step_node : SameNode a nac keys secret n u v
-    step_node = record { outside = stepped.1; rests = rests; states = states }
+    step_node = record { outside = seen_same.1; rests = rests; states = states }
 
     abbrev shown_by : Setting → World → State → Observed → Acted
     shown_by set y z o = only (with_node y n (step set.mac z).state o.ledger (y.steps + 1)) o.items
@@ -213,21 +221,21 @@ module _ (a : Setting) (nac : Mac) (keys : List (List ℕ)) (secret : List ℕ) 
           (λ (who : Option ℕ). shown_by a w s (observed a n who u (step a.mac s).shown w.ledger)) none in
           let two : after_step b x n t ≡ shown_by b x t (observed b n None v (step a.mac s).shown x.ledger) =
           ap (λ (who : Option ℕ). shown_by b x t (observed b n who v (step nac t).shown x.ledger)) second_none
-          ∙ ap (λ (seen : Seen). shown_by b x t (observed b n None v seen x.ledger)) (sym stepped.0) in
-          let g = unowned_same a nac keys secret n u v (step a.mac s).shown w.ledger x.ledger (acted_is_node a.mac Rattle.sx_machine.specs.Acting.Step s tt ta.node).placed stepped.1 in
+          ∙ ap (λ (seen : Seen). shown_by b x t (observed b n None v seen x.ledger)) (sym seen_same.0) in
+          let g = unowned_same a nac keys secret n u v (step a.mac s).shown w.ledger x.ledger (acted_is_node a.mac Rattle.sx_machine.specs.Acting.Step s tt ta.node).placed seen_same.1 in
           subst (λ (z : Acted). SameDone a nac keys secret z (after_step b x n t)) (sym one)
           (subst (λ (z : Acted). SameDone a nac keys secret (shown_by a w s (observed a n None u (step a.mac s).shown w.ledger)) z) (sym two) (
             g.0,
             with_same a nac keys secret w x n s t u v (observed a n None u (step a.mac s).shown w.ledger).ledger (observed b n None v (step a.mac s).shown x.ledger).ledger
-                (w.steps + 1) (x.steps + 1) k here there step_node
+                (w.steps + 1) (x.steps + 1) k here there (inl step_node)
                 (subst (λ (l : List Made). SameLedger a nac keys secret l (observed b n None v (step a.mac s).shown x.ledger).ledger) (sym g.1)
                 (subst (λ (l : List Made). SameLedger a nac keys secret w.ledger l) (sym g.2) k.ledger)),
           ))
       | inr stopped ↦
           let o = stopped_violates a.mac s stopped in
-          let p : violation_of (step nac t).shown.event ≡ Some o.0 = ap (λ (seen : Seen). violation_of seen.event) (sym stepped.0) ∙ o.1 in
+          let p : violation_of (step nac t).shown.event ≡ Some o.0 = ap (λ (seen : Seen). violation_of seen.event) (sym seen_same.0) ∙ o.1 in
           subst (λ (z : Acted). SameDone a nac keys secret z (after_step b x n t)) (sym (violated_step a w n s o.0 o.1))
           (subst (λ (z : Acted). SameDone a nac keys secret (record { world = with_node w n (reset s) w.ledger (w.steps + 1); items = item.Reset n (cause_of o.0) ∷ [] }) z)
           (sym (violated_step b x n t o.0 p))
-          (refl, with_same a nac keys secret w x n s t (reset s) (reset t) w.ledger x.ledger (w.steps + 1) (x.steps + 1) k here there (reset_node a nac keys secret n s t h ta tb) k.ledger))
+          (refl, with_same a nac keys secret w x n s t (reset s) (reset t) w.ledger x.ledger (w.steps + 1) (x.steps + 1) k here there (inl (reset_node a nac keys secret n s t (inl h) ta tb)) k.ledger))
     ]

@@ -59,7 +59,7 @@ SameEnds Related [] (f ∷ fs) = ⊥
 SameEnds Related (e ∷ es) [] = ⊥
 SameEnds Related (e ∷ es) (f ∷ fs) = SameEnd Related e f × SameEnds Related es fs
 
-end_same : (Related : ℕ → List ℕ → List ℕ → Type 0) (es fs : List EndState) (k : ℕ) → SameEnds Related es fs → SameEnd Related (end_of es k) (end_of fs k)
+pub end_same : (Related : ℕ → List ℕ → List ℕ → Type 0) (es fs : List EndState) (k : ℕ) → SameEnds Related es fs → SameEnd Related (end_of es k) (end_of fs k)
 end_same Related [] [] k h = (refl, λ e. absurd (true≢false (sym e)))
 end_same Related [] (f ∷ fs) k h = absurd h
 end_same Related (e ∷ es) [] k h = absurd h

@@ -1,12 +1,10 @@
 -- The worked case meets the premises: its text and its lines are read by computing.
-use Rattle.std.proofs.Common.{◌≡◌, ℕ, ◌≤◌, Bool, true, false, List, [], ◌∷◌, ◌++◌, length, map, codes, Result, Ok, Err, refl, sym, ap, subst, arith}
-use Rattle.std.specs.List.{list_all}
-use Rattle.std.proofs.lemmas.Bool.{and_parts, true≢false}
+use Rattle.std.proofs.Common.{◌≡◌, ℕ, ◌≤◌, List, [], ◌∷◌, ◌++◌, length, map, codes, Result, Ok, Err, refl, sym, ap, subst, arith}
 use Rattle.sx_io.specs.Numbers.{number_of}
 use Rattle.sx_tag.specs.Mac.{Mac, IsTag}
 use Rattle.sx_trace.specs.Names.{NameLists}
 use Rattle.sx_asm.specs.Assembled.{assembled}
-use Rattle.sx_sched.specs.Lines.{Line, Blank, Run, Finish, Put, Set, Take, Give, Forge, Sense, Irq, Reset, Ask, Answer, Load, Call}
+use Rattle.sx_sched.specs.Lines.{Line}
 use Rattle.sx_sched.specs.Words.{words_of}
 use Rattle.sx_sched.specs.Reading.{said_line}
 use Rattle.sx_sched.proofs.Form.{said_in_form}
@@ -34,7 +32,6 @@ use Rattle.sx_run.proofs.accepted.FormedLines.{lines_in_form}
 use Rattle.sx_forged.specs.Tags.{AgreeOnTags}
 use Rattle.sx_forged.specs.Named.{named_setting}
 use Rattle.sx_forged.proofs.Naming.{names_agree}
-use Rattle.sx_links.specs.LinksUnseen.{IsWhole, TurnsWhole}
 use Rattle.sx_forged.proofs.Tabling.{tags_tabled}
 use Rattle.sx_links.specs.Worked.{lighting_lines, Meets, LightingMeets}
 
@@ -58,35 +55,6 @@ are_lines n (t ∷ ts) (x ∷ xs) e =
     let here : said_line assembled n t ≡ Ok x = cc in
     let more : map (said_line assembled n) ts ≡ map (λ (x : Line). Ok x) xs = cc in
     (said_in_form n t x here, are_lines n ts xs more)
-
--- none cuts a turn
-abbrev is_whole : Line → Bool
-is_whole (Run n k) = false
-is_whole _ = true
-
-whole_line : (x : Line) → is_whole x ≡ true → IsWhole x
-whole_line Blank e = tt
-whole_line (Run n k) e = absurd (true≢false (sym e))
-whole_line (Finish n) e = tt
-whole_line (Put n at bytes) e = tt
-whole_line (Set n r v) e = tt
-whole_line (Take n at len) e = tt
-whole_line (Give k n at) e = tt
-whole_line (Forge bytes) e = tt
-whole_line (Sense d v) e = tt
-whole_line (Irq n line) e = tt
-whole_line (Reset n) e = tt
-whole_line (Ask m) e = tt
-whole_line (Answer m boot k) e = tt
-whole_line (Load m) e = tt
-whole_line (Call m entry input output) e = tt
-
-whole_lines : (xs : List Line) → list_all is_whole xs ≡ true → TurnsWhole xs
-whole_lines [] e = tt
-whole_lines (x ∷ xs) e = let p = and_parts (is_whole x) (list_all is_whole xs) e in (whole_line x p.0, whole_lines xs p.1)
-
-whole : TurnsWhole lighting_lines
-whole = whole_lines lighting_lines refl
 
 few : length lighting_lines ≤ 65536
 few = omega arith
@@ -133,7 +101,6 @@ module _ (d : Deployed) (read : IsRead head (Ok d)) (named : d.names ≡ names) 
         sound = settled mac d images accepts are lawful;
         form = lines_in_form mac d (sites_of d.app.parts d.layouts d.providers images) accepts lighting_lines in_form;
         few = few;
-        whole = whole;
         names = (t.0, names_agree t.0 set long t.1);
       }
 

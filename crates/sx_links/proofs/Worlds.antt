@@ -1,4 +1,4 @@
--- The worlds of the two runs, where no deployed module runs.
+-- The worlds of the two runs.
 use Rattle.std.proofs.Common.{◌≡◌, ℕ, Bool, true, false, inl, inr, List, [], ◌∷◌, ◌++◌, length, Option, Some, None, refl, sym, ◌∙◌, ap, ap₂, subst}
 use Rattle.std.specs.Prelude.{slice_get, slice_set}
 use Rattle.std.specs.List.{list_any}
@@ -16,7 +16,8 @@ use Rattle.sx_run.proofs.tie.Lists.{get_other}
 use Rattle.sx_forged.proofs.Turns.{AllTurn}
 use Rattle.sx_links.specs.LinksUnseen.{upto_forged}
 use Rattle.sx_links.proofs.Upto.{Clean, clean_left, clean_right, upto_clean, upto_then, upto_over, any_upto}
-use Rattle.sx_links.proofs.Linking.{second, SameNode}
+use Rattle.sx_links.proofs.Linking.{second}
+use Rattle.sx_links.proofs.Between.{SameTurn}
 use Rattle.sx_links.proofs.Ledgers.{SameLedger}
 
 module _ (a : Setting) (nac : Mac) (keys : List (List ℕ)) (secret : List ℕ) where
@@ -27,7 +28,7 @@ module _ (a : Setting) (nac : Mac) (keys : List (List ℕ)) (secret : List ℕ) 
   SameAt n None None = Unit {0}
   SameAt n None (Some t) = ⊥
   SameAt n (Some s) None = ⊥
-  SameAt n (Some s) (Some t) = SameNode a nac keys secret n s t
+  SameAt n (Some s) (Some t) = SameTurn a nac keys secret n s t
 
   pub record SameWorld (w v : World) : Type 0 where
     pub nodes : (n : ℕ) → SameAt n (slice_get w.nodes n) (slice_get v.nodes n)
@@ -70,7 +71,7 @@ module _ (a : Setting) (nac : Mac) (keys : List (List ℕ)) (secret : List ℕ) 
 
   -- where there is such a node
   pub at_same : (w v : World) (n : ℕ) (f g : State → Acted) → SameRun w v
-      → ((s t : State) → slice_get w.nodes n ≡ Some s → slice_get v.nodes n ≡ Some t → SameNode a nac keys secret n s t → SameActed (f s) (g t))
+      → ((s t : State) → slice_get w.nodes n ≡ Some s → slice_get v.nodes n ≡ Some t → SameTurn a nac keys secret n s t → SameActed (f s) (g t))
       → SameActed (at_node w f (slice_get w.nodes n)) (at_node v g (slice_get v.nodes n))
   at_same w v n f g h next = by (slice_get w.nodes n) (slice_get v.nodes n) refl refl (h.same.nodes n)
     where
@@ -82,7 +83,7 @@ module _ (a : Setting) (nac : Mac) (keys : List (List ℕ)) (secret : List ℕ) 
 
   -- a node in another state
   pub with_same : (w v : World) (n : ℕ) (s t s2 t2 : State) (es fs : List Made) (i j : ℕ) → SameWorld w v → slice_get w.nodes n ≡ Some s → slice_get v.nodes n ≡ Some t
-      → SameNode a nac keys secret n s2 t2 → SameLedger a nac keys secret es fs → SameWorld (with_node w n s2 es i) (with_node v n t2 fs j)
+      → SameTurn a nac keys secret n s2 t2 → SameLedger a nac keys secret es fs → SameWorld (with_node w n s2 es i) (with_node v n t2 fs j)
   with_same w v n s t s2 t2 es fs i j h here there node ledger = record {
     nodes = at_each;
     packets = h.packets;

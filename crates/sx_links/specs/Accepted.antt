@@ -6,11 +6,12 @@ use Rattle.sx_deploy.specs.Deployment.{Deployed, IsRead}
 use Rattle.sx_run.specs.Accepted.{setting_of, AreImages}
 use Rattle.sx_run.specs.AcceptedLaw.{AreLines}
 use Rattle.sx_links.specs.LinksUnseen.{LinksAreUnseen}
+use Rattle.sx_links.specs.Laws.{HidesKeys}
 
--- for every text that is accepted, every lawful tag, all images that realize its modules and every
--- schedule
+-- for every text that is accepted, every lawful tag, all images that realize its modules and show
+-- no key, and every schedule
 abbrev pub AcceptedUnseen : Type 0
 AcceptedUnseen = (text : List ℕ) (d : Deployed) → IsRead text (Ok d)
     → (mac : Mac) (texts : List (List ℕ)) → IsTag mac → AreImages mac d texts
-    → (lines : List Line) → AreLines d.names lines
+    → HidesKeys (setting_of mac d texts) → (lines : List Line) → AreLines d.names lines
     → LinksAreUnseen (setting_of mac d texts) lines

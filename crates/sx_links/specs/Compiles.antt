@@ -6,7 +6,7 @@ use Rattle.sx_lower.specs.Lowering.{IsLowerable}
 use Rattle.sx_compile.specs.Compiled.{HasSections, compiled_image}
 use Rattle.sx_run.specs.Setting.{Setting, Site}
 use Rattle.sx_run.specs.Law.{image_at}
-use Rattle.sx_links.specs.Laws.{RealizesAlways}
+use Rattle.sx_links.specs.Laws.{HidesKeys, RealizesAlways}
 
 -- the image at the site is what the compiler makes of the module
 pub record IsCompiledAt (a : Setting) (m : ℕ) (q : PartTree) (site : Site) : Type 0 where
@@ -15,8 +15,8 @@ pub record IsCompiledAt (a : Setting) (m : ℕ) (q : PartTree) (site : Site) : T
   pub links : All (λ e. e.link < 256) (ends_of a.app m)
   pub sections : HasSections q.tree (ends_of a.app m) site.layout
 
--- compiled images realize their modules whatever the tag function is
+-- compiled images realize their modules, and show no key, whatever the tag function is
 abbrev pub CompiledAlways : Type 0
 CompiledAlways = (a : Setting) → ((m : ℕ) (q : PartTree) (site : Site)
     → slice_get a.app.parts m ≡ Some q → slice_get a.sites m ≡ Some site → IsCompiledAt a m q site)
-    → RealizesAlways a
+    → RealizesAlways a × HidesKeys a

@@ -2,7 +2,7 @@
 -- connections have keys of their own. Unlinks says that there are such settings, Found what a guess
 -- then is, and Choices which choices of other keys there are. Laws has the first two of every sound
 -- setting, and Accepted the first from a deployment's text on; Compiles says that a compiler's
--- images do for the second. Worked has a case that meets the premises.
+-- images do for both. Worked has a case that meets the premises.
 pub mod Unlinked
 pub mod LinksUnseen
 pub mod Unlinks

@@ -13,7 +13,7 @@ use Rattle.sx_machine.specs.Run.{may_range}
 use Rattle.sx_machine.specs.ModuleRows.{own_key}
 use Rattle.sx_machine.specs.Step.{pc_of, own_of}
 use Rattle.sx_image.specs.Image.{public_bytes}
-use Rattle.sx_sched.specs.Lines.{Line, Run}
+use Rattle.sx_sched.specs.Lines.{Line}
 use Rattle.sx_run.specs.Setting.{Setting, deployed, module_of}
 use Rattle.sx_run.specs.Deployer.{list_at}
 use Rattle.sx_run.specs.Law.{IsSoundSetting}
@@ -29,16 +29,6 @@ use Rattle.sx_links.specs.Unlinked.{Unlinked}
 abbrev pub upto_forged : List Item → List Item
 upto_forged [] = []
 upto_forged (i ∷ items) = i ∷ (if is_forged i then [] else upto_forged items)
-
--- the line cuts no module's turn
-abbrev pub IsWhole : Line → Type 0
-IsWhole (Run n k) = ⊥
-IsWhole _ = Unit {0}
-
--- no line does
-abbrev pub TurnsWhole : List Line → Type 0
-TurnsWhole [] = Unit {0}
-TurnsWhole (line ∷ lines) = IsWhole line × TurnsWhole lines
 
 -- the byte is in no private section of a deployed module of the n-th node
 abbrev pub InTheOpen : Setting → ℕ → State → ℕ → Type 0
@@ -123,7 +113,7 @@ RunsAlike a b lines =
     × (NoForged x.items → SameWorldOutside a x.world y.world)
 
 -- So the run of this schedule is like that of each sound setting whose connections have keys of
--- their own, if no line cuts a turn, and unless code of no deployed module guesses.
+-- their own, unless code of no deployed module guesses.
 abbrev pub LinksAreUnseen : Setting → List Line → Type 0
-LinksAreUnseen a lines = (b : Setting) → IsSoundSetting b → Unlinked a b → TurnsWhole lines
+LinksAreUnseen a lines = (b : Setting) → IsSoundSetting b → Unlinked a b
     → NothingGuessed a b lines → RunsAlike a b lines

@@ -11,7 +11,6 @@ use Rattle.sx_run.specs.AcceptedLaw.{AreLines}
 use Rattle.sx_run.specs.Law.{IsSoundSetting, LinesInForm}
 use Rattle.sx_forged.specs.Tags.{AgreeOnTags}
 use Rattle.sx_forged.specs.Named.{named_setting}
-use Rattle.sx_links.specs.LinksUnseen.{TurnsWhole}
 
 -- the schedule of examples/lighting.txt
 abbrev pub lighting_lines : List Line
@@ -27,13 +26,12 @@ lighting_lines =
     ∷ Give 10 0 0x300 ∷ Call 1 2 0x300 0x400 ∷ Take 0 0x400 24
     ∷ Give 11 1 0x300 ∷ Call 2 2 0x300 0x400 ∷ []
 
--- The setting is sound and the lines are in form, as few as may be, and cut no turn; and no tag
--- tells the setting and one with names apart.
+-- The setting is sound and the lines are in form, and as few as may be; and no tag tells the
+-- setting and one with names apart.
 pub record Meets (set : Setting) (lines : List Line) : Type 0 where
   pub sound : IsSoundSetting set
   pub form : LinesInForm set lines
   pub few : length lines ≤ 65536
-  pub whole : TurnsWhole lines
   pub names : (table : Mac) × AgreeOnTags set (named_setting table set)
 
 -- The text is accepted and its lines are in form; and each setting of it, with a lawful tag and

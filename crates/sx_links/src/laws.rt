@@ -7,9 +7,9 @@ ghost use Rattle.sx_links.specs.Found.{KeysFound};
 ghost use Rattle.sx_links.specs.Laws.{LinksUnseen, UnlinksAll};
 ghost use Rattle.sx_links.specs.Worked.{LightingMeets};
 
-/// The run of a schedule that cuts no turn shows the same, up to the first `forged`, as that of
-/// each setting whose connections have keys of their own, unless code of no deployed module
-/// guesses.
+/// The run of a schedule shows the same, up to the first `forged`, as that of each setting whose
+/// connections have keys of their own, if no image shows a key, and unless code of no deployed
+/// module guesses.
 pub fn links_unseen()
     ensures { LinksUnseen }
 {}
@@ -35,7 +35,7 @@ pub fn choices_move()
     ensures { ChoicesMove }
 {}
 
-/// Compiled images realize their modules whatever the tag function is.
+/// Compiled images realize their modules and show no key, whatever the tag function is.
 pub fn compiled_always()
     ensures { CompiledAlways }
 {}
