@@ -2,10 +2,8 @@
 
 ghost use Rattle.std.specs.Prelude.{◌≡◌, ℕ, ◌+◌, ◌<◌, ◌≤◌, length, slice_get, Some};
 ghost use Rattle.sx_machine.specs.State.{State};
-ghost use Rattle.sx_run.specs.Acts.{then_};
 ghost use Rattle.sx_world.specs.Held.{DoesAct};
 ghost use Rattle.sx_observe.specs.InMemory.{setting_in};
-ghost use Rattle.sx_world.specs.Loading.{AreSettable};
 ghost use Rattle.sx_run.specs.Run.{call_registers};
 ghost use Rattle.sx_run.specs.Run as run;
 ghost use Rattle.sx_run.specs.Setting.{Site as Placed};
@@ -35,28 +33,6 @@ fn call_registers(site: &Site, entry: u16, input: u16, output: u16) -> [Register
 }
 
 impl<B: Copied, T: Tag> Running<B, T> {
-    /// A module runs from its entry on, until none of its node runs or the budget is over.
-    fn enter(
-        &mut self,
-        setting: &Setting<'_>,
-        site: &Site,
-        registers: &[Register],
-        items: &mut Vec<Item>,
-    ) -> Result<(), AllocError>
-        requires node { site.now.node < length self.old.nodes }
-        requires boot { (s : State) → slice_get self.old.nodes site.now.node ≡ Some s
-            → s.boot < 4294967295 }
-        requires steps { self.old.steps + run.FINISH_STEPS ≤ 18446744073709551615 }
-        requires settable { AreSettable registers.now }
-        ensures { DoesAct (setting_in T.mac setting.now) result
-            self.old self.new items.old.items items.new.items
-            (λ w. then_ (run.set_all site.now.node registers.now w)
-            (run.finish (setting_in T.mac setting.now) site.now.node)) }
-    {
-        self.set_all(site.node, registers, items)?;
-        self.finish(setting, site.node, items)
-    }
-
     /// A module is called at an entry with two windows, unless a module of its node runs.
     pub(crate) fn call(
         &mut self,
@@ -80,11 +56,11 @@ impl<B: Copied, T: Tag> Running<B, T> {
     {
         let sites = setting.sites;
         let site = &sites[usize::from(m)];
-        if self.is_idle(site.node) {
-            let registers = call_registers(site, entry, input, output);
-            self.enter(setting, site, &registers, items)
-        } else {
-            add(items, Item::Busy { node: site.node })
+        if !self.is_idle(site.node) {
+            return add(items, Item::Busy { node: site.node });
         }
+        let registers = call_registers(site, entry, input, output);
+        self.set_all(site.node, &registers, items)?;
+        self.finish(setting, site.node, items)
     }
 }

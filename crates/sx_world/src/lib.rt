@@ -5,11 +5,11 @@
 //! the ledger, and its calls are acts: each says what it leaves and which items it adds, of every
 //! world of a run that it shows (`specs/Held.antt`).
 //!
-//! A line goes from `World::act` to `lines`, which puts the deployment and its sites together
-//! (`Setting` of `sx_observe`) and hands each kind of line to its file: `stepping` for instructions
-//! and interrupts, `nodes` for what is done from outside, `packets`, `sensors`, `loading`, `calls`
-//! and `deployer`. What a step shows is `sx_observe`. A `call` goes through `lines`, `calls`,
-//! `registers`, `stepping`, `quiet` and `sx_observe`, in this order.
+//! `World::act` puts the deployment and its sites together (`Setting` of `sx_observe`), and `lines`
+//! hands each kind of line to its file: `stepping` for instructions and interrupts, `nodes` for
+//! what is done from outside, `packets`, `sensors`, `loading`, `calls` and `deployer`. What a step
+//! shows is `sx_observe`. A `call` goes through `lines`, `calls`, `registers`, `stepping`, `quiet`
+//! and `sx_observe`, in this order.
 #![tactic(auto)]
 
 mod calls;

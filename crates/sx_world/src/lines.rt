@@ -5,23 +5,21 @@ ghost use Rattle.sx_deploy.specs.SeenDeployment.{deployed_as};
 ghost use Rattle.sx_sched.specs.InForm.{IsLine};
 ghost use Rattle.sx_sched.specs.Seen.{line_of};
 ghost use Rattle.sx_world.specs.Held.{DoesAct};
-ghost use Rattle.sx_observe.specs.InMemory.{setting_at, setting_in};
+ghost use Rattle.sx_observe.specs.InMemory.{setting_in};
 ghost use Rattle.sx_world.specs.Ready.{IsReady};
 ghost use Rattle.sx_run.specs.Run.{after_line};
 
 use crate::running::Running;
 use std::alloc::AllocError;
 use sx_bus::Copied;
-use sx_deploy::deployment::Deployment;
 use sx_observe::settings::Setting;
-use sx_observe::sites::Site;
 use sx_sched::lines::Line;
 use sx_tag::Tag;
 use sx_trace::items::Item;
 
 impl<B: Copied, T: Tag> Running<B, T> {
     /// Performs a line in a setting.
-    fn perform(
+    pub(crate) fn perform(
         &mut self,
         setting: &Setting<'_>,
         line: &Line,
@@ -63,25 +61,5 @@ impl<B: Copied, T: Tag> Running<B, T> {
                 output,
             } => self.call(setting, *module, *entry, *input, *output, items),
         }
-    }
-
-    /// Performs a line.
-    pub(crate) fn act(
-        &mut self,
-        deployment: &Deployment,
-        sites: &[Site],
-        line: &Line,
-        items: &mut Vec<Item>,
-    ) -> Result<(), AllocError>
-        requires sound { IsSoundDeployment (deployed_as deployment.now) }
-        requires ready { IsReady (deployed_as deployment.now) sites.now self.old }
-        requires form { IsLine (deployed_as deployment.now).names (line_of line.now) }
-        ensures { DoesAct (setting_at T.mac deployment.now sites.now) result self.old self.new
-            items.old.items items.new.items
-            (λ w. after_line (setting_at T.mac deployment.now sites.now) w
-            (line_of line.now)) }
-    {
-        let setting = Setting { deployment, sites };
-        self.perform(&setting, line, items)
     }
 }

@@ -42,7 +42,7 @@ fn silent() -> Seen
 /// Steps of a node, at most `count`, up to the first that shows something. The loop is code of its
 /// own, so that the processor's registers are its alone.
 #[inline(never)]
-fn quiet_stretch<B: Bus, T: Tag>(node: &mut Node<B, T>, count: u32) -> QuietSteps
+pub(crate) fn quiet_stretch<B: Bus, T: Tag>(node: &mut Node<B, T>, count: u32) -> QuietSteps
     requires { node.old.boot < 4294967295 }
     ensures quiet { AreQuiet T.mac false result.count node.old }
     ensures last { EndsWith T.mac count result.count result.last node.old }
@@ -63,7 +63,7 @@ fn quiet_stretch<B: Bus, T: Tag>(node: &mut Node<B, T>, count: u32) -> QuietStep
 /// Steps of a node, at most `count`, up to the first that shows something or leaves no module
 /// running. Its loop is code of its own, too.
 #[inline(never)]
-fn module_stretch<B: Bus, T: Tag>(node: &mut Node<B, T>, count: u32) -> QuietSteps
+pub(crate) fn module_stretch<B: Bus, T: Tag>(node: &mut Node<B, T>, count: u32) -> QuietSteps
     requires { node.old.boot < 4294967295 }
     ensures quiet { AreQuiet T.mac true result.count node.old }
     ensures last { EndsWith T.mac count result.count result.last node.old }
@@ -85,23 +85,4 @@ fn module_stretch<B: Bus, T: Tag>(node: &mut Node<B, T>, count: u32) -> QuietSte
         }
     }
     QuietSteps { count, last: None }
-}
-
-/// Steps of a node, at most `count`, up to the first that shows something or, where `idle` says so,
-/// leaves no module running. Most runs ask for no module, so their loop asks for none.
-pub(crate) fn quiet_steps<B: Bus, T: Tag>(
-    node: &mut Node<B, T>,
-    count: u32,
-    idle: bool,
-) -> QuietSteps
-    requires { node.old.boot < 4294967295 }
-    ensures quiet { AreQuiet T.mac idle result.count node.old }
-    ensures last { EndsWith T.mac count result.count result.last node.old }
-    ensures left { node.new ≡ after_steps T.mac (taken result.count result.last) node.old }
-{
-    if idle {
-        module_stretch(node, count)
-    } else {
-        quiet_stretch(node, count)
-    }
 }

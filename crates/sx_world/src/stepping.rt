@@ -11,12 +11,12 @@ ghost use Rattle.sx_observe.specs.Observing.{Observes, ObservesFront};
 ghost use Rattle.sx_observe.specs.InMemory.{setting_in};
 ghost use Rattle.sx_observe.specs.Computed.{runner_of};
 ghost use Rattle.sx_run.specs.Observation.{observed};
-ghost use Rattle.sx_world.specs.Passing.{after_steps, stepped, taken, AreQuiet, EndsWith};
+ghost use Rattle.sx_world.specs.Passing.{stepped, taken, AreQuiet, EndsWith};
 ghost use Rattle.sx_run.specs.Run as run;
 ghost use Rattle.sx_run.specs.Run.{FINISH_STEPS, is_reset, steps_of};
 
 use crate::nodes::refused_item;
-use crate::quiet::{QuietSteps, quiet_steps};
+use crate::quiet::{QuietSteps, module_stretch, quiet_stretch};
 use crate::running::Running;
 use std::alloc::AllocError;
 use sx_bus::{Bus, Copied};
@@ -39,19 +39,6 @@ fn finish_steps() -> u32
     ensures { result ≡ FINISH_STEPS }
 {
     1_000_000
-}
-
-fn pass_node<B: Bus, T: Tag>(nodes: &mut [Node<B, T>], n: u8, count: u32, idle: bool) -> QuietSteps
-    requires node { n < length nodes.old }
-    requires boot { (s : State) → slice_get nodes.old n ≡ Some s → s.boot < 4294967295 }
-    ensures quiet { (s : State) → slice_get nodes.old n ≡ Some s
-        → AreQuiet T.mac idle result.count s }
-    ensures last { (s : State) → slice_get nodes.old n ≡ Some s
-        → EndsWith T.mac count result.count result.last s }
-    ensures nodes { (s : State) → slice_get nodes.old n ≡ Some s → nodes.new
-        ≡ slice_set nodes.old n (after_steps T.mac (taken result.count result.last) s) }
-{
-    quiet_steps(&mut nodes[usize::from(n)], count, idle)
 }
 
 fn irq_node<B: Bus, T: Tag>(nodes: &mut [Node<B, T>], n: u8, line: u8) -> Result<Seen, Refused>
@@ -92,7 +79,7 @@ impl<B: Copied, T: Tag> Running<B, T> {
     }
 
     /// Steps of a node, at most `count`, up to the first that shows something or, where `idle` says
-    /// so, leaves no module running.
+    /// so, leaves no module running. Most runs ask for no module, so their loop asks for none.
     fn pass(&mut self, n: u8, count: u32, idle: bool) -> QuietSteps
         requires node { n < length self.old.nodes }
         requires boot { (s : State) → slice_get self.old.nodes n ≡ Some s → s.boot < 4294967295 }
@@ -104,7 +91,12 @@ impl<B: Copied, T: Tag> Running<B, T> {
         ensures left { (s : State) → slice_get self.old.nodes n ≡ Some s
             → self.new ≡ stepped T.mac n (taken result.count result.last) s self.old }
     {
-        let quiet = pass_node(&mut self.nodes, n, count, idle);
+        let node = &mut self.nodes[usize::from(n)];
+        let quiet = if idle {
+            module_stretch(node, count)
+        } else {
+            quiet_stretch(node, count)
+        };
         self.steps += quiet.taken();
         quiet
     }

@@ -21,6 +21,7 @@ use sx_deploy::deployment::Deployment;
 use sx_deployer::Deployer;
 use sx_image::Image;
 use sx_node::Node;
+use sx_observe::settings::Setting;
 use sx_observe::sites::{Site, sites_of};
 use sx_sched::lines::Line;
 use sx_tag::Tag;
@@ -118,7 +119,11 @@ impl<B: Copied, T: Tag> World<B, T> {
         if self.wanted {
             return Err(AllocError);
         }
-        match self.running.act(deployment, &self.sites, line, items) {
+        let setting = Setting {
+            deployment,
+            sites: &self.sites,
+        };
+        match self.running.perform(&setting, line, items) {
             Ok(()) => {
                 self.lines += 1;
                 self.made = items.len();

@@ -15,7 +15,7 @@ use Rattle.sx_machine.specs.State.{State}
 use Rattle.sx_run.specs.Setting.{Site, Setting}
 use Rattle.sx_run.specs.State.{World, Acted}
 use Rattle.sx_run.specs.Acts.{at_node, only, then_}
-use Rattle.sx_run.specs.Run.{Register, put_on, put_pieces, set_on, set_all, steps_of, unless_busy}
+use Rattle.sx_run.specs.Run.{Register, call, call_registers, finish, put_on, put_pieces, set_on, set_all, steps_of, unless_busy}
 use Rattle.sx_world.specs.Held.{Running, Shows, Did, Wanted, DoesAct, boots_of}
 use Rattle.sx_world.specs.Loading.{AreSettable, after_loading}
 use Rattle.sx_run.specs.Run.{protect_registers}
@@ -136,6 +136,19 @@ busy_does set r old before after n act idle lt says runs ok err =
     refused : {X E : Type 0} (r : Result X E) → OnOk r (after ≡ before ++ Busy n ∷ []) → OnErr r (after ≡ before) → DoesAct set r old old before after (λ w. only w (Busy n ∷ []))
     refused (Ok x) ok err = λ w h. (h, ok)
     refused (Err e) ok err = λ w h. front_same after before (Busy n ∷ []) err
+
+-- a module is called where none runs
+pub called_does : {X E : Type 0} (set : Setting) (r : Result X E) (old new : Running) (before after : List Item) (sites : List Site) (m entry input output : ℕ) (site view : Site)
+    (registers : List Register) (idle : Bool) → slice_get sites m ≡ Some site → view ≡ site → site.node < length old.nodes
+    → ((s : State) → slice_get old.nodes view.node ≡ Some s → idle ≡ (s.cur == 0)) → idle ≡ true → registers ≡ call_registers site entry input output
+    → DoesAct set r old new before after (λ w. then_ (set_all view.node registers w) (finish set view.node))
+    → DoesAct set r old new before after (λ w. call set w entry input output (slice_get sites m))
+called_does set r old new before after sites m entry input output site view registers idle found seen lt says rests given does =
+    subst (λ (o : Option Site). DoesAct set r old new before after (λ w. call set w entry input output o)) (sym found)
+    (idle_does set r old new before after site.node (λ w. then_ (set_all site.node (call_registers site entry input output) w) (finish set site.node)) idle lt
+    (λ s here. says s (subst (λ (x : Site). slice_get old.nodes x.node ≡ Some s) (sym seen) here)) rests
+    (subst (λ (rs : List Register). DoesAct set r old new before after (λ w. then_ (set_all site.node rs w) (finish set site.node))) given
+    (subst (λ (x : Site). DoesAct set r old new before after (λ w. then_ (set_all x.node registers w) (finish set x.node))) seen does)))
 
 -- the element at a place
 pub element_at : {X : Type 0} (xs : List X) (m i : ℕ) (x : X) → m < length xs → i ≡ m → x ≡ get_or xs i x → slice_get xs m ≡ Some x

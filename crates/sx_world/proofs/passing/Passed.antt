@@ -1,5 +1,5 @@
 -- Steps that show nothing, and the run step by step.
-use Rattle.std.proofs.Common.{◌≡◌, ℕ, zero, suc, ◌+◌, ◌-◌, ◌<◌, Bool, false, ◌||◌, ◌&&◌, ◌==◌, List}
+use Rattle.std.proofs.Common.{◌≡◌, ℕ, zero, suc, ◌+◌, ◌-◌, ◌<◌, Bool, false, true, ◌||◌, ◌&&◌, ◌==◌, List}
 use Rattle.std.proofs.Common.{◌++◌, Option, Some, None, Result, Ok, Err, OnOk, OnErr, get_or, ◌≤◌}
 use Rattle.std.proofs.Common.{length, refl, sym, subst, ap, ◌∙◌, arith}
 use Rattle.std.specs.Prelude.{slice_get, slice_set}
@@ -21,14 +21,14 @@ use Rattle.sx_deploy.specs.Deployment.{Deployed}
 use Rattle.sx_run.specs.Setting.{Site, Setting}
 use Rattle.sx_run.specs.Observation.{observed}
 use Rattle.sx_observe.specs.Computed.{runner_of}
-use Rattle.sx_world.specs.Held.{Running, Wanted}
+use Rattle.sx_world.specs.Held.{Running, Did, Wanted}
 use Rattle.sx_observe.specs.Observing.{Records, Observes, ObservesFront}
 use Rattle.sx_run.specs.Accepted.{setting}
-use Rattle.sx_run.specs.Run.{is_reset}
+use Rattle.sx_run.specs.Run.{is_reset, steps_of}
 use Rattle.sx_world.specs.Passing.{after_steps, AreQuiet, EndsWith, stepped, taken}
 use Rattle.sx_run.proofs.tie.Lists.{get_some, some_inj, length_set}
 use Rattle.sx_run.proofs.steps.Stretch.{set_same}
-use Rattle.sx_world.proofs.passing.Going.{Going, Steps, next, going_on, is_last}
+use Rattle.sx_world.proofs.passing.Going.{Going, Steps, next, going_on, going_over, is_last}
 use Rattle.sx_run.proofs.acts.Bounds.{no_reset}
 use Rattle.sx_world.proofs.passing.Stepped.{step_does, program_did, program_wanted, seen_behind}
 use Rattle.sx_world.proofs.doing.Doing.{with_nodes}
@@ -237,23 +237,50 @@ passed_ends mac idle n k left now mid new seen b p kept test =
     let t = after_steps mac k p.node in
     ap (λ (z : Seen). is_reset z.event || (idle && ((step mac t).state.cur == 0))) (sym p.shown) ∙ sym (test (step mac t).state (passed_there mac idle n k left now mid new seen p kept))
 
--- where it isn't, the count of resets is kept
-pub passed_small : (mac : Mac) (idle : Bool) (n k left : ℕ) (now mid new : Running) (seen : Seen) → (p : Passage mac idle n k left now mid seen) → new ≡ with_nodes mid mid.nodes new.ledger mid.steps
-    → (is_reset (step mac (after_steps mac k p.node)).shown.event || (idle && ((step mac (after_steps mac k p.node)).state.cur == 0))) ≡ false
-    → p.node.boot < 4294967295 → (t : State) → slice_get new.nodes n ≡ Some t → t.boot < 4294967295
-passed_small mac idle n k left now mid new seen p kept more small t here =
-    let m = after_steps mac k p.node in
-    let there = passed_there mac idle n k left now mid new seen p kept in
-    let same : t ≡ (step mac m).state = some_inj t (step mac m).state (sym here ∙ there) in
-    let on = (or_parts (is_reset (step mac m).shown.event) (idle && ((step mac m).state.cur == 0)) more).0 in
-    subst (λ b. b < 4294967295) (sym (ap (λ (u : State). u.boot) same ∙ step_quiet mac m (λ v e. no_reset (step mac m).shown.event v on e) ∙ quiet_boot mac idle k p.node p.quiet)) small
-
 pub passed_within : (mac : Mac) (idle : Bool) (n k left : ℕ) (now mid : Running) (seen : Seen) → Passage mac idle n k left now mid seen → n < length now.nodes → n < length mid.nodes
 passed_within mac idle n k left now mid seen p lt =
     subst (λ i. n < i) (sym (ap (λ (r : Running). length r.nodes) p.leaves ∙ length_set now.nodes n (after_steps mac (suc k) p.node))) lt
 
 pub shown_within : (n : ℕ) (mid new : Running) → new ≡ with_nodes mid mid.nodes new.ledger mid.steps → n < length mid.nodes → n < length new.nodes
 shown_within n mid new kept lt = subst (λ i. n < i) (sym (ap (λ (r : Running). length r.nodes) kept)) lt
+
+-- where it isn't, the count of resets is kept
+pub passed_small : (mac : Mac) (idle : Bool) (n k left : ℕ) (now mid new : Running) (seen : Seen) (b : Bool)
+    → (p : Passage mac idle n k left now mid seen) → new ≡ with_nodes mid mid.nodes new.ledger mid.steps
+    → ((u : State) → slice_get new.nodes n ≡ Some u → b ≡ (is_reset seen.event || (idle && (u.cur == 0)))) → b ≡ false
+    → p.node.boot < 4294967295 → (t : State) → slice_get new.nodes n ≡ Some t → t.boot < 4294967295
+passed_small mac idle n k left now mid new seen b p kept test more small t here =
+    let m = after_steps mac k p.node in
+    let there = passed_there mac idle n k left now mid new seen p kept in
+    let same : t ≡ (step mac m).state = some_inj t (step mac m).state (sym here ∙ there) in
+    let ends = passed_ends mac idle n k left now mid new seen b p kept test in
+    let on = (or_parts (is_reset (step mac m).shown.event) (idle && ((step mac m).state.cur == 0)) (ends ∙ more)).0 in
+    subst (λ b. b < 4294967295) (sym (ap (λ (u : State). u.boot) same ∙ step_quiet mac m (λ v e. no_reset (step mac m).shown.event v on e) ∙ quiet_boot mac idle k p.node p.quiet)) small
+
+-- What that step showed was said: the program goes on behind it, or it was the last one.
+module _ (mac : Mac) (d : Deployed) (sites : List Site) (idle : Bool) (ends : List Item) (n all left k : ℕ) (old now mid new : Running) (before came after : List Item) (seen : Seen) (b : Bool)
+    (p : Passage mac idle n k left now mid seen) (kept : new ≡ with_nodes mid mid.nodes new.ledger mid.steps)
+    (saw : (t : State) → slice_get mid.nodes n ≡ Some t → Observes mid.ledger new.ledger came after (observed (setting mac d sites) n (runner_of sites n t seen) t seen))
+    (test : (u : State) → slice_get new.nodes n ≡ Some u → b ≡ (is_reset seen.event || (idle && (u.cur == 0))))
+    (going : Going (setting mac d sites) (λ s. idle && (s.cur == 0)) ends n all left old now before came) where
+  ends_as : (is_reset (step mac (after_steps mac k p.node)).shown.event || (idle && ((step mac (after_steps mac k p.node)).state.cur == 0))) ≡ b
+  ends_as = passed_ends mac idle n k left now mid new seen b p kept test
+
+  so_far : Going (setting mac d sites) (λ s. idle && (s.cur == 0)) ends n all (left - k) old (stepped mac n k p.node now) before came
+  so_far = passed_going mac d sites idle ends n all left k old now mid before came seen p going
+
+  showed : Steps (setting mac d sites) n (stepped mac n k p.node now) new came after
+  showed = passed_did mac d sites now mid new came after idle n k left seen p kept saw
+
+  pub passed_over : b ≡ true → Did (setting mac d sites) old new before after (steps_of (setting mac d sites) (λ s. idle && (s.cur == 0)) ends n all)
+  passed_over last =
+      going_over (setting mac d sites) (λ s. idle && (s.cur == 0)) ends n all (left - k) (left - (k + 1)) old (stepped mac n k p.node now) new before came after (after_steps mac k p.node) so_far
+      (one_less left k p.few) (stepped_there mac n k p.node now p.here) (ends_as ∙ last) showed
+
+  pub passed_on : b ≡ false → Going (setting mac d sites) (λ s. idle && (s.cur == 0)) ends n all (left - (k + 1)) old new before after
+  passed_on more =
+      going_on (setting mac d sites) (λ s. idle && (s.cur == 0)) ends n all (left - k) (left - (k + 1)) old (stepped mac n k p.node now) new before came after (after_steps mac k p.node) so_far
+      (one_less left k p.few) (stepped_there mac n k p.node now p.here) (ends_as ∙ more) showed
 
 -- the steps that are left are fewer
 few_left : (limit now mid new left k : ℕ) → new ≡ mid → mid ≡ now + suc k → k < left → now + left ≤ limit → new + (left - (k + 1)) ≤ limit

@@ -1,4 +1,4 @@
-use Rattle.std.proofs.Common.{◌+◌, ◌-◌, ◌==◌, ◌&&◌, refl, ◌∙◌, arith}
+use Rattle.std.proofs.Common.{◌+◌, ◌-◌, ◌==◌, ◌&&◌, refl, arith}
 use Rattle.std.specs.Option.{option_to_list}
 use Rattle.sx_deploy.specs.SeenDeployment.{deployed_as}
 use Rattle.sx_observe.specs.InMemory.{setting_in}
@@ -6,8 +6,8 @@ use Rattle.sx_world.specs.Passing.{after_steps, stepped}
 use Rattle.sx_run.specs.Run.{steps_of}
 use Rattle.sx_world.proofs.doing.Composed.{does_both}
 use Rattle.sx_world.proofs.granting.Given.{does_err}
-use Rattle.sx_world.proofs.passing.Going.{going_on, going_over, going_front, going_end, going_none, going_done, went_on}
-use Rattle.sx_world.proofs.passing.Passed.{passage, passed_going, passed_did, passed_front, passed_ends, passed_small, passed_within, passed_steps, shown_within, all_passed, stepped_there, one_less}
+use Rattle.sx_world.proofs.passing.Going.{going_front, going_end, going_none, going_done, went_on}
+use Rattle.sx_world.proofs.passing.Passed.{passage, passed_going, passed_front, passed_on, passed_over, passed_small, passed_within, passed_steps, shown_within, all_passed, stepped_there, one_less}
 use Rattle.sx_world.proofs.running.Running.steps_of.Goals as goal
 
 pub show-requires : goal.show-requires
@@ -48,25 +48,11 @@ ends-requires g c =
 
 pub returns-then-ends : goal.returns-then-ends
 returns-then-ends g c =
-    let set = setting_in g.T.Tag.mac c.args.setting.now in
     let p = passage g.T.Tag.mac c.args.idle c.args.n c.pass-quiet.result.count c.stretches.left c.stretches.self c.pass-quiet.new.self c.pass-quiet.result.last c.in-Some.seen
     c.stretches.invariant.within c.pass-quiet.ensures.quiet c.pass-quiet.ensures.last c.pass-quiet.ensures.left c.in-Some.is in
-    let going = passed_going g.T.Tag.mac (deployed_as c.args.setting.now.deployment.now) c.args.setting.now.sites.now c.args.idle
-    (option_to_list c.args.end) c.args.n c.args.count c.stretches.left c.pass-quiet.result.count
-    c.args.self.now c.stretches.self c.pass-quiet.new.self
-    c.args.items.now.items c.stretches.items.items c.in-Some.seen p c.stretches.invariant.going in
-    let ended = passed_ends g.T.Tag.mac c.args.idle c.args.n c.pass-quiet.result.count c.stretches.left
-    c.stretches.self c.pass-quiet.new.self c.show.new.self c.in-Some.seen c.ends.result p c.in_ok-show.ensures.kept c.ends.ensures in
-    let steps = passed_did g.T.Tag.mac (deployed_as c.args.setting.now.deployment.now) c.args.setting.now.sites.now c.stretches.self
-    c.pass-quiet.new.self c.show.new.self c.stretches.items.items c.show.new.items.items c.args.idle
-    c.args.n c.pass-quiet.result.count c.stretches.left c.in-Some.seen p
-    c.in_ok-show.ensures.kept c.in_ok-show.ensures.done in
-    going_over set (λ s. c.args.idle && (s.cur == 0)) (option_to_list c.args.end) c.args.n c.args.count
-    (c.stretches.left - c.pass-quiet.result.count) (c.stretches.left - (c.pass-quiet.result.count + 1)) c.args.self.now
-    (stepped g.T.Tag.mac c.args.n c.pass-quiet.result.count p.node c.stretches.self) c.show.new.self
-    c.args.items.now.items c.stretches.items.items c.show.new.items.items
-    (after_steps g.T.Tag.mac c.pass-quiet.result.count p.node) going (one_less c.stretches.left c.pass-quiet.result.count p.few)
-    (stepped_there g.T.Tag.mac c.args.n c.pass-quiet.result.count p.node c.stretches.self p.here) (ended ∙ c.if-ends.true) steps
+    passed_over g.T.Tag.mac (deployed_as c.args.setting.now.deployment.now) c.args.setting.now.sites.now c.args.idle (option_to_list c.args.end) c.args.n c.args.count c.stretches.left
+    c.pass-quiet.result.count c.args.self.now c.stretches.self c.pass-quiet.new.self c.show.new.self c.args.items.now.items c.stretches.items.items c.show.new.items.items c.in-Some.seen
+    c.ends.result p c.in_ok-show.ensures.kept c.in_ok-show.ensures.done c.ends.ensures c.stretches.invariant.going c.if-ends.true
 
 pub overflow_add-left : goal.overflow_add-left
 overflow_add-left g c =
@@ -92,34 +78,17 @@ stretches-smaller g c =
 
 pub stretches-preserved : goal.stretches-preserved
 stretches-preserved g c =
-    let set = setting_in g.T.Tag.mac c.args.setting.now in
     let p = passage g.T.Tag.mac c.args.idle c.args.n c.pass-quiet.result.count c.stretches.left c.stretches.self c.pass-quiet.new.self c.pass-quiet.result.last c.in-Some.seen
     c.stretches.invariant.within c.pass-quiet.ensures.quiet c.pass-quiet.ensures.last c.pass-quiet.ensures.left c.in-Some.is in
-    let going = passed_going g.T.Tag.mac (deployed_as c.args.setting.now.deployment.now) c.args.setting.now.sites.now c.args.idle
-    (option_to_list c.args.end) c.args.n c.args.count c.stretches.left c.pass-quiet.result.count
-    c.args.self.now c.stretches.self c.pass-quiet.new.self
-    c.args.items.now.items c.stretches.items.items c.in-Some.seen p c.stretches.invariant.going in
-    let ended = passed_ends g.T.Tag.mac c.args.idle c.args.n c.pass-quiet.result.count c.stretches.left
-    c.stretches.self c.pass-quiet.new.self c.show.new.self c.in-Some.seen c.ends.result p c.in_ok-show.ensures.kept c.ends.ensures in
-    let steps = passed_did g.T.Tag.mac (deployed_as c.args.setting.now.deployment.now) c.args.setting.now.sites.now c.stretches.self
-    c.pass-quiet.new.self c.show.new.self c.stretches.items.items c.show.new.items.items c.args.idle
-    c.args.n c.pass-quiet.result.count c.stretches.left c.in-Some.seen p
-    c.in_ok-show.ensures.kept c.in_ok-show.ensures.done in
-    let within = shown_within c.args.n c.pass-quiet.new.self c.show.new.self c.in_ok-show.ensures.kept
-    (passed_within g.T.Tag.mac c.args.idle c.args.n c.pass-quiet.result.count c.stretches.left c.stretches.self c.pass-quiet.new.self c.in-Some.seen p c.stretches.invariant.within) in
     record {
-      going =
-          going_on set (λ s. c.args.idle && (s.cur == 0)) (option_to_list c.args.end) c.args.n c.args.count
-          (c.stretches.left - c.pass-quiet.result.count) (c.stretches.left - (c.pass-quiet.result.count + 1)) c.args.self.now
-          (stepped g.T.Tag.mac c.args.n c.pass-quiet.result.count p.node c.stretches.self) c.show.new.self
-          c.args.items.now.items c.stretches.items.items c.show.new.items.items
-          (after_steps g.T.Tag.mac c.pass-quiet.result.count p.node) going
-          (one_less c.stretches.left c.pass-quiet.result.count p.few)
-          (stepped_there g.T.Tag.mac c.args.n c.pass-quiet.result.count p.node c.stretches.self p.here) (ended ∙ c.if-ends.false) steps;
-      within = within;
+      going = passed_on g.T.Tag.mac (deployed_as c.args.setting.now.deployment.now) c.args.setting.now.sites.now c.args.idle (option_to_list c.args.end) c.args.n c.args.count c.stretches.left
+          c.pass-quiet.result.count c.args.self.now c.stretches.self c.pass-quiet.new.self c.show.new.self c.args.items.now.items c.stretches.items.items c.show.new.items.items c.in-Some.seen
+          c.ends.result p c.in_ok-show.ensures.kept c.in_ok-show.ensures.done c.ends.ensures c.stretches.invariant.going c.if-ends.false;
+      within = shown_within c.args.n c.pass-quiet.new.self c.show.new.self c.in_ok-show.ensures.kept
+          (passed_within g.T.Tag.mac c.args.idle c.args.n c.pass-quiet.result.count c.stretches.left c.stretches.self c.pass-quiet.new.self c.in-Some.seen p c.stretches.invariant.within);
       boot = passed_small g.T.Tag.mac c.args.idle c.args.n c.pass-quiet.result.count c.stretches.left
-          c.stretches.self c.pass-quiet.new.self c.show.new.self c.in-Some.seen p c.in_ok-show.ensures.kept
-          (ended ∙ c.if-ends.false) (c.stretches.invariant.boot p.node p.here);
+          c.stretches.self c.pass-quiet.new.self c.show.new.self c.in-Some.seen c.ends.result p c.in_ok-show.ensures.kept c.ends.ensures
+          c.if-ends.false (c.stretches.invariant.boot p.node p.here);
       steps = passed_steps 18446744073709551615 g.T.Tag.mac c.args.idle c.args.n c.pass-quiet.result.count
           c.stretches.left c.stretches.self c.pass-quiet.new.self c.show.new.self c.in-Some.seen p
           c.in_ok-show.ensures.kept c.stretches.invariant.steps;

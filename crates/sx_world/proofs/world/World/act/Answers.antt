@@ -9,8 +9,8 @@ use Rattle.sx_world.proofs.standing.Continuing.{goes_on}
 use Rattle.sx_world.proofs.standing.Readying.{stands_ready, act_did, act_wanted}
 use Rattle.sx_world.proofs.world.World.act.Goals as goal
 
-pub act-requires-clause-ready : goal.act-requires-clause-ready
-act-requires-clause-ready g c =
+pub perform-requires-clause-ready : goal.perform-requires-clause-ready
+perform-requires-clause-ready g c =
     let d = deployed_as c.args.deployment.now in
     let held = c.args.self.now in
     let view = c.self.view_is in
@@ -24,7 +24,7 @@ returns-in-Ok-clause-acted g c =
     let held = c.args.self.now in
     let view = c.self.view_is in
     act_did g.T.Tag.mac (deployed_as c.args.deployment.now) held.sites c.requires.sound c.requires.images held _ c.self.inside.running c.deref.result.now
-    c.args.items.now.items c.act.new.items.items (line_of c.args.line.now) c.requires.form (ap (λ (h : Held). h.lines + 1) view)
+    c.args.items.now.items c.perform.new.items.items (line_of c.args.line.now) c.requires.form (ap (λ (h : Held). h.lines + 1) view)
     (c.deref.ensures.value ∙ ap (λ (h : Held). h.sites) view) (ap (λ (h : Held). h.running) view) c.in-Ok.ensures
 
 pub returns-in-Err-clause-front : goal.returns-in-Err-clause-front
@@ -32,7 +32,7 @@ returns-in-Err-clause-front g c =
     let held = c.args.self.now in
     let view = c.self.view_is in
     act_wanted g.T.Tag.mac (deployed_as c.args.deployment.now) held.sites c.requires.sound c.requires.images held c.self.inside.running c.deref.result.now
-    c.args.items.now.items c.act.new.items.items (line_of c.args.line.now)
+    c.args.items.now.items c.perform.new.items.items (line_of c.args.line.now)
     (c.deref.ensures.value ∙ ap (λ (h : Held). h.sites) view) (ap (λ (h : Held). h.running) view) c.in-Err.ensures
 
 pub returns-in-Ok-clause-legal : goal.returns-in-Ok-clause-legal
@@ -40,10 +40,10 @@ returns-in-Ok-clause-legal g c =
     let held = c.args.self.now in
     let view = c.self.view_is in
     let d = deployed_as c.args.deployment.now in
-    goes_on g.T.Tag.mac d held.sites c.requires.sound c.requires.images held _ (line_of c.args.line.now) c.args.items.now.items c.act.new.items.items
+    goes_on g.T.Tag.mac d held.sites c.requires.sound c.requires.images held _ (line_of c.args.line.now) c.args.items.now.items c.perform.new.items.items
     c.requires.form c.requires.few
     (act_did g.T.Tag.mac d held.sites c.requires.sound c.requires.images held _ c.self.inside.running c.deref.result.now
-    c.args.items.now.items c.act.new.items.items (line_of c.args.line.now) c.requires.form (ap (λ (h : Held). h.lines + 1) view)
+    c.args.items.now.items c.perform.new.items.items (line_of c.args.line.now) c.requires.form (ap (λ (h : Held). h.lines + 1) view)
     (c.deref.ensures.value ∙ ap (λ (h : Held). h.sites) view) (ap (λ (h : Held). h.running) view) c.in-Ok.ensures)
 
 pub returns-then-self-clause-front : goal.returns-then-self-clause-front
