@@ -11,8 +11,7 @@ use Rattle.sx_deployer.specs.Keeping.{Known, Keeping, nobody}
 use Rattle.sx_deployer.specs.Keeping as keeping
 use Rattle.sx_run.proofs.RenewsAsTheModel.{renews_as_the_model}
 use Rattle.sx_run.specs.Setting.{Site, Setting}
-use Rattle.sx_wire.specs.Headers.{ask_packet, challenge_in}
-use Rattle.sx_wire.proofs.Numbers.{low_number}
+use Rattle.sx_wire.specs.Headers.{ask_packet}
 use Rattle.sx_deployer.specs.Granting.{DeployerState, after_ask, is_answer}
 use Rattle.sx_run.specs.Deployer.{key_of, after_acceptance, accepts}
 use Rattle.sx_world.specs.Held.{IsKept, known_as, targets_from}
@@ -74,10 +73,6 @@ got xs m t e = (Rattle.std.proofs.lemmas.Option.get_or_from_slice_get xs m t nob
 pub known_target : (set : Setting) (k : Keeping) (d : DeployerState) (m : ℕ) (site : Site) → IsKept set k d → slice_get set.sites m ≡ Some site
     → keeping.target_at k m ≡ known_as set m site
 known_target set k d m site h e = got k.targets m (known_as set m site) (known_site set k d m site h e)
-
--- an ask's challenge
-pub challenge_same : (a : ℕ) → a < 4294967295 → challenge_in (ask_packet a) ≡ a
-challenge_same a h = low_number 16 a (omega (arith, h))
 
 -- the module is asked
 pub asked_kept : (set : Setting) (k : Keeping) (d : DeployerState) (m : ℕ) → IsKept set k d → IsKept set (keeping.asked k m) (after_ask d m)

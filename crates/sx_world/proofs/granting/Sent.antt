@@ -14,7 +14,8 @@ use Rattle.sx_run.specs.State.{World}
 use Rattle.sx_run.specs.Acts.{ask, with_deployer, new_packet}
 use Rattle.sx_world.specs.Held.{Running, IsKept, Shows, DoesAct}
 use Rattle.sx_observe.specs.Observing.{Records}
-use Rattle.sx_world.proofs.granting.SameKeys.{asked_kept, challenge_same}
+use Rattle.sx_world.proofs.granting.SameKeys.{asked_kept}
+use Rattle.sx_wire.proofs.Numbers.{challenge_same}
 
 -- what is kept, with other packets, another deployer and another ledger
 abbrev pub sent : Running → List (List ℕ) → Keeping → List Entry → Running

@@ -17,7 +17,7 @@ use Rattle.sx_world.specs.Held.{Held}
 use Rattle.sx_run.specs.Accepted.{setting}
 use Rattle.sx_world.specs.Standing.{Stands}
 use Rattle.sx_world.specs.Continued.{Acts, LeadTo, StaysLegal}
-use Rattle.sx_run.proofs.acts.Counting.{counts_lines}
+use Rattle.sx_run.proofs.acts.Counting.{run_counts}
 use Rattle.sx_run.proofs.accepted.FormedLines.{in_form}
 use Rattle.sx_world.proofs.standing.Readying.{run_then, formed_then}
 use Rattle.sx_run.proofs.RunsLegal.{runs_legal}
@@ -29,15 +29,6 @@ run_items set (x ∷ lines) line w =
     let here = after_line set (line_counted w) x in
     ap (λ more. here.items ++ more) (run_items set lines line here.world)
     ∙ sym (append_assoc here.items (run set here.world lines).items (after_line set (line_counted (run set here.world lines).world) line).items)
-
--- a world counts the lines of its run
-run_counts : (set : Setting) (lines : List Line) (w : World) → (run set w lines).world.lines ≡ w.lines + length lines
-run_counts set [] w = omega arith
-run_counts set (x ∷ lines) w =
-    let next = (after_line set (line_counted w) x).world in
-    let rest : (run set next lines).world.lines ≡ next.lines + length lines = run_counts set lines next in
-    let one : next.lines ≡ w.lines + 1 = counts_lines set (line_counted w) x in
-    omega (arith, rest, one)
 
 -- so lines that lead to the same world are as many
 as_many : (set : Setting) (lines : List Line) (held : Held) → LeadTo set lines held → length lines ≡ held.lines

@@ -1,11 +1,10 @@
 -- A world whose nodes were just switched on stands at the start of a run: its sites, what the deployer knows, and what it keeps.
-use Rattle.std.proofs.Common.{◌≡◌, ℕ, zero, suc, ◌+◌, ◌-◌, ◌<◌, ◌≤◌, ◌==◌, false, if◌then◌else◌}
-use Rattle.std.proofs.Common.{List, [], ◌∷◌, length, take, map, replicate, Option, Some, None}
+use Rattle.std.proofs.Common.{◌≡◌, ℕ, ◌+◌, ◌<◌, ◌≤◌}
+use Rattle.std.proofs.Common.{List, [], length, take, map, replicate, Option, Some, None}
 use Rattle.std.proofs.Common.{refl, sym, ◌∙◌, ap, subst, arith}
 use Rattle.std.specs.Prelude.{slice_get}
 use Rattle.std.specs.List.{Contains}
 use Rattle.std.proofs.lemmas.Bool.{true≢false}
-use Rattle.std.proofs.lemmas.Bool.Decides.{nat_tests}
 use Rattle.std.proofs.lemmas.List.{take-replicate}
 use Rattle.std.proofs.lemmas.Simd.{splat_is_map}
 use Rattle.sx_rules.specs.Placed.{Placed}
@@ -22,7 +21,6 @@ use Rattle.sx_tag.specs.Mac.{Mac}
 use Rattle.sx_deployer.specs.Keeping.{Keeping, Known, first}
 use Rattle.sx_run.specs.Setting.{Site, Setting}
 use Rattle.sx_run.specs.State.{nodes_from, switched_on}
-use Rattle.sx_run.specs.Deployer.{list_at}
 use Rattle.sx_run.specs.Accepted.{sites_of}
 use Rattle.sx_world.specs.Held.{Held, Running, IsKept, ArePlaced, Shows, targets_from}
 use Rattle.sx_observe.specs.Observing.{Records}
@@ -30,15 +28,8 @@ use Rattle.sx_run.specs.Accepted.{setting}
 use Rattle.sx_world.specs.Standing.{Stands}
 use Rattle.sx_run.proofs.accepted.LaidSites.{site_at}
 use Rattle.sx_world.proofs.granting.SameKeys.{known_at}
+use Rattle.sx_run.proofs.tie.Lists.{list_at_is}
 use Rattle.sx_run.proofs.tie.Start.{get_nodes}
-
-pub list_at_is : (xs : List (List ℕ)) (i : ℕ) (x : List ℕ) → slice_get xs i ≡ Some x → list_at xs i ≡ x
-list_at_is [] i x e = absurd cc
-list_at_is (y ∷ xs) zero x e = cc
-list_at_is (y ∷ xs) (suc i) x e =
-    let later : (suc i == 0) ≡ false = grind (arith, nat_tests) in
-    let less : suc i - 1 ≡ i = omega arith in
-    ap (λ b. if b then y else list_at xs (suc i - 1)) later ∙ ap (λ (k : ℕ). list_at xs k) less ∙ list_at_is xs i x e
 
 -- each site is at a node that has a key
 pub keyed : (d : Deployed) → deployment.IsSoundDeployment d → (ts : List (List ℕ)) (m : ℕ) (site : Site) → slice_get (sites_of d.app.parts d.layouts d.providers ts) m ≡ Some site
