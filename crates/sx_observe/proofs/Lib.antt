@@ -1,4 +1,5 @@
 -- What a step shows, as the code finds it: the items that are due (Fronts), the ledger as a set of entries (Recorded), and whose code it was (Runners).
+pub mod Drivers
 pub mod Fronts
 pub mod Recorded
 pub mod HeldEnds

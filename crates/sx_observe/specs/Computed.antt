@@ -1,5 +1,5 @@
--- Forms that the code computes: whose code a step was, as the node after it tells, and whether a
--- module has an end. Nobody has to believe them: lemmas show that they say what the definitions
+-- Forms that the code computes: whose code a step was, as the node after it tells, whether it drives
+-- a device, and whether a module has an end. Nobody has to believe them: lemmas show that they say what the definitions
 -- say.
 use Rattle.std.specs.Prelude.{ℕ, ◌==◌, ◌||◌, Bool, true, false, if◌then◌else◌, List, Option, Some}
 use Rattle.std.specs.Prelude.{None}
@@ -13,6 +13,8 @@ use Rattle.sx_machine.specs.declared.kinds.Event.{Event}
 use Rattle.sx_machine.specs.declared.kinds.Event.TheVariants as event
 use Rattle.sx_machine.specs.declared.kinds.Seen.{Seen}
 use Rattle.sx_machine.specs.State.{State}
+use Rattle.sx_mean.specs.Application.{AppTree}
+use Rattle.sx_run.specs.Observation.{is_driver}
 use Rattle.sx_run.specs.Setting.{Site, module_of}
 
 -- a device shows it
@@ -58,3 +60,7 @@ at_side m To l = l.to == m
 abbrev pub is_held : ℕ → Side → Option Link → Bool
 is_held m side None = false
 is_held m side (Some l) = at_side m side l
+
+-- the deployed module whose code it was, if it drives the device
+abbrev pub driver_of : AppTree → Option ℕ → ℕ → Option ℕ
+driver_of app runner d = if is_driver app runner d then runner else None

@@ -4,8 +4,8 @@ ghost use Rattle.std.specs.Prelude.{◌≡◌, ◌≤◌, length, slice_index};
 ghost use Rattle.sx_mean.specs.View.{app_as};
 ghost use Rattle.sx_model.specs.Step.{device_of};
 ghost use Rattle.sx_model.specs.State.{contains};
+ghost use Rattle.sx_observe.specs.Computed.{driver_of};
 ghost use Rattle.sx_run.specs.Setting.{devices_at};
-ghost use Rattle.sx_run.specs.Observation.{is_driver};
 
 use sx_mean::apps::{App, AppDevice};
 
@@ -46,12 +46,12 @@ fn drives(device: Option<u8>, d: u8) -> bool
     }
 }
 
-/// Whether the module whose code ran, if a deployed one, drives the device.
-pub(crate) fn is_driver(app: &App, runner: Option<u8>, d: u8) -> bool
-    ensures { result ≡ is_driver (app_as app.now) runner d }
+/// The deployed module whose code ran, if there is one and it drives the device.
+pub(crate) fn driver_of(app: &App, runner: Option<u8>, d: u8) -> Option<u8>
+    ensures { result ≡ driver_of (app_as app.now) runner d }
 {
     match runner {
-        Some(m) => drives(device_of(app, m), d),
-        None => false,
+        Some(m) if drives(device_of(app, m), d) => Some(m),
+        _ => None,
     }
 }

@@ -11,8 +11,8 @@ ghost use Rattle.sx_run.specs.Observation.{cause_of, event_seen, observed, prote
 ghost use Rattle.sx_run.specs.Observation.{read_item, touch_items, write_item};
 ghost use Rattle.sx_observe.specs.Computed.{author, is_own, is_touch, runner_of, tells};
 
-use crate::devices::{device_number, is_driver};
-use crate::recording::{add, add_unwrapped, add_wrapped};
+use crate::devices::{device_number, driver_of};
+use crate::recording::{add_unwrapped, add_wrapped, push_item};
 use crate::settings::Setting;
 use crate::sites::{Site, module_of};
 use std::alloc::AllocError;
@@ -97,29 +97,27 @@ pub fn runner_of<B: Copied, T: Tag>(
 fn read_item(app: &App, runner: Option<u8>, d: u8, v: u16) -> Item
     ensures { result ≡ read_item (app_as app.now) runner d v }
 {
-    if is_driver(app, runner, d) {
-        Item::Read {
-            module: runner.unwrap_or(0),
+    match driver_of(app, runner, d) {
+        Some(m) => Item::Read {
+            module: m,
             value: v,
-        }
-    } else {
-        Item::Drain { device: d }
+        },
+        None => Item::Drain { device: d },
     }
 }
 
 fn write_item(app: &App, runner: Option<u8>, d: u8, v: u16) -> Item
     ensures { result ≡ write_item (app_as app.now) runner d v }
 {
-    if is_driver(app, runner, d) {
-        Item::Out {
-            module: runner.unwrap_or(0),
+    match driver_of(app, runner, d) {
+        Some(m) => Item::Out {
+            module: m,
             value: v,
-        }
-    } else {
-        Item::Raw {
+        },
+        None => Item::Raw {
             device: d,
             value: v,
-        }
+        },
     }
 }
 
@@ -140,11 +138,11 @@ fn add_touch(
         Touch::Quiet => Ok(()),
         Touch::DeviceRead { device, value } => {
             let d = device_number(&app.devices, n, device);
-            add(items, read_item(app, runner, d, value))
+            push_item(items, read_item(app, runner, d, value))
         }
         Touch::DeviceWrite { device, value } => {
             let d = device_number(&app.devices, n, device);
-            add(items, write_item(app, runner, d, value))
+            push_item(items, write_item(app, runner, d, value))
         }
     }
 }
@@ -215,7 +213,7 @@ fn add_own_event<B: Copied, T: Tag>(
             items,
             ledger,
         ),
-        Event::Left(_) => add(items, done_item(m, node)),
+        Event::Left(_) => push_item(items, done_item(m, node)),
         Event::Quiet | Event::Reset(_) | Event::Protected(_) | Event::Removed(_) => Ok(()),
     }
 }
@@ -239,14 +237,14 @@ fn add_event<B: Copied, T: Tag>(
 {
     match event {
         Event::Quiet | Event::Removed(_) => Ok(()),
-        Event::Reset(violation) => add(
+        Event::Reset(violation) => push_item(
             items,
             Item::Reset {
                 node: n,
                 cause: cause_of(violation),
             },
         ),
-        Event::Protected(id) => add(items, protect_item(setting, n, node, id)),
+        Event::Protected(id) => push_item(items, protect_item(setting, n, node, id)),
         Event::Wrapped(_) | Event::Unwrapped(_) | Event::Left(_) => match runner {
             Some(m) => add_own_event(setting, n, m, node, event, items, ledger),
             None => Ok(()),

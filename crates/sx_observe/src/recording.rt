@@ -27,7 +27,7 @@ use sx_wire::{
 pub const NO_TARGET: u8 = 255;
 
 /// Appends an item. The error says that memory ran out, and nothing was appended.
-pub fn add(items: &mut Vec<Item>, item: Item) -> Result<(), AllocError>
+pub fn push_item(items: &mut Vec<Item>, item: Item) -> Result<(), AllocError>
     ensures ok { OnOk result (items.new.items ≡ items.old.items ++ item ∷ []) }
     ensures err { OnErr result (items.new.items ≡ items.old.items) }
 {
@@ -114,7 +114,7 @@ pub(crate) fn add_wrapped(
     let body = body_of(x);
     if is_ask(header) && body.is_empty() && x.own_key {
         record(ledger, Maker::Module(m), NO_TARGET, boot, header, body)?;
-        return add(
+        return push_item(
             items,
             Item::Vouch {
                 module: m,
@@ -140,10 +140,10 @@ pub fn add_unless_made(
         (unless_made who made item)) }
 {
     if made {
-        return add(items, item);
+        return push_item(items, item);
     }
-    match add(items, Item::Forged { module: who }) {
-        Ok(()) => add(items, item),
+    match push_item(items, Item::Forged { module: who }) {
+        Ok(()) => push_item(items, item),
         Err(e) => Err(e),
     }
 }
@@ -204,17 +204,17 @@ pub(crate) fn add_unwrapped(
     let body = body_of(x);
     if is_set_key_header(header) && has_end(app, m, link_in(header), side_in(header)) {
         let made = is_made(ledger, Maker::Deployer, m, boot, header, body);
-        return add_unless_made(items, Some(m), made, opened(m, header));
+        return add_unless_made(items, Some(m), made, opened_item(m, header));
     }
     if is_event_header(header) && has_end(app, m, link_in(header), Side::To) {
         let sender = Maker::Module(sender_of(app, link_in(header)));
         let made = is_made(ledger, sender, NO_TARGET, 0, header, body);
-        return add_unless_made(items, Some(m), made, taken(m, header, body));
+        return add_unless_made(items, Some(m), made, taken_item(m, header, body));
     }
     Ok(())
 }
 
-fn opened(m: u8, header: &[u8]) -> Item
+fn opened_item(m: u8, header: &[u8]) -> Item
     requires { length header.now ≡ 6 }
     ensures { result ≡ Open m (link_in header.now) (side_in header.now) (epoch_in header.now) }
 {
@@ -226,7 +226,7 @@ fn opened(m: u8, header: &[u8]) -> Item
     }
 }
 
-fn taken(m: u8, header: &[u8], body: &[u8]) -> Item
+fn taken_item(m: u8, header: &[u8], body: &[u8]) -> Item
     requires { length header.now ≡ 6 }
     ensures { result ≡ Take m (link_in header.now)
         (65536 * epoch_in header.now + last_in header.now) (value_in body.now) }

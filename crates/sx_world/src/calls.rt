@@ -12,7 +12,7 @@ use crate::registers::Register;
 use crate::running::Running;
 use std::alloc::AllocError;
 use sx_bus::Copied;
-use sx_observe::recording::add;
+use sx_observe::recording::push_item;
 use sx_observe::settings::Setting;
 use sx_observe::sites::Site;
 use sx_tag::Tag;
@@ -57,7 +57,7 @@ impl<B: Copied, T: Tag> Running<B, T> {
         let sites = setting.sites;
         let site = &sites[usize::from(m)];
         if !self.is_idle(site.node) {
-            return add(items, Item::Busy { node: site.node });
+            return push_item(items, Item::Busy { node: site.node });
         }
         let registers = call_registers(site, entry, input, output);
         self.set_all(site.node, &registers, items)?;

@@ -15,14 +15,14 @@ use sx_bus::Copied;
 use sx_deploy::deployment::Deployment;
 use sx_deployer::{Deployer, Verdict};
 use sx_ledger::Maker;
-use sx_observe::recording::{NO_TARGET, add, add_unless_made, is_made};
+use sx_observe::recording::{NO_TARGET, add_unless_made, is_made, push_item};
 use sx_tag::Tag;
 use sx_trace::items::Item;
 use sx_wire::challenge_in;
 
 /// The open ask that a packet answers, as a module's answer at a boot of its node. Where it answers
 /// none, the deployer is as before.
-fn judge<T: Tag>(
+fn judge_answer<T: Tag>(
     tag: &T,
     deployer: &mut Deployer,
     packets: &[Vec<u8>],
@@ -57,7 +57,7 @@ impl<B: Copied, T: Tag> Running<B, T> {
         ensures count { OnOk result (length self.new.packets ≤ length self.old.packets + 1) }
     {
         let packet = self.deployer.ask(&self.tag, m);
-        add(
+        push_item(
             items,
             Item::Ask {
                 module: m,
@@ -112,9 +112,9 @@ impl<B: Copied, T: Tag> Running<B, T> {
         ensures count { OnOk result (length self.new.packets ≤ length self.old.packets + 192) }
     {
         let last = self.deployer.attested(m);
-        match judge(&self.tag, &mut self.deployer, &self.packets, m, boot, k) {
+        match judge_answer(&self.tag, &mut self.deployer, &self.packets, m, boot, k) {
             Some(ask) => self.confirm(deployment, m, boot, &ask, last, items),
-            None => add(items, Item::Denied { module: m }),
+            None => push_item(items, Item::Denied { module: m }),
         }
     }
 }

@@ -13,7 +13,7 @@ use crate::registers::Register;
 use crate::running::Running;
 use std::alloc::AllocError;
 use sx_bus::Copied;
-use sx_observe::recording::add;
+use sx_observe::recording::push_item;
 use sx_observe::settings::Setting;
 use sx_observe::sites::Site;
 use sx_tag::Tag;
@@ -114,7 +114,7 @@ impl<B: Copied, T: Tag> Running<B, T> {
         if self.is_idle(site.node) {
             self.put_and_protect(setting, site, items)
         } else {
-            add(items, Item::Busy { node: site.node })
+            push_item(items, Item::Busy { node: site.node })
         }
     }
 }

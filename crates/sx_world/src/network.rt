@@ -4,7 +4,7 @@ ghost use Rattle.std.specs.Prelude.{◌≡◌, ◌+◌, ◌<◌, ◌++◌, ◌�
 ghost use Rattle.sx_trace.specs.declared.items.Item.TheVariants.{Packet};
 
 use std::alloc::{AllocError, Global};
-use sx_observe::recording::add;
+use sx_observe::recording::push_item;
 use sx_trace::items::Item;
 
 /// A new packet, and its item.
@@ -25,7 +25,7 @@ pub(crate) fn add_packet(
     let number = packets.len() as u32;
     let packet = bytes.to_vec(alloc)?;
     packets.push(packet)?;
-    add(
+    push_item(
         items,
         Item::Packet {
             number,

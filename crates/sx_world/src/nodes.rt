@@ -18,7 +18,7 @@ use crate::running::Running;
 use std::alloc::AllocError;
 use sx_bus::{Bus, Copied};
 use sx_node::{Node, Refused};
-use sx_observe::recording::add;
+use sx_observe::recording::push_item;
 use sx_tag::Tag;
 use sx_trace::items::{Cause, Item};
 
@@ -45,10 +45,10 @@ pub(crate) fn add_answer(
 {
     match answer {
         Ok(()) => match item {
-            Some(item) => add(items, item),
+            Some(item) => push_item(items, item),
             None => Ok(()),
         },
-        Err(why) => add(items, refused_item(n, why)),
+        Err(why) => push_item(items, refused_item(n, why)),
     }
 }
 
@@ -166,7 +166,7 @@ impl<B: Copied, T: Tag> Running<B, T> {
             }) (slice_get w.nodes n)) }
     {
         reset_node(&mut self.nodes, n);
-        add(
+        push_item(
             items,
             Item::Reset {
                 node: n,

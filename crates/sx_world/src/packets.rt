@@ -14,12 +14,12 @@ use crate::running::Running;
 use std::alloc::{AllocError, Global};
 use sx_bus::{Bus, Copied};
 use sx_node::{Node, Refused};
-use sx_observe::recording::add;
+use sx_observe::recording::push_item;
 use sx_tag::Tag;
 use sx_trace::items::Item;
 
 /// This many bytes of a node's memory from an address on, or why they are not given.
-fn taken<B: Bus, T: Tag>(
+fn take_bytes<B: Bus, T: Tag>(
     alloc: Global,
     nodes: &[Node<B, T>],
     n: u8,
@@ -73,9 +73,9 @@ impl<B: Copied, T: Tag> Running<B, T> {
             (λ w. at_node w (λ s. after_take w n (acts.take s at len).shown)
             (slice_get w.nodes n)) }
     {
-        match taken(self.alloc, &self.nodes, n, at, len)? {
+        match take_bytes(self.alloc, &self.nodes, n, at, len)? {
             Ok(bytes) => self.new_packet(&bytes, items),
-            Err(why) => add(items, refused_item(n, why)),
+            Err(why) => push_item(items, refused_item(n, why)),
         }
     }
 
@@ -97,7 +97,7 @@ impl<B: Copied, T: Tag> Running<B, T> {
                 let answer = put_node(&mut self.nodes, n, at, bytes);
                 add_answer(n, None, answer, items)
             }
-            None => add(items, Item::Skip { node: n }),
+            None => push_item(items, Item::Skip { node: n }),
         }
     }
 }

@@ -22,7 +22,7 @@ use std::alloc::AllocError;
 use sx_bus::{Bus, Copied};
 use sx_node::{Event, Node, Refused, Seen};
 use sx_observe::observation::{add_seen, runner_of};
-use sx_observe::recording::add;
+use sx_observe::recording::push_item;
 use sx_observe::settings::Setting;
 use sx_tag::Tag;
 use sx_trace::items::Item;
@@ -74,7 +74,7 @@ impl<B: Copied, T: Tag> Running<B, T> {
                 let node = &self.nodes[usize::from(n)];
                 add_seen(setting, n, None, node, &seen, items, &mut self.ledger)
             }
-            Err(why) => add(items, refused_item(n, why)),
+            Err(why) => push_item(items, refused_item(n, why)),
         }
     }
 
@@ -172,7 +172,7 @@ impl<B: Copied, T: Tag> Running<B, T> {
             left -= quiet.count + 1;
         }
         match end {
-            Some(item) => add(items, item),
+            Some(item) => push_item(items, item),
             None => Ok(()),
         }
     }

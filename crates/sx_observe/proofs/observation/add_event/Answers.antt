@@ -14,11 +14,11 @@ returns-in-Some-clause-front g c =
 pub returns-in-Reset-clause-front : goal.returns-in-Reset-clause-front
 returns-in-Reset-clause-front g c =
     let set = setting_in g.T.Tag.mac c.args.setting.now in
-    due_none c.add.result c.args.ledger.now c.args.items.now.items c.add.new.items.items
-    (λ list. event_seen set c.args.n c.args.runner c.args.node.now list c.args.event) c.add.ensures.err
+    due_none c.push_item.result c.args.ledger.now c.args.items.now.items c.push_item.new.items.items
+    (λ list. event_seen set c.args.n c.args.runner c.args.node.now list c.args.event) c.push_item.ensures.err
 
 pub returns-in-Protected-clause-front : goal.returns-in-Protected-clause-front
 returns-in-Protected-clause-front g c =
     let set = setting_in g.T.Tag.mac c.args.setting.now in
-    due_none c.add-in-Protected.result c.args.ledger.now c.args.items.now.items c.add-in-Protected.new.items.items
-    (λ list. event_seen set c.args.n c.args.runner c.args.node.now list c.args.event) c.add-in-Protected.ensures.err
+    due_none c.push_item-in-Protected.result c.args.ledger.now c.args.items.now.items c.push_item-in-Protected.new.items.items
+    (λ list. event_seen set c.args.n c.args.runner c.args.node.now list c.args.event) c.push_item-in-Protected.ensures.err

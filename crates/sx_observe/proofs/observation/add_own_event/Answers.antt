@@ -29,5 +29,5 @@ returns-in-Unwrapped-clause-front g c =
 pub returns-in-Left-clause-front : goal.returns-in-Left-clause-front
 returns-in-Left-clause-front g c =
     let set = setting_in g.T.Tag.mac c.args.setting.now in
-    due_none c.add.result c.args.ledger.now c.args.items.now.items c.add.new.items.items
-    (λ list. event_seen set c.args.n (Some c.args.m) c.args.node.now list c.args.event) c.add.ensures.err
+    due_none c.push_item.result c.args.ledger.now c.args.items.now.items c.push_item.new.items.items
+    (λ list. event_seen set c.args.n (Some c.args.m) c.args.node.now list c.args.event) c.push_item.ensures.err

@@ -19,11 +19,11 @@ returns-in-Some-clause-does g c =
     let packets = ap (λ ps. map (λ p. p.items) ps) c.deref.ensures.value in
     subst (λ (o : Running). (sites : List Site) → DoesAct (setting mac (deployed_as c.args.deployment.now) sites) c.confirm.result o c.confirm.new.self c.args.items.now.items c.confirm.new.items.items
     (λ w. after_answer (setting mac (deployed_as c.args.deployment.now) sites) w c.args.m c.args.boot (slice_get sites c.args.m) (slice_get w.packets c.args.k))) c.self.view_is
-    (λ sites. answer_does (setting mac (deployed_as c.args.deployment.now) sites) c.confirm.result _ c.confirm.new.self c.judge.new.deployer c.args.items.now.items c.confirm.new.items.items
+    (λ sites. answer_does (setting mac (deployed_as c.args.deployment.now) sites) c.confirm.result _ c.confirm.new.self c.judge_answer.new.deployer c.args.items.now.items c.confirm.new.items.items
     c.args.m c.args.boot c.args.k c.in-Some.ask c.attested-last.result
     (subst (λ n. c.args.m < n) (sym (length-map parts part_as)) c.requires.known) (omega (arith, c.requires.known, targets)) c.attested-last.ensures
-    (c.judge.ensures.state ∙ ap (λ ps. judged_by mac c.self.inside.deployer c.args.m c.args.boot (slice_get ps c.args.k)) packets)
-    (sym (c.judge.ensures.ask ∙ ap (λ ps. accepted_ask mac c.self.inside.deployer c.args.m c.args.boot (slice_get ps c.args.k)) packets) ∙ c.in-Some.is)
+    (c.judge_answer.ensures.state ∙ ap (λ ps. judged_by mac c.self.inside.deployer c.args.m c.args.boot (slice_get ps c.args.k)) packets)
+    (sym (c.judge_answer.ensures.ask ∙ ap (λ ps. accepted_ask mac c.self.inside.deployer c.args.m c.args.boot (slice_get ps c.args.k)) packets) ∙ c.in-Some.is)
     (c.confirm.ensures.does sites))
 
 pub returns-in-None-clause-does : goal.returns-in-None-clause-does
@@ -35,14 +35,14 @@ returns-in-None-clause-does g c =
       nodes = c.self.inside.nodes.items;
       packets = map
           (λ p. p.items) c.self.inside.packets.items;
-      deployer = c.judge.new.deployer;
+      deployer = c.judge_answer.new.deployer;
       ledger = c.self.inside.ledger;
       steps = c.self.inside.steps;
     } in
-    subst (λ (o : Running). (sites : List Site) → DoesAct (setting mac (deployed_as c.args.deployment.now) sites) c.add.result o new c.args.items.now.items c.add.new.items.items
+    subst (λ (o : Running). (sites : List Site) → DoesAct (setting mac (deployed_as c.args.deployment.now) sites) c.push_item.result o new c.args.items.now.items c.push_item.new.items.items
     (λ w. after_answer (setting mac (deployed_as c.args.deployment.now) sites) w c.args.m c.args.boot (slice_get sites c.args.m) (slice_get w.packets c.args.k))) c.self.view_is
-    (λ sites. denied_does (setting mac (deployed_as c.args.deployment.now) sites) c.add.result _ c.judge.new.deployer c.args.items.now.items c.add.new.items.items c.args.m c.args.boot c.args.k
+    (λ sites. denied_does (setting mac (deployed_as c.args.deployment.now) sites) c.push_item.result _ c.judge_answer.new.deployer c.args.items.now.items c.push_item.new.items.items c.args.m c.args.boot c.args.k
     (subst (λ n. c.args.m < n) (sym (length-map parts part_as)) c.requires.known)
-    (c.judge.ensures.state ∙ ap (λ ps. judged_by mac c.self.inside.deployer c.args.m c.args.boot (slice_get ps c.args.k)) packets)
-    (sym (c.judge.ensures.ask ∙ ap (λ ps. accepted_ask mac c.self.inside.deployer c.args.m c.args.boot (slice_get ps c.args.k)) packets) ∙ c.in-None.is)
-    c.add.ensures.ok c.add.ensures.err)
+    (c.judge_answer.ensures.state ∙ ap (λ ps. judged_by mac c.self.inside.deployer c.args.m c.args.boot (slice_get ps c.args.k)) packets)
+    (sym (c.judge_answer.ensures.ask ∙ ap (λ ps. accepted_ask mac c.self.inside.deployer c.args.m c.args.boot (slice_get ps c.args.k)) packets) ∙ c.in-None.is)
+    c.push_item.ensures.ok c.push_item.ensures.err)

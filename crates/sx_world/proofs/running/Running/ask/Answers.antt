@@ -14,11 +14,11 @@ returns-clause-does g c =
     let new : Running = record { nodes = c.self.inside.nodes.items; packets = packets; deployer = c.ask-packet.new.self; ledger = c.self.inside.ledger; steps = c.self.inside.steps } in
     let asks = subst (λ (o : Running). o.deployer.state.asks < 4294967295) (sym c.self.view_is) c.requires.asks in
     subst (λ (o : Running). (set : Setting) → DoesAct set c.add_packet.result o new c.args.items.now.items c.add_packet.new.items.items (λ w. ask w c.args.m)) c.self.view_is
-    (λ set. ask_does set c.add_packet.result _ c.ask-packet.new.self c.args.items.now.items c.add.new.items.items c.add_packet.new.items.items c.args.m _ _ c.ask-packet.result
-    packets asks c.ask-packet.ensures.state c.ask-packet.ensures.packet c.challenge_in.ensures c.in_ok-add.ensures.ok
+    (λ set. ask_does set c.add_packet.result _ c.ask-packet.new.self c.args.items.now.items c.push_item.new.items.items c.add_packet.new.items.items c.args.m _ _ c.ask-packet.result
+    packets asks c.ask-packet.ensures.state c.ask-packet.ensures.packet c.challenge_in.ensures c.in_ok-push_item.ensures.ok
     (sym (length-map c.self.inside.packets.items (λ p. p.items))) c.add_packet.ensures.packet c.add_packet.ensures.ok c.add_packet.ensures.err)
 
-pub returns-in_err-add-clause-does : goal.returns-in_err-add-clause-does
-returns-in_err-add-clause-does g c = λ set.
-    does_err set c.from_residual.result c.args.self.now _ c.args.items.now.items c.add.new.items.items (λ w. ask w c.args.m) c.from_residual.ensures.0
-    (λ w h. front_same c.add.new.items.items c.args.items.now.items _ c.in_err-add.ensures.err)
+pub returns-in_err-push_item-clause-does : goal.returns-in_err-push_item-clause-does
+returns-in_err-push_item-clause-does g c = λ set.
+    does_err set c.from_residual.result c.args.self.now _ c.args.items.now.items c.push_item.new.items.items (λ w. ask w c.args.m) c.from_residual.ensures.0
+    (λ w h. front_same c.push_item.new.items.items c.args.items.now.items _ c.in_err-push_item.ensures.err)

@@ -17,18 +17,18 @@ returns-then-not-is_idle g c =
     let set = setting_in g.T.Tag.mac c.args.setting.now in
     let site = c.index-sites-from.result in
     let found = element_at c.args.setting.now.sites.now c.args.m c.from.result site c.requires.known c.from.ensures c.index-sites-from.is in
-    subst (λ (o : Option Site). DoesAct set c.add.result c.args.self.now c.args.self.now c.args.items.now.items c.add.new.items.items
+    subst (λ (o : Option Site). DoesAct set c.push_item.result c.args.self.now c.args.self.now c.args.items.now.items c.push_item.new.items.items
     (λ w. call set w c.args.entry c.args.input c.args.output o)) (sym found)
-    (subst (λ (x : Site). OnOk c.add.result (c.add.new.items.items ≡ c.args.items.now.items ++ Busy x.node ∷ [])
-    → DoesAct set c.add.result c.args.self.now c.args.self.now c.args.items.now.items c.add.new.items.items
+    (subst (λ (x : Site). OnOk c.push_item.result (c.push_item.new.items.items ≡ c.args.items.now.items ++ Busy x.node ∷ [])
+    → DoesAct set c.push_item.result c.args.self.now c.args.self.now c.args.items.now.items c.push_item.new.items.items
     (λ w. unless_busy site.node w (λ w. then_ (set_all site.node (call_registers site c.args.entry c.args.input c.args.output) w)
     (finish set site.node))))
     (sym c.site.view_is)
-    (λ ok. busy_does set c.add.result c.args.self.now c.args.items.now.items c.add.new.items.items site.node
+    (λ ok. busy_does set c.push_item.result c.args.self.now c.args.items.now.items c.push_item.new.items.items site.node
     (λ w. then_ (set_all site.node (call_registers site c.args.entry c.args.input c.args.output) w) (finish set site.node)) c.is_idle.result
     (c.requires.node site found) (λ s here. c.is_idle.ensures s
-    (subst (λ (x : Site). slice_get c.args.self.now.nodes x.node ≡ Some s) (sym c.site.view_is) here)) c.if-not-is_idle.true ok c.add.ensures.err)
-    c.add.ensures.ok)
+    (subst (λ (x : Site). slice_get c.args.self.now.nodes x.node ≡ Some s) (sym c.site.view_is) here)) c.if-not-is_idle.true ok c.push_item.ensures.err)
+    c.push_item.ensures.ok)
 
 pub returns-in_err-set_all : goal.returns-in_err-set_all
 returns-in_err-set_all g c =

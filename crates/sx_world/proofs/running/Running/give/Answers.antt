@@ -34,9 +34,9 @@ returns-in-Some g c =
 
 pub returns-in-None : goal.returns-in-None
 returns-in-None g c =
-    λ any. does_any any c.add.result c.args.self.now c.args.self.now c.args.items.now.items c.add.new.items.items
+    λ any. does_any any c.push_item.result c.args.self.now c.args.self.now c.args.items.now.items c.push_item.new.items.items
     (λ w. give w c.args.n c.args.at (slice_get w.packets c.args.k))
-    (give_none c.add.result c.args.self.now c.args.items.now.items c.add.new.items.items c.args.n c.args.at c.args.k
+    (give_none c.push_item.result c.args.self.now c.args.items.now.items c.push_item.new.items.items c.args.n c.args.at c.args.k
     (packet_none c.self.inside.packets.items c.deref.result.now c.args.self.now.packets c.args.k (ap (λ (k : Running). k.packets) c.self.view_is) c.deref.ensures.value c.in-None.ensures.lookup.3)
-    c.add.ensures.ok)
-    (wanted_same c.add.result c.args.self.now c.args.items.now.items c.add.new.items.items (λ w. give w c.args.n c.args.at (slice_get w.packets c.args.k)) c.add.ensures.err)
+    c.push_item.ensures.ok)
+    (wanted_same c.push_item.result c.args.self.now c.args.items.now.items c.push_item.new.items.items (λ w. give w c.args.n c.args.at (slice_get w.packets c.args.k)) c.push_item.ensures.err)

@@ -50,10 +50,10 @@ returns-in-Err g c =
     c.irq_node.new.nodes c.args.n s act same e c.irq_node.ensures.nodes ∙ c.deref_mut.ensures.len)
     ∙ lent_set c.deref_mut.result.now c.args.self.now.nodes c.irq_node.new.nodes c.args.n s act same e c.irq_node.ensures.nodes in
     let answered = c.irq_node.ensures.answer s (ap (λ ns. slice_get ns c.args.n) same ∙ e) in
-    does_both set c.add.result c.args.self.now _ c.args.items.now.items c.add.new.items.items
+    does_both set c.push_item.result c.args.self.now _ c.args.items.now.items c.push_item.new.items.items
     (next_irq set c.args.n c.args.line)
-    (irq_refused c.add.result set c.args.self.now _ c.args.items.now.items c.add.new.items.items c.args.n c.args.line s c.in-Err.why e (answered ∙ c.in-Err.is)
+    (irq_refused c.push_item.result set c.args.self.now _ c.args.items.now.items c.push_item.new.items.items c.args.n c.args.line s c.in-Err.why e (answered ∙ c.in-Err.is)
     (as_kept c.args.self.now _ _ c.args.n (act s) c.self.view_is left)
-    (refused_ok c.add.result c.args.items.now.items c.add.new.items.items c.refused_item.result
-    (refused_item c.args.n c.in-Err.why) c.refused_item.ensures c.add.ensures.ok))
-    (wanted_here c.add.result set c.args.self.now c.args.items.now.items c.add.new.items.items (next_irq set c.args.n c.args.line) c.add.ensures.err)
+    (refused_ok c.push_item.result c.args.items.now.items c.push_item.new.items.items c.refused_item.result
+    (refused_item c.args.n c.in-Err.why) c.refused_item.ensures c.push_item.ensures.ok))
+    (wanted_here c.push_item.result set c.args.self.now c.args.items.now.items c.push_item.new.items.items (next_irq set c.args.n c.args.line) c.push_item.ensures.err)

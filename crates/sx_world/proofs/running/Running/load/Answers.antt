@@ -25,11 +25,11 @@ returns-else-is_idle g c =
     let set = setting_in g.T.Tag.mac c.args.setting.now in
     let site = c.index-sites-from.result in
     let found = element_at c.args.setting.now.sites.now c.args.m c.from.result site c.requires.known c.from.ensures c.index-sites-from.is in
-    subst (λ (o : Option Site). DoesAct set c.add.result c.args.self.now c.args.self.now c.args.items.now.items c.add.new.items.items (λ w. load set w o)) (sym found)
-    (subst (λ (x : Site). OnOk c.add.result (c.add.new.items.items ≡ c.args.items.now.items ++ Busy x.node ∷ [])
-    → DoesAct set c.add.result c.args.self.now c.args.self.now c.args.items.now.items c.add.new.items.items (λ w. unless_busy site.node w (after_loading set site)))
+    subst (λ (o : Option Site). DoesAct set c.push_item.result c.args.self.now c.args.self.now c.args.items.now.items c.push_item.new.items.items (λ w. load set w o)) (sym found)
+    (subst (λ (x : Site). OnOk c.push_item.result (c.push_item.new.items.items ≡ c.args.items.now.items ++ Busy x.node ∷ [])
+    → DoesAct set c.push_item.result c.args.self.now c.args.self.now c.args.items.now.items c.push_item.new.items.items (λ w. unless_busy site.node w (after_loading set site)))
     (sym c.site.view_is)
-    (λ ok. busy_does set c.add.result c.args.self.now c.args.items.now.items c.add.new.items.items site.node (after_loading set site) c.is_idle.result
+    (λ ok. busy_does set c.push_item.result c.args.self.now c.args.items.now.items c.push_item.new.items.items site.node (after_loading set site) c.is_idle.result
     (c.requires.node site found) (λ s here. c.is_idle.ensures s
-    (subst (λ (x : Site). slice_get c.args.self.now.nodes x.node ≡ Some s) (sym c.site.view_is) here)) c.if-is_idle.false ok c.add.ensures.err)
-    c.add.ensures.ok)
+    (subst (λ (x : Site). slice_get c.args.self.now.nodes x.node ≡ Some s) (sym c.site.view_is) here)) c.if-is_idle.false ok c.push_item.ensures.err)
+    c.push_item.ensures.ok)

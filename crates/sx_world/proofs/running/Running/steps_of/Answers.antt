@@ -102,14 +102,14 @@ returns-in-Some-end g c =
     c.args.self.now c.stretches.self c.pass-quiet.new.self
     c.args.items.now.items c.stretches.items.items c.pass-quiet.result.last c.stretches.invariant.going
     c.stretches.invariant.within c.pass-quiet.ensures.quiet c.pass-quiet.ensures.last c.pass-quiet.ensures.left c.in_default.not-Some in
-    does_both set c.add.result c.args.self.now c.pass-quiet.new.self c.args.items.now.items c.add.new.items.items
+    does_both set c.push_item.result c.args.self.now c.pass-quiet.new.self c.args.items.now.items c.push_item.new.items.items
     (steps_of set (λ s. c.args.idle && (s.cur == 0)) (option_to_list c.args.end) c.args.n c.args.count)
     (going_end set (λ s. c.args.idle && (s.cur == 0)) (option_to_list c.args.end) c.args.n c.args.count 0
-    c.args.self.now c.pass-quiet.new.self c.args.items.now.items c.stretches.items.items c.add.new.items.items
-    c.add.result going refl (went_on c.add.result c.stretches.items.items c.add.new.items.items c.args.end c.in-Some-end.item c.in-Some-end.is c.add.ensures.ok))
+    c.args.self.now c.pass-quiet.new.self c.args.items.now.items c.stretches.items.items c.push_item.new.items.items
+    c.push_item.result going refl (went_on c.push_item.result c.stretches.items.items c.push_item.new.items.items c.args.end c.in-Some-end.item c.in-Some-end.is c.push_item.ensures.ok))
     (going_none set (λ s. c.args.idle && (s.cur == 0)) (option_to_list c.args.end) c.args.n c.args.count 0
-    c.args.self.now c.pass-quiet.new.self c.args.items.now.items c.stretches.items.items c.add.new.items.items
-    c.add.result going c.add.ensures.err)
+    c.args.self.now c.pass-quiet.new.self c.args.items.now.items c.stretches.items.items c.push_item.new.items.items
+    c.push_item.result going c.push_item.ensures.err)
 
 pub returns-in-None : goal.returns-in-None
 returns-in-None g c =

@@ -35,12 +35,12 @@ returns-in-Err g c =
     subst (λ (r : Result (Vec ℕ Global) Refused). IfErr r (λ why. (s : State) → slice_get c.deref.result.now c.args.n ≡ Some s
     → (take s c.args.at c.args.len).shown ≡ Err why)) c.in-Err.is c.in_ok-bytes.ensures.refused in
     let shown : (take found.0 c.args.at c.args.len).shown ≡ Err c.in-Err.why = taken found.0 (ap (λ ns. slice_get ns c.args.n) nodes ∙ found.1) in
-    λ any. does_any any c.add.result c.args.self.now c.args.self.now c.args.items.now.items c.add.new.items.items
+    λ any. does_any any c.push_item.result c.args.self.now c.args.self.now c.args.items.now.items c.push_item.new.items.items
     (λ w. at_node w (λ s. after_take w c.args.n (take s c.args.at c.args.len).shown) (slice_get w.nodes c.args.n))
-    (took_refused c.add.result c.args.self.now c.args.items.now.items c.add.new.items.items c.args.n c.args.at c.args.len c.in-Err.why found.0 found.1 shown
-    (refused_ok c.add.result c.args.items.now.items c.add.new.items.items c.refused_item.result (refused_item c.args.n c.in-Err.why) c.refused_item.ensures c.add.ensures.ok))
-    (wanted_same c.add.result c.args.self.now c.args.items.now.items c.add.new.items.items
-    (λ w. at_node w (λ s. after_take w c.args.n (take s c.args.at c.args.len).shown) (slice_get w.nodes c.args.n)) c.add.ensures.err)
+    (took_refused c.push_item.result c.args.self.now c.args.items.now.items c.push_item.new.items.items c.args.n c.args.at c.args.len c.in-Err.why found.0 found.1 shown
+    (refused_ok c.push_item.result c.args.items.now.items c.push_item.new.items.items c.refused_item.result (refused_item c.args.n c.in-Err.why) c.refused_item.ensures c.push_item.ensures.ok))
+    (wanted_same c.push_item.result c.args.self.now c.args.items.now.items c.push_item.new.items.items
+    (λ w. at_node w (λ s. after_take w c.args.n (take s c.args.at c.args.len).shown) (slice_get w.nodes c.args.n)) c.push_item.ensures.err)
 
 pub returns-in_err-bytes : goal.returns-in_err-bytes
 returns-in_err-bytes g c = λ any.

@@ -3,7 +3,7 @@ use Rattle.std.proofs.lemmas.List.{with_items_is}
 use Rattle.sx_machine.specs.State.{State}
 use Rattle.sx_machine.specs.Acts.{take}
 use Rattle.sx_world.proofs.doing.KeptPackets.{node_at}
-use Rattle.sx_world.proofs.packets.taken.Goals as goal
+use Rattle.sx_world.proofs.packets.take_bytes.Goals as goal
 
 pub returns-in-Ok-clause-bytes : goal.returns-in-Ok-clause-bytes
 returns-in-Ok-clause-bytes g c = λ s e.
