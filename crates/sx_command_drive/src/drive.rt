@@ -42,7 +42,7 @@ fn new_honest<T: Tag + Copy>(
     ensures starts { IfOk result (λ honest. Follows T.mac deployment.now honest
         (image_setting T.mac deployment.now images.now)
         (start (image_setting T.mac deployment.now images.now))) }
-    ensures memory { IfOk result (λ honest. honest.wanted ≡ false) }
+    ensures memory { IfOk result (λ honest. honest.ran_out ≡ false) }
 {
     let nodes = nodes_of(alloc, tag, deployment)?;
     Honest::new(alloc, tag, deployment, images, nodes)
@@ -61,7 +61,7 @@ fn drive_built<S: Source, K: Sink, B: Copied, T: Tag>(
     requires sound { IsSoundDeployment (deployed_as deployment.now) }
     requires names { IsTrue (are_valid (deployed_as deployment.now).names) }
     requires going { GoesOn T.mac deployment.now honest.old }
-    requires memory { honest.old.wanted ≡ false }
+    requires memory { honest.old.ran_out ≡ false }
     requires starts { Follows T.mac deployment.now honest.old
         (image_setting T.mac deployment.now images.now)
         (start (image_setting T.mac deployment.now images.now)) }

@@ -77,11 +77,11 @@ fn turn<K: Sink, B: Copied, T: Tag>(
     requires sound { IsSoundDeployment (deployed_as deployment.now) }
     requires names { IsTrue (are_valid (deployed_as deployment.now).names) }
     requires going { GoesOn T.mac deployment.now honest.old }
-    requires memory { honest.old.wanted ≡ false }
+    requires memory { honest.old.ran_out ≡ false }
     ensures turns { TurnsFrom T.mac deployment.now K.tells (K.at output.old) (K.at output.new)
         honest.old honest.new number text.now result }
     ensures goes_on { result ≡ Turned.On → GoesOn T.mac deployment.now honest.new }
-    ensures memory { result ≡ Turned.On → honest.new.wanted ≡ false }
+    ensures memory { result ≡ Turned.On → honest.new.ran_out ≡ false }
     ensures certain { result ≡ Turned.Stop out_of_memory
         → MayRunOut (judged_reading (deployed_as deployment.now) number text.now) }
     ensures made { TellsSaid K.tells (K.at output.old) (K.at output.new) deployment.now.names
@@ -112,7 +112,7 @@ fn read_lines<S: Source, K: Sink, B: Copied, T: Tag>(
     requires sound { IsSoundDeployment (deployed_as deployment.now) }
     requires names { IsTrue (are_valid (deployed_as deployment.now).names) }
     requires going { GoesOn T.mac deployment.now honest.old }
-    requires memory { honest.old.wanted ≡ false }
+    requires memory { honest.old.ran_out ≡ false }
     ensures rest { (set : Setting) (h : Driving) → Follows T.mac deployment.now honest.old set h
         → h.long ≡ false → Rest S.tells K.tells head_lines lines.old
         (command_at (S.at input.old) (K.at output.old))
@@ -151,7 +151,7 @@ pub(crate) fn drive_run<S: Source, K: Sink, B: Copied, T: Tag>(
     requires sound { IsSoundDeployment (deployed_as deployment.now) }
     requires names { IsTrue (are_valid (deployed_as deployment.now).names) }
     requires going { GoesOn T.mac deployment.now honest.old }
-    requires memory { honest.old.wanted ≡ false }
+    requires memory { honest.old.ran_out ≡ false }
     ensures rest { (set : Setting) → Follows T.mac deployment.now honest.old set (start set)
         → Rest S.tells K.tells head_lines lines.old
         (command_at (S.at input.old) (K.at output.old))

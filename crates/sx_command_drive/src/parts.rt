@@ -69,12 +69,12 @@ pub(crate) fn set_up<K: Sink, B: Copied, T: Tag>(
     requires sound { IsSoundDeployment (deployed_as deployment.now) }
     requires names { IsTrue (are_valid (deployed_as deployment.now).names) }
     requires going { GoesOn T.mac deployment.now honest.old }
-    requires memory { honest.old.wanted ≡ false }
+    requires memory { honest.old.ran_out ≡ false }
     requires none { said.old.items ≡ [] }
     ensures plays { PlaysPart T.mac deployment.now K.tells (K.at output.old) (K.at output.new)
         honest.old honest.new result setup }
     ensures goes_on { result ≡ Turned.On → GoesOn T.mac deployment.now honest.new }
-    ensures memory { result ≡ Turned.On → honest.new.wanted ≡ false }
+    ensures memory { result ≡ Turned.On → honest.new.ran_out ≡ false }
     ensures made { TellsSaid K.tells (K.at output.old) (K.at output.new) deployment.now.names
         (all_said said.new.items) result }
     ensures lossless { LosesNothing honest.old.world honest.new.world []
@@ -96,14 +96,14 @@ pub(crate) fn read<K: Sink, B: Copied, T: Tag>(
     requires sound { IsSoundDeployment (deployed_as deployment.now) }
     requires names { IsTrue (are_valid (deployed_as deployment.now).names) }
     requires going { GoesOn T.mac deployment.now honest.old }
-    requires memory { honest.old.wanted ≡ false }
+    requires memory { honest.old.ran_out ≡ false }
     requires driven { IsDrivenSensor (deployed_as deployment.now) device }
     requires value { value < 32768 }
     requires none { said.old.items ≡ [] }
     ensures plays { PlaysPart T.mac deployment.now K.tells (K.at output.old) (K.at output.new)
         honest.old honest.new result (reading device value) }
     ensures goes_on { result ≡ Turned.On → GoesOn T.mac deployment.now honest.new }
-    ensures memory { result ≡ Turned.On → honest.new.wanted ≡ false }
+    ensures memory { result ≡ Turned.On → honest.new.ran_out ≡ false }
     ensures made { TellsSaid K.tells (K.at output.old) (K.at output.new) deployment.now.names
         (all_said said.new.items) result }
     ensures lossless { LosesNothing honest.old.world honest.new.world []

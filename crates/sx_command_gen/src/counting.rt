@@ -43,12 +43,12 @@ fn act<B: Copied, T: Tag>(
     requires images { IsSoundSetting (world_setting T.mac deployment.now world.old) }
     requires going { IsGoing (world_setting T.mac deployment.now world.old) world.old }
     requires form { IsLine (deployed_as deployment.now).names (line_of line.now) }
-    requires few { world.old.lines < 65536 }
+    requires few { world.old.performed < 65536 }
     ensures acts { OnOk result (Acts (world_setting T.mac deployment.now world.old)
         (line_of line.now) world.old world.new [] items.new.items) }
     ensures stops { IfErr result (λ e. e ≡ Stopped.OutOfMemory) }
     ensures sites { world.new.sites ≡ world.old.sites }
-    ensures counts { OnOk result (world.new.lines ≡ world.old.lines + 1) }
+    ensures counts { OnOk result (world.new.performed ≡ world.old.performed + 1) }
 {
     items.clear();
     match world.act(deployment, line, items) {
@@ -70,14 +70,14 @@ fn turn<B: Copied, T: Tag>(
     requires images { IsSoundSetting (world_setting T.mac deployment.now world.old) }
     requires going { IsGoing (world_setting T.mac deployment.now world.old) world.old }
     requires names { IsTrue (are_valid (deployed_as deployment.now).names) }
-    requires counted { world.old.lines + 1 ≡ number }
+    requires counted { world.old.performed + 1 ≡ number }
     ensures acts { OnOk result (ActsFrom (deployed_as deployment.now).names
         (world_setting T.mac deployment.now world.old) world.old world.new number said.now
         items.new.items) }
     ensures stops { IfErr result (λ e.
         LineStopsAt (deployed_as deployment.now).names number said.now e) }
     ensures sites { world.new.sites ≡ world.old.sites }
-    ensures counts { OnOk result (world.new.lines ≡ number) }
+    ensures counts { OnOk result (world.new.performed ≡ number) }
 {
     match judge_line(alloc, &deployment.names, said, number) {
         Ok(line) => act(deployment, world, &line, items),
@@ -98,7 +98,7 @@ pub(crate) fn run_workload<B: Copied, T: Tag>(
     requires sound { IsSoundDeployment (deployed_as deployment.now) }
     requires images { IsSoundSetting (world_setting T.mac deployment.now world.old) }
     requires names { IsTrue (are_valid (deployed_as deployment.now).names) }
-    requires new { world.old.lines ≡ 0 }
+    requires new { world.old.performed ≡ 0 }
     requires stands { Stands (world_setting T.mac deployment.now world.old) world.old
         (switched_on (world_setting T.mac deployment.now world.old)) }
     ensures { EndsAs samples (deployed_as deployment.now).names

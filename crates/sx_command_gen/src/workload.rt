@@ -61,7 +61,7 @@ fn tell_run<K: Sink, B: Copied, T: Tag>(
     requires sound { IsSoundDeployment (deployed_as deployment.now) }
     requires images { IsSoundSetting (world_setting T.mac deployment.now world.old) }
     requires names { IsTrue (are_valid (deployed_as deployment.now).names) }
-    requires new { world.old.lines ≡ 0 }
+    requires new { world.old.performed ≡ 0 }
     requires stands { Stands (world_setting T.mac deployment.now world.old) world.old
         (switched_on (world_setting T.mac deployment.now world.old)) }
     ensures { CommandEnds K.tells (K.at output.old) (K.at output.new) result

@@ -22,7 +22,7 @@ abbrev pub TellsMade : Bool → SinkAt → SinkAt → NameLists → Held → Hel
     → Type 0
 TellsMade to_tell k0 k1 names held left made turned =
     turned ≡ Stop out_of_memory
-    → (held.wanted ≡ false → left ≢ held → length made ≡ left.made)
+    → (held.ran_out ≡ false → left ≢ held → length made ≡ left.made)
     × (IsTrue to_tell → k1.written ≡ k0.written ++ items_text names made)
 
 -- The line with this number was performed in the world w and its items were written, or the command

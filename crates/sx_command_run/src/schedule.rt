@@ -47,7 +47,7 @@ fn turn<K: Sink, B: Copied, T: Tag>(
     requires images { IsSoundSetting (world_setting T.mac deployment.now world.old) }
     requires going { IsGoing (world_setting T.mac deployment.now world.old) world.old }
     requires names { IsTrue (are_valid (deployed_as deployment.now).names) }
-    requires counted { world.old.lines + 1 ≡ number }
+    requires counted { world.old.performed + 1 ≡ number }
     ensures turns { TurnsFrom K.tells (K.at output.old) (K.at output.new)
         (deployed_as deployment.now).names (world_setting T.mac deployment.now world.old) world.old
         world.new number said.now result }
@@ -57,7 +57,7 @@ fn turn<K: Sink, B: Copied, T: Tag>(
         (deployed_as deployment.now).names world.old world.new items.new.items result }
     ensures few { result ≡ Turned.On → number ≤ 65536 }
     ensures sites { world.new.sites ≡ world.old.sites }
-    ensures counts { result ≡ Turned.On → world.new.lines ≡ number }
+    ensures counts { result ≡ Turned.On → world.new.performed ≡ number }
 {
     items.clear();
     match judge_line(alloc, &deployment.names, said, number) {
@@ -85,7 +85,7 @@ pub(crate) fn run_lines<S: Source, K: Sink, B: Copied, T: Tag>(
     requires sound { IsSoundDeployment (deployed_as deployment.now) }
     requires images { IsSoundSetting (world_setting T.mac deployment.now world.old) }
     requires names { IsTrue (are_valid (deployed_as deployment.now).names) }
-    requires new { world.old.lines ≡ 0 }
+    requires new { world.old.performed ≡ 0 }
     requires stands { Stands (world_setting T.mac deployment.now world.old) world.old
         (switched_on (world_setting T.mac deployment.now world.old)) }
     ensures rest { Rest S.tells K.tells head_lines lines.old

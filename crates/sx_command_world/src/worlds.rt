@@ -30,7 +30,7 @@ pub fn new_world<T: Tag + Copy>(
     ensures stands { IfOk result (λ world.
         Stands (image_setting T.mac deployment.now images.now) world
         (switched_on (image_setting T.mac deployment.now images.now))) }
-    ensures lines { IfOk result (λ world. world.lines ≡ 0) }
+    ensures performed { IfOk result (λ world. world.performed ≡ 0) }
 {
     let nodes = nodes_of(alloc, tag, deployment)?;
     World::new(alloc, tag, deployment, images, nodes)

@@ -41,11 +41,11 @@ run_counts set (x ∷ lines) w =
     omega (arith, rest, one)
 
 -- so do the program's world and the world that it stands at
-pub stands_lines : (set : Setting) (held : Held) (w : World) → Stands set held w → w.lines ≡ held.lines
+pub stands_lines : (set : Setting) (held : Held) (w : World) → Stands set held w → w.lines ≡ held.performed
 stands_lines set held w s =
     let counted : (run set (switched_on set) s.lines).world.lines ≡ 0 + length s.lines = run_counts set s.lines (switched_on set) in
     let same : w.lines ≡ (run set (switched_on set) s.lines).world.lines = ap (λ (v : World). v.lines) s.is in
-    let many : length s.lines ≡ held.lines = s.count in
+    let many : length s.lines ≡ held.performed = s.count in
     omega (arith, counted, same, many)
 
 -- the line as a part
@@ -102,7 +102,7 @@ line_wanted mac d line old before after same = λ set h f. (
 -- memory ran out when all that it gave was said
 pub copy_wanted : {X E : Type 0} (mac : Mac) (d : Deployment) (r : Result X E) (line : Line) (old mid new : Kept) (before after : List Told)
     → OnOk r (Acts (world_setting mac d old.world) line old.world mid.world [] mid.shown) → OnErr r (ActsInPart (world_setting mac d old.world) line old.world [] mid.shown)
-    → (old.world.wanted ≡ false → mid.world.made ≡ length mid.shown) → new.world ≡ mid.world
+    → (old.world.ran_out ≡ false → mid.world.made ≡ length mid.shown) → new.world ≡ mid.world
     → all_said after ≡ all_said before ++ SaidLine line ∷ map SaidItem mid.shown → Wanted mac d old new before after (line_part line)
 copy_wanted mac d r line old mid new before after acted front made same told = λ set h f.
     let shown = mid.shown in
@@ -120,9 +120,9 @@ copy_wanted mac d r line old mid new before after acted front made same told = �
 pub line_does : {X E : Type 0} (mac : Mac) (d : Deployment) (r : Result X E) (line : Line) (old new : Kept) (before after : List Told)
     → OnOk r (Acts (world_setting mac d old.world) line old.world new.world [] new.shown)
     → OnErr r (ActsInPart (world_setting mac d old.world) line old.world [] new.shown)
-    → OnOk r (new.world.lines ≡ old.world.lines + 1) → old.world.lines < 65536
+    → OnOk r (new.world.performed ≡ old.world.performed + 1) → old.world.performed < 65536
     → new.world.sites ≡ old.world.sites → new.waiting ≡ old.waiting → new.long ≡ false
-    → OnOk r (new.world.wanted ≡ false) → (old.world.wanted ≡ false → new.world.made ≡ length new.shown)
+    → OnOk r (new.world.ran_out ≡ false) → (old.world.ran_out ≡ false → new.world.made ≡ length new.shown)
     → all_said after ≡ all_said before ++ SaidLine line ∷ map SaidItem new.shown
     → Does mac d r old new before after (line_part line)
 line_does mac d (Ok x) line old new before after acted front counts few sites waiting long memory made told = λ set h f.
@@ -130,7 +130,7 @@ line_does mac d (Ok x) line old new before after acted front counts few sites wa
     let a : Stands set new.world due.world × (new.shown ≡ due.items) =
     subst (λ (s : Setting). Stands s new.world (next s h.world line).world × (new.shown ≡ (next s h.world line).items)) (sym f.setting)
     (acted h.world (subst (λ (s : Setting). Stands s old.world h.world) f.setting f.world)) in
-    let count : due.world.lines ≡ new.world.lines = stands_lines set new.world due.world a.0 in
+    let count : due.world.lines ≡ new.world.performed = stands_lines set new.world due.world a.0 in
     let room : due.world.lines ≤ MOST_LINES = omega (arith, count, counts, few, most) in (
       record {
         setting = f.setting ∙ ap (λ (s : List Site). setting_at mac d s) (sym sites);
@@ -183,20 +183,20 @@ other_lines : (n : ℕ) → (n == 65536) ≡ false → n ≢ 65536
 other_lines n e = λ same. absurd (let t : (n == 65536) ≡ true = same_number n 65536 same in let f : true ≡ false = sym t ∙ e in cc)
 
 pub is_short : (k : Kept) → is_full k ≡ false → k.long ≡ false
-is_short k e = (no_or k.long (k.world.lines == 65536) e).0
+is_short k e = (no_or k.long (k.world.performed == 65536) e).0
 
-pub has_room : (mac : Mac) (d : Deployment) (k : Kept) → GoesOn mac d k → is_full k ≡ false → k.world.lines < 65536
+pub has_room : (mac : Mac) (d : Deployment) (k : Kept) → GoesOn mac d k → is_full k ≡ false → k.world.performed < 65536
 has_room mac d k goes e =
     let f = goes.follows in
-    let other = other_lines k.world.lines (no_or k.long (k.world.lines == 65536) e).1 in
-    let count : goes.honest.world.lines ≡ k.world.lines = stands_lines goes.set k.world goes.honest.world f.world in
+    let other = other_lines k.world.performed (no_or k.long (k.world.performed == 65536) e).1 in
+    let count : goes.honest.world.lines ≡ k.world.performed = stands_lines goes.set k.world goes.honest.world f.world in
     let room : goes.honest.world.lines ≤ MOST_LINES = f.room in
     omega (arith, count, room, other, most)
 
 -- the run itself says the same
 full_there : (mac : Mac) (d : Deployment) (k : Kept) (set : Setting) (h : Honest) → Follows mac d k set h → is_full k ≡ (h.long || (h.world.lines == MOST_LINES))
 full_there mac d k set h f =
-    ap (λ (b : Bool). b || (k.world.lines == 65536)) f.long
+    ap (λ (b : Bool). b || (k.world.performed == 65536)) f.long
     ∙ ap (λ (n : ℕ). h.long || (n == 65536)) (sym (stands_lines set k.world h.world f.world))
     ∙ ap (λ (n : ℕ). h.long || (h.world.lines == n)) (sym most)
 

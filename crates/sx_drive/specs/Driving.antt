@@ -39,7 +39,7 @@ pub record Kept : Type 0 where
   pub waiting : List ℕ
   pub shown : List Item
   pub long : Bool
-  pub wanted : Bool
+  pub ran_out : Bool
 
 -- the packets that the last line showed wait behind the others
 abbrev pub queued : Kept → Kept
@@ -48,7 +48,7 @@ queued k = record {
   waiting = k.waiting ++ packets_of k.shown;
   shown = k.shown;
   long = k.long;
-  wanted = k.wanted;
+  ran_out = k.ran_out;
 }
 
 -- with these packets waiting
@@ -58,12 +58,12 @@ waits k ks = record {
   waiting = ks;
   shown = k.shown;
   long = k.long;
-  wanted = k.wanted;
+  ran_out = k.ran_out;
 }
 
 -- a line was left out, or a schedule has no room for one more
 abbrev pub is_full : Kept → Bool
-is_full k = k.long || (k.world.lines == 65536)
+is_full k = k.long || (k.world.performed == 65536)
 
 -- a line is left out
 abbrev pub left : Kept → Kept
@@ -72,7 +72,7 @@ left k = record {
   waiting = k.waiting;
   shown = [];
   long = true;
-  wanted = k.wanted;
+  ran_out = k.ran_out;
 }
 
 -- With the images of this setting it stands where an honest run does, and its world hasn't run out
@@ -85,7 +85,7 @@ pub record Follows (mac : Mac) (deployment : Deployment) (kept : Kept) (set : Se
   pub shown : kept.shown ≡ h.shown
   pub long : kept.long ≡ h.long
   pub room : h.world.lines ≤ MOST_LINES
-  pub memory : kept.world.wanted ≡ false
+  pub memory : kept.world.ran_out ≡ false
 
 -- It stands where some honest run does, with images that realize their modules.
 pub record GoesOn (mac : Mac) (deployment : Deployment) (kept : Kept) : Type 0 where

@@ -113,7 +113,7 @@ impl<B: Copied, T: Tag> Honest<B, T> {
         ensures does { Does T.mac deployment.now result self.old self.new said.old.items
             said.new.items (λ set. honest.calls set entry (callee_of callee)) }
         ensures goes_on { OnOk result (GoesOn T.mac deployment.now self.new) }
-        ensures wanted { self.new.wanted ≡ self.old.wanted }
+        ensures ran_out { self.new.ran_out ≡ self.old.ran_out }
     {
         let call = Line::Call {
             module: callee.part,
@@ -139,7 +139,7 @@ impl<B: Copied, T: Tag> Honest<B, T> {
         ensures does { Does T.mac deployment.now result self.old self.new said.old.items
             said.new.items (λ set. honest.hands set entry (callee_of callee) packet) }
         ensures goes_on { OnOk result (GoesOn T.mac deployment.now self.new) }
-        ensures wanted { self.new.wanted ≡ self.old.wanted }
+        ensures ran_out { self.new.ran_out ≡ self.old.ran_out }
     {
         let give = Line::Give {
             packet,
@@ -165,7 +165,7 @@ impl<B: Copied, T: Tag> Honest<B, T> {
         ensures does { Does T.mac deployment.now result self.old self.new said.old.items
             said.new.items (λ set. each (honest.hands set entry (callee_of callee)) packets.now) }
         ensures goes_on { OnOk result (GoesOn T.mac deployment.now self.new) }
-        ensures wanted { self.new.wanted ≡ self.old.wanted }
+        ensures ran_out { self.new.ran_out ≡ self.old.ran_out }
     {
         for packet in packets {
             self.hand(deployment, entry, callee, *packet, said)?;
@@ -177,7 +177,7 @@ impl<B: Copied, T: Tag> Honest<B, T> {
     fn queue(&mut self) -> Result<(), AllocError>
         ensures ok { OnOk result (self.new ≡ queued self.old) }
         ensures world { self.new.world ≡ self.old.world }
-        ensures wanted { self.new.wanted ≡ self.old.wanted }
+        ensures ran_out { self.new.ran_out ≡ self.old.ran_out }
     {
         add_waiting(&self.shown, &mut self.waiting)
     }
@@ -197,7 +197,7 @@ impl<B: Copied, T: Tag> Honest<B, T> {
         ensures does { Does T.mac deployment.now result self.old self.new said.old.items
             said.new.items (λ set. honest.takes_one set node place) }
         ensures goes_on { OnOk result (GoesOn T.mac deployment.now self.new) }
-        ensures wanted { self.new.wanted ≡ self.old.wanted }
+        ensures ran_out { self.new.ran_out ≡ self.old.ran_out }
     {
         let take = Line::Take {
             node,
@@ -229,7 +229,7 @@ impl<B: Copied, T: Tag> Honest<B, T> {
         ensures does { Does T.mac deployment.now result self.old self.new said.old.items
             said.new.items (λ set. honest.collects set node) }
         ensures goes_on { OnOk result (GoesOn T.mac deployment.now self.new) }
-        ensures wanted { self.new.wanted ≡ self.old.wanted }
+        ensures ran_out { self.new.ran_out ≡ self.old.ran_out }
     {
         for place in 0..self.made() {
             self.take_one(deployment, node, place, said)?;
@@ -263,7 +263,7 @@ impl<B: Copied, T: Tag> Honest<B, T> {
         ensures does { Does T.mac deployment.now result self.old self.new said.old.items
             said.new.items (λ set. honest.delivers set packet) }
         ensures goes_on { OnOk result (GoesOn T.mac deployment.now self.new) }
-        ensures wanted { self.new.wanted ≡ self.old.wanted }
+        ensures ran_out { self.new.ran_out ≡ self.old.ran_out }
     {
         match self.receiver(deployment, packet) {
             Some(callee) => {
@@ -293,7 +293,7 @@ impl<B: Copied, T: Tag> Honest<B, T> {
         ensures does { Does T.mac deployment.now result self.old self.new said.old.items
             said.new.items (λ set. honest.settles set honest.MOST_LINES) }
         ensures goes_on { OnOk result (GoesOn T.mac deployment.now self.new) }
-        ensures wanted { self.new.wanted ≡ self.old.wanted }
+        ensures ran_out { self.new.ran_out ≡ self.old.ran_out }
     {
         for _turn in 0..MOST_LINES {
             match self.next_waiting() {

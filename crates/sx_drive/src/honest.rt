@@ -34,7 +34,7 @@ pub struct Honest<B: Bus, T: Tag> {
     /// Whether a line was left out, since a schedule has no room for it.
     pub(crate) long: bool,
     /// Whether memory ran out: nothing more is said then.
-    wanted: bool,
+    ran_out: bool,
 }
 
 impl<B: Bus, T: Tag> Model for Honest<B, T> {
@@ -47,7 +47,7 @@ impl<B: Bus, T: Tag> Model for Honest<B, T> {
       waiting = h.waiting.items;
       shown = h.shown.items;
       long = h.long;
-      wanted = h.wanted;
+      ran_out = h.ran_out;
     } };
 }
 
@@ -69,7 +69,7 @@ impl<B: Copied, T: Tag> Honest<B, T> {
         ensures starts { IfOk result (λ honest. Follows T.mac deployment.now honest
             (image_setting T.mac deployment.now images.now)
             (start (image_setting T.mac deployment.now images.now))) }
-        ensures memory { IfOk result (λ honest. honest.wanted ≡ false) }
+        ensures memory { IfOk result (λ honest. honest.ran_out ≡ false) }
     {
         Ok(Honest {
             alloc,
@@ -77,7 +77,7 @@ impl<B: Copied, T: Tag> Honest<B, T> {
             waiting: VecDeque::new(alloc),
             shown: Vec::new(alloc),
             long: false,
-            wanted: false,
+            ran_out: false,
         })
     }
 
@@ -97,23 +97,23 @@ impl<B: Copied, T: Tag> Honest<B, T> {
         said: &mut Vec<Said>,
     ) -> Result<Drove, AllocError>
         requires sound { IsSoundDeployment (deployed_as deployment.now) }
-        requires going { self.old.wanted ≡ false → GoesOn T.mac deployment.now self.old }
+        requires going { self.old.ran_out ≡ false → GoesOn T.mac deployment.now self.old }
         ensures does { Does T.mac deployment.now result self.old self.new said.old.items
             said.new.items setup }
         ensures drove { IfOk result (λ drove. drove ≡ drove_of self.new.long) }
         ensures goes_on { OnOk result (GoesOn T.mac deployment.now self.new) }
-        ensures wanted { OnErr result (self.new.wanted ≡ true) }
-        ensures memory { OnOk result (self.new.wanted ≡ false) }
-        ensures stopped { self.old.wanted ≡ true
+        ensures ran_out { OnErr result (self.new.ran_out ≡ true) }
+        ensures memory { OnOk result (self.new.ran_out ≡ false) }
+        ensures stopped { self.old.ran_out ≡ true
             → IsErr result × (self.new ≡ self.old) × (said.new.items ≡ said.old.items) }
     {
-        if self.wanted {
+        if self.ran_out {
             return Err(AllocError);
         }
         match self.set_up_all(deployment, said) {
             Ok(()) => Ok(self.drove()),
             Err(error) => {
-                self.wanted = true;
+                self.ran_out = true;
                 Err(error)
             }
         }
@@ -131,25 +131,25 @@ impl<B: Copied, T: Tag> Honest<B, T> {
         said: &mut Vec<Said>,
     ) -> Result<Drove, AllocError>
         requires sound { IsSoundDeployment (deployed_as deployment.now) }
-        requires going { self.old.wanted ≡ false → GoesOn T.mac deployment.now self.old }
+        requires going { self.old.ran_out ≡ false → GoesOn T.mac deployment.now self.old }
         requires driven { IsDrivenSensor (deployed_as deployment.now) device }
         requires value { value < 32768 }
         ensures does { Does T.mac deployment.now result self.old self.new said.old.items
             said.new.items (reading device value) }
         ensures drove { IfOk result (λ drove. drove ≡ drove_of self.new.long) }
         ensures goes_on { OnOk result (GoesOn T.mac deployment.now self.new) }
-        ensures wanted { OnErr result (self.new.wanted ≡ true) }
-        ensures memory { OnOk result (self.new.wanted ≡ false) }
-        ensures stopped { self.old.wanted ≡ true
+        ensures ran_out { OnErr result (self.new.ran_out ≡ true) }
+        ensures memory { OnOk result (self.new.ran_out ≡ false) }
+        ensures stopped { self.old.ran_out ≡ true
             → IsErr result × (self.new ≡ self.old) × (said.new.items ≡ said.old.items) }
     {
-        if self.wanted {
+        if self.ran_out {
             return Err(AllocError);
         }
         match self.read(deployment, device, value, said) {
             Ok(()) => Ok(self.drove()),
             Err(error) => {
-                self.wanted = true;
+                self.ran_out = true;
                 Err(error)
             }
         }

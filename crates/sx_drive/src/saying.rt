@@ -29,7 +29,7 @@ impl<B: Copied, T: Tag> Honest<B, T> {
     fn is_full(&self) -> bool
         ensures { result ≡ is_full self.now }
     {
-        self.long || self.world.lines() == MOST_LINES
+        self.long || self.world.performed() == MOST_LINES
     }
 
     /// Leaves a line out.
@@ -45,18 +45,18 @@ impl<B: Copied, T: Tag> Honest<B, T> {
         requires sound { IsSoundDeployment (deployed_as deployment.now) }
         requires going { GoesOn T.mac deployment.now self.old }
         requires form { IsLine (deployed_as deployment.now).names (line_of line.now) }
-        requires room { self.old.world.lines < 65536 }
+        requires room { self.old.world.performed < 65536 }
         ensures acted { OnOk result (Acts (world_setting T.mac deployment.now self.old.world)
             (line_of line.now) self.old.world self.new.world [] self.new.shown) }
         ensures front { OnErr result (ActsInPart (world_setting T.mac deployment.now
             self.old.world) (line_of line.now) self.old.world [] self.new.shown) }
-        ensures counts { OnOk result (self.new.world.lines ≡ self.old.world.lines + 1) }
+        ensures counts { OnOk result (self.new.world.performed ≡ self.old.world.performed + 1) }
         ensures sites { self.new.world.sites ≡ self.old.world.sites }
         ensures waiting { self.new.waiting ≡ self.old.waiting }
         ensures long { self.new.long ≡ self.old.long }
-        ensures wanted { self.new.wanted ≡ self.old.wanted }
-        ensures goes_on { OnOk result (self.new.world.wanted ≡ false) }
-        ensures made { self.old.world.wanted ≡ false
+        ensures ran_out { self.new.ran_out ≡ self.old.ran_out }
+        ensures goes_on { OnOk result (self.new.world.ran_out ≡ false) }
+        ensures made { self.old.world.ran_out ≡ false
             → self.new.world.made ≡ length self.new.shown }
     {
         self.shown.clear();
@@ -71,7 +71,7 @@ impl<B: Copied, T: Tag> Honest<B, T> {
             ++ SaidLine (line_of line) ∷ map SaidItem self.old.shown }
         ensures ok { OnOk result (self.new ≡ self.old) }
         ensures world { self.new.world ≡ self.old.world }
-        ensures wanted { self.new.wanted ≡ self.old.wanted }
+        ensures ran_out { self.new.ran_out ≡ self.old.ran_out }
     {
         let items = mem::replace(&mut self.shown, Vec::new(self.alloc));
         let copied = self.shown.extend_from_slice(&items);
@@ -93,7 +93,7 @@ impl<B: Copied, T: Tag> Honest<B, T> {
         requires room { is_full self.old ≡ false }
         ensures does { Does T.mac deployment.now result self.old self.new said.old.items
             said.new.items (λ set h. performed (line_of line) h (next set h.world (line_of line))) }
-        ensures wanted { self.new.wanted ≡ self.old.wanted }
+        ensures ran_out { self.new.ran_out ≡ self.old.ran_out }
     {
         said.reserve(1)?;
         let acted = self.act(deployment, &line);
@@ -115,7 +115,7 @@ impl<B: Copied, T: Tag> Honest<B, T> {
         ensures does { Does T.mac deployment.now result self.old self.new said.old.items
             said.new.items (λ set. says set (line_of line)) }
         ensures goes_on { OnOk result (GoesOn T.mac deployment.now self.new) }
-        ensures wanted { self.new.wanted ≡ self.old.wanted }
+        ensures ran_out { self.new.ran_out ≡ self.old.ran_out }
     {
         if self.is_full() {
             self.leave_out();

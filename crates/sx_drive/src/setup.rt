@@ -62,7 +62,7 @@ impl<B: Copied, T: Tag> Honest<B, T> {
             said.new.items (λ set h.
             each (honest.hands set entry (callee_of callee)) (packets_of h.shown) h) }
         ensures goes_on { OnOk result (GoesOn T.mac deployment.now self.new) }
-        ensures wanted { self.new.wanted ≡ self.old.wanted }
+        ensures ran_out { self.new.ran_out ≡ self.old.ran_out }
     {
         let packets = self.packets()?;
         self.hand_each(deployment, entry, callee, &packets, said)
@@ -82,7 +82,7 @@ impl<B: Copied, T: Tag> Honest<B, T> {
             said.new.items (λ set h. then_ (says set (Ask callee.part) h) (λ h2.
             each (honest.hands set 1 (callee_of callee)) (packets_of h2.shown) h2)) }
         ensures goes_on { OnOk result (GoesOn T.mac deployment.now self.new) }
-        ensures wanted { self.new.wanted ≡ self.old.wanted }
+        ensures ran_out { self.new.ran_out ≡ self.old.ran_out }
     {
         self.say(
             deployment,
@@ -107,7 +107,7 @@ impl<B: Copied, T: Tag> Honest<B, T> {
         ensures does { Does T.mac deployment.now result self.old self.new said.old.items
             said.new.items (λ set. honest.asks set (callee_of callee)) }
         ensures goes_on { OnOk result (GoesOn T.mac deployment.now self.new) }
-        ensures wanted { self.new.wanted ≡ self.old.wanted }
+        ensures ran_out { self.new.ran_out ≡ self.old.ran_out }
     {
         self.say(
             deployment,
@@ -133,7 +133,7 @@ impl<B: Copied, T: Tag> Honest<B, T> {
         ensures does { Does T.mac deployment.now result self.old self.new said.old.items
             said.new.items (λ set. each (honest.answers set (callee_of callee)) packets.now) }
         ensures goes_on { OnOk result (GoesOn T.mac deployment.now self.new) }
-        ensures wanted { self.new.wanted ≡ self.old.wanted }
+        ensures ran_out { self.new.ran_out ≡ self.old.ran_out }
     {
         for packet in packets {
             let answer = Line::Answer {
@@ -160,7 +160,7 @@ impl<B: Copied, T: Tag> Honest<B, T> {
             said.new.items (λ set h.
             each (honest.answers set (callee_of callee)) (packets_of h.shown) h) }
         ensures goes_on { OnOk result (GoesOn T.mac deployment.now self.new) }
-        ensures wanted { self.new.wanted ≡ self.old.wanted }
+        ensures ran_out { self.new.ran_out ≡ self.old.ran_out }
     {
         let packets = self.packets()?;
         self.answer_each(deployment, callee, &packets, said)
@@ -180,7 +180,7 @@ impl<B: Copied, T: Tag> Honest<B, T> {
         ensures does { Does T.mac deployment.now result self.old self.new said.old.items
             said.new.items (λ set. honest.opens set (callee_of callee)) }
         ensures goes_on { OnOk result (GoesOn T.mac deployment.now self.new) }
-        ensures wanted { self.new.wanted ≡ self.old.wanted }
+        ensures ran_out { self.new.ran_out ≡ self.old.ran_out }
     {
         let take = Line::Take {
             node: callee.node,
@@ -205,7 +205,7 @@ impl<B: Copied, T: Tag> Honest<B, T> {
         ensures does { Does T.mac deployment.now result self.old self.new said.old.items
             said.new.items (λ set. honest.sets_up set (callee_of callee)) }
         ensures goes_on { OnOk result (GoesOn T.mac deployment.now self.new) }
-        ensures wanted { self.new.wanted ≡ self.old.wanted }
+        ensures ran_out { self.new.ran_out ≡ self.old.ran_out }
     {
         self.ask(deployment, callee, said)?;
         self.open(deployment, callee, said)
@@ -224,7 +224,7 @@ impl<B: Copied, T: Tag> Honest<B, T> {
             said.new.items
             (λ set. honest.if_there (honest.sets_up set) (honest.callee_at set.app m)) }
         ensures goes_on { OnOk result (GoesOn T.mac deployment.now self.new) }
-        ensures wanted { self.new.wanted ≡ self.old.wanted }
+        ensures ran_out { self.new.ran_out ≡ self.old.ran_out }
     {
         match callee_at(deployment, m) {
             Some(callee) => self.set_up(deployment, callee, said),
@@ -243,7 +243,7 @@ impl<B: Copied, T: Tag> Honest<B, T> {
         ensures does { Does T.mac deployment.now result self.old self.new said.old.items
             said.new.items honest.setup }
         ensures goes_on { OnOk result (GoesOn T.mac deployment.now self.new) }
-        ensures wanted { self.new.wanted ≡ self.old.wanted }
+        ensures ran_out { self.new.ran_out ≡ self.old.ran_out }
     {
         for m in 0..modules(deployment) {
             self.set_up_at(deployment, m, said)?;
@@ -264,7 +264,7 @@ impl<B: Copied, T: Tag> Honest<B, T> {
             said.new.items
             (λ set. honest.if_there (honest.samples set) (honest.driver_of set.app device)) }
         ensures goes_on { OnOk result (GoesOn T.mac deployment.now self.new) }
-        ensures wanted { self.new.wanted ≡ self.old.wanted }
+        ensures ran_out { self.new.ran_out ≡ self.old.ran_out }
     {
         match driver_of(deployment, device) {
             Some(callee) => {
@@ -290,7 +290,7 @@ impl<B: Copied, T: Tag> Honest<B, T> {
         ensures does { Does T.mac deployment.now result self.old self.new said.old.items
             said.new.items (reading device value) }
         ensures goes_on { OnOk result (GoesOn T.mac deployment.now self.new) }
-        ensures wanted { self.new.wanted ≡ self.old.wanted }
+        ensures ran_out { self.new.ran_out ≡ self.old.ran_out }
     {
         self.say(deployment, Line::Sense { device, value }, said)?;
         self.sample(deployment, device, said)?;

@@ -56,7 +56,7 @@ at_end (y ∷ xs) x h (suc i) e = elim (at_end xs x h i e) [
 module _ (mac : Mac) (d : Deployed) where
   -- no line, and one checkpoint, where all is switched on
   pub first_timeline : (texts : List (List ℕ)) (world : Held) (checkpoints : List Held) (every : ℕ) → 1 ≤ every → checkpoints ≡ world ∷ []
-      → world.sites ≡ (setting_of mac d texts).sites → world.wanted ≡ false → world.lines ≡ 0
+      → world.sites ≡ (setting_of mac d texts).sites → world.ran_out ≡ false → world.performed ≡ 0
       → Stands (setting_of mac d texts) world (switched_on (setting_of mac d texts))
       → IsTimeline mac d (record { sites = first_sites checkpoints; lines = []; every = every; checkpoints = checkpoints })
   first_timeline texts world checkpoints every some one sites goes none stands =
@@ -65,7 +65,7 @@ module _ (mac : Mac) (d : Deployed) where
       let set = setting mac d (first_sites checkpoints) in
       let P : List Site → Type 0 = λ s. Stands (setting mac d s) world (switched_on (setting mac d s)) in
       let its : first_sites checkpoints ≡ world.sites = ap first_sites one in
-      let here : StandsAfter set [] world = record { sites = sym its; wanted = goes; count = none; stands = subst P (sym (its ∙ sites)) stands } in
+      let here : StandsAfter set [] world = record { sites = sym its; memory = goes; count = none; stands = subst P (sym (its ∙ sites)) stands } in
       record {
         some = some;
         few = omega arith;

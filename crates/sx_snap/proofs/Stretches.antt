@@ -43,11 +43,11 @@ take_next lines k line e = let one : k + 1 ≡ suc k = omega arith in ap (λ (n 
 
 -- a line was performed in a world that stands after those before
 pub one_more : (set : Setting) (before : List Line) (line : Line) (held left : Held) → StandsAfter set before held
-    → ((w : World) → Stands set held w → Stands set left (next set w line).world) → left.sites ≡ held.sites → left.lines ≡ held.lines + 1 → left.wanted ≡ false
+    → ((w : World) → Stands set held w → Stands set left (next set w line).world) → left.sites ≡ held.sites → left.performed ≡ held.performed + 1 → left.ran_out ≡ false
     → StandsAfter set (before ++ line ∷ []) left
 one_more set before line held left s acts sites counts goes = record {
   sites = sites ∙ s.sites;
-  wanted = goes;
+  memory = goes;
   count = let e = length_push before line in let c = s.count in omega (arith, e, c, counts);
   stands = let P : World → Type 0 = λ w. Stands set left w in
       subst P (sym (run_last set before line (switched_on set))) (acts (world_after set before) s.stands);

@@ -17,8 +17,8 @@ use Rattle.sx_snap.specs.Timeline.{world_after}
 -- memory.
 pub record StandsAfter (set : Setting) (lines : List Line) (held : Held) : Type 0 where
   pub sites : held.sites ≡ set.sites
-  pub wanted : held.wanted ≡ false
-  pub count : held.lines ≡ length lines
+  pub memory : held.ran_out ≡ false
+  pub count : held.performed ≡ length lines
   pub stands : Stands set held (world_after set lines)
 
 -- With one line more a timeline has no further checkpoint; or this world is the checkpoint.

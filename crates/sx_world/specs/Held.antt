@@ -27,8 +27,8 @@ pub record Running : Type 0 where
 pub record Held : Type 0 where
   pub sites : List Site
   pub running : Running
-  pub lines : ℕ
-  pub wanted : Bool
+  pub performed : ℕ
+  pub ran_out : Bool
   pub made : ℕ
 
 -- the m-th module, at a site, as the deployer knows it

@@ -12,11 +12,11 @@ use Rattle.sx_world.specs.Held.{Held, Shows}
 pub record Stands (set : Setting) (held : Held) (w : World) : Type 0 where
   pub lines : List Line
   pub formed : LinesInForm set lines
-  pub count : length lines ≡ held.lines
-  pub steps : w.steps ≤ 1000000 * held.lines
+  pub count : length lines ≡ held.performed
+  pub steps : w.steps ≤ 1000000 * held.performed
   pub is : w ≡ (run set (switched_on set) lines).world
   pub shows : Shows set held.running w
 
 -- It stands so, unless it has run out of memory.
 abbrev pub IsGoing : Setting → Held → Type 0
-IsGoing set held = held.wanted ≡ false → (w : World) × Stands set held w
+IsGoing set held = held.ran_out ≡ false → (w : World) × Stands set held w

@@ -87,8 +87,8 @@ impl<B: Copied, T: Tag + Copy> World<B, T> {
         Ok(World {
             sites,
             running,
-            lines: self.lines,
-            wanted: self.wanted,
+            performed: self.performed,
+            ran_out: self.ran_out,
             made: self.made,
         })
     }

@@ -32,9 +32,9 @@ use sx_trace::items::Item;
 pub struct World<B: Bus, T: Tag> {
     pub(crate) sites: Vec<Site>,
     pub(crate) running: Running<B, T>,
-    pub(crate) lines: u32,
+    pub(crate) performed: u32,
     /// Whether memory ran out in an act: no further line is performed then.
-    pub(crate) wanted: bool,
+    pub(crate) ran_out: bool,
     /// How many items the list held when the last act ended.
     pub(crate) made: usize,
 }
@@ -47,8 +47,8 @@ impl<B: Bus, T: Tag> Model for World<B, T> {
     ghost view = { λ w. record {
       sites = w.sites.items;
       running = w.running;
-      lines = w.lines;
-      wanted = w.wanted;
+      performed = w.performed;
+      ran_out = w.ran_out;
       made = w.made;
     } };
 }
@@ -73,8 +73,8 @@ impl<B: Copied, T: Tag> World<B, T> {
         ensures stands { IfOk result (λ world.
             Stands (image_setting T.mac deployment.now images.now) world
             (switched_on (image_setting T.mac deployment.now images.now))) }
-        ensures lines { IfOk result (λ world. world.lines ≡ 0) }
-        ensures memory { IfOk result (λ world. world.wanted ≡ false) }
+        ensures performed { IfOk result (λ world. world.performed ≡ 0) }
+        ensures memory { IfOk result (λ world. world.ran_out ≡ false) }
     {
         let sites = sites_of(alloc, deployment, images)?;
         let targets = targets_of(alloc, deployment, &sites)?;
@@ -82,8 +82,8 @@ impl<B: Copied, T: Tag> World<B, T> {
         Ok(World {
             sites,
             running: Running::new(alloc, tag, nodes, deployer),
-            lines: 0,
-            wanted: false,
+            performed: 0,
+            ran_out: false,
             made: 0,
         })
     }
@@ -100,7 +100,7 @@ impl<B: Copied, T: Tag> World<B, T> {
         requires sound { IsSoundDeployment (deployed_as deployment.now) }
         requires images { IsSoundSetting (world_setting T.mac deployment.now self.old) }
         requires going { IsGoing (world_setting T.mac deployment.now self.old) self.old }
-        requires few { self.old.lines < 65536 }
+        requires few { self.old.performed < 65536 }
         requires form { IsLine (deployed_as deployment.now).names (line_of line.now) }
         ensures acted { OnOk result (Acts (world_setting T.mac deployment.now self.old)
             (line_of line.now) self.old self.new items.old.items items.new.items) }
@@ -108,15 +108,15 @@ impl<B: Copied, T: Tag> World<B, T> {
             (line_of line.now) self.old self.new items.old.items items.new.items) }
         ensures front { OnErr result (ActsInPart (world_setting T.mac deployment.now self.old)
             (line_of line.now) self.old items.old.items items.new.items) }
-        ensures wanted { OnErr result (self.new.wanted ≡ true) }
-        ensures goes_on { OnOk result (self.new.wanted ≡ false) }
-        ensures made { self.old.wanted ≡ false → self.new.made ≡ length items.new.items }
-        ensures stopped { self.old.wanted ≡ true
+        ensures ran_out { OnErr result (self.new.ran_out ≡ true) }
+        ensures goes_on { OnOk result (self.new.ran_out ≡ false) }
+        ensures made { self.old.ran_out ≡ false → self.new.made ≡ length items.new.items }
+        ensures stopped { self.old.ran_out ≡ true
             → IsErr result × (self.new ≡ self.old) × (items.new.items ≡ items.old.items) }
         ensures sites { self.new.sites ≡ self.old.sites }
-        ensures counts { OnOk result (self.new.lines ≡ self.old.lines + 1) }
+        ensures counts { OnOk result (self.new.performed ≡ self.old.performed + 1) }
     {
-        if self.wanted {
+        if self.ran_out {
             return Err(AllocError);
         }
         let setting = Setting {
@@ -125,12 +125,12 @@ impl<B: Copied, T: Tag> World<B, T> {
         };
         match self.running.perform(&setting, line, items) {
             Ok(()) => {
-                self.lines += 1;
+                self.performed += 1;
                 self.made = items.len();
                 Ok(())
             }
             Err(error) => {
-                self.wanted = true;
+                self.ran_out = true;
                 self.made = items.len();
                 Err(error)
             }
@@ -138,10 +138,10 @@ impl<B: Copied, T: Tag> World<B, T> {
     }
 
     /// How many lines were performed.
-    pub fn lines(&self) -> u32
-        ensures { result ≡ self.now.lines }
+    pub fn performed(&self) -> u32
+        ensures { result ≡ self.now.performed }
     {
-        self.lines
+        self.performed
     }
 
     /// How many items the list held when the last act ended, also where memory ran out in it.

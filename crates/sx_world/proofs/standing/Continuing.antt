@@ -31,7 +31,7 @@ run_items set (x ∷ lines) line w =
     ∙ sym (append_assoc here.items (run set here.world lines).items (after_line set (line_counted (run set here.world lines).world) line).items)
 
 -- so lines that lead to the same world are as many
-as_many : (set : Setting) (lines : List Line) (held : Held) → LeadTo set lines held → length lines ≡ held.lines
+as_many : (set : Setting) (lines : List Line) (held : Held) → LeadTo set lines held → length lines ≡ held.performed
 as_many set lines held led =
     let s = led.stands in
     let a = run_counts set lines (switched_on set) in
@@ -41,7 +41,7 @@ as_many set lines held led =
     omega (arith, a, b, same, c)
 
 pub goes_on : (mac : Mac) (d : Deployed) (sites : List Site) → deployment.IsSoundDeployment d → IsSoundSetting (setting mac d sites)
-    → (old new : Held) (line : Line) (was came : List Item) → IsLine d.names line → old.lines < 65536
+    → (old new : Held) (line : Line) (was came : List Item) → IsLine d.names line → old.performed < 65536
     → Acts (setting mac d sites) line old new was came
     → StaysLegal (setting mac d sites) line old new was came
 goes_on mac d sites acc sound old new line was came form few acts lines led =

@@ -29,7 +29,7 @@ module _ (mac : Mac) (d : Deployed) (sites : List Site) (acc : deployment.IsSoun
   set = setting mac d sites
 
   -- the counts of the world at which it stands
-  bounded : (held : Held) (w : World) → Stands set held w → Within set held.lines w.steps (192 * held.lines) held.lines w
+  bounded : (held : Held) (w : World) → Stands set held w → Within set held.performed w.steps (192 * held.performed) held.performed w
   bounded held w s =
       let l = lines_within set s.lines sound s.formed in
       let n = length s.lines in
@@ -51,11 +51,11 @@ module _ (mac : Mac) (d : Deployed) (sites : List Site) (acc : deployment.IsSoun
       let x = sound.deployed m q.0 site q.1 e in
       omega (arith, x.text, x.text_end)
 
-  pub stands_ready : (held : Held) (w : World) → held.lines < 65536 → Stands set held w → IsReady d sites held.running
+  pub stands_ready : (held : Held) (w : World) → held.performed < 65536 → Stands set held w → IsReady d sites held.running
   stands_ready held w few s =
       let b = bounded held w s in
       let nodes = s.shows.nodes in
-      let node : (n : ℕ) (x : State) → slice_get held.running.nodes n ≡ Some x → NodeWithin set held.lines n x =
+      let node : (n : ℕ) (x : State) → slice_get held.running.nodes n ≡ Some x → NodeWithin set held.performed n x =
       λ n x here. b.nodes n x (ap (λ (ns : List State). slice_get ns n) (sym nodes) ∙ here) in
       let long : length held.running.nodes ≡ length d.names.nodes = ap length nodes ∙ b.as_many ∙ acc.keys in
       record {
@@ -100,12 +100,12 @@ module _ (mac : Mac) (d : Deployed) (sites : List Site) (acc : deployment.IsSoun
   shows_counted kept w h = record { nodes = h.nodes; packets = h.packets; deployer = h.deployer; ledger = h.ledger; steps = h.steps; placed = h.placed }
 
   -- after a line that was acted it stands at the world after it
-  pub acted_stands : (old new : Held) (w : World) (line : Line) → IsLine d.names line → new.lines ≡ old.lines + 1
+  pub acted_stands : (old new : Held) (w : World) (line : Line) → IsLine d.names line → new.performed ≡ old.performed + 1
       → Shows set new.running (after_line set (line_counted w) line).world → Stands set old w → Stands set new (after_line set (line_counted w) line).world
   acted_stands old new w line form more shows s =
       let is = in_form mac d sites acc line form in
       let next = (after_line set (line_counted w) line).world in
-      let b = line_within set line old.lines w.steps (192 * old.lines) old.lines (line_counted w) sound is (counted_within set _ _ _ _ w (bounded old w s)) in
+      let b = line_within set line old.performed w.steps (192 * old.performed) old.performed (line_counted w) sound is (counted_within set _ _ _ _ w (bounded old w s)) in
       record {
         lines = s.lines ++ line ∷ [];
         formed = formed_then s.lines line s.formed is;
@@ -116,7 +116,7 @@ module _ (mac : Mac) (d : Deployed) (sites : List Site) (acc : deployment.IsSoun
       }
 
   -- so a call that acts a line leaves it
-  pub act_did : (old new : Held) (kept : Running) (lent : List Site) (before after : List Item) (line : Line) → IsLine d.names line → new.lines ≡ old.lines + 1
+  pub act_did : (old new : Held) (kept : Running) (lent : List Site) (before after : List Item) (line : Line) → IsLine d.names line → new.performed ≡ old.performed + 1
       → lent ≡ sites → kept ≡ old.running → Did (setting mac d lent) kept new.running before after (λ w. after_line (setting mac d lent) w line)
       → (w : World) → Stands set old w → Stands set new (after_line set (line_counted w) line).world × (after ≡ before ++ (after_line set (line_counted w) line).items)
   act_did old new kept lent before after line form more el ek did w s =

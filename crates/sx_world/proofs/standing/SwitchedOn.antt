@@ -82,7 +82,7 @@ all_placed set n s e = let r = get_nodes set 0 set.keys n s e in subst (λ (z : 
 
 -- such a world stands where no line was acted
 pub stands_first : (set : Setting) (held : Held) (nodes : List State) (deployer : Keeping) (targets : List Known) → length set.app.parts ≤ 32 → length set.app.links ≤ 64
-    → targets ≡ targets_from set 0 set.sites → held.lines ≡ 0 → held.running ≡ record { nodes = nodes; packets = []; deployer = deployer; ledger = []; steps = 0 }
+    → targets ≡ targets_from set 0 set.sites → held.performed ≡ 0 → held.running ≡ record { nodes = nodes; packets = []; deployer = deployer; ledger = []; steps = 0 }
     → nodes ≡ nodes_from set 0 set.keys → deployer ≡ first set.secret targets → Stands set held (switched_on set)
 stands_first set held nodes deployer targets parts links et el er en ed = record {
   lines = [];

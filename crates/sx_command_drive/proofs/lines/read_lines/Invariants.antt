@@ -12,7 +12,7 @@ abbrev pub invariant-lines : goal.invariant-lines
 invariant-lines g l = record {
   few : l.number ≤ 65537;
   going : GoesOn g.T.Tag.mac l.deployment l.honest;
-  memory : l.honest.wanted ≡ false;
+  memory : l.honest.ran_out ≡ false;
   between : (set : Setting) (h : Honest) → Follows g.T.Tag.mac l.deployment l.fn.honest set h → h.long ≡ false
       → Between g.S.Source.tells g.K.Sink.tells (command_at (g.S.Source.at l.fn.input) (g.K.Sink.at l.fn.output)) (command_at (g.S.Source.at l.input) (g.K.Sink.at l.output))
       l.fn.lines l.lines g.T.Tag.mac l.deployment set h l.honest l.number;

@@ -9,7 +9,7 @@ abbrev pub invariant-loop-i : goal.invariant-loop-i
 invariant-loop-i g l =
     let d = deployed_as l.deployment in
     let set = setting g.T.Tag.mac d l.fn.world.sites in record {
-      counted : l.world.lines ≡ l.i;
+      counted : l.world.performed ≡ l.i;
       sites : l.world.sites ≡ l.fn.world.sites;
       tallied : Tallied l.samples d.names set l.world l.i l.counts;
     }

@@ -11,7 +11,7 @@ invariant-lines g l =
     let d = deployed_as l.deployment in
     let set = setting g.T.Tag.mac d l.fn.world.sites in record {
       few : l.number ≤ 65537;
-      counted : l.world.lines + 1 ≡ l.number;
+      counted : l.world.performed + 1 ≡ l.number;
       sites : l.world.sites ≡ l.fn.world.sites;
       between : Between g.S.Source.tells g.K.Sink.tells (command_at (g.S.Source.at l.fn.input) (g.K.Sink.at l.fn.output)) (command_at (g.S.Source.at l.input) (g.K.Sink.at l.output))
           l.fn.lines l.lines d.names set l.world l.number;

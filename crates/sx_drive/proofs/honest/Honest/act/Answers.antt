@@ -32,4 +32,4 @@ returns-clause-front g c =
     c.clear.ensures.items c.act.ensures.front)
 
 pub returns-clause-made : goal.returns-clause-made
-returns-clause-made g c = λ well. c.act.ensures.made (ap (λ (k : Kept). k.world.wanted) c.self.view_is ∙ well)
+returns-clause-made g c = λ well. c.act.ensures.made (ap (λ (k : Kept). k.world.ran_out) c.self.view_is ∙ well)

@@ -23,7 +23,7 @@ loop-packet-preserved g c =
           c.say.new.self c.args.said.now.items c.loop-packet.said.items c.say.new.said.items
           (omega (arith, c.loop-packet-test.true, c.loop-packet.auto.packet-index-end)) c.loop-packet.invariant.remains c.in_ok-say.ensures.does;
       goes = c.in_ok-say.ensures.goes_on;
-      wanted = c.in_ok-say.ensures.wanted ∙ c.loop-packet.invariant.wanted;
+      ran_out = c.in_ok-say.ensures.ran_out ∙ c.loop-packet.invariant.ran_out;
     }
 
 pub returns-clause-does : goal.returns-clause-does
@@ -38,5 +38,5 @@ loop-packet-init g c =
     record {
       remains = remains_start g.T.Tag.mac c.args.deployment.now (each_all (λ set. answers set x) c.args.packets.now) c.args.self.now c.args.said.now.items;
       goes = c.requires.going;
-      wanted = refl;
+      ran_out = refl;
     }

@@ -10,5 +10,5 @@ invariant-loop-packet g l = record {
   remains : Remains g.T.Tag.mac l.deployment (each_all (λ set. answers set (callee_of l.callee)) l.packets)
       (each_from (λ set. answers set (callee_of l.callee)) l.packet-index l.packets) l.fn.self l.self l.fn.said.items l.said.items;
   goes : GoesOn g.T.Tag.mac l.deployment l.self;
-  wanted : l.self.wanted ≡ l.fn.self.wanted;
+  ran_out : l.self.ran_out ≡ l.fn.self.ran_out;
 }

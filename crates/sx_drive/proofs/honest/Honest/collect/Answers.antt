@@ -22,7 +22,7 @@ loop-place-preserved g c =
           (lower c.loop-place.place c.made-place-end.result (made_by c.args.self.now.shown) c.loop-place-test.true c.made-place-end.ensures.made)
           c.loop-place.invariant.remains c.in_ok-take_one.ensures.does;
       goes = c.in_ok-take_one.ensures.goes_on;
-      wanted = c.in_ok-take_one.ensures.wanted ∙ c.loop-place.invariant.wanted;
+      ran_out = c.in_ok-take_one.ensures.ran_out ∙ c.loop-place.invariant.ran_out;
     }
 
 pub returns-clause-does : goal.returns-clause-does
@@ -31,4 +31,4 @@ returns-clause-does g c =
     (upper c.loop-place.place c.made-place-end.result (made_by c.args.self.now.shown) c.loop-place-test.false c.made-place-end.ensures.made) c.loop-place.invariant.remains
 
 pub loop-place-init : goal.loop-place-init
-loop-place-init g c = record { remains = takes_first g.T.Tag.mac c.args.deployment.now c.args.node c.args.self.now c.args.said.now.items; goes = c.requires.going; wanted = refl }
+loop-place-init g c = record { remains = takes_first g.T.Tag.mac c.args.deployment.now c.args.node c.args.self.now c.args.said.now.items; goes = c.requires.going; ran_out = refl }

@@ -9,5 +9,5 @@ abbrev pub invariant-loop-place : goal.invariant-loop-place
 invariant-loop-place g l = record {
   remains : Remains g.T.Tag.mac l.deployment (collects_at l.node) (takes_from l.node (made_by l.fn.self.shown) l.place) l.fn.self l.self l.fn.said.items l.said.items;
   goes : GoesOn g.T.Tag.mac l.deployment l.self;
-  wanted : l.self.wanted ≡ l.fn.self.wanted;
+  ran_out : l.self.ran_out ≡ l.fn.self.ran_out;
 }

@@ -23,7 +23,7 @@ loop-packet-preserved g c =
           c.loop-packet.self c.hand.new.self c.args.said.now.items c.loop-packet.said.items c.hand.new.said.items
           (omega (arith, c.loop-packet-test.true, c.loop-packet.auto.packet-index-end)) c.loop-packet.invariant.remains c.in_ok-hand.ensures.does;
       goes = c.in_ok-hand.ensures.goes_on;
-      wanted = c.in_ok-hand.ensures.wanted ∙ c.loop-packet.invariant.wanted;
+      ran_out = c.in_ok-hand.ensures.ran_out ∙ c.loop-packet.invariant.ran_out;
     }
 
 pub returns-clause-does : goal.returns-clause-does
@@ -40,5 +40,5 @@ loop-packet-init g c =
       remains =
           remains_start g.T.Tag.mac c.args.deployment.now (each_all (λ set. hands set c.args.entry x) c.args.packets.now) c.args.self.now c.args.said.now.items;
       goes = c.requires.going;
-      wanted = refl;
+      ran_out = refl;
     }

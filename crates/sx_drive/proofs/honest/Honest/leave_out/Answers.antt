@@ -5,5 +5,5 @@ use Rattle.sx_drive.proofs.honest.Honest.leave_out.Goals as goal
 
 pub returns : goal.returns
 returns g c =
-    let kept : List Item → Kept = λ xs. record { world = c.self.inside.world; waiting = c.self.inside.waiting.items; shown = xs; long = true; wanted = c.self.inside.wanted } in
+    let kept : List Item → Kept = λ xs. record { world = c.self.inside.world; waiting = c.self.inside.waiting.items; shown = xs; long = true; ran_out = c.self.inside.ran_out } in
     ap kept c.clear.ensures.items ∙ ap left c.self.view_is

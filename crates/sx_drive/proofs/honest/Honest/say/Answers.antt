@@ -15,8 +15,8 @@ returns-then-is_full-clause-goes_on g c =
     still_goes g.T.Tag.mac c.args.deployment.now c.args.self.now c.leave_out.new.self c.args.said.now.items c.args.said.now.items (λ set. says set (line_of c.args.line)) c.requires.going
     (full_did g.T.Tag.mac c.args.deployment.now (line_of c.args.line) c.args.self.now c.leave_out.new.self c.args.said.now.items (sym c.is_full.ensures ∙ c.if-is_full.true) c.leave_out.ensures)
 
-pub returns-then-is_full-clause-wanted : goal.returns-then-is_full-clause-wanted
-returns-then-is_full-clause-wanted g c = ap (λ (k : Kept). k.wanted) c.leave_out.ensures
+pub returns-then-is_full-clause-ran_out : goal.returns-then-is_full-clause-ran_out
+returns-then-is_full-clause-ran_out g c = ap (λ (k : Kept). k.ran_out) c.leave_out.ensures
 
 pub perform-requires-clause-room : goal.perform-requires-clause-room
 perform-requires-clause-room g c = sym c.is_full.ensures ∙ c.if-is_full.false

@@ -19,7 +19,7 @@ loop-m-preserved g c =
           c.set_up_at.new.self c.args.said.now.items c.loop-m.said.items c.set_up_at.new.said.items
           (lower c.loop-m.m c.modules-m-end.result (length c.args.deployment.now.app.parts.items) c.loop-m-test.true c.modules-m-end.ensures) c.loop-m.invariant.remains c.in_ok-set_up_at.ensures.does;
       goes = c.in_ok-set_up_at.ensures.goes_on;
-      wanted = c.in_ok-set_up_at.ensures.wanted ∙ c.loop-m.invariant.wanted;
+      ran_out = c.in_ok-set_up_at.ensures.ran_out ∙ c.loop-m.invariant.ran_out;
     }
 
 pub returns-clause-does : goal.returns-clause-does
@@ -29,4 +29,4 @@ returns-clause-does g c =
     (length c.args.deployment.now.app.parts.items) c.loop-m-test.false c.modules-m-end.ensures) c.loop-m.invariant.remains
 
 pub loop-m-init : goal.loop-m-init
-loop-m-init g c = record { remains = set_up_first g.T.Tag.mac c.args.deployment.now c.args.self.now c.args.said.now.items; goes = c.requires.going; wanted = refl }
+loop-m-init g c = record { remains = set_up_first g.T.Tag.mac c.args.deployment.now c.args.self.now c.args.said.now.items; goes = c.requires.going; ran_out = refl }

@@ -9,5 +9,5 @@ abbrev pub invariant-loop-m : goal.invariant-loop-m
 invariant-loop-m g l = record {
   remains : Remains g.T.Tag.mac l.deployment setup (set_up_rest (length l.deployment.app.parts.items) l.m) l.fn.self l.self l.fn.said.items l.said.items;
   goes : GoesOn g.T.Tag.mac l.deployment l.self;
-  wanted : l.self.wanted ≡ l.fn.self.wanted;
+  ran_out : l.self.ran_out ≡ l.fn.self.ran_out;
 }

@@ -24,7 +24,7 @@ loop-turn-preserved g c =
           c.deliver.new.self c.args.said.now.items c.loop-turn.said.items c.deliver.new.said.items
           (below_most c.loop-turn._turn c.loop-turn-test.true) c.in-Some.ensures.packets c.in-Some.ensures.rest c.loop-turn.invariant.remains c.in_ok-deliver-in-Some.ensures.does;
       goes = c.in_ok-deliver-in-Some.ensures.goes_on;
-      wanted = c.in_ok-deliver-in-Some.ensures.wanted ∙ ap (λ (k : Kept). k.wanted) c.in-Some.ensures.rest ∙ c.loop-turn.invariant.wanted;
+      ran_out = c.in_ok-deliver-in-Some.ensures.ran_out ∙ ap (λ (k : Kept). k.ran_out) c.in-Some.ensures.rest ∙ c.loop-turn.invariant.ran_out;
     }
 
 pub returns-in-None-clause-does : goal.returns-in-None-clause-does
@@ -36,8 +36,8 @@ pub returns-in-None-clause-goes_on : goal.returns-in-None-clause-goes_on
 returns-in-None-clause-goes_on g c =
     goes_popped g.T.Tag.mac c.args.deployment.now c.loop-turn.self c.next_waiting.new.self (drop 1 c.loop-turn.self.waiting) c.in-None.ensures.rest c.loop-turn.invariant.goes
 
-pub returns-in-None-clause-wanted : goal.returns-in-None-clause-wanted
-returns-in-None-clause-wanted g c = ap (λ (k : Kept). k.wanted) c.in-None.ensures.rest ∙ c.loop-turn.invariant.wanted
+pub returns-in-None-clause-ran_out : goal.returns-in-None-clause-ran_out
+returns-in-None-clause-ran_out g c = ap (λ (k : Kept). k.ran_out) c.in-None.ensures.rest ∙ c.loop-turn.invariant.ran_out
 
 pub returns-clause-does : goal.returns-clause-does
 returns-clause-does g c =
@@ -45,4 +45,4 @@ returns-clause-does g c =
     (above_most c.loop-turn._turn c.loop-turn-test.false) c.loop-turn.invariant.remains
 
 pub loop-turn-init : goal.loop-turn-init
-loop-turn-init g c = record { remains = settle_first g.T.Tag.mac c.args.deployment.now c.args.self.now c.args.said.now.items; goes = c.requires.going; wanted = refl }
+loop-turn-init g c = record { remains = settle_first g.T.Tag.mac c.args.deployment.now c.args.self.now c.args.said.now.items; goes = c.requires.going; ran_out = refl }

@@ -8,5 +8,5 @@ abbrev pub invariant-loop-turn : goal.invariant-loop-turn
 invariant-loop-turn g l = record {
   remains : Remains g.T.Tag.mac l.deployment settle_all (settle_rest l._turn) l.fn.self l.self l.fn.said.items l.said.items;
   goes : GoesOn g.T.Tag.mac l.deployment l.self;
-  wanted : l.self.wanted ≡ l.fn.self.wanted;
+  ran_out : l.self.ran_out ≡ l.fn.self.ran_out;
 }

@@ -20,4 +20,4 @@ returns-clause-timeline g c =
     subst R (sym (ap (λ (ls : List Read). map line_of ls) c.new-2.ensures.items))
     (first_timeline g.T.Tag.mac (deployed_as c.args.plan.now) (map (λ i. i.text.items) c.args.images.now) c.in_ok-world.world c.push.new.self.items c.args.every c.requires.some
     (c.in_ok-push.ensures.items ∙ ap (λ (xs : List Held). xs ++ c.in_ok-world.world ∷ []) c.new-checkpoints.ensures.items) c.in_ok-world.ensures.sites
-    c.in_ok-world.ensures.memory c.in_ok-world.ensures.lines c.in_ok-world.ensures.stands)
+    c.in_ok-world.ensures.memory c.in_ok-world.ensures.performed c.in_ok-world.ensures.stands)

@@ -14,7 +14,7 @@ perform-requires-clause-ready g c =
     let d = deployed_as c.args.deployment.now in
     let held = c.args.self.now in
     let view = c.self.view_is in
-    let going = c.requires.going (sym (ap (λ (h : Held). h.wanted) view) ∙ c.if-self.false) in
+    let going = c.requires.going (sym (ap (λ (h : Held). h.ran_out) view) ∙ c.if-self.false) in
     let ready = stands_ready g.T.Tag.mac d held.sites c.requires.sound c.requires.images held going.0 c.requires.few going.1 in
     subst (λ (s : List Site). IsReady d s c.self.inside.running) (sym (c.deref.ensures.value ∙ ap (λ (h : Held). h.sites) view))
     (subst (λ (k : Running). IsReady d held.sites k) (sym (ap (λ (h : Held). h.running) view)) ready)
@@ -24,7 +24,7 @@ returns-in-Ok-clause-acted g c =
     let held = c.args.self.now in
     let view = c.self.view_is in
     act_did g.T.Tag.mac (deployed_as c.args.deployment.now) held.sites c.requires.sound c.requires.images held _ c.self.inside.running c.deref.result.now
-    c.args.items.now.items c.perform.new.items.items (line_of c.args.line.now) c.requires.form (ap (λ (h : Held). h.lines + 1) view)
+    c.args.items.now.items c.perform.new.items.items (line_of c.args.line.now) c.requires.form (ap (λ (h : Held). h.performed + 1) view)
     (c.deref.ensures.value ∙ ap (λ (h : Held). h.sites) view) (ap (λ (h : Held). h.running) view) c.in-Ok.ensures
 
 pub returns-in-Err-clause-front : goal.returns-in-Err-clause-front
@@ -43,7 +43,7 @@ returns-in-Ok-clause-legal g c =
     goes_on g.T.Tag.mac d held.sites c.requires.sound c.requires.images held _ (line_of c.args.line.now) c.args.items.now.items c.perform.new.items.items
     c.requires.form c.requires.few
     (act_did g.T.Tag.mac d held.sites c.requires.sound c.requires.images held _ c.self.inside.running c.deref.result.now
-    c.args.items.now.items c.perform.new.items.items (line_of c.args.line.now) c.requires.form (ap (λ (h : Held). h.lines + 1) view)
+    c.args.items.now.items c.perform.new.items.items (line_of c.args.line.now) c.requires.form (ap (λ (h : Held). h.performed + 1) view)
     (c.deref.ensures.value ∙ ap (λ (h : Held). h.sites) view) (ap (λ (h : Held). h.running) view) c.in-Ok.ensures)
 
 pub returns-then-self-clause-front : goal.returns-then-self-clause-front
