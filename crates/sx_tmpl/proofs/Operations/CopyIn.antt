@@ -2,9 +2,9 @@
 use Rattle.sx_isa.specs.Assembly.{##◌, &◌, increment, mov, mov_b, r12, r13, r15, ◌⟨◌⟩}
 use Rattle.sx_tmpl.proofs.Running.Instructions.{step}
 use Rattle.sx_tmpl.proofs.Running.Loading.{loads}
-use Rattle.sx_tmpl.proofs.Operations.CopyLoop.{Byte, Turns, all_bytes, all_steps, copying, size, turns_run}
+use Rattle.sx_tmpl.proofs.Operations.CopyLoop.{Byte, Turns, all_bytes, all_steps, size, turns_run}
 use Rattle.sx_tmpl.specs.Template.{turns}
-use Rattle.std.proofs.Common.{◌≡◌, ℕ, zero, suc, ◌+◌, ◌*◌, ◌%◌, ◌<◌, ◌≤◌, inl, inr, Bool, false, List, [], ◌∷◌, length, Option, Some, None, refl, sym, ◌∙◌, ap, subst, arith, slice_index}
+use Rattle.std.proofs.Common.{◌≡◌, ℕ, suc, ◌+◌, ◌*◌, ◌%◌, ◌<◌, ◌≤◌, inl, inr, Bool, false, List, [], ◌∷◌, length, Option, Some, None, refl, sym, ◌∙◌, ap, subst, arith, slice_index}
 use Rattle.sx_isa.specs.Standing.{words_of}
 use Rattle.sx_rules.specs.declared.access.Violation.{Violation}
 use Rattle.sx_machine.specs.declared.kinds.Event.TheVariants as event

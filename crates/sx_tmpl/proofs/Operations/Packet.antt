@@ -4,7 +4,7 @@ use Rattle.sx_isa.specs.Assembly.{##◌, #◌, &◌, ◌⟨◌⟩, add, ahead, c
 use Rattle.sx_tmpl.proofs.Running.Instructions.{step}
 use Rattle.sx_tmpl.proofs.Running.Loading.{loads}
 use Rattle.sx_tmpl.specs.Template.{routine_words}
-use Rattle.std.proofs.Common.{◌≡◌, ℕ, suc, ◌+◌, ◌-◌, ◌*◌, ◌/◌, ◌%◌, ◌<◌, ◌≤◌, inl, inr, Bool, true, false, not, ◌&&◌, List, [], ◌∷◌, ◌++◌, length, Option, refl, sym, ◌∙◌, ap, subst, arith}
+use Rattle.std.proofs.Common.{◌≡◌, ℕ, suc, ◌+◌, ◌-◌, ◌*◌, ◌%◌, ◌<◌, ◌≤◌, inl, inr, Bool, true, false, not, ◌&&◌, List, [], ◌∷◌, ◌++◌, length, Option, refl, sym, ◌∙◌, ap, subst, arith}
 use Rattle.sx_isa.specs.Spelling.{spelling}
 use Rattle.sx_isa.specs.declared.instruction.Op2.TheVariants as op2
 use Rattle.sx_rules.specs.declared.access.Violation.{Violation}
