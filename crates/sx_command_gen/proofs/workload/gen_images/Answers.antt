@@ -26,8 +26,8 @@ tell_run-requires-clause-stands g c =
     let P : List Site → Type 0 = λ sites. Stands (setting g.T.Tag.mac d sites) c.in-Ok.world (switched_on (setting g.T.Tag.mac d sites)) in
     subst P (sym c.in-Ok.ensures.sites) c.in-Ok.ensures.stands
 
-pub returns-in-Stop : goal.returns-in-Stop
-returns-in-Stop g c =
+pub returns-in-Ok : goal.returns-in-Ok
+returns-in-Ok g c =
     let d = deployed_as c.args.deployment.now in
     let texts = map (λ i. i.text.items) c.args.images.now in
     c.in-Stop.ensures (λ more. gen_run c.args.samples d.names (setting_of g.T.Tag.mac d texts)) []

@@ -39,8 +39,8 @@ returns-in-On-clause-turns g c = λ w shows.
       does = line_wanted d.names set w c.args.number c.args.said.now line made c.in-Ok.ensures.line front (c.in-On.ensures.whole refl) (c.in-On.ensures.does (λ more. unread_output)).no_fault;
     }
 
-pub returns-in-Stop-clause-turns : goal.returns-in-Stop-clause-turns
-returns-in-Stop-clause-turns g c = λ w shows.
+pub returns-in-Ok-clause-turns : goal.returns-in-Ok-clause-turns
+returns-in-Ok-clause-turns g c = λ w shows.
     let d = deployed_as c.args.deployment.now in
     let set = setting g.T.Tag.mac d c.args.world.now.sites in
     let line = line_of c.in-Ok.line in
@@ -65,8 +65,8 @@ returns-in-Err-Fault-clause-turns g c = λ w shows.
           c.break_off.ensures.ends;
     }
 
-pub returns-in-Err-OutOfMemory-clause-turns : goal.returns-in-Err-OutOfMemory-clause-turns
-returns-in-Err-OutOfMemory-clause-turns g c = λ w shows.
+pub returns-clause-turns : goal.returns-clause-turns
+returns-clause-turns g c = λ w shows.
     let d = deployed_as c.args.deployment.now in
     let set = setting g.T.Tag.mac d c.args.world.now.sites in record {
       next = w;

@@ -25,8 +25,8 @@ run_lines-requires-clause-stands g c =
     let P : List Site → Type 0 = λ sites. Stands (setting g.T.Tag.mac d sites) c.in-Ok.world (switched_on (setting g.T.Tag.mac d sites)) in
     subst P (sym c.in-Ok.ensures.sites) c.in-Ok.ensures.stands
 
-pub returns-in-Stop-clause-rest : goal.returns-in-Stop-clause-rest
-returns-in-Stop-clause-rest g c = λ limit m0 defined aside noted b.
+pub returns-in-Ok-clause-rest : goal.returns-in-Ok-clause-rest
+returns-in-Ok-clause-rest g c = λ limit m0 defined aside noted b.
     let d = deployed_as c.args.deployment.now in
     told-stop b (c.in-Stop.ensures (run_at_start assembled d.names (setting_of g.T.Tag.mac d (map (λ i. i.text.items) c.args.images.now))))
 
