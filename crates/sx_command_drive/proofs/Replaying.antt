@@ -1,6 +1,6 @@
 -- The lines that an honest run says, read back from their texts, are these lines; and each is told with its own items.
-use Rattle.std.proofs.Common.{◌≡◌, ◌∙◌, ℕ, zero, suc, ◌+◌, ◌<◌, ◌≤◌, Bool, List, [], ◌∷◌, ◌++◌, length, map, take, refl, sym, ap, subst, arith, Result, Ok, Err, le-ltb}
-use Rattle.std.specs.Prelude.{All, IsTrue, if◌then◌else◌, nat_lt}
+use Rattle.std.proofs.Common.{◌≡◌, ◌∙◌, ℕ, zero, suc, ◌+◌, ◌≤◌, Bool, List, [], ◌∷◌, ◌++◌, length, map, take, refl, sym, ap, subst, arith, Result, Ok, Err, le-ltb}
+use Rattle.std.specs.Prelude.{All, IsTrue, if◌then◌else◌}
 use Rattle.sx_asm.specs.Assembled.{assembled}
 use Rattle.sx_trace.specs.declared.items.Item.{Item}
 use Rattle.sx_trace.specs.Names.{NameLists}
@@ -14,10 +14,9 @@ use Rattle.sx_run.specs.Setting.{Setting}
 use Rattle.sx_run.specs.State.{World, switched_on}
 use Rattle.sx_world.specs.Whole.{next}
 use Rattle.sx_deploy.specs.Deployment.{Deployed}
-use Rattle.sx_honest.specs.Plain.{Sampling}
 use Rattle.sx_honest.specs.Course.{IsSampling}
 use Rattle.sx_deliver.specs.Schedule.{honest_schedule}
-use Rattle.sx_drive.specs.Honest.{MOST_LINES, Reading, Said, SaidItem, SaidLine, each, honest_run, reads, setup, start}
+use Rattle.sx_drive.specs.Honest.{MOST_LINES, Reading, Said, SaidItem, SaidLine, honest_run}
 use Rattle.sx_drive_laws.specs.Laws.{IsDriveable}
 use Rattle.sx_drive_laws.specs.Samplings.{samplings_of, told}
 use Rattle.sx_drive_laws.proofs.Driven.{schedule_is_said}

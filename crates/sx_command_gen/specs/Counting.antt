@@ -17,7 +17,6 @@ use Rattle.sx_command_world.specs.Turning.{after_next}
 use Rattle.sx_command_world.specs.Broken.{broken_output}
 use Rattle.sx_command_world.specs.Schedule.{judged_line}
 use Rattle.sx_command_gen.specs.Workload.{gen_run}
-use Rattle.sx_command.specs.Output.{line}
 
 -- the sums of two counts
 abbrev pub plus : Counts → Counts → Counts
