@@ -22,7 +22,9 @@ const UP: End = End {
     port: 0,
 };
 
-fn target(alloc: Global) -> Result<Target, AllocError> {
+fn target(alloc: Global) -> Result<Target, AllocError>
+    ensures { IfOk result (λ t. length t.ends.items ≡ 1) }
+{
     Ok(Target {
         node_key: NODE_KEY,
         provider: 7,
