@@ -17,10 +17,10 @@ use Rattle.sx_image.specs.Image.{private_bytes, public_bytes}
 use Rattle.sx_invoke.specs.Windows.{two}
 use Rattle.sx_invoke.specs.Acts.{event_header}
 use Rattle.sx_tag.specs.Wrap.{wrapped}
+use Rattle.sx_tag.proofs.TagBytes.{cipher_length, tag_length}
 use Rattle.sx_sched.specs.Lines.{Call}
 use Rattle.sx_run.specs.Setting.{Site, Setting}
 use Rattle.sx_run.specs.Deployer.{connection_key}
-use Rattle.sx_run.specs.Observation.{sender_of}
 use Rattle.sx_run.specs.State.{World, Acted}
 use Rattle.sx_run.specs.Acts.{then_, with_node}
 use Rattle.sx_run.specs.Run.{after_line, call, line_counted, run}
@@ -29,19 +29,17 @@ use Rattle.sx_lists.proofs.Lists.{get_same}
 use Rattle.sx_calls.specs.Shown.{devices_after}
 use Rattle.sx_calls.specs.FourCalls.{CallDoes, CallEffect}
 use Rattle.sx_honest.specs.Plain.{Waiting}
-use Rattle.sx_honest.specs.Course.{Course, count_over, packet_items, packets_so_far, setup_packets}
+use Rattle.sx_honest.specs.Course.{Course, count_over, packet_items}
 use Rattle.sx_setup.specs.Laws.{HasRoom}
 use Rattle.sx_setup.proofs.forms.ByLine.{shown_by}
 use Rattle.sx_setup.proofs.forms.Loaded.{StandsHigh}
 use Rattle.sx_setup.proofs.forms.Served.{Serves, callee}
-use Rattle.sx_setup.proofs.forms.Settled.{IsOnItsWay, Settled, all_sent, event_of, module_as}
-use Rattle.sx_setup.proofs.Packets.{cipher_length, tag_length}
+use Rattle.sx_setup.proofs.forms.Settled.{Settled, all_sent, event_of, module_as}
 use Rattle.sx_setup.proofs.Sites.{section_at}
 use Rattle.sx_deliver.specs.Schedule.{take_lines}
 use Rattle.sx_deliver.proofs.ByLine.{packets_shown}
-use Rattle.sx_deliver.proofs.Leaving.{Among}
 use Rattle.sx_deliver.proofs.Making.{entries_for, pieces_of}
-use Rattle.sx_deliver.proofs.Serving.{Passes, own_section, settles_at}
+use Rattle.sx_deliver.proofs.Serving.{Follows, Passes, own_section, settles_at}
 use Rattle.sx_deliver.proofs.Taking.{AreEvents, Takes, takes_all}
 
 -- an event's packet has 24 bytes
@@ -82,16 +80,6 @@ module _ (set : Setting) (sound : IsSoundSetting set) (room : HasRoom set) (c : 
   abbrev pub sec : Section
   sec = section_at set (own_section set sound room c w settled m site s sited there).0 site
 
-  -- how the course goes on: these values wait from before, and the event of the module sends those
-  pub record Follows (c1 : Course) (rest ys : List Waiting) : Type 0 where
-    pub waits : c1.plain.waiting ≡ rest ++ ys
-    pub sent : c1.past ++ rest ≡ all_sent c
-    pub count : packets_so_far set.app c ≡ setup_packets set.app + length c1.past + length rest
-    pub old : (x : Waiting) (before after : List Waiting) → rest ≡ before ++ x ∷ after
-        → IsOnItsWay set w (setup_packets set.app + length c1.past + length before) x.link (count_over x.link (c1.past ++ before)) x.value
-    pub senders : (x : Waiting) → Among x ys → sender_of set.app x.link ≡ m
-    pub apart : (p : ℕ) → (m ≡ p → ⊥) → module_as set c p ≡ module_as set c1 p
-
   -- the world before the call, where something was given to the module's node
   pub record Before (s1 : State) (w1 : World) : Type 0 where
     pub stays : Stays (section_at set (own_section set sound room c w settled m site s sited there).0 site) s s1
@@ -119,7 +107,7 @@ module _ (set : Setting) (sound : IsSoundSetting set) (room : HasRoom set) (c : 
     pub is_settled : Settled set world c1
 
   module _ (s1 : State) (w1 : World) (before : Before s1 w1) (e : ℕ) (effect : CallEffect) (c1 : Course) (rest ys : List Waiting)
-      (makes : Makes s1 w1 e effect c1 ys) (follows : Follows c1 rest ys) where
+      (makes : Makes s1 w1 e effect c1 ys) (follows : Follows set sound room c w settled m c1 rest ys) where
     abbrev n : ℕ
     n = site.node
 
@@ -197,13 +185,8 @@ module _ (set : Setting) (sound : IsSoundSetting set) (room : HasRoom set) (c : 
           packets = takes.packets ∙ ap (λ (ps : List (List ℕ)). w1.packets ++ ps) makes.pieces ∙ ap (λ (zs : List (List ℕ)). zs ++ pieces_of set (all_sent c) ys) before.packets;
           deployer = takes.deployer ∙ before.deployer;
           ledger = takes.ledger ∙ ap (λ (es : List Made). w1.ledger ++ es) makes.entries ∙ ap (λ (zs : List Made). zs ++ entries_for m (all_sent c) ys) before.ledger;
-          waits = follows.waits;
-          sent = follows.sent;
-          count = follows.count;
-          old = follows.old;
-          senders = follows.senders;
+          follows = follows;
           pieces = pieces_long set (all_sent c) ys;
-          apart = follows.apart;
         }
 
     pub called_there : CalledThere w1 e effect.items c1 ys

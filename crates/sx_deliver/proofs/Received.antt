@@ -24,6 +24,7 @@ use Rattle.sx_ledger.specs.declared.entry.Maker.TheVariants as maker
 use Rattle.sx_ledger.specs.Made.{NO_TARGET}
 use Rattle.sx_tag.specs.Mac.{IsTag}
 use Rattle.sx_tag.specs.Wrap.{wrapped}
+use Rattle.sx_tag.proofs.TagBytes.{AreBytes, all_bytes, cipher_bytes, tag_bytes, both_bytes}
 use Rattle.sx_machine.specs.Memory.{bytes_from, put_bytes}
 use Rattle.sx_machine.specs.State.{State}
 use Rattle.sx_invoke.specs.Setup.{Setup}
@@ -64,13 +65,12 @@ use Rattle.sx_setup.proofs.Acting.{packet_given}
 use Rattle.sx_setup.proofs.Bytes.{bytes_put}
 use Rattle.sx_setup.proofs.Free.{with_mem}
 use Rattle.sx_setup.proofs.KeyTaking.{put_serves, served_callable, served_low, served_put}
-use Rattle.sx_setup.proofs.Packets.{AreBytes, all_bytes, cipher_bytes, tag_bytes, both_bytes}
 use Rattle.sx_setup.proofs.Sites.{section_at}
 use Rattle.sx_setup.proofs.KeyLoop.{placed}
 use Rattle.sx_deliver.specs.Laws.{HaveWords}
 use Rattle.sx_deliver.specs.Schedule.{delivery_lines, take_lines}
 use Rattle.sx_deliver.proofs.ByLine.{call_shown, delivery_shown}
-use Rattle.sx_deliver.proofs.Calling.{Before, CalledThere, Follows, Makes, called_there, event_size, stays}
+use Rattle.sx_deliver.proofs.Calling.{Before, CalledThere, Makes, called_there, event_size, stays}
 use Rattle.sx_deliver.proofs.Effects.{emits_same, node_there, others_after, own_after, sends_few, sent_by, site_there}
 use Rattle.sx_deliver.proofs.Fitting.{delivery_is}
 use Rattle.sx_deliver.proofs.Found.{IsFound, end_there}
@@ -79,7 +79,7 @@ use Rattle.sx_deliver.proofs.InWords.{HasWord, reacted_words, words_with}
 use Rattle.sx_deliver.proofs.Leaving.{ends_passed}
 use Rattle.sx_deliver.proofs.Making.{acts_at, end_mapped, ends_apart, with_end_mapped}
 use Rattle.sx_deliver.proofs.Making.{Makes as MakesPackets}
-use Rattle.sx_deliver.proofs.Serving.{own_section, served_at}
+use Rattle.sx_deliver.proofs.Serving.{own_section, served_at, Follows}
 
 -- An event's packet is bytes.
 
@@ -390,7 +390,7 @@ module _ (set : Setting) (sound : IsSoundSetting set) (room : HasRoom set) (word
       subst (λ (zs : List Waiting). IsOnItsWay set w (setup_packets set.app + length past2 + length front) y.link (count_over y.link zs) y.value) (sym (append_assoc c.past (x ∷ []) front))
       (subst (λ (k : ℕ). IsOnItsWay set w k y.link (count_over y.link (c.past ++ x ∷ front)) y.value) place r)
 
-  follows : Follows set sound room c w settled m q site s g.to sited there next ws ys
+  follows : Follows set sound room c w settled m next ws ys
   follows = record {
     waits = refl;
     sent = sent;

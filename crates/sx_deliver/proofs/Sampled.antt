@@ -67,14 +67,14 @@ use Rattle.sx_setup.proofs.Sites.{section_at}
 use Rattle.sx_deliver.specs.Laws.{HaveWords}
 use Rattle.sx_deliver.specs.Schedule.{reading_lines, take_lines}
 use Rattle.sx_deliver.proofs.ByLine.{call_shown, reading_shown}
-use Rattle.sx_deliver.proofs.Calling.{Before, CalledThere, Follows, Makes, Stays, called_there}
+use Rattle.sx_deliver.proofs.Calling.{Before, CalledThere, Makes, Stays, called_there}
 use Rattle.sx_deliver.proofs.Effects.{emits_same, node_there, others_after, own_after, sends_few, sent_by, site_there}
 use Rattle.sx_deliver.proofs.Fitting.{reading_is}
 use Rattle.sx_deliver.proofs.Going.{Leads, Stands}
 use Rattle.sx_deliver.proofs.InWords.{reacted_words}
 use Rattle.sx_deliver.proofs.Making.{acts_at}
 use Rattle.sx_deliver.proofs.Making.{Makes as MakesPackets}
-use Rattle.sx_deliver.proofs.Serving.{own_section, served_at}
+use Rattle.sx_deliver.proofs.Serving.{own_section, served_at, Follows}
 
 -- the device that took a sample has it
 sensed_back : (ws : List Window) (k v : ℕ) (x : Window) → slice_get (with_sample ws k v) k ≡ Some x → (x.value ≡ v) × (x.fresh ≡ true)
@@ -331,7 +331,7 @@ module _ (set : Setting) (sound : IsSoundSetting set) (room : HasRoom set) (word
     few = sixteen;
   }
 
-  follows : Follows set sound room c w settled m q site s d.there sited there next c.plain.waiting ys
+  follows : Follows set sound room c w settled m next c.plain.waiting ys
   follows = record {
     waits = refl;
     sent = refl;

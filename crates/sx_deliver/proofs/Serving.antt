@@ -113,6 +113,16 @@ module _ (set : Setting) (sound : IsSoundSetting set) (room : HasRoom set) (c : 
             (subst (λ (z : Layout). apart a.layout.pub_from a.layout.pub_to z.pub_from z.pub_to ≡ true) (sym layouts) far.0)
       ]
 
+  -- how the course goes on: these values wait from before, and the event of the m-th module sends those
+  pub record Follows (m : ℕ) (c1 : Course) (rest ys : List Waiting) : Type 0 where
+    pub waits : c1.plain.waiting ≡ rest ++ ys
+    pub sent : c1.past ++ rest ≡ all_sent c
+    pub count : packets_so_far set.app c ≡ setup_packets set.app + length c1.past + length rest
+    pub old : (x : Waiting) (before after : List Waiting) → rest ≡ before ++ x ∷ after
+        → IsOnItsWay set w (setup_packets set.app + length c1.past + length before) x.link (count_over x.link (c1.past ++ before)) x.value
+    pub senders : (x : Waiting) → Among x ys → sender_of set.app x.link ≡ m
+    pub apart : (p : ℕ) → (m ≡ p → ⊥) → module_as set c p ≡ module_as set c1 p
+
   -- What an event of the m-th module leads to: its node is u, the packets and entries of the values that it sends stand behind all others,
   -- and no other module's state is another one.
   pub record Passes (m : ℕ) (q : PartTree) (site : Site) (sec : Section) (s u : State) (c1 : Course) (v : World) (rest ys : List Waiting) : Type 0 where
@@ -135,14 +145,8 @@ module _ (set : Setting) (sound : IsSoundSetting set) (room : HasRoom set) (c : 
     pub packets : v.packets ≡ w.packets ++ pieces_of set (all_sent c) ys
     pub deployer : v.deployer ≡ w.deployer
     pub ledger : v.ledger ≡ w.ledger ++ entries_for m (all_sent c) ys
-    pub waits : c1.plain.waiting ≡ rest ++ ys
-    pub sent : c1.past ++ rest ≡ all_sent c
-    pub count : packets_so_far set.app c ≡ setup_packets set.app + length c1.past + length rest
-    pub old : (x : Waiting) (before after : List Waiting) → rest ≡ before ++ x ∷ after
-        → IsOnItsWay set w (setup_packets set.app + length c1.past + length before) x.link (count_over x.link (c1.past ++ before)) x.value
-    pub senders : (x : Waiting) → Among x ys → sender_of set.app x.link ≡ m
+    pub follows : Follows m c1 rest ys
     pub pieces : length (pieces_of set (all_sent c) ys) ≡ length ys
-    pub apart : (p : ℕ) → (m ≡ p → ⊥) → module_as set c p ≡ module_as set c1 p
 
   among_mid : (front after : List Waiting) (x : Waiting) → Among x (front ++ x ∷ after)
   among_mid [] after x = inl refl
@@ -160,8 +164,8 @@ module _ (set : Setting) (sound : IsSoundSetting set) (room : HasRoom set) (c : 
         ap (λ (ps : List (List ℕ)). length ps) h.packets
         ∙ sums (length w.packets) (length (pieces_of set (all_sent c) ys)) (length ys) (setup_packets set.app + length c1.past) (length rest)
         (length c1.plain.waiting) (length (w.packets ++ pieces_of set (all_sent c) ys))
-        (length-append w.packets (pieces_of set (all_sent c) ys)) (settled.packets ∙ h.count) h.pieces (ap (λ (zs : List Waiting). length zs) h.waits ∙ length-append rest ys);
-    waiting = λ x before after e. by_place x before after (split_two rest ys before after x (sym h.waits ∙ e));
+        (length-append w.packets (pieces_of set (all_sent c) ys)) (settled.packets ∙ h.follows.count) h.pieces (ap (λ (zs : List Waiting). length zs) h.follows.waits ∙ length-append rest ys);
+    waiting = λ x before after e. by_place x before after (split_two rest ys before after x (sym h.follows.waits ∙ e));
   }
     where
       sums : (a b k p r l x : ℕ) → x ≡ a + b → a ≡ p + r → b ≡ k → l ≡ r + k → x ≡ p + l
@@ -203,7 +207,7 @@ module _ (set : Setting) (sound : IsSoundSetting set) (room : HasRoom set) (c : 
           let ids : sec.id ≢ y.id = other_ids m p q r site a s sec y (settled.nodes site.node s h.there).node h.part h.sited sited same differ h.lives x.1 h.layout refl in
           record {
             text = h.texts y x.1 ∙ old.text;
-            state = ap (λ bytes. state_of r.tree (ends_of set.app p) bytes) (h.others y x.1 ids) ∙ old.state ∙ h.apart p differ;
+            state = ap (λ bytes. state_of r.tree (ends_of set.app p) bytes) (h.others y x.1 ids) ∙ old.state ∙ h.follows.apart p differ;
           }
 
       by_module : (p : ℕ) (r : PartTree) (a : Site) (t : State) → slice_get set.app.parts p ≡ Some r → slice_get set.sites p ≡ Some a → ((m ≡ p) ⊎ (m ≡ p → ⊥))
@@ -221,7 +225,7 @@ module _ (set : Setting) (sound : IsSoundSetting set) (room : HasRoom set) (c : 
       by_module p r a t part sited (inr differ) (inl k) = subst (λ (z : State). ModuleStands set p r a (module_as set c1 p) z) k.1 (beside p r a part sited differ k.0)
       by_module p r a t part sited (inr differ) (inr k) =
           let old = settled.modules p r a t part sited k.1 in
-          record { text = old.text; state = old.state ∙ h.apart p differ }
+          record { text = old.text; state = old.state ∙ h.follows.apart p differ }
 
       by_place : (x : Waiting) (before after : List Waiting)
           → ((behind : List Waiting) × (rest ≡ before ++ x ∷ behind)) ⊎ ((front : List Waiting) × (before ≡ rest ++ front) × (ys ≡ front ++ x ∷ after))
@@ -229,17 +233,17 @@ module _ (set : Setting) (sound : IsSoundSetting set) (room : HasRoom set) (c : 
       by_place x before after (inl r) =
           way_kept set w v (pieces_of set (all_sent c) ys) (entries_for m (all_sent c) ys) (setup_packets set.app + length c1.past + length before) x.link
           (count_over x.link (c1.past ++ before)) x.value
-          h.packets h.ledger (h.old x before r.0 r.1)
+          h.packets h.ledger (h.follows.old x before r.0 r.1)
       by_place x before after (inr r) =
           let front = r.0 in
           let packets : v.packets ≡ w.packets ++ pieces_of set (all_sent c) (front ++ x ∷ after) = (h.packets ∙ ap (λ (zs : List Waiting). w.packets ++ pieces_of set (all_sent c) zs) r.2) in
           let ledger : v.ledger ≡ w.ledger ++ entries_for m (all_sent c) (front ++ x ∷ after) = (h.ledger ∙ ap (λ (zs : List Waiting). w.ledger ++ entries_for m (all_sent c) zs) r.2) in
-          let made = way_made set w v m (all_sent c) front after x packets ledger (h.senders x (subst (λ (zs : List Waiting). Among x zs) (sym r.2) (among_mid front after x))) in
+          let made = way_made set w v m (all_sent c) front after x packets ledger (h.follows.senders x (subst (λ (zs : List Waiting). Among x zs) (sym r.2) (among_mid front after x))) in
           let place : length w.packets + length front ≡ setup_packets set.app + length c1.past + length before =
-          (let a = settled.packets ∙ h.count in let b = ap (λ (zs : List Waiting). length zs) r.1 ∙ length-append rest front in
+          (let a = settled.packets ∙ h.follows.count in let b = ap (λ (zs : List Waiting). length zs) r.1 ∙ length-append rest front in
           adds (length w.packets) (length front) (setup_packets set.app + length c1.past) (length rest) (length before) a b) in
           let words : all_sent c ++ front ≡ c1.past ++ before =
-          (ap (λ (zs : List Waiting). zs ++ front) (sym h.sent) ∙ append_assoc c1.past rest front ∙ ap (λ (zs : List Waiting). c1.past ++ zs) (sym r.1)) in
+          (ap (λ (zs : List Waiting). zs ++ front) (sym h.follows.sent) ∙ append_assoc c1.past rest front ∙ ap (λ (zs : List Waiting). c1.past ++ zs) (sym r.1)) in
           subst (λ (zs : List Waiting). IsOnItsWay set v (setup_packets set.app + length c1.past + length before) x.link (count_over x.link zs) x.value) words
           (subst (λ (k : ℕ). IsOnItsWay set v k x.link (count_over x.link (all_sent c ++ front)) x.value) place made)
         where

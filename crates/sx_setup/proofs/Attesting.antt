@@ -9,6 +9,7 @@ use Rattle.sx_trace.specs.declared.items.Item.{Item}
 use Rattle.sx_trace.specs.declared.items.Item.TheVariants as item
 use Rattle.sx_ledger.specs.declared.entry.Maker.TheVariants as maker
 use Rattle.sx_tag.specs.Wrap.{wrapped}
+use Rattle.sx_tag.proofs.TagBytes.{all_bytes, tag_length}
 use Rattle.sx_machine.specs.Memory.{bytes_from, put_bytes}
 use Rattle.sx_machine.specs.State.{State}
 use Rattle.sx_invoke.specs.ModuleState.{ModuleState}
@@ -25,7 +26,7 @@ use Rattle.sx_run.specs.Run.{after_line, call, line_counted, run}
 use Rattle.sx_run.specs.Law.{IsSoundSetting}
 use Rattle.sx_run.proofs.tie.Lists.{get_end}
 use Rattle.sx_lists.proofs.Lists.{get_same}
-use Rattle.sx_wire.proofs.Numbers.{low_number}
+use Rattle.sx_wire.proofs.Numbers.{challenge_same}
 use Rattle.sx_run.proofs.tie.Entries.{made_in}
 use Rattle.sx_honest.specs.Course.{packet_items}
 use Rattle.sx_calls.specs.FourCalls.{CallDoes}
@@ -36,14 +37,10 @@ use Rattle.sx_setup.proofs.forms.Acting.{with_keys}
 use Rattle.sx_setup.proofs.forms.Attesting.{DoesFor, ModuleAttested, asking_items, asking_lines, grants_at, vouched_entry}
 use Rattle.sx_setup.proofs.Bytes.{bytes_put}
 use Rattle.sx_setup.proofs.Free.{with_mem}
-use Rattle.sx_setup.proofs.Packets.{all_bytes, ask_bytes, tag_length}
+use Rattle.sx_setup.proofs.Packets.{ask_bytes}
 use Rattle.sx_setup.proofs.Acting.{packet_given, piece_taken}
 use Rattle.sx_setup.proofs.Answering.{answer_accepted, append_more}
 use Rattle.sx_setup.proofs.KeyTaking.{call_serves, put_serves, served_after, served_callable, served_low, served_put, serves_then}
-
--- an ask's challenge
-challenge_same : (a : ℕ) → a < 4294967295 → challenge_in (ask_packet a) ≡ a
-challenge_same a h = low_number 16 a (omega (arith, h))
 
 ask_size : (a : ℕ) → length (ask_packet a) ≡ 18
 ask_size a = refl

@@ -13,6 +13,7 @@ use Rattle.sx_bus.specs.Devices.{places_of}
 use Rattle.sx_trace.specs.declared.items.Item.TheVariants as item
 use Rattle.sx_ledger.specs.declared.entry.Maker.TheVariants as maker
 use Rattle.sx_tag.specs.Wrap.{wrapped}
+use Rattle.sx_tag.proofs.TagBytes.{all_bytes, kdf_length}
 use Rattle.sx_machine.specs.Memory.{bytes_from, put_bytes}
 use Rattle.sx_machine.specs.Node.{IsNode}
 use Rattle.sx_machine.specs.NodeLaws.{shapes}
@@ -47,7 +48,7 @@ use Rattle.sx_setup.proofs.forms.Served.{IsServed, Serves, callee, state_on}
 use Rattle.sx_setup.proofs.forms.Acting.{KeyTaken, TakesKey, first_end, first_grant}
 use Rattle.sx_setup.proofs.Bytes.{bytes_put}
 use Rattle.sx_setup.proofs.Free.{no_device_low, with_mem}
-use Rattle.sx_setup.proofs.Packets.{all_bytes, kdf_length, set_key_bytes, set_key_length}
+use Rattle.sx_setup.proofs.Packets.{set_key_bytes, set_key_length}
 use Rattle.sx_setup.proofs.Acting.{packet_given}
 
 -- What is done for a module, one thing after the other.

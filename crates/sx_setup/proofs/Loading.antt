@@ -47,9 +47,10 @@ use Rattle.sx_run.proofs.steps.Bystanders.{apart_self}
 use Rattle.sx_calls.proofs.Registering.{all_set, node_twice, with_register, with_registers}
 use Rattle.sx_calls.proofs.Runner.{own_site, first_is}
 use Rattle.sx_machine.proofs.PublicKept.{put_other}
+use Rattle.sx_machine.proofs.Lengths.{length-put_bytes}
 use Rattle.sx_run.proofs.steps.Steps.{bounds_of}
 use Rattle.sx_setup.proofs.forms.Loaded.{IsLoadable, IsLoaded, LoadDoes, ModuleLoaded}
-use Rattle.sx_setup.proofs.Bytes.{bytes_put, put_long}
+use Rattle.sx_setup.proofs.Bytes.{bytes_put}
 use Rattle.sx_setup.proofs.Free.{IsOpen, low_open, no_device_low, one_put, open_free, pieces_put, with_mem}
 use Rattle.sx_gives.proofs.Low.{below_from}
 
@@ -437,7 +438,7 @@ module _ (set : Setting) (w : World) (m : ℕ) (q : PartTree) (site : Site) (s :
 
   code2 : (slice_index s2.mem 0 ≡ 0x81) × (slice_index s2.mem 1 ≡ 0x13)
   code2 =
-      let size : length s1.mem ≡ 65536 = put_long site.text s.mem l.pub_from ∙ h.node.memory.size in
+      let size : length s1.mem ≡ 65536 = length-put_bytes site.text s.mem l.pub_from ∙ h.node.memory.size in
       let one : List ℕ = slice_set s1.mem 0 0x81 in
       let size1 : length one ≡ 65536 = length-set s1.mem 0 0x81 ∙ size in
       (get_or-set_other one 1 0 0x13 0 (λ e. omega (arith, e)) ∙ get_or-set_same s1.mem 0 0x81 0 (omega (arith, size)), get_or-set_same one 1 0x13 0 (omega (arith, size1)))

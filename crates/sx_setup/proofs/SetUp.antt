@@ -1,7 +1,6 @@
 -- The whole set-up, from power-on.
-use Rattle.std.proofs.Common.{◌≡◌, ℕ, zero, suc, ◌+◌, ◌-◌, ◌==◌, false, if◌then◌else◌, List, [], ◌∷◌, ◌++◌, length, length-append, map, Some, refl, sym, ◌∙◌, ap, subst, arith}
+use Rattle.std.proofs.Common.{◌≡◌, ℕ, zero, suc, ◌+◌, ◌-◌, false, List, [], ◌∷◌, ◌++◌, length, length-append, map, Some, refl, sym, ◌∙◌, ap, subst, arith}
 use Rattle.std.specs.Prelude.{slice_get, slice_index_or}
-use Rattle.std.proofs.lemmas.Bool.Decides.{nat_tests}
 use Rattle.std.proofs.lemmas.List.{append-nil}
 use Rattle.sx_lang.specs.declared.sides.Side.{Side}
 use Rattle.sx_lang.specs.declared.sides.Side.TheVariants.{From, To}
@@ -14,13 +13,13 @@ use Rattle.sx_machine.specs.State.{State, power_on}
 use Rattle.sx_machine.specs.NodeLaws.{shapes}
 use Rattle.sx_invoke.specs.ModuleState.{EndState}
 use Rattle.sx_run.specs.Setting.{Site, Setting, windows_at}
-use Rattle.sx_run.specs.Deployer.{connection_key, list_at}
+use Rattle.sx_run.specs.Deployer.{connection_key}
 use Rattle.sx_run.specs.State.{World, Acted, nodes_from, switched_on}
 use Rattle.sx_run.specs.Acts.{then_}
 use Rattle.sx_run.specs.Run.{run}
 use Rattle.sx_run.specs.Law.{IsSoundSetting, devices_of}
 use Rattle.sx_run.proofs.steps.Entry.{shapes_on}
-use Rattle.sx_run.proofs.tie.Lists.{some_inj}
+use Rattle.sx_run.proofs.tie.Lists.{some_inj, list_at_is}
 use Rattle.sx_run.proofs.tie.Start.{nodes_long, on_is_node}
 use Rattle.sx_honest.specs.Plain.{Waiting}
 use Rattle.sx_honest.specs.Course.{course_start, packets_so_far, part_items, parts_items, parts_packets}
@@ -34,14 +33,6 @@ use Rattle.sx_setup.proofs.Runs.{run_append, shown_append}
 use Rattle.sx_setup.proofs.Answering.{append_more}
 use Rattle.sx_setup.proofs.Sites.{stale_windows}
 use Rattle.sx_setup.proofs.SoFar.{NodeSoFar, SoFar, done_next, far_next, marks_all, marks_none, packets_next, s_there}
-
-list_at_is : (xs : List (List ℕ)) (i : ℕ) (x : List ℕ) → slice_get xs i ≡ Some x → list_at xs i ≡ x
-list_at_is [] i x e = absurd cc
-list_at_is (y ∷ xs) zero x e = cc
-list_at_is (y ∷ xs) (suc i) x e =
-    let later : (suc i == 0) ≡ false = grind (arith, nat_tests) in
-    let less : suc i - 1 ≡ i = omega arith in
-    ap (λ b. if b then y else list_at xs (suc i - 1)) later ∙ ap (λ (k : ℕ). list_at xs k) less ∙ list_at_is xs i x e
 
 -- modules from the m-th on were set up
 record Result (set : Setting) (m number : ℕ) (qs : List PartTree) (w : World) : Type 0 where
