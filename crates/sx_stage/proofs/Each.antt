@@ -31,9 +31,6 @@ module _ {A B : Type 0} (Q : A → Type 0) (P : List B → Type 0) (make : List 
     (keeps : (done : List B) (row : A) (b : B) → Q row → P done → make done row ≡ Ok b → P (done ++ b ∷ [])) where
   pub made-each : (done : List B) (rows : List A) (out : List B) → Each Q rows → P done → made_after make done rows ≡ Ok out → P out
   made-each done [] out q p h = let same : done ≡ out = cc in subst P same p
-  made-each done (row ∷ rows) out q p h = turn (make done row) refl h (λ b. made-each (done ++ b ∷ []) rows out q.1)
-    where
-      turn : (r : Result B DeployFault) → make done row ≡ r → (r >>= (λ b. made_after make (done ++ b ∷ []) rows)) ≡ Ok out
-          → ((b : B) → P (done ++ b ∷ []) → made_after make (done ++ b ∷ []) rows ≡ Ok out → P out) → P out
-      turn (Ok b) e rest goes = goes b (keeps done row b q.0 p e) rest
-      turn (Err f) e rest goes = absurd (cc)
+  made-each done (row ∷ rows) out q p h =
+      let made = bind-Ok (make done row) (λ b. made_after make (done ++ b ∷ []) rows) out h in
+      made-each (done ++ made.0 ∷ []) rows out q.1 (keeps done row made.0 q.0 p made.1) made.2

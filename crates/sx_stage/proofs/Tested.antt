@@ -1,11 +1,11 @@
 -- What holds where no entry breaks a line, and where every entry was made.
 use Rattle.std.proofs.Common.{◌≡◌, ℕ, Bool, true, false, List, [], ◌∷◌, ◌++◌, Option, Some, None, option_map}
-use Rattle.std.proofs.Common.{Result, Ok, Err, refl, subst}
-use Rattle.sx_stage.specs.Fault.{◌>>=◌}
+use Rattle.std.proofs.Common.{Result, Ok, refl, subst}
 use Rattle.sx_stage.specs.Stage.{made_after}
 use Rattle.sx_stage.specs.Lines.{first_bad, entries, whole, first_of}
 use Rattle.sx_stage.specs.declared.fault.Sort.{Sort}
 use Rattle.sx_stage.specs.declared.fault.DeployFault.{DeployFault}
+use Rattle.sx_stage.proofs.Each.{bind-Ok}
 
 -- each line has no fault
 abbrev pub AreClear : List (Option DeployFault) → Type 0
@@ -32,9 +32,6 @@ whole-None rule sort false h = refl
 module _ {A B : Type 0} (P : List B → Type 0) (make : List B → A → Result B DeployFault) (keeps : (done : List B) (row : A) (b : B) → P done → make done row ≡ Ok b → P (done ++ b ∷ [])) where
   pub made-keeps : (done : List B) (rows : List A) (out : List B) → P done → made_after make done rows ≡ Ok out → P out
   made-keeps done [] out p h = let same : done ≡ out = cc in subst P same p
-  made-keeps done (row ∷ rows) out p h = turn (make done row) refl h (λ b more. made-keeps (done ++ b ∷ []) rows out more)
-    where
-      turn : (r : Result B DeployFault) → make done row ≡ r → (r >>= (λ b. made_after make (done ++ b ∷ []) rows)) ≡ Ok out
-          → ((b : B) → P (done ++ b ∷ []) → made_after make (done ++ b ∷ []) rows ≡ Ok out → P out) → P out
-      turn (Ok b) made' rest goes = goes b (keeps done row b p made') rest
-      turn (Err f) made' rest goes = absurd (cc)
+  made-keeps done (row ∷ rows) out p h =
+      let made = bind-Ok (make done row) (λ b. made_after make (done ++ b ∷ []) rows) out h in
+      made-keeps (done ++ made.0 ∷ []) rows out (keeps done row made.0 p made.1) made.2
