@@ -22,10 +22,7 @@ use Rattle.sx_forged.specs.Tags.{SameTags, rekeyed, AgreeOnTags}
 use Rattle.sx_forged.proofs.Instructions.{wrapped_same}
 use Rattle.sx_forged.proofs.Steps.{LikeState}
 use Rattle.sx_guard.proofs.Guarding.{append_same}
-
--- the world with other nodes
-abbrev pub with_nodes : World → List State → World
-with_nodes w ns = record w { nodes = ns }
+use Rattle.sx_guard.proofs.Acting.{with_nodes}
 
 module _ (mac nac : Mac) where
   abbrev pub LikeNodes : List State → List State → Type 0

@@ -16,14 +16,14 @@ use Rattle.sx_tag.specs.Wrap.{xor_bytes, stream, crypt, wrap_tag, Wrapped as Wra
 use Rattle.sx_machine.specs.declared.kinds.Event.TheVariants.{Protected, Wrapped}
 use Rattle.sx_machine.specs.Ranges.{passes_end, meets_device}
 use Rattle.sx_machine.specs.Plan.{Plan, Need, Tell, Bytes, Put, Writable}
-use Rattle.sx_machine.specs.Run.{Outcome, Module, exec}
+use Rattle.sx_machine.specs.Run.{Module, exec}
 use Rattle.sx_machine.specs.Given.{Given, own_section, untouched_with, concluded}
 use Rattle.sx_machine.specs.Protect.{layout_in, provider_in, identity_at, answer_registers, wiped, key_for, protected_if, protect, removed_if, unprotect}
 use Rattle.sx_machine.specs.ModuleRows.{answer, within, Buffer, tested, vouches, attested, attest, own_key, buffers, with_key, with_inputs, exchanged, wrap, opened, unwrap, module_row}
 use Rattle.sx_machine.specs.Modules.{module_instruction}
 use Rattle.sx_forged.specs.Tags.{SameTags}
 use Rattle.sx_forged.proofs.Tables.{LikeSection, LikeAll, LikeFound, holder_like, found_like, append_like, without_like, refusal_like}
-use Rattle.sx_forged.proofs.Plans.{LikeOutcome, Alike, same_alike, equal_alike, need_alike, bytes_alike}
+use Rattle.sx_forged.proofs.Plans.{LikeOutcome, Alike, same_alike, equal_alike, need_alike, bytes_alike, cond_like}
 
 -- what follows the key of a wrap or an unwrap
 abbrev pub behind : Given → (List ℕ → List ℕ → List ℕ → Plan) → List ℕ → Plan
@@ -254,9 +254,5 @@ module _ (mac nac : Mac) where
         let x = untouched_with g m in
         let rows = exec g.sections g.own (module_row mac code g) x in
         let rowt = exec u g.own (module_row nac code other) x in
-        by (code == 0) (unprotect g m) (unprotect other m) (cond (code == 1) (protect mac g m) rows) (cond (code == 1) (protect nac other m) rowt) (unprotect_like m)
-        (by (code == 1) (protect mac g m) (protect nac other m) rows rowt (protect_like m) (row_alike code x))
-      where
-        by : (b : Bool) (o p q r : Outcome) → LikeOutcome mac nac o p → LikeOutcome mac nac q r → LikeOutcome mac nac (cond b o q) (cond b p r)
-        by true o p q r h f = h
-        by false o p q r h f = f
+        cond_like mac nac (code == 0) (unprotect g m) (unprotect other m) (cond (code == 1) (protect mac g m) rows) (cond (code == 1) (protect nac other m) rowt) (unprotect_like m)
+        (cond_like mac nac (code == 1) (protect mac g m) (protect nac other m) rows rowt (protect_like m) (row_alike code x))

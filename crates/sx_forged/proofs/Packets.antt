@@ -100,9 +100,6 @@ unfolding read_bytes
 read_allowed s devices mem zero at bs e i lt = absurd (omega (arith, lt))
 read_allowed s devices mem (suc n) at bs e i lt = first (read_byte s devices mem at) refl (read_bytes s devices mem (at + 1) n) (read_allowed s devices mem n (at + 1)) e i lt
   where
-    AllRead : Type 0
-    AllRead = (xs : List ℕ) → read_bytes s devices mem (at + 1) n ≡ Ok xs → (j : ℕ) → j < n → may s.live s.section.id Read (at + 1 + j) ≡ true
-
     here : (b : ℕ) → read_byte s devices mem at ≡ Ok b → (r : Result (List ℕ) Violation) → ((xs : List ℕ) → r ≡ Ok xs → (j : ℕ) → j < n → may s.live s.section.id Read (at + 1 + j) ≡ true)
         → then_ r (λ xs. Ok (b ∷ xs)) ≡ Ok bs → (i : ℕ) → i < suc n → may s.live s.section.id Read (at + i) ≡ true
     here b q (Err v) f e i lt = absurd cc

@@ -26,13 +26,13 @@ module _ (mac nac : Mac) where
   LikeOutcome (Module r x t e c) (Finished q y) = ⊥
   LikeOutcome (Module r x t e c) (Violated w) = ⊥
 
-  if_like : (b : Bool) (o p : Outcome) (v : Violation) → LikeOutcome o p → LikeOutcome (cond b o (Violated v)) (cond b p (Violated v))
-  if_like true o p v h = h
-  if_like false o p v h = refl
+  pub cond_like : (b : Bool) (o p q r : Outcome) → LikeOutcome o p → LikeOutcome q r → LikeOutcome (cond b o q) (cond b p r)
+  cond_like true o p q r h f = h
+  cond_like false o p q r h f = f
 
   -- the same where the tests are equal
   pub ifs_like : (b c : Bool) (o p : Outcome) (v : Violation) → c ≡ b → LikeOutcome o p → LikeOutcome (cond b o (Violated v)) (cond c p (Violated v))
-  ifs_like b c o p v e h = subst (λ (d : Bool). LikeOutcome (cond b o (Violated v)) (cond d p (Violated v))) (sym e) (if_like b o p v h)
+  ifs_like b c o p v e h = subst (λ (d : Bool). LikeOutcome (cond b o (Violated v)) (cond d p (Violated v))) (sym e) (cond_like b o p (Violated v) (Violated v) h refl)
 
   read_like : (r : Result (ℕ × Moment) Violation) (f g : ℕ → Moment → Outcome) → ((v : ℕ) (y : Moment) → LikeOutcome (f v y) (g v y)) → LikeOutcome (after_read r f) (after_read r g)
   read_like (Ok r) f g h = h r.0 r.1
@@ -103,10 +103,6 @@ module _ (mac nac : Mac) where
 
     pub need_alike : (b : Bool) (v : Violation) (p q : Plan) → Alike p q → Alike (Need b v p) (Need b v q)
     need_alike b v p q h x = ifs_like b b (exec t own p x) (exec u own q x) v refl (h x)
-
-    pub writable_alike : (at n : ℕ) (p q : Plan) → Alike p q → Alike (Writable at n p) (Writable at n q)
-    writable_alike at n p q h x =
-        ifs_like (may_range t.live own Write at n) (may_range u.live own Write at n) (exec t own p x) (exec u own q x) bad.Write (may_range_like Write at n) (h x)
 
     -- bytes are read, as many as were asked for
     pub bytes_alike : (at n : ℕ) (k l : List ℕ → Plan) → ((bs : List ℕ) → length bs ≡ n → Alike (k bs) (l bs)) → Alike (Bytes at n k) (Bytes at n l)

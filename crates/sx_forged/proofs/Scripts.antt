@@ -27,13 +27,14 @@ use Rattle.sx_guard.specs.Lines.{script_of, line_script}
 use Rattle.sx_guard.proofs.Alone.{AllPlaced}
 use Rattle.sx_guard.proofs.Guarding.{on_placed, performed_placed}
 use Rattle.sx_guard.proofs.Performing.{is_performed}
+use Rattle.sx_guard.proofs.Acting.{with_nodes}
 use Rattle.sx_forged.specs.Tags.{rekeyed, AgreeOnTags}
 use Rattle.sx_forged.specs.Bare.{bare_section, bare_node, bare}
 use Rattle.sx_forged.specs.Unseen.{ShowTheSame, KeysUnseen, RunsKeysUnseen, played, PlayersSeeTheSame}
 use Rattle.sx_forged.proofs.Tables.{LikeAll}
 use Rattle.sx_forged.proofs.Steps.{LikeKeys, LikeState, LikeShown, step_like}
 use Rattle.sx_forged.proofs.Acting.{put_like, take_like, set_like, sense_like, irq_like, reset_states, runner_like, observed_like}
-use Rattle.sx_forged.proofs.Granting.{with_nodes, LikeNodes, LikeGot, got_like, put_in_like, LikeWorld, LikeActed, like_nodes, packet_like, answer_like}
+use Rattle.sx_forged.proofs.Granting.{LikeNodes, LikeGot, got_like, put_in_like, LikeWorld, LikeActed, like_nodes, packet_like, answer_like}
 
 -- the element of the next index
 at_next : (x : List ℕ) (xs : List (List ℕ)) (i : ℕ) → list_at (x ∷ xs) (suc i) ≡ list_at xs i

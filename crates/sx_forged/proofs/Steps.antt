@@ -1,5 +1,5 @@
 -- A node does the same step where no tag tells its keys apart.
-use Rattle.std.proofs.Common.{◌≡◌, ℕ, ◌-◌, Bool, true, false, cond, ◌==◌, ◌||◌, List, slice_index, Option, Some, None, refl, sym, ◌∙◌, ap, subst, length}
+use Rattle.std.proofs.Common.{◌≡◌, ℕ, ◌-◌, cond, ◌==◌, ◌||◌, List, slice_index, Option, Some, None, refl, sym, ◌∙◌, ap, subst, length}
 use Rattle.sx_rules.specs.declared.access.Violation.{Violation}
 use Rattle.sx_rules.specs.declared.access.Violation.TheVariants as bad
 use Rattle.sx_rules.specs.Access.{Sections, holder, in_order}
@@ -18,7 +18,7 @@ use Rattle.sx_machine.specs.Modules.{module_instruction}
 use Rattle.sx_machine.specs.Step.{Shown, pc_of, own_of, start, is_module_word, entered_from, given_at_pc, instruction, ordered, word_outside, attempt, state_after, left, settled_step, step}
 use Rattle.sx_forged.specs.Tags.{SameTags}
 use Rattle.sx_forged.proofs.Tables.{LikeAll, holder_like, in_order_like, word_outside_like, live_like}
-use Rattle.sx_forged.proofs.Plans.{LikeOutcome, ifs_like, same_alike}
+use Rattle.sx_forged.proofs.Plans.{LikeOutcome, ifs_like, same_alike, cond_like}
 use Rattle.sx_forged.proofs.Instructions.{instruction_like}
 
 -- the node with another key and other sections
@@ -96,12 +96,8 @@ module _ (mac nac : Mac) where
       instruction_same : LikeOutcome mac nac (instruction mac s) (instruction nac twin)
       instruction_same =
           let w = word s.mem (pc_of s) in
-          by (is_module_word w) (module_instruction mac (w - 0x1380) (given_at_pc mac s) s.mem) (module_instruction nac (w - 0x1380) (given_at_pc nac twin) s.mem)
+          cond_like mac nac (is_module_word w) (module_instruction mac (w - 0x1380) (given_at_pc mac s) s.mem) (module_instruction nac (w - 0x1380) (given_at_pc nac twin) s.mem)
           (exec s.sections (own_of s) (program w s.regs) (start s)) (exec u (own_of twin) (program w s.regs) (start s)) (module_word_like (w - 0x1380)) (plain_like w)
-        where
-          by : (b : Bool) (o p q r : Outcome) → LikeOutcome mac nac o p → LikeOutcome mac nac q r → LikeOutcome mac nac (cond b o q) (cond b p r)
-          by true o p q r h f = h
-          by false o p q r h f = f
 
       ordered_like : (d : Option ℕ) → LikeOutcome mac nac (ordered mac s d) (ordered nac twin d)
       ordered_like (Some d) = refl

@@ -5,14 +5,13 @@ use Rattle.sx_rules.specs.declared.access.Access.{Access}
 use Rattle.sx_rules.specs.declared.access.Access.TheVariants.{Read, Write, Run}
 use Rattle.sx_rules.specs.declared.section.Section.{Section}
 use Rattle.sx_rules.specs.declared.section.Layout.{Layout}
-use Rattle.sx_rules.specs.declared.admission.Refusal.{Refusal}
-use Rattle.sx_rules.specs.declared.admission.Refusal.TheVariants.{Bounds, Overlap, Device, Full, Ids}
 use Rattle.sx_rules.specs.Access.{Sections, in_public, in_private, allows, may, holder, outside_private, in_order, extends, section_of}
 use Rattle.sx_rules.specs.Admission.{clear_of, good_bounds, parts_apart, no_overlap, no_device, is_full, ids_used, refusal, without}
 use Rattle.sx_tag.specs.Mac.{Mac}
 use Rattle.sx_machine.specs.Ranges.{meets, meets_private, meets_public}
 use Rattle.sx_machine.specs.Step.{is_live, word_outside}
 use Rattle.sx_machine.specs.Memory.{even}
+use Rattle.sx_machine.proofs.ProtectGuard.{chosen}
 use Rattle.sx_forged.specs.Tags.{SameTags}
 
 module _ (mac nac : Mac) where
@@ -127,9 +126,6 @@ module _ (mac nac : Mac) where
   without_like (x ∷ xs) (y ∷ ys) id h =
       subst (λ (i : ℕ). LikeAll (cond (x.id == id) xs (x ∷ without xs id)) (cond (i == id) ys (y ∷ without ys id))) (sym (ap (λ (z : Section). z.id) h.0.0))
       (kept_like (x.id == id) x y xs ys (without xs id) (without ys id) h.0 h.1 (without_like xs ys id h.1))
-
-  abbrev chosen : Bool → Bool → Bool → Bool → Bool → Option Refusal
-  chosen a b c d e = cond (not a) (Some Bounds) (cond (not b) (Some Overlap) (cond (not c) (Some Device) (cond d (Some Full) (cond e (Some Ids) None))))
 
   pub refusal_like : (t u : Sections) (l : Layout) (places : List ℕ) → LikeAll t.live u.live → u.next ≡ t.next → refusal u l places ≡ refusal t l places
   unfolding refusal
