@@ -4,9 +4,12 @@ use Rattle.sx_isa.specs.declared.instruction.Instr.{Instr}
 use Rattle.sx_isa.specs.Spelling.{spelling}
 use Rattle.sx_isa.specs.Instructions.{BeginsWith}
 use Rattle.sx_isa.specs.Reading.{instruction_at}
-use Rattle.sx_isa.specs.Memory.{word}
+use Rattle.sx_isa.specs.Memory.{even, word}
 use Rattle.sx_isa.specs.Standing.{word_at, WordsStand, InstructionStands, AllStand, AreInstructions, words_of}
 use Rattle.sx_isa.proofs.Spelled.{reads, spelling_short}
+
+pub even_same : (a : ℕ) → a % 2 ≡ 0 → even a ≡ a
+even_same a e = omega (arith, e)
 
 -- an address counts modulo 65,536
 word_same : (bytes : List ℕ) (a b : ℕ) → a % 65536 ≡ b % 65536 → word_at bytes a ≡ word_at bytes b

@@ -27,3 +27,4 @@ pub mod RunsByTable
 pub mod DoesWhatStands
 pub mod Lengths
 pub mod BytesFrom
+pub mod SameRights
