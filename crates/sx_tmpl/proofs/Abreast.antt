@@ -111,7 +111,7 @@ module _ (mac nac : Mac) (s : Setup) (n : State) (mem : List ℕ) (u : Sections)
   abbrev Same : Outcome → Outcome → Type 0
   Same o p = SamePlain places o p
 
-  word_twin : word_outside n.sections.live (pc_of n) ≡ true → word mem (pc_of n) ≡ word n.mem (pc_of n)
+  pub word_twin : word_outside n.sections.live (pc_of n) ≡ true → word mem (pc_of n) ≡ word n.mem (pc_of n)
   word_twin e =
       let p = and_parts (outside_private n.sections.live (even (pc_of n))) (outside_private n.sections.live (even (pc_of n) + 1)) e in
       let lo = agree.same (even (pc_of n)) (fit.outside (even (pc_of n)) (sym (ap (λ (l : List Section). outside_private l (even (pc_of n))) live) ∙ p.0)) in

@@ -4,7 +4,7 @@ pub mod Running
 pub mod Operations
 pub mod Texts
 pub mod Putting
+pub mod Agreeing
 pub mod Twins
 pub mod Abreast
 pub mod Seals
-pub mod Turns

@@ -1,16 +1,18 @@
 -- A wrap or an unwrap of a module's code is the same step in two nodes that differ in keys, if it gives the same in both.
-use Rattle.std.proofs.Common.{◌≡◌, ℕ, zero, suc, ◌+◌, ◌-◌, ◌%◌, ◌<◌, ◌≤◌, ◌==◌, ◌&&◌, Bool, true, false, cond, not, inl, inr, List, [], ◌∷◌, length, take, slice_index, slice_set, Option, Some, None}
+use Rattle.std.proofs.Common.{◌≡◌, ℕ, zero, suc, ◌+◌, ◌-◌, ◌<◌, ◌≤◌, ◌==◌, ◌&&◌, Bool, true, false, cond, not, inl, inr, List, [], ◌∷◌, length, take, slice_index, Option, Some, None}
 use Rattle.std.proofs.Common.{refl, sym, ◌∙◌, ap, ap₂, subst, arith, map}
 use Rattle.std.specs.Prelude.{nat_le}
 use Rattle.std.specs.List.{list_any}
 use Rattle.std.proofs.lemmas.Bool.{and_parts, cases_lt, eqb-true}
 use Rattle.std.proofs.lemmas.List.{length-take}
+use Rattle.sx_machine.proofs.Meanings.{same_bytes}
+use Rattle.sx_machine.proofs.SameRights.{same_each, same_range}
 use Rattle.sx_rules.specs.declared.access.Access.{Access}
 use Rattle.sx_rules.specs.declared.access.Access.TheVariants.{Read, Write}
 use Rattle.sx_rules.specs.declared.access.Violation.{Violation}
 use Rattle.sx_rules.specs.declared.access.Violation.TheVariants as bad
 use Rattle.sx_rules.specs.declared.section.Section.{Section}
-use Rattle.sx_rules.specs.Access.{Sections, holder, in_order, may, outside_private, section_of}
+use Rattle.sx_rules.specs.Access.{Sections, holder, in_order, may, section_of}
 use Rattle.sx_bus.specs.Devices.{device_at, places_of}
 use Rattle.sx_tag.specs.Mac.{Mac}
 use Rattle.sx_tag.specs.Wrap.{padded, unwrapped, wrapped}
@@ -36,30 +38,8 @@ use Rattle.sx_image.specs.Watched.{Watched, marks_of_event, marks_of_touches, vi
 use Rattle.sx_tmpl.specs.Unseen.{AreShown, SealShowsNone, WordShowsNone}
 use Rattle.sx_tmpl.specs.Steady.{AgreeAt, AreOpen, SameMarks, SameOpened, SealsAlike, StepAbreast, StepsSteady, keyless}
 use Rattle.sx_tmpl.proofs.Running.Holding.{are_part}
-use Rattle.sx_tmpl.proofs.Twins.{SameMoments, set_agree, set_apart}
-use Rattle.sx_tmpl.proofs.Abreast.{holder_keyless, live_keyless, may_keyless, order_keyless, outside_keyless, plain_abreast, same_all, same_more}
-
-put_agree : (free : ℕ → Type 0) (bs m n : List ℕ) (at : ℕ) → AgreeAt free m n → AgreeAt free (put_bytes m at bs) (put_bytes n at bs)
-put_agree free [] m n at h = h
-put_agree free (b ∷ bs) m n at h = put_agree free bs (slice_set m at (b % 256)) (slice_set n at (b % 256)) (at + 1) (set_agree free m n at (b % 256) h)
-
--- bytes at places that don't count
-put_apart : (free : ℕ → Type 0) (bs cs m n : List ℕ) (at : ℕ) → length cs ≡ length bs → ((k : ℕ) → at ≤ k → k < at + length bs → free k → ⊥) → AgreeAt free m n
-    → AgreeAt free (put_bytes m at bs) (put_bytes n at cs)
-put_apart free [] [] m n at e off h = h
-put_apart free [] (c ∷ cs) m n at e off h = absurd (omega (arith, e))
-put_apart free (b ∷ bs) [] m n at e off h = absurd (omega (arith, e))
-put_apart free (b ∷ bs) (c ∷ cs) m n at e off h =
-    put_apart free bs cs (slice_set m at (b % 256)) (slice_set n at (c % 256)) (at + 1) (omega (arith, e)) (λ k p q. off k (omega arith) (omega (arith, q)))
-    (set_apart free m n at (b % 256) (c % 256) (off at (omega arith) (omega arith)) h)
-
-each_same : (m n : List ℕ) (at len : ℕ) → ((k : ℕ) → at ≤ k → k < at + len → slice_index m k ≡ slice_index n k) → bytes_from n at len ≡ bytes_from m at len
-unfolding bytes_from
-each_same m n at zero f = refl
-each_same m n at (suc len) f =
-    let ih : bytes_from n at len ≡ bytes_from m at len = each_same m n at len (λ k a b. f k a (omega arith)) in
-    let here : slice_index m (at + len) ≡ slice_index n (at + len) = f (at + len) (omega arith) (omega arith) in
-    cc
+use Rattle.sx_tmpl.proofs.Agreeing.{SameMoments, put_agree, put_apart}
+use Rattle.sx_tmpl.proofs.Abreast.{holder_keyless, live_keyless, may_keyless, order_keyless, outside_keyless, plain_abreast, same_all, same_more, word_twin}
 
 module _ (s : Setup) (t u : Sections) (live : t.live ≡ s.live) (places : ℕ → Type 0) (fit : AreOpen s places)
     (mays : (access : Access) (at : ℕ) → may u.live s.section.id access at ≡ may t.live s.section.id access at) where
@@ -79,14 +59,6 @@ module _ (s : Setup) (t u : Sections) (live : t.live ≡ s.live) (places : ℕ �
 
   abbrev pub Alike : Plan → Plan → Moment → List ℕ → Type 0
   Alike p q x n = SameTold (exec t own p x) (exec u own q (with_mem x n))
-
-  range_same : (access : Access) (at n : ℕ) → may_range u.live own access at n ≡ may_range t.live own access at n
-  range_same access at zero = refl
-  range_same access at (suc n) = ap₂ (λ b c. b && c) (mays access (at + n)) (range_same access at n)
-
-  each_may : (access : Access) (at : ℕ) (bs : List ℕ) → may_each u.live own access at bs ≡ may_each t.live own access at bs
-  each_may access at [] = refl
-  each_may access at (b ∷ bs) = ap₂ (λ b c. b && c) (mays access at) (each_may access (at + 1) bs)
 
   ifs_same : (b c : Bool) (o p : Outcome) (v : Violation) → c ≡ b → (b ≡ true → SameTold o p) → SameTold (cond b o (Violated v)) (cond c p (Violated v))
   ifs_same b c o p v e f = subst (λ (z : Bool). SameTold (cond b o (Violated v)) (cond z p (Violated v))) (sym e) (by b f)
@@ -123,9 +95,9 @@ module _ (s : Setup) (t u : Sections) (live : t.live ≡ s.live) (places : ℕ �
     bytes_ : (at len : ℕ) (k l : List ℕ → Plan) → AreShown s at len → Alike (k (bytes_from x.mem at len)) (l (bytes_from x.mem at len)) x n → Alike (Bytes at len k) (Bytes at len l) x n
     bytes_ at len k l shown h =
         ifs_same (may_range t.live own Read at len) (may_range u.live own Read at len) (exec t own (k (bytes_from x.mem at len)) x) (exec u own (l (bytes_from n at len)) (with_mem x n)) bad.Read
-        (range_same Read at len) (λ e.
+        (same_range t.live u.live own mays Read at len) (λ e.
         subst (λ (bs : List ℕ). SameTold (exec t own (k (bytes_from x.mem at len)) x) (exec u own (l bs) (with_mem x n)))
-        (sym (each_same x.mem n at len (λ i a b. agree.same i (range_open at len len shown (omega arith) e i a b)))) h)
+        (same_bytes n x.mem at len (λ i a b. agree.same i (range_open at len len shown (omega arith) e i a b))) h)
 
     -- the key is read, whatever it is in each
     key_ : (regs : List ℕ) (g h : Given) (a b : Section) (k l : List ℕ → Plan) → g.regs ≡ regs → h.regs ≡ regs
@@ -143,14 +115,14 @@ module _ (s : Setup) (t u : Sections) (live : t.live ≡ s.live) (places : ℕ �
         by true h = h
         by false h =
             ifs_same (may_range t.live own Read at 16) (may_range u.live own Read at 16) (exec t own (k (bytes_from x.mem at 16)) x) (exec u own (l (bytes_from n at 16)) (with_mem x n)) bad.Read
-            (range_same Read at 16) (λ e. h)
+            (same_range t.live u.live own mays Read at 16) (λ e. h)
 
   -- bytes are written
   puts : (x : Moment) (n : List ℕ) (at : ℕ) (bs : List ℕ) (p q : Plan) → AgreeAt places x.mem n
       → (AgreeAt places (put_bytes x.mem at bs) (put_bytes n at bs) → Alike p q (record x { mem = put_bytes x.mem at bs }) (put_bytes n at bs)) → Alike (Put at bs p) (Put at bs q) x n
   puts x n at bs p q h f =
       ifs_same (may_each t.live own Write at bs) (may_each u.live own Write at bs) (exec t own p (record x { mem = put_bytes x.mem at bs }))
-      (exec u own q (record (with_mem x n) { mem = put_bytes n at bs })) bad.Write (each_may Write at bs) (λ e. f (put_agree places bs x.mem n at h))
+      (exec u own q (record (with_mem x n) { mem = put_bytes n at bs })) bad.Write (same_each t.live u.live own mays Write at bs) (λ e. f (put_agree places bs x.mem n at h))
 
   -- other bytes, where places don't count
   each_len : (at : ℕ) (bs cs : List ℕ) → length cs ≡ length bs → may_each t.live own Write at cs ≡ may_each t.live own Write at bs
@@ -225,7 +197,7 @@ module _ (s : Setup) (t u : Sections) (live : t.live ≡ s.live) (places : ℕ �
         let told : Plan = Tell (concluded g.regs 1) (event.Unwrapped g.own) (exchanged g.regs ad plain) in
         let told2 : Plan = Tell (concluded g.regs 1) (event.Unwrapped g.own) (exchanged g.regs ad plain2) in
         ifs_same (may_each t.live own Write (at 14) plain) (may_each u.live own Write (at 14) plain2) (exec t own told (record x { mem = put_bytes x.mem (at 14) plain }))
-        (exec u own told2 (record (with_mem x n) { mem = put_bytes n (at 14) plain2 })) bad.Write (each_may Write (at 14) plain2 ∙ each_len (at 14) plain plain2 len) (λ e. (
+        (exec u own told2 (record (with_mem x n) { mem = put_bytes n (at 14) plain2 })) bad.Write (same_each t.live u.live own mays Write (at 14) plain2 ∙ each_len (at 14) plain plain2 len) (λ e. (
           refl,
           record {
             rest = refl;
@@ -254,7 +226,7 @@ module _ (s : Setup) (t u : Sections) (live : t.live ≡ s.live) (places : ℕ �
         (λ k ad text. Bytes (at 15) 16 (λ tag. Writable (at 14) (at 13) (opened h ad (unwrapped nac k ad text tag))))
         (bytes_ x n agree (at 15) 16 (λ tag. Writable (at 14) (at 13) (opened g ad (unwrapped mac key ad text tag))) (λ tag. Writable (at 14) (at 13) (opened h ad (unwrapped nac key2 ad text tag))) tag_shown
         (ifs_same (may_range t.live own Write (at 14) (at 13)) (may_range u.live own Write (at 14) (at 13)) (exec t own (opened g ad (unwrapped mac key ad text tag)) x)
-        (exec u own (opened h ad (unwrapped nac key2 ad text tag)) (with_mem x n)) bad.Write (range_same Write (at 14) (at 13)) (λ e.
+        (exec u own (opened h ad (unwrapped nac key2 ad text tag)) (with_mem x n)) bad.Write (same_range t.live u.live own mays Write (at 14) (at 13)) (λ e.
         opened_alike to (unwrapped mac key ad text tag) (unwrapped nac key2 ad text tag) z)))
 
 -- Two nodes, at a wrap or an unwrap of the module's code.
@@ -324,18 +296,11 @@ module _ (nac : Mac) (s : Setup) (n : State) (mem : List ℕ) (u : Sections) (ke
   ifs_told : (b c : Bool) (o p : Outcome) (v : Violation) → c ≡ b → (b ≡ true → Told o p) → Told (cond b o (Violated v)) (cond c p (Violated v))
   ifs_told = ifs_same s n.sections u live places fit (λ access at. may_keyless n.sections.live u.live same s.section.id access at)
 
-  word_twin : word_outside n.sections.live (pc_of n) ≡ true → word mem (pc_of n) ≡ word n.mem (pc_of n)
-  word_twin e =
-      let p = and_parts (outside_private n.sections.live (even (pc_of n))) (outside_private n.sections.live (even (pc_of n) + 1)) e in
-      let lo = agree.same (even (pc_of n)) (fit.outside (even (pc_of n)) (sym (ap (λ (l : List Section). outside_private l (even (pc_of n))) live) ∙ p.0)) in
-      let hi = agree.same (even (pc_of n) + 1) (fit.outside (even (pc_of n) + 1) (sym (ap (λ (l : List Section). outside_private l (even (pc_of n) + 1)) live) ∙ p.1)) in
-      cc
-
   attempt_told : SealShowsNone s entered c (word n.mem (pc_of n)) n.regs → SealsAlike s nac other n m → Told (attempt s.mac n) (attempt nac m)
   attempt_told shown alike =
       ifs_told (word_outside n.sections.live (pc_of n)) (word_outside u.live (pc_of n)) (ordered s.mac n (device_at n.devices (pc_of n))) (ordered nac m (device_at n.devices (pc_of n))) bad.Fetch
       (ap₂ (λ b c. b && c) (outside_keyless n.sections.live u.live same (even (pc_of n))) (outside_keyless n.sections.live u.live same (even (pc_of n) + 1)))
-      (λ e. by (device_at n.devices (pc_of n)) (word_twin e))
+      (λ e. by (device_at n.devices (pc_of n)) (word_twin s.mac nac s n mem u key exchange places fit live same next agree own e))
     where
       by : (d : Option ℕ) → word mem (pc_of n) ≡ word n.mem (pc_of n) → Told (ordered s.mac n d) (ordered nac m d)
       by (Some device) e = refl

@@ -1,95 +1,26 @@
 -- A plan that shows no key does the same in two nodes that differ in keys.
-use Rattle.std.proofs.Common.{◌≡◌, ℕ, ◌+◌, ◌/◌, ◌%◌, ◌<◌, ◌≤◌, Bool, true, false, cond, ◌&&◌, inl, inr, List, length, slice_index, slice_set, Option, Some, None, Result, Ok, Err}
+use Rattle.std.proofs.Common.{◌≡◌, ℕ, ◌+◌, Bool, true, false, cond, ◌&&◌, inl, inr, List, Option, None, Result, Ok, Err}
 use Rattle.std.proofs.Common.{refl, sym, ◌∙◌, ap, ap₂, subst, arith}
-use Rattle.std.proofs.lemmas.List.{length-set, get_or-set_same, get_or-set_other, set_past}
-use Rattle.std.proofs.lemmas.Bool.{and_parts, cases_eq, cases_lt}
+use Rattle.std.proofs.lemmas.Bool.{and_parts}
+use Rattle.sx_machine.proofs.SameRights.{same_at}
 use Rattle.sx_rules.specs.declared.access.Access.{Access}
 use Rattle.sx_rules.specs.declared.access.Access.TheVariants.{Read, Write}
 use Rattle.sx_rules.specs.declared.access.Violation.{Violation}
 use Rattle.sx_rules.specs.declared.access.Violation.TheVariants as bad
 use Rattle.sx_rules.specs.Access.{Sections, extends, may}
-use Rattle.sx_bus.specs.declared.devices.Kind.{Kind}
-use Rattle.sx_bus.specs.declared.devices.Kind.TheVariants.{Sensor, Actuator}
 use Rattle.sx_bus.specs.declared.devices.Window.{Window}
-use Rattle.sx_bus.specs.Devices.{cleared, device_at}
-use Rattle.sx_machine.specs.declared.kinds.Touch.TheVariants.{DeviceRead}
-use Rattle.sx_machine.specs.Memory.{even, read_at, write_at}
+use Rattle.sx_bus.specs.Devices.{device_at}
+use Rattle.sx_machine.specs.Memory.{even, read_at}
 use Rattle.sx_machine.specs.Plan.{Plan, Done, Tell, Stop, Fetch, Load, Store, Need, Writable, Bytes, Put}
-use Rattle.sx_machine.specs.Run.{Moment, with_touch, Outcome, Finished, Violated, Module, may_at, sampled, device_of, found, read_device, read_place, load, write_device}
+use Rattle.sx_machine.specs.Run.{Moment, Outcome, Finished, Violated, Module, may_at, device_of, found, read_place, load}
 use Rattle.sx_machine.specs.Run.{write_place, store, fetch_place, fetch, after_read, after_write, after_fetch, exec}
 use Rattle.sx_machine.proofs.PlanGuard.{with_mem}
 use Rattle.sx_invoke.specs.Setup.{Setup}
 use Rattle.sx_tmpl.specs.Unseen.{AreShown, PlanShowsNone, MovesKey}
 use Rattle.sx_tmpl.specs.Steady.{AgreeAt, AreOpen}
-
--- Memories.
-
--- the bytes of an access, which are a word's two or the one
-abbrev AtPlaces : (ℕ → Type 0) → Bool → ℕ → Type 0
-AtPlaces free true at = free (even at) × free (even at + 1)
-AtPlaces free false at = free at
-
-module _ (free : ℕ → Type 0) where
-  read_agree : (wide : Bool) (m n : List ℕ) (at : ℕ) → AgreeAt free m n → AtPlaces free wide at → read_at wide m at ≡ read_at wide n at
-  read_agree true m n at h p =
-      let a = h.same (even at) p.0 in
-      let b = h.same (even at + 1) p.1 in
-      cc
-  read_agree false m n at h p = h.same at p
-
-  -- the same byte written to both
-  pub set_agree : (m n : List ℕ) (i v : ℕ) → AgreeAt free m n → AgreeAt free (slice_set m i v) (slice_set n i v)
-  set_agree m n i v h = record {
-    size = length-set m i v ∙ h.size ∙ sym (length-set n i v);
-    same = λ k p.
-        elim (cases_eq k i) [
-          | inl e ↦ elim (cases_lt i (length m)) [
-            | inl lt ↦ subst (λ (j : ℕ). slice_index (slice_set m i v) j ≡ slice_index (slice_set n i v) j) (sym e)
-                (get_or-set_same m i v 0 lt ∙ sym (get_or-set_same n i v 0 (subst (λ (j : ℕ). i < j) h.size lt)))
-            | inr ge ↦ ap (λ (xs : List ℕ). slice_index xs k) (set_past m i v ge) ∙ h.same k p
-                ∙ sym (ap (λ (xs : List ℕ). slice_index xs k) (set_past n i v (subst (λ (j : ℕ). j ≤ i) h.size ge)))
-          ]
-          | inr ne ↦ get_or-set_other m i k v 0 ne ∙ h.same k p ∙ sym (get_or-set_other n i k v 0 ne)
-        ];
-  }
-
-  -- two bytes at a place that doesn't count
-  pub set_apart : (m n : List ℕ) (i v w : ℕ) → (free i → ⊥) → AgreeAt free m n → AgreeAt free (slice_set m i v) (slice_set n i w)
-  set_apart m n i v w off h = record {
-    size = length-set m i v ∙ h.size ∙ sym (length-set n i w);
-    same = λ k p.
-        elim (cases_eq k i) [
-          | inl e ↦ absurd (off (subst free e p))
-          | inr ne ↦ get_or-set_other m i k v 0 ne ∙ h.same k p ∙ sym (get_or-set_other n i k w 0 ne)
-        ];
-  }
-
-  write_agree : (wide : Bool) (m n : List ℕ) (at v : ℕ) → AgreeAt free m n → AgreeAt free (write_at wide m at v) (write_at wide n at v)
-  write_agree true m n at v h = set_agree (slice_set m (even at) (v % 256)) (slice_set n (even at) (v % 256)) (even at + 1) (v / 256) (set_agree m n (even at) (v % 256) h)
-  write_agree false m n at v h = set_agree m n at (v % 256) h
-
-  write_apart : (m n : List ℕ) (at v w : ℕ) → (free (even at) → ⊥) → (free (even at + 1) → ⊥) → AgreeAt free m n → AgreeAt free (write_at true m at v) (write_at true n at w)
-  write_apart m n at v w lo hi h =
-      set_apart (slice_set m (even at) (v % 256)) (slice_set n (even at) (w % 256)) (even at + 1) (v / 256) (w / 256) hi (set_apart m n (even at) (v % 256) (w % 256) lo h)
-
--- moments whose memories agree at these places, and that are else the same
-pub record SameMoments (places : ℕ → Type 0) (x y : Moment) : Type 0 where
-  pub rest : y ≡ with_mem x y.mem
-  pub mem : AgreeAt places x.mem y.mem
+use Rattle.sx_tmpl.proofs.Agreeing.{AtPlaces, SameMoments, SameRead, SameWrite, fetch_place_same, read_place_same, write_apart, write_place_same}
 
 module _ (places : ℕ → Type 0) where
-  abbrev pub SameRead : Result (ℕ × Moment) Violation → Result (ℕ × Moment) Violation → Type 0
-  SameRead (Ok r) (Ok q) = (r.0 ≡ q.0) × SameMoments places r.1 q.1
-  SameRead (Err v) (Err w) = v ≡ w
-  SameRead (Ok r) (Err w) = ⊥
-  SameRead (Err v) (Ok q) = ⊥
-
-  abbrev pub SameWrite : Result Moment Violation → Result Moment Violation → Type 0
-  SameWrite (Ok x) (Ok y) = SameMoments places x y
-  SameWrite (Err v) (Err w) = v ≡ w
-  SameWrite (Ok x) (Err w) = ⊥
-  SameWrite (Err v) (Ok y) = ⊥
-
   -- plain instructions that end alike
   abbrev pub SamePlain : Outcome → Outcome → Type 0
   SamePlain (Finished r x) (Finished q y) = (q ≡ r) × SameMoments places x y
@@ -99,36 +30,6 @@ module _ (places : ℕ → Type 0) where
   SamePlain (Violated v) (Finished q y) = ⊥
   SamePlain (Violated v) (Module q y u f d) = ⊥
   SamePlain (Module r x t e c) o = ⊥
-
-  sampled_same : (device : ℕ) (w : Window) (x : Moment) (n : List ℕ) → AgreeAt places x.mem n → SameRead (Ok (sampled device w x)) (Ok (sampled device w (with_mem x n)))
-  sampled_same device w x n h =
-      let told : Moment → ℕ × Moment = λ y. (0x8000 + w.value, record { mem = y.mem; devices = cleared y.devices device; touches = with_touch y.touches (DeviceRead device w.value) }) in
-      elim (w.fresh) as (λ b. SameRead (Ok (cond b (told x) (0, x))) (Ok (cond b (told (with_mem x n)) (0, with_mem x n))))
-      [ true ↦ (refl, record { rest = refl; mem = h }) | false ↦ (refl, record { rest = refl; mem = h }) ]
-
-  read_device_same : (wide : Bool) (device : ℕ) (w : Window) (kind : Kind) (x : Moment) (n : List ℕ) → AgreeAt places x.mem n
-      → SameRead (read_device wide device w kind x) (read_device wide device w kind (with_mem x n))
-  read_device_same true device w Sensor x n h = sampled_same device w x n h
-  read_device_same false device w Sensor x n h = refl
-  read_device_same true device w Actuator x n h = refl
-  read_device_same false device w Actuator x n h = refl
-
-  read_place_same : (wide : Bool) (at : ℕ) (d : Option (ℕ × Window)) (x : Moment) (n : List ℕ) → AgreeAt places x.mem n → AtPlaces places wide at
-      → SameRead (read_place wide at d x) (read_place wide at d (with_mem x n))
-  read_place_same wide at None x n h p = (read_agree places wide x.mem n at h p, record { rest = refl; mem = h })
-  read_place_same wide at (Some d) x n h p = read_device_same wide d.0 d.1 d.1.kind x n h
-
-  write_device_same : (wide : Bool) (device v : ℕ) (kind : Kind) (x : Moment) (n : List ℕ) → AgreeAt places x.mem n
-      → SameWrite (write_device wide device v kind x) (write_device wide device v kind (with_mem x n))
-  write_device_same true device v Actuator x n h = record { rest = refl; mem = h }
-  write_device_same false device v Actuator x n h = refl
-  write_device_same true device v Sensor x n h = refl
-  write_device_same false device v Sensor x n h = refl
-
-  write_place_same : (wide : Bool) (at v : ℕ) (d : Option (ℕ × Window)) (x : Moment) (n : List ℕ) → AgreeAt places x.mem n
-      → SameWrite (write_place wide at v d x) (write_place wide at v d (with_mem x n))
-  write_place_same wide at v None x n h = record { rest = refl; mem = write_agree places wide x.mem n at v h }
-  write_place_same wide at v (Some d) x n h = write_device_same wide d.0 v d.1.kind x n h
 
 -- The module, a second table that grants the same, and places that hold what the module may read and that holds no key.
 module _ (s : Setup) (t u : Sections) (live : t.live ≡ s.live) (places : ℕ → Type 0) (fit : AreOpen s places)
@@ -140,13 +41,9 @@ module _ (s : Setup) (t u : Sections) (live : t.live ≡ s.live) (places : ℕ �
   abbrev pub Alike : Plan → Plan → Moment → List ℕ → Type 0
   Alike p q x n = SamePlain places (exec (record t { live = s.live }) own p x) (exec u own q (with_mem x n))
 
-  may_same : (wide : Bool) (access : Access) (at : ℕ) → may_at wide u.live own access at ≡ may_at wide s.live own access at
-  may_same true access at = ap₂ (λ b c. b && c) (mays access (even at)) (mays access (even at + 1))
-  may_same false access at = mays access at
-
   store_same : (wide : Bool) (at v : ℕ) (x : Moment) (n : List ℕ) → AgreeAt places x.mem n → SameWrite places (store s.live own wide at v x) (store u.live own wide at v (with_mem x n))
   store_same wide at v x n h =
-      subst (λ (b : Bool). SameWrite places (store s.live own wide at v x) (cond b (write_place wide at v (device_of x.devices at) (with_mem x n)) (Err bad.Write))) (sym (may_same wide Write at))
+      subst (λ (b : Bool). SameWrite places (store s.live own wide at v x) (cond b (write_place wide at v (device_of x.devices at) (with_mem x n)) (Err bad.Write))) (sym (same_at s.live u.live own mays wide Write at))
       (by (may_at wide s.live own Write at))
     where
       by : (b : Bool) → SameWrite places (cond b (write_place wide at v (device_of x.devices at) x) (Err bad.Write))
@@ -157,17 +54,13 @@ module _ (s : Setup) (t u : Sections) (live : t.live ≡ s.live) (places : ℕ �
   load_same : (wide : Bool) (at : ℕ) (x : Moment) (n : List ℕ) → AgreeAt places x.mem n → (may_at wide s.live own Read at ≡ true → AtPlaces places wide at)
       → SameRead places (load s.live own wide at x) (load u.live own wide at (with_mem x n))
   load_same wide at x n h f =
-      subst (λ (b : Bool). SameRead places (load s.live own wide at x) (cond b (read_place wide at (device_of x.devices at) (with_mem x n)) (Err bad.Read))) (sym (may_same wide Read at))
+      subst (λ (b : Bool). SameRead places (load s.live own wide at x) (cond b (read_place wide at (device_of x.devices at) (with_mem x n)) (Err bad.Read))) (sym (same_at s.live u.live own mays wide Read at))
       (by (may_at wide s.live own Read at) f)
     where
       by : (b : Bool) → (b ≡ true → AtPlaces places wide at) → SameRead places (cond b (read_place wide at (device_of x.devices at) x) (Err bad.Read))
           (cond b (read_place wide at (device_of x.devices at) (with_mem x n)) (Err bad.Read))
       by true g = read_place_same places wide at (device_of x.devices at) x n h (g refl)
       by false g = refl
-
-  fetch_place_same : (at : ℕ) (d : Option (ℕ × Window)) (x : Moment) (n : List ℕ) → AgreeAt places x.mem n → AtPlaces places true at → fetch_place at d (with_mem x n) ≡ fetch_place at d x
-  fetch_place_same at None x n h p = ap Ok (sym (read_agree places true x.mem n at h p))
-  fetch_place_same at (Some d) x n h p = refl
 
   fetch_same : (at : ℕ) (x : Moment) (n : List ℕ) → AgreeAt places x.mem n → fetch u.live own at (with_mem x n) ≡ fetch s.live own at x
   fetch_same at x n h =
@@ -178,7 +71,7 @@ module _ (s : Setup) (t u : Sections) (live : t.live ≡ s.live) (places : ℕ �
           → cond b (fetch_place at (device_of x.devices at) (with_mem x n)) (Err bad.Fetch) ≡ cond b (fetch_place at (device_of x.devices at) x) (Err bad.Fetch)
       by true e =
           let p = and_parts (extends s.live own (even at)) (extends s.live own (even at + 1)) e in
-          fetch_place_same at (device_of x.devices at) x n h (fit.fetched (even at) p.0, fit.fetched (even at + 1) p.1)
+          fetch_place_same places at (device_of x.devices at) x n h (fit.fetched (even at) p.0, fit.fetched (even at + 1) p.1)
       by false e = refl
 
   -- where a word or a byte that is read holds no key
@@ -233,7 +126,7 @@ module _ (s : Setup) (t u : Sections) (live : t.live ≡ s.live) (places : ℕ �
   store_apart : (at v w : ℕ) (x : Moment) (n : List ℕ) → (places (even at) → ⊥) → (places (even at + 1) → ⊥) → device_at x.devices at ≡ None → AgreeAt places x.mem n
       → SameWrite places (store s.live own true at v x) (store u.live own true at w (with_mem x n))
   store_apart at v w x n lo hi free h =
-      subst (λ (b : Bool). SameWrite places (store s.live own true at v x) (cond b (write_place true at w (device_of x.devices at) (with_mem x n)) (Err bad.Write))) (sym (may_same true Write at))
+      subst (λ (b : Bool). SameWrite places (store s.live own true at v x) (cond b (write_place true at w (device_of x.devices at) (with_mem x n)) (Err bad.Write))) (sym (same_at s.live u.live own mays true Write at))
       (subst (λ (d : Option (ℕ × Window)). SameWrite places (cond (may_at true s.live own Write at) (write_place true at v d x) (Err bad.Write))
       (cond (may_at true s.live own Write at) (write_place true at w d (with_mem x n)) (Err bad.Write))) (sym (ap (found x.devices) free))
       (by (may_at true s.live own Write at)))
@@ -257,7 +150,7 @@ module _ (s : Setup) (t u : Sections) (live : t.live ≡ s.live) (places : ℕ �
   key_read : (at : ℕ) (k : ℕ → Plan) (x : Moment) (n : List ℕ) → AgreeAt places x.mem n → MovesKey s x.devices at k → Alike (Load true at k) (Load true at k) x n
   key_read at k x n h m =
       subst (λ (b : Bool). SamePlain places (after_read (load s.live own true at x) on) (after_read (cond b (read_place true at (device_of x.devices at) (with_mem x n)) (Err bad.Read)) off))
-      (sym (may_same true Read at))
+      (sym (same_at s.live u.live own mays true Read at))
       (subst (λ (d : Option (ℕ × Window)). SamePlain places (after_read (cond (may_at true s.live own Read at) (read_place true at d x) (Err bad.Read)) on)
       (after_read (cond (may_at true s.live own Read at) (read_place true at d (with_mem x n)) (Err bad.Read)) off)) (sym (ap (found x.devices) m.from))
       (by (may_at true s.live own Read at)))

@@ -1,6 +1,6 @@
--- What it means that a module's turn is steady: two nodes that differ in keys, and in bytes that
--- may hold one, take the same steps. Nobody has to believe this file for what an image realizes.
-use Rattle.std.specs.Prelude.{◌≡◌, ◌⊎◌, ℕ, suc, ◌+◌, ◌<◌, ◌≤◌, List, [], ◌∷◌, length, map}
+-- What it means that a step is steady: two nodes that differ in keys, and in bytes that may hold
+-- one, take the same step. Nobody has to believe this file for what an image realizes.
+use Rattle.std.specs.Prelude.{◌≡◌, ◌⊎◌, ℕ, ◌+◌, ◌<◌, List, [], ◌∷◌, length, map}
 use Rattle.std.specs.Prelude.{if◌then◌else◌, slice_index, true, Option, Some, None}
 use Rattle.sx_rules.specs.declared.access.Access.TheVariants.{Read}
 use Rattle.sx_rules.specs.declared.access.Violation.{Violation}
@@ -12,7 +12,7 @@ use Rattle.sx_machine.specs.Memory.{bytes_from, word}
 use Rattle.sx_machine.specs.ModuleRows.{own_key}
 use Rattle.sx_machine.specs.State.{State}
 use Rattle.sx_machine.specs.Step.{own_of, pc_of}
-use Rattle.sx_reach.specs.Reach.{Comes, Stepped, Goes, Stops}
+use Rattle.sx_reach.specs.Reach.{Stepped, Goes, Stops}
 use Rattle.sx_invoke.specs.Marks.{Mark}
 use Rattle.sx_invoke.specs.Marks as mark
 use Rattle.sx_mean.specs.Working.{plain_at}
@@ -113,35 +113,3 @@ StepsSteady s places = (nac : Mac) (other : Section) (entered : List ℕ) (w v :
     → StepShowsNone s entered w → Abreast places w v
     → SealsAlike s nac other w.node v.node
     → StepAbreast places (watch s.mac w) (watch nac v)
-
--- The two nodes take the same number of steps, side by side, to a goal or to the same violation.
-pub data SideBySide (mac nac : Mac) (places : ℕ → Type 0) (B : Watched → Violation → Type 0)
-    (Q : Watched → Type 0) : ℕ → Watched → Watched → Type 0 where
-  Here : {w v : Watched} → Q w → Abreast places w v → SideBySide mac nac places B Q 0 w v
-  Next : {k : ℕ} {w v x y : Watched} → Abreast places w v → watch mac w ≡ Goes x
-      → watch nac v ≡ Goes y → SideBySide mac nac places B Q k x y
-      → SideBySide mac nac places B Q (suc k) w v
-  Ends : {w v : Watched} {x : Violation} → Abreast places w v → watch mac w ≡ Stops x
-      → watch nac v ≡ Stops x → B w x → SideBySide mac nac places B Q 1 w v
-
--- Two nodes are at the same instruction of the module's code: its section stands in both, and a
--- wrap or an unwrap gives the same in both.
-pub record Meets (s : Setup) (nac : Mac) (other : Section) (w v : Watched) : Type 0 where
-  pub live : w.node.sections.live ≡ s.live
-  pub own : own_of w.node ≡ s.section.id
-  pub found : section_of w.node.sections.live s.section.id ≡ Some s.section
-  pub second : section_of v.node.sections.live s.section.id ≡ Some other
-  pub seals : SealsAlike s nac other w.node v.node
-
--- A turn whose steps show no key takes the same steps in a node beside it, where P holds in the one
--- and what is given holds between the two, from step to step.
-abbrev pub TurnsSteady : Setup → (ℕ → Type 0) → (Watched → Type 0) → (Watched → Watched → Type 0)
-    → (Watched → Violation → Type 0) → (Watched → Type 0) → Type 0
-TurnsSteady s places P Between B Q = (nac : Mac) (other : Section) (entered : List ℕ)
-    → AreOpen s places
-    → ((w v : Watched) → P w → Between w v → Meets s nac other w v)
-    → ((w v x y : Watched) → P w → Between w v → watch s.mac w ≡ Goes x → watch nac v ≡ Goes y
-    → Abreast places x y → Between x y)
-    → (n : ℕ) (w v : Watched) → Abreast places w v → Between w v
-    → Comes Watched Violation (watch s.mac) (λ w. 1) (λ w. P w × StepShowsNone s entered w) B Q n w
-    → (k : ℕ) × (k ≤ n) × SideBySide s.mac nac places B Q k w v

@@ -1,11 +1,10 @@
--- Bytes that stand in memory, and those of a wrap.
-use Rattle.std.proofs.Common.{◌≡◌, ℕ, zero, suc, ◌+◌, ◌-◌, ◌/◌, ◌%◌, ◌<◌, ◌≤◌, ◌⊎◌, inl, inr, List, [], ◌∷◌, ◌++◌, length, take, min, refl, sym, ◌∙◌, ap, subst, arith, slice_index, slice_set}
-use Rattle.std.specs.Prelude.{All}
-use Rattle.std.proofs.lemmas.List.{get_or-set_same, get_or-set_other, length-set, length-take}
-use Rattle.std.proofs.lemmas.Nat.{xor_of_8}
-use Rattle.sx_tag.specs.Mac.{Mac, IsTag}
-use Rattle.sx_tag.specs.Wrap.{wrapped, crypt, wrap_tag, xor_bytes, stream}
+-- Bytes that stand in memory.
+use Rattle.std.proofs.Common.{◌≡◌, ℕ, zero, suc, ◌+◌, ◌-◌, ◌/◌, ◌%◌, ◌<◌, ◌≤◌, inl, List, [], ◌∷◌, ◌++◌, length, refl, sym, ◌∙◌, ap, subst, arith, slice_index, slice_set}
+use Rattle.std.proofs.lemmas.List.{get_or-set_same, length-set}
+use Rattle.sx_tag.proofs.TagBytes.{AreBytes}
 use Rattle.sx_machine.specs.Memory.{bytes_from, put_bytes}
+use Rattle.sx_machine.proofs.Lengths.{length-bytes_from}
+use Rattle.sx_machine.proofs.PublicKept.{put_other}
 use Rattle.sx_invoke.specs.Windows as outside
 use Rattle.sx_tmpl.specs.Running.{cell}
 
@@ -22,26 +21,11 @@ pub bytes_append : (m : List ℕ) (a : ℕ) (xs ys : List ℕ) → BytesAt m a x
 bytes_append m a [] ys h g = subst (λ a. BytesAt m a ys) (omega arith) g
 bytes_append m a (x ∷ xs) ys h g = (h.0, bytes_append m (a + 1) xs ys h.1 (subst (λ a. BytesAt m a ys) (omega arith) g))
 
-abbrev pub AreBytes : List ℕ → Type 0
-AreBytes [] = Unit {0}
-AreBytes (b ∷ bs) = (b < 256) × AreBytes bs
-
--- a byte that no byte of the writes meets stays
-pub put_bytes_other : (bs m : List ℕ) (a c : ℕ) → (c < a) ⊎ (a + length bs ≤ c) → slice_index (put_bytes m a bs) c ≡ slice_index m c
-put_bytes_other [] m a c h = refl
-put_bytes_other (b ∷ bs) m a c h =
-    put_bytes_other bs (slice_set m a (b % 256)) (a + 1) c (elim h [ inl p ↦ inl (omega arith) | inr p ↦ inr (omega arith) ])
-    ∙ get_or-set_other m a c (b % 256) 0 (elim h [ inl p ↦ omega arith | inr p ↦ omega arith ])
-
-pub length-put_bytes : (bs m : List ℕ) (a : ℕ) → length (put_bytes m a bs) ≡ length m
-length-put_bytes [] m a = refl
-length-put_bytes (b ∷ bs) m a = length-put_bytes bs (slice_set m a (b % 256)) (a + 1) ∙ length-set m a (b % 256)
-
 -- bytes that were written stand there
 pub bytes_put : (bs m : List ℕ) (a : ℕ) → AreBytes bs → a + length bs ≤ length m → BytesAt (put_bytes m a bs) a bs
 bytes_put [] m a h le = tt
 bytes_put (b ∷ bs) m a h le = (
-  put_bytes_other bs (slice_set m a (b % 256)) (a + 1) a (inl (omega arith)) ∙ get_or-set_same m a (b % 256) 0 (omega arith) ∙ (let lt = h.0 in omega arith),
+  put_other bs (slice_set m a (b % 256)) (a + 1) a (inl (omega arith)) ∙ get_or-set_same m a (b % 256) 0 (omega arith) ∙ (let lt = h.0 in omega arith),
   bytes_put bs (slice_set m a (b % 256)) (a + 1) h.1 (let l = length-set m a (b % 256) in omega arith),
 )
 
@@ -81,49 +65,5 @@ bytes_agree m p base o (suc n) h =
 pub stand_from : (m : List ℕ) (a n : ℕ) → BytesAt m a (bytes_from m a n)
 unfolding bytes_from
 stand_from m a zero = tt
-stand_from m a (suc n) = bytes_append m a (bytes_from m a n) (slice_index m (a + n) ∷ []) (stand_from m a n) (subst (λ k. BytesAt m (a + k) (slice_index m (a + n) ∷ [])) (sym (count m a n))
+stand_from m a (suc n) = bytes_append m a (bytes_from m a n) (slice_index m (a + n) ∷ []) (stand_from m a n) (subst (λ k. BytesAt m (a + k) (slice_index m (a + n) ∷ [])) (sym (length-bytes_from m a n))
     (refl, tt))
-  where
-    count : (m : List ℕ) (a n : ℕ) → length (bytes_from m a n) ≡ n
-    count m a zero = refl
-    count m a (suc n) = Rattle.std.proofs.Common.length-append (bytes_from m a n) (slice_index m (a + n) ∷ []) ∙ (let h = count m a n in omega arith)
-
-are_bytes : (xs : List ℕ) → All (λ b. b < 256) xs → AreBytes xs
-are_bytes [] h = tt
-are_bytes (x ∷ xs) h = (h 0 0 (omega arith), are_bytes xs (λ k d lt. h (suc k) d (omega arith)))
-
-take_bytes : (n : ℕ) (xs : List ℕ) → AreBytes xs → AreBytes (take n xs)
-take_bytes zero xs h = tt
-take_bytes (suc n) [] h = tt
-take_bytes (suc n) (x ∷ xs) h = (h.0, take_bytes n xs h.1)
-
-xor_are_bytes : (bs ks : List ℕ) → AreBytes bs → AreBytes ks → AreBytes (xor_bytes bs ks)
-xor_are_bytes [] ks h g = tt
-xor_are_bytes (b ∷ bs) [] h g = tt
-xor_are_bytes (b ∷ bs) (k ∷ ks) h g = (xor_of_8 b k h.0 g.0, xor_are_bytes bs ks h.1 g.1)
-
-length-xor : (bs ks : List ℕ) → length bs ≤ length ks → length (xor_bytes bs ks) ≡ length bs
-length-xor [] ks h = refl
-length-xor (b ∷ bs) [] h = absurd (omega arith)
-length-xor (b ∷ bs) (k ∷ ks) h = ap (λ (n : ℕ). suc n) (length-xor bs ks (omega arith))
-
-module _ (mac : Mac) (tag : IsTag mac) where
-  pub cipher_bytes : (key ad body : List ℕ) → AreBytes body → AreBytes (wrapped mac key ad body).cipher
-  unfolding crypt
-  cipher_bytes key ad body h = xor_are_bytes body (stream mac key ad) h (are_bytes _ (tag.bytes key _))
-
-  pub length_cipher : (key ad body : List ℕ) → length body ≤ 32 → length (wrapped mac key ad body).cipher ≡ length body
-  unfolding crypt
-  length_cipher key ad body h = length-xor body (stream mac key ad) (let w : length (stream mac key ad) ≡ 32 = tag.width key _ in omega arith)
-
-  pub tag_bytes : (key ad body : List ℕ) → AreBytes (wrapped mac key ad body).tag
-  unfolding wrap_tag
-  tag_bytes key ad body = take_bytes 16 _ (are_bytes _ (tag.bytes key _))
-
-  pub length_tag : (key ad body : List ℕ) → length (wrapped mac key ad body).tag ≡ 16
-  unfolding wrap_tag
-  length_tag key ad body =
-      let c = crypt mac key ad body in
-      let l = length-take 16 (mac key (0x54 ∷ length ad ∷ (ad ++ c))) in
-      let w : length (mac key (0x54 ∷ length ad ∷ (ad ++ c))) ≡ 32 = tag.width key (0x54 ∷ length ad ∷ (ad ++ c)) in
-      l ∙ ap (λ n. min 16 n) w

@@ -22,7 +22,7 @@ use Rattle.sx_tmpl.proofs.Operations.CopyLoop.{Turns, all_bytes, all_steps, few_
 use Rattle.sx_tmpl.proofs.Operations.CopyOut.{copy_runs}
 use Rattle.sx_tmpl.proofs.Operations.CopyIn.{copy_in_words, copy_in_whole}
 use Rattle.sx_tmpl.proofs.Operations.PacketOp.{Breaks}
-use Rattle.sx_tmpl.proofs.Operations.SealOps.{length_from}
+use Rattle.sx_machine.proofs.Lengths.{length-bytes_from}
 use Rattle.sx_ir.specs.Meaning.{copy_out, has_copy_room, copy_in, copied_in, has_in_window, OperationResult, copied_out, saved, has_out_window, next}
 use Rattle.sx_invoke.specs.Pieces.{made_bytes}
 use Rattle.sx_ir.specs.Conf.{Violates, Stuck, Conf}
@@ -193,7 +193,7 @@ module _ (f : Fixed) (st : Stands f) (all : List Mark) (B : Watched → Violatio
         let is = holds_word f st at c.back (v ∷ rest) c.priv c.mem r.sp d.mem 10 h refl (record { low = omega arith; beside = inl (omega arith) }) (omega (arith, st.room)) in
         let sum : (v % 65536 + saved c 14 + 0) % 65536 ≡ saved c 14 + v = omega arith in
         let same : bytes_from d.mem (base_of f + o) (suc n) ≡ out_bytes = holds_from f st at c.back (v ∷ rest) c.priv c.mem r.sp d.mem o (suc n) h rg in
-        let len : length out_bytes ≡ suc n = length_from c.priv o (suc n) in
+        let len : length out_bytes ≡ suc n = length-bytes_from c.priv o (suc n) in
         let few = few_steps b (suc u) 0 in
         let sr2 = flags_after op2.Add (saved c 14) (v % 65536) r.sr in
         let r1 = record r { pc = at c.place + 2; sp = r.sp + 2; r12 = v } in

@@ -14,7 +14,7 @@ use Rattle.sx_machine.specs.declared.kinds.Event.TheVariants as event
 use Rattle.sx_bus.specs.Devices.{device_at}
 use Rattle.sx_rules.specs.declared.access.Violation.TheVariants as bad
 use Rattle.sx_rules.specs.Access.{in_private, holder, in_order}
-use Rattle.sx_tmpl.proofs.Running.Mem.{put_word_is, word_is, length-put, even_is, get-put_other}
+use Rattle.sx_tmpl.proofs.Running.Mem.{word_is, get-put_other}
 use Rattle.sx_tmpl.proofs.Running.Holding.{same_word, outside_stays, low_shown, mid_shown, data_place, data_word, holds_store}
 use Rattle.sx_tmpl.proofs.Running.Steps.{text_word, fetched, program_two, shown_two, step_shown, by_outcome, Text, InText, Then, NoTell}
 use Rattle.std.proofs.lemmas.List.{append-nil}
@@ -34,6 +34,7 @@ use Rattle.sx_tmpl.specs.Shows.{base_of, IsData, MemoryHolds, Stood}
 use Rattle.sx_machine.specs.Rows.{row}
 use Rattle.sx_machine.specs.Registers.{at_pc}
 use Rattle.std.specs.Prelude.{◌==◌}
+use Rattle.sx_isa.proofs.StandingLemmas.{even_same}
 use Rattle.sx_tmpl.proofs.Operations.Plain.{inside}
 
 -- the node as it enters the module: no module runs, PC is the entry, and the last instruction showed whatever it did
@@ -100,7 +101,7 @@ module _ (f : Fixed) (st : Stands f) (all : List Mark) (B : Watched → Violatio
       let i1 : cell d.mem (P + 2 * (0 + 1)) ≡ base_of f + 148 = text_word f st all B Q d.mem (P + 2 * (0 + 1)) (base_of f + 148) safe.memory (omega arith) (omega arith)
       (t.word (0 + 1) (base_of f + 148) refl) in
       let got = fetched f st all B Q ((r.pc + 2) % 65536) (P + 2 * (0 + 1)) (base_of f + 148) x next (omega arith) (omega arith) (omega arith) safe.devices i1 in
-      let e0 = even_is r.pc ev in
+      let e0 = even_same r.pc ev in
       let o1 = run_outside f st r.pc here (omega arith) in
       let o2 = run_outside f st (r.pc + 1) (omega arith) ends in
       let dev : device_at d.devices r.pc ≡ None = safe.devices r.pc ∙ st.public_plain r.pc (in_public_yes f.setup.section r.pc here (omega arith)) in
@@ -120,9 +121,6 @@ module _ (f : Fixed) (st : Stands f) (all : List Mark) (B : Watched → Violatio
       from_entry j r d last caller e _ safe shown (record { from = here; to = omega arith }) from at_
       (owes_met f st (Then f st all B Q j d) (NoTell f st all B Q) (B (entering f r d last caller e))
       (row (Two op2.Mov false (Reg 1) (Absolute (base_of f + 148))) (at_pc (regs16 f r) ((r.pc + 2) % 65536)) ((r.pc + 4) % 65536)) x safe.devices safe.memory owed)
-
-length_word : (priv : List ℕ) (o v : ℕ) → o % 2 ≡ 0 → length (put_word priv o v) ≡ length priv
-length_word priv o v ev = ap (λ (l : List ℕ). length l) (put_word_is priv o v ev) ∙ length-put priv o v
 
 -- the private section with the caller's R12 to R15 in their places
 abbrev pub with_saved : List ℕ → Regs → List ℕ

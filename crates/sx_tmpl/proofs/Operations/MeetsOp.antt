@@ -169,10 +169,6 @@ module _ (f : Fixed) (st : Stands f) (all : List Mark) (B : Watched → Violatio
         ),
       )
     where
-      place_of : Bool → ℕ
-      place_of true = at c.place + 22
-      place_of false = at c.place + 26
-
       ending : (b : Bool) → is_bad_window f.setup (saved c q) n ≡ b → (r2 : Regs) (j : ℕ) → r2.pc ≡ elim b [ true ↦ at c.place + 22 | false ↦ at c.place + 26 ] → r2.sp ≡ r.sp
           → Safe f all (running f r2 d)
           → Runs f all B (Stood f all at (next c (truth (is_bad_window f.setup (saved c q) n) ∷ c.stack))) (suc (suc j)) (running f r2 d)

@@ -16,8 +16,10 @@ use Rattle.sx_tmpl.proofs.Running.MidRun.{PrivateRange, PrivateWord, Stands, Run
 use Rattle.sx_tmpl.proofs.Running.Mem.{cell-put_other, put_word_is, word_is, length-put}
 use Rattle.sx_tmpl.proofs.Running.Holding.{same_word, holds_under, holds_under_bytes, stack_word, low_shown, mid_shown, slot_shown, data_word, holds_pop, holds_store, holds_word, cell_below}
 use Rattle.sx_tag.specs.Mac.{IsTag}
-use Rattle.sx_tmpl.proofs.Operations.Bytes.{BytesAt, bytes_same, bytes_append, bytes_put, put_bytes_other, pair, six, bytes_agree, cipher_bytes, tag_bytes, length_cipher}
-use Rattle.sx_tmpl.proofs.Operations.Bytes.{length_tag, length-put_bytes, stand_from}
+use Rattle.sx_tag.proofs.TagBytes.{cipher_bytes, cipher_length, tag_bytes, tag_length}
+use Rattle.sx_machine.proofs.Lengths.{length-put_bytes}
+use Rattle.sx_machine.proofs.PublicKept.{put_other}
+use Rattle.sx_tmpl.proofs.Operations.Bytes.{BytesAt, bytes_same, bytes_append, bytes_put, pair, six, bytes_agree, stand_from}
 use Rattle.sx_tmpl.proofs.Operations.CopyLoop.{Turns}
 use Rattle.sx_tmpl.proofs.Operations.CopyOut.{copy_runs}
 use Rattle.sx_machine.specs.declared.kinds.Exchange.{Exchange}
@@ -313,8 +315,8 @@ module _ (f : Fixed) (st : Stands f) (all : List Mark) (B : Watched → Violatio
       } in
       let ne : (b + offsets.end_key_at k == 0) ≡ false = ne_eqb (b + offsets.end_key_at k) 0 (omega arith) in
       let W = wrapped f.setup.mac e.key (event_header e) (windows.two v) in
-      let lc = length_cipher f.setup.mac tag e.key (event_header e) (windows.two v) (omega arith) in
-      let lt = length_tag f.setup.mac tag e.key (event_header e) (windows.two v) in
+      let lc = cipher_length f.setup.mac tag e.key (event_header e) (windows.two v) (omega arith) in
+      let lt = tag_length f.setup.mac tag e.key (event_header e) (windows.two v) in
       let lv : v < 65536 = subst (λ (n : ℕ). n < 65536) cv (cell_below f st d.mem (b + 130) safe.memory) in
       let mc = put_bytes d.mem (b + 112) W.cipher in
       let mt = put_bytes mc (b + 114) W.tag in
@@ -323,10 +325,10 @@ module _ (f : Fixed) (st : Stands f) (all : List Mark) (B : Watched → Violatio
       let size : length d.mem ≡ 65536 = safe.memory.size in
       let size2 : length mc ≡ 65536 = length-put_bytes W.cipher d.mem (b + 112) ∙ size in
       let at_header : BytesAt mt (b + 106) (event_header e) =
-      bytes_same d.mem mt (b + 106) (event_header e) (λ c p q. put_bytes_other W.tag mc (b + 114) c (inl (omega arith)) ∙ put_bytes_other W.cipher d.mem (b + 112) c (inl (omega arith)))
+      bytes_same d.mem mt (b + 106) (event_header e) (λ c p q. put_other W.tag mc (b + 114) c (inl (omega arith)) ∙ put_other W.cipher d.mem (b + 112) c (inl (omega arith)))
       (subst (λ l. BytesAt d.mem (b + 106) l) ad (stand_from d.mem (b + 106) 6)) in
       let at_cipher : BytesAt mt (b + 112) W.cipher =
-      bytes_same mc mt (b + 112) W.cipher (λ c p q. put_bytes_other W.tag mc (b + 114) c (inl (omega arith)))
+      bytes_same mc mt (b + 112) W.cipher (λ c p q. put_other W.tag mc (b + 114) c (inl (omega arith)))
       (bytes_put W.cipher d.mem (b + 112) (cipher_bytes f.setup.mac tag e.key (event_header e) (windows.two v) (omega arith, (omega arith, tt))) (omega arith)) in
       let at_tag : BytesAt mt (b + 114) W.tag = bytes_put W.tag mc (b + 114) (tag_bytes f.setup.mac tag e.key (event_header e) (windows.two v)) (omega arith) in
       let packet : BytesAt mt (b + 106) (event_packet f.setup e v) =
@@ -553,8 +555,8 @@ module _ (f : Fixed) (st : Stands f) (all : List Mark) (B : Watched → Violatio
   send_run tag e is r d ret v rest outside p out j pc h safe ln ip lp io lo w1 w2 to ev kept marks em begins stop done =
       let W = wrapped f.setup.mac e.key (event_header e) (windows.two v) in
       let bs = event_packet f.setup e v in
-      let lc = length_cipher f.setup.mac tag e.key (event_header e) (windows.two v) (omega arith) in
-      let lt = length_tag f.setup.mac tag e.key (event_header e) (windows.two v) in
+      let lc = cipher_length f.setup.mac tag e.key (event_header e) (windows.two v) (omega arith) in
+      let lt = tag_length f.setup.mac tag e.key (event_header e) (windows.two v) in
       let la = Rattle.std.proofs.Common.length-append W.cipher W.tag in
       let count : 24 ≡ length bs = omega arith in
       let stands : Turns (routine_words (base_of f) k) 46 true =

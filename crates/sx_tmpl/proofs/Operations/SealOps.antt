@@ -2,7 +2,7 @@
 use Rattle.sx_isa.specs.Assembly.{##◌, clr, push, r15, r9}
 use Rattle.sx_tmpl.proofs.Running.Loading.{loads}
 use Rattle.sx_tmpl.proofs.Running.Instructions.{step}
-use Rattle.std.proofs.Common.{◌≡◌, ℕ, zero, suc, ◌+◌, ◌-◌, ◌*◌, ◌%◌, ◌<◌, ◌≤◌, ◌⊎◌, inl, inr, List, [], ◌∷◌, ◌++◌, length, Option, Some, None, refl, sym, ◌∙◌, ap, subst, arith, slice_index, take}
+use Rattle.std.proofs.Common.{◌≡◌, ℕ, zero, suc, ◌+◌, ◌-◌, ◌*◌, ◌%◌, ◌<◌, ◌≤◌, ◌⊎◌, inl, inr, List, [], ◌∷◌, ◌++◌, length, Option, Some, None, refl, sym, ◌∙◌, ap, subst, arith, take}
 use Rattle.sx_reach.specs.Reach.{Here}
 use Rattle.sx_isa.specs.declared.instruction.Operand.{Operand}
 use Rattle.sx_isa.specs.Spelling.{spelling}
@@ -12,7 +12,8 @@ use Rattle.sx_machine.specs.declared.kinds.Event.TheVariants as event
 use Rattle.sx_tmpl.proofs.Running.MidRun.{PrivateRange, Stands, Runs, put_cell}
 use Rattle.sx_tmpl.proofs.Running.Holding.{IsRange, part_shown, holds_bytes, holds_from, stack_word, holds_push}
 use Rattle.sx_tag.specs.Mac.{IsTag}
-use Rattle.sx_tmpl.proofs.Operations.Bytes.{length_cipher, length_tag, length-put_bytes}
+use Rattle.sx_tag.proofs.TagBytes.{cipher_length, tag_length}
+use Rattle.sx_machine.proofs.Lengths.{length-bytes_from, length-put_bytes}
 use Rattle.sx_tag.specs.Wrap.{unwrapped, wrapped}
 use Rattle.sx_tmpl.specs.Template.{key_word, opening_words, sealing_words}
 use Rattle.std.proofs.lemmas.List.{length-take}
@@ -46,11 +47,6 @@ with_operands r pc v9 v10 v11 v12 v13 v14 v15 = record r { pc = pc; r9 = v9; r10
 -- the key's place: 0 for the module's own
 abbrev pub key_place : Fixed → ℕ → ℕ
 key_place f k = key_word (base_of f) k
-
-pub length_from : (m : List ℕ) (a n : ℕ) → length (bytes_from m a n) ≡ n
-unfolding bytes_from
-length_from m a zero = refl
-length_from m a (suc n) = Rattle.std.proofs.Common.length-append (bytes_from m a n) (slice_index m (a + n) ∷ []) ∙ (let h = length_from m a n in omega arith)
 
 -- where the buffers of a wrap or an unwrap lie
 pub record SealsAt (k h hn b bn size : ℕ) : Type 0 where
@@ -149,9 +145,9 @@ module _ (f : Fixed) (st : Stands f) (all : List Mark) (B : Watched → Violatio
       let rt : IsRange (h + hn + bn) 16 (length c.priv) = subst (λ o. IsRange o 16 (length c.priv)) (omega arith) (part_range h (hn + bn + 16) (hn + bn) 16 (length c.priv) hdr (omega arith)) in
       let ea = holds_from f st at c.back c.stack c.priv c.mem r.sp d.mem h hn hold rh in
       let eb = holds_from f st at c.back c.stack c.priv c.mem r.sp d.mem b bn hold bdy in
-      let lb : length body ≡ bn = length_from c.priv b bn in
-      let lc : length w_.cipher ≡ bn = length_cipher f.setup.mac tag key ad body (omega arith) ∙ lb in
-      let lt : length w_.tag ≡ 16 = length_tag f.setup.mac tag key ad body in
+      let lb : length body ≡ bn = length-bytes_from c.priv b bn in
+      let lc : length w_.cipher ≡ bn = cipher_length f.setup.mac tag key ad body (omega arith) ∙ lb in
+      let lt : length w_.tag ≡ 16 = tag_length f.setup.mac tag key ad body in
       let pc_ = private_range (h + hn) bn c.priv sz rc in
       let mc = put_bytes d.mem (base + (h + hn)) w_.cipher in
       let qc = put_bytes c.priv (h + hn) w_.cipher in

@@ -12,8 +12,9 @@ use Rattle.sx_bus.specs.Devices.{device_at, on_word, places_of}
 use Rattle.sx_rules.specs.declared.access.Violation.{Violation}
 use Rattle.sx_rules.specs.Access.{holder}
 use Rattle.std.proofs.Math.Seq.{take-append_seam}
+use Rattle.sx_tag.proofs.TagBytes.{tag_short}
 use Rattle.sx_tag.specs.Mac.{Mac}
-use Rattle.sx_tag.specs.Wrap.{Wrapped, wrapped, unwrapped, padded, crypt, wrap_tag, xor_bytes, stream}
+use Rattle.sx_tag.specs.Wrap.{Wrapped, wrapped, unwrapped, padded, crypt, xor_bytes, stream}
 use Rattle.sx_machine.specs.declared.kinds.Event.{Event}
 use Rattle.sx_machine.specs.declared.kinds.Event.TheVariants as event
 use Rattle.sx_machine.specs.declared.kinds.Exchange.{Exchange}
@@ -202,10 +203,6 @@ xor_short (b ∷ bs) (k ∷ ks) = let h = xor_short bs ks in omega arith
 pub crypt_short : (mac : Mac) (key ad bs : List ℕ) → length (crypt mac key ad bs) ≤ length bs
 unfolding crypt
 crypt_short mac key ad bs = xor_short bs (stream mac key ad)
-
-pub tag_short : (mac : Mac) (key ad cipher : List ℕ) → length (wrap_tag mac key ad cipher) ≤ 16
-unfolding wrap_tag
-tag_short mac key ad cipher = let h = length-take 16 (mac key (0x54 ∷ length ad ∷ (ad ++ cipher))) in omega (arith, h)
 
 -- the mark of an exchange of a header and a body
 mark_of : (regs ad body : List ℕ) → (take (length ad) (padded ad) ≡ ad) × (take (length body) (padded body) ≡ body)

@@ -9,7 +9,7 @@ use Rattle.sx_isa.specs.Standing.{words_of}
 use Rattle.sx_rules.specs.declared.access.Violation.{Violation}
 use Rattle.sx_machine.specs.declared.kinds.Event.TheVariants as event
 use Rattle.std.specs.Prelude.{slice_set, drop, take}
-use Rattle.sx_tmpl.proofs.Running.Mem.{even_is, cell-put_other, put_word_is, word_is, length-put}
+use Rattle.sx_tmpl.proofs.Running.Mem.{cell-put_other, put_word_is, word_is}
 use Rattle.sx_machine.specs.Memory.{even, bytes_from, put_bytes, word, put_word}
 use Rattle.sx_mean.specs.Offsets as offsets
 use Rattle.sx_tmpl.proofs.Running.Flags.{flags_stay}
@@ -31,16 +31,14 @@ use Rattle.sx_tmpl.proofs.Running.Owned.{in_private_yes}
 use Rattle.std.specs.Prelude.{slice_get}
 use Rattle.sx_tmpl.specs.Unseen.{HoldsNoKey, InSlotKey}
 use Rattle.sx_tmpl.proofs.Operations.Plain.{inside, Leads}
-use Rattle.sx_tmpl.proofs.Operations.SealOps.{length_from}
+use Rattle.sx_machine.proofs.Lengths.{length-bytes_from, length-put_word}
 use Rattle.std.proofs.lemmas.List.{append_assoc}
+use Rattle.sx_isa.proofs.StandingLemmas.{even_same}
 use Rattle.sx_tmpl.proofs.Running.Holding.{low_shown, slot_shown, stack_word, data_place, data_word, holds_push, holds_pop, holds_store, holds_word, cell_below}
 
 -- a word below stays
 word_stays : (p : List ℕ) (o v j : ℕ) → o % 2 ≡ 0 → j % 2 ≡ 0 → j + 2 ≤ o → word (put_word p o v) j ≡ word p j
 word_stays p o v j ev ej le = word_is (put_word p o v) j ej ∙ ap (λ l. cell l j) (put_word_is p o v ev) ∙ cell-put_other p o v j (omega arith) (omega arith) (omega arith) ∙ sym (word_is p j ej)
-
-length_word : (p : List ℕ) (o v : ℕ) → o % 2 ≡ 0 → length (put_word p o v) ≡ length p
-length_word p o v ev = ap (λ (l : List ℕ). length l) (put_word_is p o v ev) ∙ length-put p o v
 
 -- two bytes written are a word written
 two_put : (p rest : List ℕ) (o x y : ℕ) → o % 2 ≡ 0 → x < 256 → y < 256 → put_bytes (put_word p o (x + 256 * y)) (o + 2) rest ≡ put_bytes p o (x ∷ y ∷ rest)
@@ -62,7 +60,7 @@ keeps_same : (p : List ℕ) → Keeps p p
 keeps_same p = (λ j ev lt. refl, refl)
 
 keeps_on : (k p : List ℕ) (o v : ℕ) → o % 2 ≡ 0 → 512 ≤ o → Keeps k p → Keeps (put_word k o v) p
-keeps_on k p o v even_ low h = (λ j ev lt. word_stays k o v j even_ ev (omega (arith, low, lt)) ∙ h.0 j ev lt, length_word k o v even_ ∙ h.1)
+keeps_on k p o v even_ low h = (λ j ev lt. word_stays k o v j even_ ev (omega (arith, low, lt)) ∙ h.0 j ev lt, length-put_word k o v ∙ h.1)
 
 -- the first words of a key
 abbrev key_part : List ℕ → List ℕ → ℕ → ℕ → List ℕ
@@ -100,7 +98,7 @@ key_put k p o ev small (suc n) le =
     let even_ : (56 + 2 * n) % 2 ≡ 0 = omega arith in
     let even_o : (o + 2 * n) % 2 ≡ 0 = omega (arith, ev) in
     let is : word p (56 + 2 * n) ≡ x + 256 * y = word_is p (56 + 2 * n) even_ in
-    let count : length bs ≡ 2 * n = length_from p 56 (2 * n) in
+    let count : length bs ≡ 2 * n = length-bytes_from p 56 (2 * n) in
     let last : 56 + suc (2 * n) ≡ 56 + 2 * n + 1 = omega arith in
     let more : 2 * suc n ≡ suc (suc (2 * n)) = omega arith in
     ap (λ v. put_word (key_part k p o n) (o + 2 * n) v) is
@@ -188,7 +186,7 @@ module _ (f : Fixed) (st : Stands f) (all : List Mark) (B : Watched → Violatio
         inside t (i + 3) le,
         after (put_cell d.mem (base_of f + o) v) (holds_store f st at back stack priv outside r.sp d.mem o v safe.memory h oe (record { low = omega arith; beside = inr o1 }) fits),
       )))
-      (inl (record { from = read_free_; at = (r.r12 + y) % 65536; o = o; regs = _; is = λ v. refl; place = ap even place ∙ even_is (base_of f + o) po.is_even; free = ap (device_at d.devices) place ∙ no_device; key = inside_key }))
+      (inl (record { from = read_free_; at = (r.r12 + y) % 65536; o = o; regs = _; is = λ v. refl; place = ap even place ∙ even_same (base_of f + o) po.is_even; free = ap (device_at d.devices) place ∙ no_device; key = inside_key }))
 
 module _ (f : Fixed) (st : Stands f) (all : List Mark) (B : Watched → Violation → Type 0) (at : ℕ → ℕ) where
   pub set_end_leads : (c : Conf) (k A : ℕ) → Text f A 32 (slot_words (base_of f)) → offsets.end_at k + 24 ≤ length c.priv → k < length f.setup.ends → length c.stack ≤ 160

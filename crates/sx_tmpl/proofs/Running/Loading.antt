@@ -2,7 +2,7 @@
 use Rattle.std.proofs.Common.{◌≡◌, ℕ, zero, suc, ◌+◌, ◌*◌, ◌%◌, ◌<◌, ◌≤◌, inl, inr, Bool, true, false, not, ◌&&◌, List, [], ◌∷◌, ◌++◌, map}
 use Rattle.std.proofs.Common.{length, length-append, refl, sym, ◌∙◌, ap, subst, arith, take, drop, get_or}
 use Rattle.std.specs.Prelude.{nat_lt, nat_le, slice_index, slice_set}
-use Rattle.std.proofs.lemmas.Bool.{and_parts, cases_lt, false≢true, leb-true, ltb-true}
+use Rattle.std.proofs.lemmas.Bool.{and_parts, cases_lt, false≢true, leb-true, ltb-true, not-true}
 use Rattle.sx_isa.specs.declared.instruction.Operand.{Operand}
 use Rattle.sx_isa.specs.declared.instruction.Operand.TheVariants.{Reg, Indexed, Indirect, Increment, Symbolic, Absolute, Immediate, Const}
 use Rattle.sx_isa.specs.declared.instruction.Op2.TheVariants as op2
@@ -127,10 +127,6 @@ drop_on zero m l = let on : m ≡ zero + m = omega arith in ap (λ n. drop n l) 
 drop_on (suc k) m [] = drop_none m ∙ sym (drop_none (suc k + m))
 drop_on (suc k) m (x ∷ xs) = let on : suc (k + m) ≡ suc k + m = omega arith in drop_on k m xs ∙ ap (λ n. drop n (x ∷ xs)) on
 
-not_true : (b : Bool) → not b ≡ true → b ≡ false
-not_true true h = absurd (false≢true h)
-not_true false h = refl
-
 module _ (f : Fixed) (st : Stands f) (all : List Mark) (B : Watched → Violation → Type 0) (Q : Watched → Type 0) where
   -- what the plan of a load owes
   owes : (X : Violation → Type 0) (r : Regs) (d : Data) (a to j : ℕ) (s : Operand) (i : ℕ) → is_number s ≡ true → 4 ≤ i → i < 16 → number s < 65536 → InText f to
@@ -171,7 +167,7 @@ module _ (f : Fixed) (st : Stands f) (all : List Mark) (B : Watched → Violatio
       let last : P + 2 * (k + length (xs ++ ys)) ≡ P + 2 * (k + length xs + length ys) = omega (arith, sum) in
       let there : InText f to = record { from = omega (arith, t.from); to = omega (arith, t.to, here) } in
       let r2 = with_register f r l.1 (number l.0) in
-      step f st all B Q t k (load l) (front xs ys (drop k ws) stand) here b.1 (not_true _ a.1) event.Quiet (record r { pc = pc }) d (steps ls j) e safe
+      step f st all B Q t k (load l) (front xs ys (drop k ws) stand) here b.1 (not-true _ a.1) event.Quiet (record r { pc = pc }) d (steps ls j) e safe
       (owes (B (running f (record r { pc = pc }) d)) r d (P + 2 * (k + 1)) to (steps ls j) l.0 l.1 g.0 low high small.0 there (λ s.
       loads t (k + length xs) ls (ap (λ (z : List ℕ). take (length ys) z) (sym (drop_on k (length xs) ws)) ∙ others xs ys (drop k ws) stand) behind tests.1 small.1 r2 d j to refl s
       (subst (λ (p : ℕ). Safe f all (running f (record (loaded f ls r2) { pc = p }) d) → Runs f all B Q j (running f (record (loaded f ls r2) { pc = p }) d)) last after)))

@@ -6,6 +6,7 @@ use Rattle.std.proofs.lemmas.List.{get_or-set_same, get_or-set_other, length-set
 use Rattle.std.specs.Prelude.{slice_get, Result}
 use Rattle.std.specs.List.{position_from}
 use Rattle.std.proofs.lemmas.Option.{none-some, same_Some}
+use Rattle.sx_isa.proofs.StandingLemmas.{even_same}
 use Rattle.sx_bus.specs.declared.devices.Window.{Window}
 use Rattle.sx_bus.specs.declared.devices.Kind.{Kind}
 use Rattle.sx_bus.specs.declared.devices.Kind.TheVariants.{Sensor, Actuator}
@@ -24,7 +25,7 @@ use Rattle.sx_tmpl.specs.Running.{sections_of, Fixed, Elsewhere, OutsideKept, ce
 use Rattle.sx_tmpl.proofs.Running.MidRun.{Stands, refused, device_refusal, PrivateByte, PrivatePlace, PrivateWord, PrivateRange, place_of, put_cell}
 use Rattle.sx_tmpl.specs.Unseen.{AreShown, IsShown, PlanShowsNone}
 use Rattle.sx_tmpl.proofs.Running.Owned.{in_private_yes, may_read, may_write, written_not_public, public_bounds, public_not_private}
-use Rattle.sx_tmpl.proofs.Running.Mem.{length-put, get-put_other, bytes_put, even_is, word_is, put_word_is}
+use Rattle.sx_tmpl.proofs.Running.Mem.{length-put, get-put_other, bytes_put, word_is, put_word_is}
 
 -- a byte that may be written: in the private section, or in the window outside it
 pub data Place (f : Fixed) (a : ℕ) : Type 0 where
@@ -122,7 +123,7 @@ module _ (f : Fixed) (st : Stands f) where
   pub load_word : (at a : ℕ) (x : Moment) → at ≡ a → PrivatePlace f a → ((b : ℕ) → device_at x.devices b ≡ device_at f.devices b) → load f.setup.live f.setup.section.id true at x ≡ Ok (cell x.mem a, x)
   load_word at a x e p same =
       let inside = in_private_yes f.setup.section a (omega (arith, p.low)) (omega (arith, p.high)) in
-      let e1 = even_is a p.is_even in
+      let e1 = even_same a p.is_even in
       let m1 = may_read f st a (omega (arith, p.low)) (omega (arith, p.high)) in
       let m2 = may_read f st (a + 1) (omega (arith, p.low)) (omega (arith, p.high)) in
       let d : device_at x.devices a ≡ None = same a ∙ st.private_plain a inside p.low in
@@ -132,7 +133,7 @@ module _ (f : Fixed) (st : Stands f) where
       → store f.setup.live f.setup.section.id true at v x ≡ Ok (record x { mem = put_cell x.mem a v })
   store_word at a v x e p same =
       let inside = in_private_yes f.setup.section a (omega (arith, p.low)) (omega (arith, p.high)) in
-      let e1 = even_is a p.is_even in
+      let e1 = even_same a p.is_even in
       let m1 = may_write f st a (omega (arith, p.low)) (omega (arith, p.high)) in
       let m2 = may_write f st (a + 1) (omega (arith, p.low)) (omega (arith, p.high)) in
       let d : device_at x.devices a ≡ None = same a ∙ st.private_plain a inside p.low in
@@ -347,7 +348,7 @@ module _ (f : Fixed) (st : Stands f) (Q : List ℕ → List ℕ → Type 0) (T :
   owes_shown (Stop v) x same kept h = tt
   owes_shown (Fetch at k) x same kept h = absurd h
   owes_shown (Load true at k) x same kept h =
-      let ev : even at ≡ h.0 = ap even h.1 ∙ even_is h.0 h.2.is_even in
+      let ev : even at ≡ h.0 = ap even h.1 ∙ even_same h.0 h.2.is_even in
       let here = load_word f st at h.0 x h.1 (place_of h.2) same in
       inr (
         subst (λ (a : ℕ). AreShown f.setup a 2) (sym ev) h.2.shown,

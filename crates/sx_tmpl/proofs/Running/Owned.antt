@@ -1,5 +1,5 @@
 -- What the access table and the devices say of the module's own bytes.
-use Rattle.std.proofs.Common.{◌≡◌, ℕ, ◌<◌, ◌≤◌, ◌⊎◌, inl, inr, Bool, true, false, not, ◌&&◌, ◌||◌, ◌==◌, nat_le, nat_lt, List, [], ◌∷◌, Some, None, refl, sym, ◌∙◌, ap, subst, arith}
+use Rattle.std.proofs.Common.{◌≡◌, ℕ, ◌<◌, ◌≤◌, ◌⊎◌, inl, inr, Bool, true, false, not, ◌&&◌, ◌||◌, ◌==◌, nat_le, nat_lt, Some, None, refl, sym, ◌∙◌, ap, subst, arith}
 use Rattle.std.specs.List.{list_all}
 use Rattle.std.proofs.lemmas.Bool.{and_parts, and_from, and_left, and_right, or_left, or_right, or_cases, cases_eq, cases_Bool, ltb-true, leb-true, lt-ltb, le-leb, le-ltb, lt-leb, eq-eqb, true≢false}
 use Rattle.std.proofs.lemmas.Option.{same_Some}
@@ -8,17 +8,12 @@ use Rattle.sx_rules.specs.declared.access.Violation.TheVariants as bad
 use Rattle.sx_rules.specs.declared.section.Section.{Section}
 use Rattle.sx_rules.specs.Access.{Sections, in_public, in_private, allows, may, holder, outside_private, in_order, extends, Lives, section_of}
 use Rattle.sx_rules.specs.Admission.{apart, parts_apart}
-use Rattle.sx_rules.specs.Placed.{Sound, Beside, AllSound, Placed}
+use Rattle.sx_rules.specs.Placed.{Beside, Placed}
 use Rattle.sx_rules.proofs.Placing.{placed_found, placed_beside, placed_holds}
 use Rattle.sx_machine.proofs.PlanGuard.{passes}
 use Rattle.sx_tmpl.specs.Running.{sections_of, Fixed}
 use Rattle.sx_tmpl.proofs.Running.MidRun.{Stands, PrivateByte, refused}
-use Rattle.sx_machine.proofs.Frame.{out_of}
-
--- what each live section passes, all pass
-all_of : (test : Section → Bool) (live : List Section) → ((u : Section) → Lives live u → test u ≡ true) → list_all test live ≡ true
-all_of test [] h = refl
-all_of test (u ∷ rest) h = and_from _ _ (h u (inl refl)) (all_of test rest (λ x l. h x (inr l)))
+use Rattle.sx_machine.proofs.Frame.{all_pass, lives_sound, out_of}
 
 same_or_beside : (t : Sections) (s u : Section) → Placed t → Lives t.live s → Lives t.live u → (s ≡ u) ⊎ Beside s u
 same_or_beside t s u p ls lu =
@@ -33,10 +28,6 @@ out_of_first from to start end a h p q =
       | inl e ↦ let le : to ≤ start = leb-true to start e in and_right (nat_le from a) _ (le-ltb a to (omega arith))
       | inr e ↦ let le : end ≤ from = leb-true end from e in and_left _ _ (lt-leb from a (omega arith))
     ]
-
-sound_of : (next : ℕ) (live : List Section) (s : Section) → AllSound next live → Lives live s → Sound next s
-sound_of next [] s h l = absurd l
-sound_of next (u ∷ rest) s h l = elim l [ inl e ↦ subst (λ u. Sound next u) e h.0 | inr r ↦ sound_of next rest s h.1 r ]
 
 pub in_public_yes : (s : Section) (a : ℕ) → s.layout.pub_from ≤ a → a < s.layout.pub_to → in_public s a ≡ true
 in_public_yes s a p q = and_from _ _ (le-leb s.layout.pub_from a p) (lt-ltb a s.layout.pub_to q)
@@ -56,11 +47,11 @@ private_bounds s a h =
 
 module _ (f : Fixed) (st : Stands f) where
   parts : parts_apart f.setup.section.layout ≡ true
-  parts = (sound_of f.next f.setup.live f.setup.section st.placed.each st.lives).parts
+  parts = (lives_sound f.next f.setup.live f.setup.section st.placed.each st.lives).parts
 
   -- the module is none of code outside every module
   pub own_above : 0 < f.setup.section.id
-  own_above = (sound_of f.next f.setup.live f.setup.section st.placed.each st.lives).given
+  own_above = (lives_sound f.next f.setup.live f.setup.section st.placed.each st.lives).given
 
   pub private_not_public : (a : ℕ) → f.setup.section.layout.priv_from ≤ a → a < f.setup.section.layout.priv_to → in_public f.setup.section a ≡ false
   private_not_public a p q = out_of_first f.setup.section.layout.pub_from f.setup.section.layout.pub_to f.setup.section.layout.priv_from f.setup.section.layout.priv_to a parts p q
@@ -70,7 +61,7 @@ module _ (f : Fixed) (st : Stands f) where
 
   -- where an own byte lies in another section, by what stands beside it
   others : (test : Section → Bool) → test f.setup.section ≡ true → ((u : Section) → Beside f.setup.section u → test u ≡ true) → list_all test f.setup.live ≡ true
-  others test here there = all_of test f.setup.live (λ u l.
+  others test here there = all_pass test f.setup.live (λ u l.
       elim (same_or_beside (sections_of f) f.setup.section u st.placed st.lives l) [ inl e ↦ subst (λ u. test u ≡ true) e here | inr b ↦ there u b ])
 
   private_in_private : (a : ℕ) (u : Section) → f.setup.section.layout.priv_from ≤ a → a < f.setup.section.layout.priv_to → Beside f.setup.section u → in_private u a ≡ false

@@ -3,6 +3,7 @@ use Rattle.std.proofs.Common.{◌≡◌, ℕ, suc, ◌+◌, ◌*◌, ◌%◌, �
 use Rattle.std.specs.Prelude.{slice_get, Result}
 use Rattle.std.proofs.lemmas.Bool.{and_from, eq-eqb, ne_eqb}
 use Rattle.std.proofs.lemmas.List.{append-nil}
+use Rattle.sx_isa.proofs.StandingLemmas.{even_same}
 use Rattle.sx_reach.specs.Reach.{Stepped, Goes, Next, Ends}
 use Rattle.sx_isa.specs.declared.instruction.Instr.{Instr}
 use Rattle.sx_isa.specs.Reading.{instruction_at, length_of}
@@ -24,7 +25,7 @@ use Rattle.sx_tmpl.specs.Running.{sections_of, Regs, regs16, Fixed, Data, runnin
 use Rattle.sx_tmpl.specs.Unseen.{PlanShowsNone, StepShowsNone, WordShowsNone}
 use Rattle.sx_tmpl.proofs.Running.MidRun.{Stands, Runs}
 use Rattle.sx_tmpl.proofs.Running.Owned.{own_above, in_public_yes, run_outside, run_in_order, run_extends, run_holder}
-use Rattle.sx_tmpl.proofs.Running.Mem.{even_is, word_is}
+use Rattle.sx_tmpl.proofs.Running.Mem.{word_is}
 use Rattle.sx_tmpl.proofs.Running.Owes.{Owes, Met, owes_met, owes_shown, text_kept}
 
 -- this word begins an instruction of n words
@@ -69,7 +70,7 @@ module _ (f : Fixed) (st : Stands f) (all : List Mark) (B : Watched → Violatio
       → attempt f.setup.mac (running_after e f r d).node ≡ instruction f.setup.mac (running_after e f r d).node
   tests_passed e r d safe p q ev =
       let lt : r.pc < f.setup.section.layout.pub_to = omega arith in
-      let e0 = even_is r.pc ev in
+      let e0 = even_same r.pc ev in
       let o1 = run_outside f st r.pc p lt in
       let o2 = run_outside f st (r.pc + 1) (omega arith) q in
       let dev : device_at d.devices r.pc ≡ None = safe.devices r.pc ∙ st.public_plain r.pc (in_public_yes f.setup.section r.pc p lt) in
@@ -115,7 +116,7 @@ module _ (f : Fixed) (st : Stands f) (all : List Mark) (B : Watched → Violatio
   pub fetched : (at a w : ℕ) (x : Moment) → at ≡ a → f.setup.section.layout.pub_from ≤ a → a + 1 < f.setup.section.layout.pub_to → a % 2 ≡ 0
       → ((b : ℕ) → device_at x.devices b ≡ device_at f.devices b) → cell x.mem a ≡ w → fetch f.setup.live f.setup.section.id at x ≡ Ok w
   fetched at a w x e p q ev same is =
-      let e0 = even_is a ev in
+      let e0 = even_same a ev in
       let x1 = run_extends f st a p (omega arith) in
       let x2 = run_extends f st (a + 1) (omega arith) q in
       let dev : device_at x.devices a ≡ None = same a ∙ st.public_plain a (in_public_yes f.setup.section a p (omega arith)) in

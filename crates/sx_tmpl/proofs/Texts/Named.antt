@@ -1,7 +1,7 @@
 -- An operation that has a meaning names no byte that may be a key's.
-use Rattle.std.proofs.Common.{◌≡◌, ℕ, zero, suc, ◌+◌, ◌-◌, ◌*◌, ◌/◌, ◌%◌, ◌<◌, ◌≤◌, ◌⊎◌, inl, inr, Bool, true, false, List, [], ◌∷◌, nat_le, nat_lt, refl, sym, ◌∙◌, arith}
+use Rattle.std.proofs.Common.{◌≡◌, ℕ, zero, suc, ◌+◌, ◌-◌, ◌*◌, ◌/◌, ◌%◌, ◌<◌, ◌≤◌, ◌⊎◌, inl, inr, true, false, List, [], ◌∷◌, nat_le, nat_lt, sym, ◌∙◌, arith}
 use Rattle.std.specs.Prelude.{◌==◌, ◌||◌, ◌&&◌, not}
-use Rattle.std.proofs.lemmas.Bool.{and_parts, or_cases, cases_lt, eqb-true, leb-true, ltb-true, lt-ltb, true≢false}
+use Rattle.std.proofs.lemmas.Bool.{and_parts, or_cases, cases_lt, eqb-true, leb-true, ltb-true, lt-ltb, not-true, true≢false}
 use Rattle.sx_ir.specs.declared.ir.Ir.{Ir}
 use Rattle.sx_ir.specs.declared.ir.Ir.TheVariants as ir
 use Rattle.sx_ir.specs.Meaning.{is_body_place, is_key_place, is_sealed_body, is_shown, is_shown_element, names_no_key}
@@ -41,13 +41,9 @@ holds_no_key ends o n e =
 
 element_shown : (ends o n i : ℕ) → is_shown_element ends o n i ≡ true → i < n → HoldsNoKey ends (o + 2 * i) 2
 element_shown ends o n i e lt = elim (or_cases (not (nat_lt i n)) (is_shown ends (o + 2 * i) 2) e) [
-  | inl past ↦ absurd (true≢false (sym (lt-ltb i n lt) ∙ not_true (nat_lt i n) past))
+  | inl past ↦ absurd (true≢false (sym (lt-ltb i n lt) ∙ not-true (nat_lt i n) past))
   | inr shown ↦ holds_no_key ends (o + 2 * i) 2 shown
 ]
-  where
-    not_true : (b : Bool) → not b ≡ true → b ≡ false
-    not_true false e = refl
-    not_true true e = absurd (true≢false (sym e))
 
 key_place : (ends k : ℕ) → is_key_place ends k ≡ true → IsKeyPlace ends k
 key_place ends k e = elim (or_cases (k == 0) (nat_le 520 k && (nat_lt k (512 + 24 * ends) && ((k - 520) % 24 == 0))) e) [

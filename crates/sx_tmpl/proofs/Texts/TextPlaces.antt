@@ -4,6 +4,7 @@ use Rattle.std.specs.Prelude.{slice_index, slice_get, ◌||◌, if◌then◌else
 use Rattle.std.specs.List.{list_any}
 use Rattle.std.proofs.lemmas.Option.{none-some, same_Some}
 use Rattle.std.proofs.lemmas.Bool.{eq-eqb, or_right}
+use Rattle.std.proofs.Math.Seq.{take-length}
 use Rattle.sx_ir.specs.declared.ir.Ir.{Ir}
 use Rattle.sx_ir.specs.declared.ir.Ir.TheVariants as ir
 use Rattle.sx_ir.specs.Sizes.{has_routine, is_packet, op_bytes, ops_bytes, routines}
@@ -20,12 +21,8 @@ place_is a [] (suc p) le = absurd (omega (arith, le))
 place_is a (i ∷ ops) zero le = omega arith
 place_is a (i ∷ ops) (suc p) le = let e = place_is (a + op_bytes i) ops p (omega (arith, le)) in omega (arith, e)
 
-pub take_whole : (ops : List Ir) → take (length ops) ops ≡ ops
-take_whole [] = refl
-take_whole (i ∷ ops) = ap (λ (l : List Ir). i ∷ l) (take_whole ops)
-
 pub exit_is : (a : ℕ) (ops : List Ir) → slice_index (places_from a ops) (length ops) ≡ a + ops_bytes ops
-exit_is a ops = place_is a ops (length ops) (omega arith) ∙ ap (λ (c : List Ir). a + ops_bytes c) (take_whole ops)
+exit_is a ops = place_is a ops (length ops) (omega arith) ∙ ap (λ (c : List Ir). a + ops_bytes c) (take-length ops)
 
 pub bytes_within : (p : ℕ) (ops : List Ir) → ops_bytes (take p ops) ≤ ops_bytes ops
 bytes_within zero [] = omega arith

@@ -7,7 +7,7 @@ use Rattle.sx_image.specs.Watched.{Watched}
 use Rattle.sx_ir.specs.Conf.{Conf, Halt, Violates, Stuck}
 use Rattle.sx_ir.specs.Meaning.{next, OperationResult, when, pushed, operated, emit, emitted, saved, stop, is_saved, has_out_window, has_copy_room, do_op, do_at}
 use Rattle.sx_tmpl.specs.Running.{Regs, Fixed, Data, running, Safe}
-use Rattle.sx_tmpl.proofs.Running.Outcomes.{goes_same}
+use Rattle.sx_tmpl.proofs.Running.Outcomes.{goes_same, goes_stops}
 use Rattle.sx_tmpl.proofs.Running.MidRun.{Stands, Runs, later}
 use Rattle.sx_tmpl.specs.Shows.{base_of, IsData, ShowsConfiguration, Stood}
 use Rattle.sx_tmpl.proofs.Running.Steps.{Text, InText}
@@ -185,9 +185,6 @@ module _ (f : Fixed) (st : Stands f) (all : List Mark) (BV : Violation → List 
   array_fits : (o n : ℕ) (priv : List ℕ) → base_of f + length priv ≡ f.setup.section.layout.priv_to → IsArray o n (size_of f) → IsArray o n (length priv)
   array_fits o n priv e h = let z : size_of f ≡ length priv = omega arith in subst (λ s. IsArray o n s) z h
 
-  W : ℕ → Ir → List ℕ
-  W p i = template f.setup.section.layout a p i
-
   -- an operation that goes on is done by its words
   abbrev Op_goes : Ir → List ℕ → Conf → Conf → Type 0
   Op_goes i stack c t = Runs_on (template f.setup.section.layout a c.place i) (count_of i + handler_count given i) (record c { stack = stack }) t
@@ -351,9 +348,6 @@ module _ (f : Fixed) (st : Stands f) (all : List Mark) (BV : Violation → List 
   op_goes ir.Leave stack c t here ok u ks g gt e = absurd (never Stuck t e)
 
 -- what stops an operation that has no violation is that it has no meaning
-goes_never : (a : Conf) (h : Halt) → ◌≡◌ {A = OperationResult} (Goes a) (Stops h) → ⊥
-goes_never a h e = cc
-
 stuck_is : (h : Halt) → ◌≡◌ {A = OperationResult} (Stops Stuck) (Stops h) → Stuck ≡ h
 stuck_is h e = cc
 
@@ -362,7 +356,7 @@ when_stops true x h e g = g e
 when_stops false x h e g = stuck_is h e
 
 pushed_stops : (c : Conf) (v : ℕ) (h : Halt) → pushed c v ≡ Stops h → Stuck ≡ h
-pushed_stops c v h e = when_stops (nat_lt (length c.stack) 160) (Goes (next c (v ∷ c.stack))) h e (λ x. absurd (goes_never _ h x))
+pushed_stops c v h e = when_stops (nat_lt (length c.stack) 160) (Goes (next c (v ∷ c.stack))) h e (λ x. absurd (goes_stops _ h x))
 
 operator_stops : (g : IrOp) (stack : List ℕ) (c : Conf) (h : Halt) → operated g (record c { stack = stack }) ≡ Stops h → Stuck ≡ h
 operator_stops op.Add [] c h e = stuck_is h e
@@ -376,9 +370,9 @@ operator_stops op.Lt [] c h e = stuck_is h e
 operator_stops op.Neg [] c h e = stuck_is h e
 operator_stops op.Inv [] c h e = stuck_is h e
 operator_stops op.Not [] c h e = stuck_is h e
-operator_stops op.Neg (x ∷ rest) c h e = absurd (goes_never _ h e)
-operator_stops op.Inv (x ∷ rest) c h e = absurd (goes_never _ h e)
-operator_stops op.Not (x ∷ rest) c h e = absurd (goes_never _ h e)
+operator_stops op.Neg (x ∷ rest) c h e = absurd (goes_stops _ h e)
+operator_stops op.Inv (x ∷ rest) c h e = absurd (goes_stops _ h e)
+operator_stops op.Not (x ∷ rest) c h e = absurd (goes_stops _ h e)
 operator_stops op.Add (y ∷ []) c h e = stuck_is h e
 operator_stops op.Sub (y ∷ []) c h e = stuck_is h e
 operator_stops op.Mul (y ∷ []) c h e = stuck_is h e
@@ -387,14 +381,14 @@ operator_stops op.Or (y ∷ []) c h e = stuck_is h e
 operator_stops op.Xor (y ∷ []) c h e = stuck_is h e
 operator_stops op.Eq (y ∷ []) c h e = stuck_is h e
 operator_stops op.Lt (y ∷ []) c h e = stuck_is h e
-operator_stops op.Add (y ∷ x ∷ rest) c h e = absurd (goes_never _ h e)
-operator_stops op.Sub (y ∷ x ∷ rest) c h e = absurd (goes_never _ h e)
-operator_stops op.Mul (y ∷ x ∷ rest) c h e = absurd (goes_never _ h e)
-operator_stops op.And (y ∷ x ∷ rest) c h e = absurd (goes_never _ h e)
-operator_stops op.Or (y ∷ x ∷ rest) c h e = absurd (goes_never _ h e)
-operator_stops op.Xor (y ∷ x ∷ rest) c h e = absurd (goes_never _ h e)
-operator_stops op.Eq (y ∷ x ∷ rest) c h e = absurd (goes_never _ h e)
-operator_stops op.Lt (y ∷ x ∷ rest) c h e = absurd (goes_never _ h e)
+operator_stops op.Add (y ∷ x ∷ rest) c h e = absurd (goes_stops _ h e)
+operator_stops op.Sub (y ∷ x ∷ rest) c h e = absurd (goes_stops _ h e)
+operator_stops op.Mul (y ∷ x ∷ rest) c h e = absurd (goes_stops _ h e)
+operator_stops op.And (y ∷ x ∷ rest) c h e = absurd (goes_stops _ h e)
+operator_stops op.Or (y ∷ x ∷ rest) c h e = absurd (goes_stops _ h e)
+operator_stops op.Xor (y ∷ x ∷ rest) c h e = absurd (goes_stops _ h e)
+operator_stops op.Eq (y ∷ x ∷ rest) c h e = absurd (goes_stops _ h e)
+operator_stops op.Lt (y ∷ x ∷ rest) c h e = absurd (goes_stops _ h e)
 
 emit_stops : (c : Conf) (x : ℕ) (rest : List ℕ) (o : Option (ℕ × Window)) (h : Halt) → emit c x rest o ≡ Stops h → Stuck ≡ h
 emit_stops c x rest None h e = stuck_is h e
@@ -402,7 +396,7 @@ emit_stops c x rest (Some d) h e = kinds d.1.kind e
   where
     kinds : (k : Kind) → emitted c x rest k d.0 ≡ Stops h → Stuck ≡ h
     kinds Sensor e = stuck_is h e
-    kinds Actuator e = absurd (goes_never _ h e)
+    kinds Actuator e = absurd (goes_stops _ h e)
 
 same_end : (v w : Violation) (m n : List Mark) → ◌≡◌ {A = OperationResult} (Stops (Violates v m)) (Stops (Violates w n)) → (v ≡ w) × (m ≡ n)
 same_end v w m n e = (cc, cc)
@@ -433,7 +427,7 @@ sense_stops c (Some d) h e = kinds d.1.kind e
 
 stop_stops : (c : Conf) (o : Option ℕ) (h : Halt) → stop c o ≡ Stops h → Stuck ≡ h
 stop_stops c None h e = stuck_is h e
-stop_stops c (Some p) h e = absurd (goes_never _ h e)
+stop_stops c (Some p) h e = absurd (goes_stops _ h e)
 
 module _ (f : Fixed) (st : Stands f) (all : List Mark) (BV : Violation → List Mark → Type 0) (begins : (v : Violation) (m : List Mark) → BV v m
     → HasPrefix all m) (tag : IsTag f.setup.mac) (a : Addresses) (code : List Ir) (emitted_ : Emitted f a code) (handle : ℕ → Conf → OperationResult)
@@ -449,7 +443,7 @@ module _ (f : Fixed) (st : Stands f) (all : List Mark) (BV : Violation → List 
       → Runs f all Bw (λ _. ⊥) (count_of i + handler_count given i) (running f r d)
 
   ending_stops : (after : OperationResult) (G : Conf → Type 0) (E : Violation → List Mark → Type 0) (v : Violation) (m : List Mark) → Ending after G E → after ≡ Stops (Violates v m) → E v m
-  ending_stops after G E v m (Goes_to u is g) e = absurd (goes_never u (Violates v m) (sym is ∙ e))
+  ending_stops after G E v m (Goes_to u is g) e = absurd (goes_stops u (Violates v m) (sym is ∙ e))
   ending_stops after G E v m (Breaks_off w n is g) e = let same = same_end w v n m (sym is ∙ e) in subst (λ v. E v m) same.0 (subst (λ m. E w m) same.1 g)
   ending_stops after G E v m (No_meaning is) e = absurd (stuck_not v m (sym is ∙ e))
 
@@ -471,21 +465,21 @@ module _ (f : Fixed) (st : Stands f) (all : List Mark) (BV : Violation → List 
   op_stops (ir.Push n) stack c w here ok u ks g e b = absurd (no_meaning stack c w (pushed_stops (record c { stack = stack }) _ w e) b)
   op_stops (ir.Load o) stack c w here ok u ks g e b = absurd (no_meaning stack c w (pushed_stops (record c { stack = stack }) _ w e) b)
   op_stops (ir.Store o) [] c w here ok u ks g e b = absurd (no_meaning [] c w (stuck_is w e) b)
-  op_stops (ir.Store o) (x ∷ rest) c w here ok u ks g e b = absurd (goes_never _ w e)
+  op_stops (ir.Store o) (x ∷ rest) c w here ok u ks g e b = absurd (goes_stops _ w e)
   op_stops (ir.LoadAt o n) [] c w here ok u ks g e b = absurd (no_meaning [] c w (stuck_is w e) b)
-  op_stops (ir.LoadAt o n) (i ∷ rest) c w here ok u ks g e b = absurd (goes_never _ w e)
+  op_stops (ir.LoadAt o n) (i ∷ rest) c w here ok u ks g e b = absurd (goes_stops _ w e)
   op_stops (ir.StoreAt o n) [] c w here ok u ks g e b = absurd (no_meaning [] c w (stuck_is w e) b)
   op_stops (ir.StoreAt o n) (v ∷ []) c w here ok u ks g e b = absurd (no_meaning (v ∷ []) c w (stuck_is w e) b)
-  op_stops (ir.StoreAt o n) (v ∷ i ∷ rest) c w here ok u ks g e b = absurd (goes_never _ w e)
+  op_stops (ir.StoreAt o n) (v ∷ i ∷ rest) c w here ok u ks g e b = absurd (goes_stops _ w e)
   op_stops (ir.Op h) stack c w here ok u ks g e b = absurd (no_meaning stack c w (operator_stops h stack c w e) b)
-  op_stops (ir.Jump q) stack c w here ok u ks g e b = absurd (goes_never _ w e)
+  op_stops (ir.Jump q) stack c w here ok u ks g e b = absurd (goes_stops _ w e)
   op_stops (ir.JumpZero q) [] c w here ok u ks g e b = absurd (no_meaning [] c w (stuck_is w e) b)
-  op_stops (ir.JumpZero q) (zero ∷ rest) c w here ok u ks g e b = absurd (goes_never _ w e)
-  op_stops (ir.JumpZero q) (suc v ∷ rest) c w here ok u ks g e b = absurd (goes_never _ w e)
+  op_stops (ir.JumpZero q) (zero ∷ rest) c w here ok u ks g e b = absurd (goes_stops _ w e)
+  op_stops (ir.JumpZero q) (suc v ∷ rest) c w here ok u ks g e b = absurd (goes_stops _ w e)
   op_stops (ir.Packet k) [] c w here ok u ks g e b = absurd (no_meaning [] c w (stuck_is w e) b)
   op_stops (ir.Packet k) (v ∷ rest) c w here ok u ks g e b = packet_stops k v rest c w here ok u ks g e b
   op_stops ir.Drop [] c w here ok u ks g e b = absurd (no_meaning [] c w (stuck_is w e) b)
-  op_stops ir.Drop (x ∷ rest) c w here ok u ks g e b = absurd (goes_never _ w e)
+  op_stops ir.Drop (x ∷ rest) c w here ok u ks g e b = absurd (goes_stops _ w e)
   op_stops ir.Emit [] c w here ok u ks g e b = absurd (no_meaning [] c w (stuck_is w e) b)
   op_stops ir.Emit (x ∷ rest) c w here ok u ks g e b = absurd (no_meaning (x ∷ rest) c w (emit_stops (record c { stack = x ∷ rest }) x rest (own_window f.setup c.devices) w e) b)
   op_stops ir.Stop stack c w here ok u ks g e b = absurd (no_meaning stack c w (stop_stops (record c { stack = stack }) c.back w e) b)
@@ -512,12 +506,12 @@ module _ (f : Fixed) (st : Stands f) (all : List Mark) (BV : Violation → List 
       later f all Bw (λ _. ⊥) (8 + 4 * suc n) (16 + 8 * suc n + 0) (running f r d) (omega arith) (ending_stops (copy_out f.setup (record c { stack = v ∷ rest }) (suc n) o v rest) _ _ x m
       (copy_out_ends f st all Bw a.at c v rest n o (subst (λ s. IsRange o (suc n) s) (size_is f c.priv sh.holds.size) ok.2) u (omega (arith, ok.1)) w.0 w.1) e r d tx on sh safe
       (λ u k. subst (λ l. BV x l) (sym k) b))
-  op_stops (ir.Seal k h hn x xn) stack c w here ok u ks g e b = absurd (goes_never _ w e)
+  op_stops (ir.Seal k h hn x xn) stack c w here ok u ks g e b = absurd (goes_stops _ w e)
   op_stops (ir.Open k h hn x xn) stack c w here ok u ks g e b = absurd
       (no_meaning stack c w
       (open_stops (record c { stack = stack }) k (bytes_from c.priv h hn) x xn (unwrapped f.setup.mac (key_at f.setup c k) (bytes_from c.priv h hn) (bytes_from c.priv (h + hn) xn)
       (bytes_from c.priv (h + hn + xn) 16)) w e) b)
-  op_stops (ir.SetEnd k) stack c w here ok u ks g e b = absurd (goes_never _ w e)
+  op_stops (ir.SetEnd k) stack c w here ok u ks g e b = absurd (goes_stops _ w e)
   op_stops ir.Sense stack c w here ok u ks g e b = absurd (no_meaning stack c w (sense_stops (record c { stack = stack }) (own_window f.setup c.devices) w e) b)
   op_stops (ir.Handler h) stack c w here ok u ks g e b = absurd (no_meaning stack c w (no_end h _ w e) b)
   op_stops ir.Leave stack c w here ok u ks g e b = absurd (no_meaning stack c w (stuck_is w e) b)
