@@ -1,12 +1,10 @@
 -- An invocation makes at most 16 pieces.
-use Rattle.std.proofs.Common.{◌≡◌, ℕ, zero, suc, ◌+◌, ◌*◌, ◌≤◌, max, Bool, true, false, ◌&&◌, ◌==◌, List, [], ◌∷◌, ◌++◌, length, take, Option, Some, None}
+use Rattle.std.proofs.Common.{◌≡◌, ℕ, ◌+◌, ◌*◌, ◌≤◌, Bool, true, false, ◌&&◌, List, [], ◌∷◌, ◌++◌, length, take, Option, Some, None}
 use Rattle.std.proofs.Common.{Result, Ok, Err, refl, sym, ap, ◌∙◌, subst, arith, cond}
 use Rattle.std.specs.Prelude.{if◌then◌else◌, nat_lt, find}
-use Rattle.std.proofs.Math.Nat.{suc-mul}
 use Rattle.std.proofs.lemmas.List.{length-append}
 use Rattle.std.proofs.lemmas.Option.{none-some, same_Some}
-use Rattle.sx_lang.specs.declared.tree.Decl.{Decl}
-use Rattle.sx_lang.specs.Tree.{Statement, Defines, Assigns, Stores, Chooses, Repeats, Sends, Emits, Block, Done, Then, HandlerTree, ModuleTree}
+use Rattle.sx_lang.specs.Tree.{HandlerTree, ModuleTree}
 use Rattle.sx_check.specs.Names.{same_input}
 use Rattle.sx_mean.specs.declared.events.End.{End}
 use Rattle.sx_mean.specs.declared.events.Act.{Act}
@@ -14,9 +12,6 @@ use Rattle.sx_mean.specs.declared.events.Act.TheVariants.{Send, Emit}
 use Rattle.sx_mean.specs.declared.events.SourceEvent.{SourceEvent}
 use Rattle.sx_mean.specs.declared.events.SourceEvent.TheVariants as event
 use Rattle.sx_mean.specs.Application.{block_packets}
-use Rattle.sx_mean.specs.Packets.{statement_packets}
-use Rattle.sx_mean.specs.Places.{place, array_length, output_number}
-use Rattle.sx_mean.specs.Meaning.{HandlerState, assign, assign_element, after_statement, after_block, times, forget, value, local_place}
 use Rattle.sx_mean.specs.React.{react, run, handler_at, value_of, handler_of_name, input_names, nth}
 use Rattle.sx_rules.specs.declared.access.Violation.{Violation}
 use Rattle.sx_bus.specs.declared.devices.Window.{Window}
@@ -34,72 +29,9 @@ use Rattle.sx_invoke.specs.Protocol.{event_size, key_size, value_size, last_numb
 use Rattle.sx_invoke.proofs.ByEntry.{by_entry}
 use Rattle.sx_mean.specs.EndLaws.{senders}
 use Rattle.sx_mean.proofs.Ends.{senders-cons}
+use Rattle.sx_mean.proofs.SendsCounted.{block_sent, sends_by, sent_by}
 use Rattle.sx_compile.specs.Laws.{FewPieces}
 use Rattle.sx_lower.specs.Lowering.{SendFew}
-
--- the packets that acts make, at most
-
-abbrev act_packets : List End → Act → ℕ
-act_packets ends (Send output v) = senders ends output
-act_packets ends (Emit v) = 0
-
-abbrev acts_packets : List End → List Act → ℕ
-acts_packets ends [] = 0
-acts_packets ends (a ∷ acts) = act_packets ends a + acts_packets ends acts
-
-packets-append : (ends : List End) (xs ys : List Act) → acts_packets ends (xs ++ ys) ≡ acts_packets ends xs + acts_packets ends ys
-packets-append ends [] ys = omega arith
-packets-append ends (x ∷ xs) ys = let e = packets-append ends xs ys in omega (arith, e)
-
-module _ (ds : List Decl) (ends : List End) where
-  abbrev Sent : HandlerState → ℕ
-  Sent st = acts_packets ends st.acts
-
-  assign_sent : (x : List ℕ) (v : ℕ) (st : HandlerState) → Sent (assign ds x v st) ≡ Sent st
-  assign_sent x v st = go (nat_lt (local_place st.locals x) (length st.locals))
-    where
-      go : (b : Bool) → Sent
-          (if b then record st {
-            locals = Rattle.std.specs.Prelude.slice_set st.locals (local_place st.locals x)
-                (Rattle.sx_mean.specs.Meaning.new_local x v);
-          } else record st { cells = Rattle.std.specs.Prelude.slice_set st.cells (place ds x) v }) ≡ Sent st
-      go true = refl
-      go false = refl
-
-  element_sent : (x : List ℕ) (i v : ℕ) (st : HandlerState) → Sent (assign_element ds x i v st) ≡ Sent st
-  element_sent x i v st = go (nat_lt i (array_length ds x))
-    where
-      go : (b : Bool) → Sent (if b then record st { cells = Rattle.std.specs.Prelude.slice_set st.cells (place ds x + i) v } else st) ≡ Sent st
-      go true = refl
-      go false = refl
-
-  times_sent : (n k : ℕ) (f : HandlerState → HandlerState) (st : HandlerState) → ((a : HandlerState) → Sent (f a) ≤ Sent a + k) → Sent (times n f st) ≤ Sent st + n * k
-  times_sent zero k f st h = omega arith
-  times_sent (suc n) k f st h =
-      let a = h st in
-      let b = times_sent n k f (f st) h in
-      let e : suc n * k ≡ n * k + k = suc-mul n k in
-      omega (arith, a, b, e)
-
-  mutual
-    statement_sent : (t : Statement) (st : HandlerState) → Sent (after_statement ds t st) ≤ Sent st + statement_packets (senders ends) ds t
-    statement_sent (Defines x e) st = omega arith
-    statement_sent (Assigns x e) st = let a = assign_sent x (value ds st e) st in omega (arith, a)
-    statement_sent (Stores x i e) st = let a = element_sent x (value ds st i) (value ds st e) st in omega (arith, a)
-    statement_sent (Chooses e a b) st = go (value ds st e == 0) (block_sent a st) (block_sent b st)
-      where
-        go : (c : Bool) → Sent (after_block ds a st) ≤ Sent st + block_packets (senders ends) ds a → Sent (after_block ds b st) ≤ Sent st + block_packets (senders ends) ds b
-            → Sent (if c then forget (length st.locals) (after_block ds b st) else forget (length st.locals) (after_block ds a st)) ≤ Sent st + max (block_packets (senders ends) ds a)
-            (block_packets (senders ends) ds b)
-        go true p q = omega (arith, q)
-        go false p q = omega (arith, p)
-    statement_sent (Repeats n a) st = times_sent n (block_packets (senders ends) ds a) (λ x. forget (length x.locals) (after_block ds a x)) st (λ x. block_sent a x)
-    statement_sent (Sends x e) st = let a = packets-append ends st.acts (Send (output_number ds x) (value ds st e) ∷ []) in omega (arith, a)
-    statement_sent (Emits e) st = let a = packets-append ends st.acts (Emit (value ds st e) ∷ []) in omega (arith, a)
-
-    block_sent : (b : Block) (st : HandlerState) → Sent (after_block ds b st) ≤ Sent st + block_packets (senders ends) ds b
-    block_sent Done st = omega arith
-    block_sent (Then t b) st = let x = statement_sent t st in let y = block_sent b (after_statement ds t st) in omega (arith, x, y)
 
 -- the acts of an event make at most 16 packets
 
@@ -119,13 +51,13 @@ handler_few links m (event.Input j v) h few e = go (nth (input_names m.decls) j)
     go (Some x) e = find_few links m (λ h. same_input (Some x) h.input) m.handlers h few e
 handler_few links m (event.Sample v) h few e = find_few links m (λ h. same_input None h.input) m.handlers h few e
 
-react_few : (m : ModuleTree) (ends : List End) (e : SourceEvent) (cells : List ℕ) → SendFew (senders ends) m m.handlers → acts_packets ends (react m e cells).acts ≤ 16
+react_few : (m : ModuleTree) (ends : List End) (e : SourceEvent) (cells : List ℕ) → SendFew (senders ends) m m.handlers → sends_by (senders ends) (react m e cells).acts ≤ 16
 react_few m ends e cells few = go (handler_at m e) refl
   where
-    go : (o : Option HandlerTree) → handler_at m e ≡ o → acts_packets ends (run m.decls o (value_of e) cells).acts ≤ 16
+    go : (o : Option HandlerTree) → handler_at m e ≡ o → sends_by (senders ends) (run m.decls o (value_of e) cells).acts ≤ 16
     go None f = omega arith
     go (Some h) f =
-        let a = block_sent m.decls ends h.body (Rattle.sx_mean.specs.React.start h (value_of e) cells) in
+        let a = block_sent m.decls (senders ends) h.body (Rattle.sx_mean.specs.React.start h (value_of e) cells) in
         let b = handler_few (senders ends) m e h few f in
         omega (arith, a, b)
 
@@ -172,7 +104,7 @@ packets_add s call output v k (e ∷ es) p =
     go true rest = adds_then 1 (senders es output) (with_packet s call v k) (with_packets s call output v (k + 1) es) p (packet_adds s call v k p) rest
     go false rest = rest p
 
-act_adds : (s : Setup) (call : Call) (a : Act) (p : Progress) → Adds (act_packets s.ends a) (with_act s call a) p
+act_adds : (s : Setup) (call : Call) (a : Act) (p : Progress) → Adds (sent_by (senders s.ends) a) (with_act s call a) p
 act_adds s call (Send output v) p = packets_add s call output v 0 s.ends p
 act_adds s call (Emit v) p = go (own_window s p.devices)
   where
@@ -180,9 +112,9 @@ act_adds s call (Emit v) p = go (own_window s p.devices)
     go None = omega arith
     go (Some d) = omega arith
 
-acts_add : (s : Setup) (call : Call) (acts : List Act) (p : Progress) → Adds (acts_packets s.ends acts) (with_acts s call acts) p
+acts_add : (s : Setup) (call : Call) (acts : List Act) (p : Progress) → Adds (sends_by (senders s.ends) acts) (with_acts s call acts) p
 acts_add s call [] p = omega arith
-acts_add s call (a ∷ acts) p = adds_then (act_packets s.ends a) (acts_packets s.ends acts) (with_act s call a) (with_acts s call acts) p (act_adds s call a p) (acts_add s call acts)
+acts_add s call (a ∷ acts) p = adds_then (sent_by (senders s.ends) a) (sends_by (senders s.ends) acts) (with_act s call a) (with_acts s call acts) p (act_adds s call a p) (acts_add s call acts)
 
 pub handled_few : (s : Setup) (call : Call) (e : SourceEvent) (p : Progress) → SendFew (senders s.ends) s.tree s.tree.handlers → p.pieces ≡ [] → length (pieces_on (handled s call e p)) ≤ 16
 unfolding handled

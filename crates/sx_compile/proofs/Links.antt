@@ -6,13 +6,13 @@ use Rattle.std.specs.Prelude.{IsTrue, not, nat_lt}
 use Rattle.std.specs.List.{list_any}
 use Rattle.std.proofs.lemmas.Bool.{false≢true, ltb-false, or_parts}
 use Rattle.std.proofs.lemmas.List.Sums.{sum_by-append}
+use Rattle.sx_check.proofs.Distinct.{count_by-cons}
 use Rattle.sx_lang.specs.Tree.{HandlerTree, ModuleTree}
 use Rattle.sx_mean.specs.declared.apps.Link.{Link}
 use Rattle.sx_mean.specs.declared.events.End.{End}
 use Rattle.sx_mean.specs.Application.{block_packets, leaves, links_from, sends_too_much}
 use Rattle.sx_mean.specs.Ends.{is_sending}
 use Rattle.sx_mean.specs.EndLaws.{senders}
-use Rattle.sx_mean.proofs.Ends.{count_by-cons}
 use Rattle.sx_lower.specs.Lowering.{SendFew}
 
 -- as many connections leave each output as ends send what is sent to it

@@ -33,7 +33,8 @@ use Rattle.sx_ir.proofs.Shown.{number_spared}
 use Rattle.sx_stub.proofs.Mem.{get-put_other, get-put_bytes_other}
 use Rattle.sx_lists.specs.Truth.{truth}
 use Rattle.sx_tmpl.specs.Unseen.{SameSlots}
-use Rattle.sx_tmpl.proofs.Operations.Sealing.{crypt_short, tag_short}
+use Rattle.sx_tag.proofs.TagBytes.{tag_short}
+use Rattle.sx_tmpl.proofs.Operations.Sealing.{crypt_short}
 use Rattle.sx_compile.proofs.Kept.{length-read_bytes}
 
 -- a byte of a slot, other than of its number

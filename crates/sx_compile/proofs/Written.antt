@@ -22,7 +22,7 @@ use Rattle.sx_machine.specs.Memory.{bytes_from}
 use Rattle.sx_invoke.specs.Setup.{Setup, Call}
 use Rattle.sx_tag.specs.Mac.{IsTag}
 use Rattle.sx_invoke.specs.Marks as mark
-use Rattle.sx_invoke.specs.ModuleState.{EndState, end_of}
+use Rattle.sx_invoke.specs.ModuleState.{end_of}
 use Rattle.sx_invoke.specs.Windows.{write_byte, write_bytes, then_, unless_device, is_bad_window, in_window_size, out_window_size}
 use Rattle.sx_invoke.specs.Progress.{Progress, Invoked, Returns, Course, Going, Broken, and_on, finished}
 use Rattle.sx_invoke.specs.Acts.{with_piece, copied_to, with_packet, event_packet, wrap_counted, with_packets, with_act, with_acts, actuated, own_window, handled}
@@ -269,9 +269,6 @@ module _ (s : Setup) (call : Call) (tag : IsTag s.mac) (before : List ℕ) (room
   unfolding Adds with_packet
   packet_adds v k p q h = go (end_of p.state.ends k).is_open (nat_lt (end_of p.state.ends k).number last_number) q h
     where
-      e : EndState
-      e = end_of p.state.ends k
-
       go : (a b : Bool) (q : Progress) → (if a && b then with_piece s call (event_packet s (end_of p.state.ends k) v) (wrap_counted k (end_of p.state.ends k) v p) else Going p) ≡ Going q
           → (length p.pieces ≤ length q.pieces) × (Whole p → length q.pieces ≤ 16 → Whole q)
       go true true q h =
