@@ -4,6 +4,7 @@ use Rattle.std.specs.Prelude.{slice_get, option_and_then}
 use Rattle.std.specs.List.{position_from}
 use Rattle.std.proofs.lemmas.Bool.{and_parts, eqb-true}
 use Rattle.std.proofs.lemmas.List.{append-nil}
+use Rattle.sx_lists.proofs.Lists.{get_some}
 use Rattle.sx_mean.specs.Application.{PartTree}
 use Rattle.sx_rules.specs.declared.access.Violation.{Violation}
 use Rattle.sx_rules.specs.declared.section.Section.{Section}
@@ -30,7 +31,7 @@ use Rattle.sx_run.specs.Ledger.{header_of, body_of}
 use Rattle.sx_wire.specs.Headers.{is_ask, is_set_key_header, is_event_header, begins}
 use Rattle.sx_run.specs.Deployer.{list_at, key_of, connection_key}
 use Rattle.sx_run.specs.Law.{IsSoundSetting}
-use Rattle.sx_run.proofs.tie.Lists.{some_inj, get_within, get_some}
+use Rattle.sx_run.proofs.tie.Lists.{some_inj, get_within}
 use Rattle.sx_run.proofs.steps.Entry.{at_site}
 use Rattle.sx_forged.proofs.Turns.{setup_of, turn_of, InTurn, NodeTurns}
 use Rattle.sx_forged.proofs.Turning.{goes_on}

@@ -3,6 +3,7 @@ use Rattle.std.proofs.Common.{◌≡◌, ℕ, ◌+◌, ◌-◌, ◌*◌, ◌%◌
 use Rattle.std.proofs.Common.{drop, replicate, slice_index, Option, Some, None, Ok, refl, sym, ◌∙◌, ap, subst, arith}
 use Rattle.std.specs.Prelude.{slice_get, bytes_eq}
 use Rattle.std.proofs.lemmas.Bool.{true≢false, and_parts, eqb-true, and_from}
+use Rattle.sx_lists.proofs.Lists.{get_some}
 use Rattle.sx_trace.specs.declared.items.Item.TheVariants as item
 use Rattle.sx_lang.specs.declared.sides.Side.TheVariants.{To}
 use Rattle.sx_mean.specs.Application.{PartTree}
@@ -38,7 +39,7 @@ use Rattle.sx_run.specs.State.{World}
 use Rattle.sx_run.specs.Acts.{after_step}
 use Rattle.sx_run.specs.Law.{IsSoundSetting}
 use Rattle.sx_run.proofs.tie.Entries.{bytes_same, made_in}
-use Rattle.sx_run.proofs.tie.Lists.{get_within, get_some}
+use Rattle.sx_run.proofs.tie.Lists.{get_within}
 use Rattle.sx_run.proofs.steps.Entry.{at_site}
 use Rattle.sx_run.proofs.steps.Machine.{onward}
 use Rattle.sx_forged.specs.Moments.{Moment, moment, IsAmong}

@@ -282,9 +282,6 @@ pub ended : (set : Setting) (Past : State → Type 0) (m : ℕ) (q : PartTree) (
     → (own_of s ≡ sec.id → ⊥) → KeyedRest set m q sec s
 ended set Past m q site sec s k out = by k.turn.bound k.turn.comes
   where
-    setup : Setup
-    setup = setup_of set m q sec k.turn.before
-
     by : (bound : ℕ) → Comes Watched Violation (watch set.mac) (λ w. 1)
         (Underway (setup_of set m q sec k.turn.before) (turn_of set m q sec k.turn.before) k.turn.before)
         (Aborted (turn_of set m q sec k.turn.before))

@@ -13,7 +13,7 @@ use Rattle.sx_machine.specs.Memory.{word}
 use Rattle.sx_invoke.specs.Setup.{Setup, Call}
 use Rattle.sx_invoke.specs.Marks as mark
 use Rattle.sx_invoke.specs.Marks.{Mark}
-use Rattle.sx_invoke.specs.ModuleState.{EndState, end_of, epoch_of, link_of}
+use Rattle.sx_invoke.specs.ModuleState.{end_of, epoch_of, link_of}
 use Rattle.sx_invoke.specs.Windows.{two, read_bytes, is_bad_window, in_window_size, out_window_size}
 use Rattle.sx_invoke.specs.Progress.{Progress, Invoked, Returns, Violates, Course, Going, Broken, finished, marks_in}
 use Rattle.sx_invoke.specs.Acts.{with_piece, event_header, own_window, handled}
@@ -70,10 +70,6 @@ pub all_more : (P : Mark → Type 0) (ms : List Mark) (m : Mark) → P m → All
 all_more P [] m e h = (e, tt)
 all_more P (x ∷ ms) m e h = (h.0, all_more P ms m e h.1)
 
-pub all_of : (P : Mark → Type 0) (before : List Mark) (m : Mark) (rest : List Mark) → AllMarks P (before ++ m ∷ rest) → P m
-all_of P [] m rest h = h.0
-all_of P (x ∷ before) m rest h = all_of P before m rest h.1
-
 module _ (s : Setup) (call : Call) (p0 : Progress) where
   abbrev P : Mark → Type 0
   P = Told s call p0
@@ -129,9 +125,6 @@ module _ (s : Setup) (call : Call) (p0 : Progress) where
         → is_kind event_kind packet ≡ true → Good (input s call packet p0)
     by_event window packet read kind = by_end (end_found (link_of (field_in packet)) To 0 s.ends) refl
       where
-        state_at : ℕ × End → EndState
-        state_at e = end_of p0.state.ends e.0
-
         by_tag : (e : ℕ × End) → end_found (link_of (field_in packet)) To 0 s.ends ≡ Some e → (end_of p0.state.ends e.0).is_open ≡ true
             → epoch_of (end_of p0.state.ends e.0).field ≡ epoch_of (field_in packet)
             → (u : Option (List ℕ)) → unwrapped s.mac (end_of p0.state.ends e.0).key (header_in packet) (take value_size (drop header_size packet))

@@ -1,14 +1,15 @@
 -- A plan does the same where sections differ in their keys alone.
-use Rattle.std.proofs.Common.{◌≡◌, ℕ, zero, suc, ◌+◌, Bool, true, false, cond, ◌&&◌, List, [], ◌∷◌, length, Result, Ok, Err, refl, sym, ap, ap₂, subst}
+use Rattle.std.proofs.Common.{◌≡◌, ℕ, ◌+◌, Bool, true, false, cond, ◌&&◌, List, length, Result, Ok, Err, refl, sym, ap, ap₂, subst}
+use Rattle.sx_machine.proofs.SameRights.{same_at, same_each, same_range}
 use Rattle.sx_rules.specs.declared.access.Access.{Access}
 use Rattle.sx_rules.specs.declared.access.Access.TheVariants.{Read, Write}
 use Rattle.sx_rules.specs.declared.access.Violation.{Violation}
 use Rattle.sx_rules.specs.declared.access.Violation.TheVariants as bad
-use Rattle.sx_rules.specs.Access.{Sections}
+use Rattle.sx_rules.specs.Access.{Sections, may}
 use Rattle.sx_tag.specs.Mac.{Mac}
 use Rattle.sx_machine.specs.Memory.{even, bytes_from, put_bytes}
 use Rattle.sx_machine.specs.Plan.{Plan, Done, Tell, Stop, Fetch, Load, Store, Need, Writable, Bytes, Put}
-use Rattle.sx_machine.specs.Run.{Moment, Outcome, Finished, Violated, Module, may_at, may_range, may_each, device_of, read_place, load, write_place, store}
+use Rattle.sx_machine.specs.Run.{Moment, Outcome, Finished, Violated, Module, may_range, may_each, device_of, read_place, load, write_place, store}
 use Rattle.sx_machine.specs.Run.{fetch_place, fetch, after_read, after_write, after_fetch, exec}
 use Rattle.sx_machine.proofs.Lengths.{length-bytes_from}
 use Rattle.sx_forged.proofs.Tables.{LikeAll, may_like, extends_like}
@@ -47,23 +48,20 @@ module _ (mac nac : Mac) where
   fetch_like (Err v) f g h = refl
 
   module _ (t u : Sections) (like : LikeAll mac nac t.live u.live) (next : u.next ≡ t.next) (own : ℕ) where
-    may_at_like : (wide : Bool) (access : Access) (at : ℕ) → may_at wide u.live own access at ≡ may_at wide t.live own access at
-    may_at_like true access at = ap₂ (λ b c. b && c) (may_like mac nac t.live u.live own access (even at) like) (may_like mac nac t.live u.live own access (even at + 1) like)
-    may_at_like false access at = may_like mac nac t.live u.live own access at like
+    may_same : (access : Access) (at : ℕ) → may u.live own access at ≡ may t.live own access at
+    may_same access at = may_like mac nac t.live u.live own access at like
 
     pub may_range_like : (access : Access) (at n : ℕ) → may_range u.live own access at n ≡ may_range t.live own access at n
-    may_range_like access at zero = refl
-    may_range_like access at (suc n) = ap₂ (λ b c. b && c) (may_like mac nac t.live u.live own access (at + n) like) (may_range_like access at n)
+    may_range_like = same_range t.live u.live own may_same
 
     pub may_each_like : (access : Access) (at : ℕ) (bs : List ℕ) → may_each u.live own access at bs ≡ may_each t.live own access at bs
-    may_each_like access at [] = refl
-    may_each_like access at (b ∷ bs) = ap₂ (λ b c. b && c) (may_like mac nac t.live u.live own access at like) (may_each_like access (at + 1) bs)
+    may_each_like = same_each t.live u.live own may_same
 
     pub load_same : (wide : Bool) (at : ℕ) (x : Moment) → load u.live own wide at x ≡ load t.live own wide at x
-    load_same wide at x = ap (λ b. cond b (read_place wide at (device_of x.devices at) x) (Err bad.Read)) (may_at_like wide Read at)
+    load_same wide at x = ap (λ b. cond b (read_place wide at (device_of x.devices at) x) (Err bad.Read)) (same_at t.live u.live own may_same wide Read at)
 
     pub store_same : (wide : Bool) (at v : ℕ) (x : Moment) → store u.live own wide at v x ≡ store t.live own wide at v x
-    store_same wide at v x = ap (λ b. cond b (write_place wide at v (device_of x.devices at) x) (Err bad.Write)) (may_at_like wide Write at)
+    store_same wide at v x = ap (λ b. cond b (write_place wide at v (device_of x.devices at) x) (Err bad.Write)) (same_at t.live u.live own may_same wide Write at)
 
     pub fetch_same : (at : ℕ) (x : Moment) → fetch u.live own at x ≡ fetch t.live own at x
     fetch_same at x =

@@ -23,10 +23,10 @@ use Rattle.sx_run.specs.Deployer.{list_at, after_acceptance}
 use Rattle.sx_run.specs.Acts.{at_node, with_deployer, key_given, keys_given, attested, after_take, after_interrupt, after_verdict, after_answer, after_denial}
 use Rattle.sx_run.specs.Run.{place_at, sense_at, give, protect_registers, call_registers, FINISH_STEPS}
 use Rattle.sx_run.specs.Law.{IsSoundSetting, LineInForm, LinesInForm, devices_of}
-use Rattle.sx_run.proofs.tie.Lists.{some_inj, get_other, get_within, get_some}
+use Rattle.sx_run.proofs.tie.Lists.{some_inj, get_other, get_within}
 use Rattle.sx_run.proofs.tie.Start.{get_nodes, on_is_node}
 use Rattle.sx_run.proofs.steps.Entry.{shapes_on}
-use Rattle.sx_lists.proofs.Lists.{get_same}
+use Rattle.sx_lists.proofs.Lists.{get_same, get_some}
 use Rattle.sx_guard.specs.Happening.{Happening, Begin, Step, Put, Set, Take, Give, Forge, Sense, Irq, Reset, Ask, Answer, Show, done}
 use Rattle.sx_guard.specs.Script.{Look, Script, End, Do}
 use Rattle.sx_guard.specs.Lines.{all, ends, where_node, steps, finishing, unless_running, pieces, setting_of, loading, calling, line_script, script_of}

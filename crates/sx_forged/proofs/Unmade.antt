@@ -101,21 +101,15 @@ record Found (set : Setting) (script : Script) (w : World) (who : Option ℕ) : 
   shown : IsAmong (item.Forged who) (shown_at set now)
   first : (j : ℕ) (past : Moment) → j < k → moment_from set j script w ≡ Some past → NoForged (shown_at set past)
 
-head_same : (a b : Item) (xs ys : List Item) → a ∷ xs ≡ b ∷ ys → a ≡ b
-head_same a b xs ys e = cc
-
 -- where a list with the item is cut in two, the item is in the front part, or the front part has none
 split : (xs ys front rest : List Item) (i : Item) → xs ++ ys ≡ front ++ i ∷ rest → IsAmong i xs ⊎ ((front2 : List Item) × (ys ≡ front2 ++ i ∷ rest) × (front ≡ xs ++ front2))
 split [] ys front rest i e = inr (front, e, refl)
-split (x ∷ xs) ys [] rest i e = inl (inl (head_same x i (xs ++ ys) rest e))
-split (x ∷ xs) ys (y ∷ front) rest i e = elim (split xs ys front rest i (tail_same x y (xs ++ ys) (front ++ i ∷ rest) e)) [
+split (x ∷ xs) ys [] rest i e = inl (inl (cc e))
+split (x ∷ xs) ys (y ∷ front) rest i e = elim (split xs ys front rest i (cc e)) [
   | inl a ↦ inl (inr a)
-  | inr t ↦ inr (t.0, t.1, both (head_same x y (xs ++ ys) (front ++ i ∷ rest) e) t.2)
+  | inr t ↦ inr (t.0, t.1, both (cc e) t.2)
 ]
   where
-    tail_same : (a b : Item) (xs ys : List Item) → a ∷ xs ≡ b ∷ ys → xs ≡ ys
-    tail_same a b xs ys e = cc
-
     both : {f : List Item} → x ≡ y → front ≡ f → y ∷ front ≡ x ∷ f
     both e f = cc
 

@@ -2,6 +2,7 @@
 use Rattle.std.proofs.Common.{◌≡◌, ℕ, ◌-◌, ◌<◌, ◌≤◌, Bool, false, ◌&&◌, inl, inr, List, slice_index, Option, Some, None, refl, sym, ◌∙◌, ap, subst, arith}
 use Rattle.std.specs.Prelude.{option_and_then}
 use Rattle.std.proofs.lemmas.Bool.{and_parts, cases_eq}
+use Rattle.sx_machine.proofs.Meanings.{same_bytes}
 use Rattle.sx_rules.specs.declared.section.Section.{Section}
 use Rattle.sx_rules.specs.Access.{in_private, section_of, Lives}
 use Rattle.sx_rules.specs.Admission.{apart}
@@ -16,7 +17,7 @@ use Rattle.sx_machine.proofs.Stays.{found_lives}
 use Rattle.sx_run.specs.Setting.{Site, deployed, module_of}
 use Rattle.sx_links.proofs.Outside.{Kind, text_at, is_deployed, Unhidden, AlikeOutside}
 use Rattle.sx_forged.proofs.Tables.{holder_like}
-use Rattle.sx_links.proofs.Opened.{bytes_same, SameFound, found_same, blank_mac, blank_all}
+use Rattle.sx_links.proofs.Opened.{SameFound, found_same, blank_mac, blank_all}
 
 module _ (mac nac : Mac) (kind : Kind) (s t : State) (placed : Placed s.sections) (h : AlikeOutside mac nac kind s t) where
   abbrev hides : Section → Bool
@@ -38,7 +39,7 @@ module _ (mac nac : Mac) (kind : Kind) (s t : State) (placed : Placed s.sections
 
   -- live sections have the same texts
   pub texts_same : (z : Section) → Lives s.sections.live z → text_at t.mem z.layout ≡ text_at s.mem z.layout
-  texts_same z l = sym (bytes_same s.mem t.mem z.layout.pub_from (z.layout.pub_to - z.layout.pub_from) (λ k a b. h.mem.same k (public_open z l k a (omega (arith, a, b)))))
+  texts_same z l = sym (same_bytes t.mem s.mem z.layout.pub_from (z.layout.pub_to - z.layout.pub_from) (λ k a b. h.mem.same k (public_open z l k a (omega (arith, a, b)))))
 
   pub own_same : own_of t ≡ own_of s
   own_same = subst (λ (z : State). own_of z ≡ own_of s) (sym h.rest)

@@ -3,6 +3,7 @@ use Rattle.std.proofs.Common.{◌≡◌, ℕ, ◌==◌, ◌||◌, Bool, true, fa
 use Rattle.std.proofs.Common.{List, Option, Some, None, refl, sym, ◌∙◌, ap, subst, arith}
 use Rattle.std.specs.Prelude.{slice_get, option_and_then}
 use Rattle.std.proofs.lemmas.Bool.{true≢false, and_parts, or_cases, eqb-true, not-true}
+use Rattle.sx_lists.proofs.Lists.{get_some}
 use Rattle.sx_mean.specs.Application.{PartTree}
 use Rattle.sx_rules.specs.declared.section.Section.{Section}
 use Rattle.sx_rules.specs.declared.section.Layout.{Layout}
@@ -20,7 +21,7 @@ use Rattle.sx_run.specs.State.{World}
 use Rattle.sx_run.specs.Acts.{after_step}
 use Rattle.sx_run.specs.Run.{is_reset}
 use Rattle.sx_run.specs.Law.{IsSoundSetting}
-use Rattle.sx_run.proofs.tie.Lists.{get_some, get_within}
+use Rattle.sx_run.proofs.tie.Lists.{get_within}
 use Rattle.sx_run.proofs.steps.Entry.{at_site, held_by}
 use Rattle.sx_run.proofs.steps.Steps.{nonzero}
 use Rattle.sx_forged.proofs.Turns.{NodeTurns}

@@ -1,7 +1,7 @@
 -- A deployed module's turn in mid-run, in both runs: how the two nodes are related.
 use Rattle.std.proofs.Common.{◌≡◌, ℕ, ◌+◌, ◌-◌, ◌*◌, ◌<◌, ◌≤◌, ◌==◌, ◌&&◌, ◌||◌, not, Bool, true, false, inl, inr, ◌⊎◌, List, [], ◌∷◌, slice_index, refl, sym, ◌∙◌, ap, ap₂, subst, arith, map}
 use Rattle.std.specs.Prelude.{nat_le, nat_lt}
-use Rattle.std.proofs.lemmas.Bool.{and_from, and_parts, cases_lt, le-leb, lt-ltb, ltb-true, not-true, true≢false}
+use Rattle.std.proofs.lemmas.Bool.{and_parts, cases_lt, ltb-true, not-true, true≢false}
 use Rattle.sx_mean.specs.Working.{plain_at}
 use Rattle.sx_lang.specs.Sizes.{module_data_size}
 use Rattle.sx_rules.specs.declared.access.Access.TheVariants.{Read}
@@ -24,6 +24,7 @@ use Rattle.sx_run.specs.Law.{IsSoundSetting}
 use Rattle.sx_run.proofs.steps.Entry.{at_site, quiet_left}
 use Rattle.sx_calls.proofs.Middle.{Middle, first_middle}
 use Rattle.sx_tmpl.specs.Unseen.{HoldsNoKey, InSlotKey, StepShowsNone}
+use Rattle.sx_tmpl.proofs.Running.Owned.{in_private_yes}
 use Rattle.sx_tmpl.specs.Steady.{Abreast, AreOpen, Twins, keyless}
 use Rattle.sx_tmpl.proofs.Texts.Entering.{bytes_from_get}
 use Rattle.sx_links.specs.Unlinked.{Unlinked}
@@ -41,9 +42,6 @@ keyless_same mac nac hides [] [] h = refl
 keyless_same mac nac hides [] (y ∷ ys) h = absurd h
 keyless_same mac nac hides (x ∷ xs) [] h = absurd h
 keyless_same mac nac hides (x ∷ xs) (y ∷ ys) h = ap₂ (λ (z : Section) (zs : List Section). z ∷ zs) (ap keyless h.0.0) (keyless_same mac nac hides xs ys h.1)
-
-in_range : (x : Section) (k : ℕ) → x.layout.priv_from ≤ k → k < x.layout.priv_to → in_private x k ≡ true
-in_range x k lo hi = and_from _ _ (le-leb x.layout.priv_from k lo) (lt-ltb k x.layout.priv_to hi)
 
 past_range : (x : Section) (k : ℕ) → x.layout.priv_to ≤ k → in_private x k ≡ false
 past_range x k le = by (in_private x k) refl
@@ -162,7 +160,7 @@ module _ (a : Setting) (nac : Mac) (keys : List (List ℕ)) (secret : List ℕ) 
       closed : (k o : ℕ) → k ≡ e.sec.layout.priv_from + o → (HoldsNoKey (ends_count a nac keys secret e) o 1 → ⊥) → o < private_size a nac keys secret e
           → places a nac keys secret e k → ⊥
       closed k o is shut lt (inl clear) =
-          true≢false (sym (in_range e.sec k (omega (arith, is)) (omega (arith, is, lt))) ∙ clear e.sec e.lives (hidden a nac keys secret e))
+          true≢false (sym (in_private_yes e.sec k (omega (arith, is)) (omega (arith, is, lt))) ∙ clear e.sec e.lives (hidden a nac keys secret e))
       closed k o is shut lt (inr own) =
           let at = own.1 in
           let same : own.0 ≡ o = omega (arith, at, is) in

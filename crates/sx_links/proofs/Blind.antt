@@ -1,28 +1,26 @@
 -- A plan does the same where memories differ in what its code can't read.
-use Rattle.std.proofs.Common.{◌≡◌, ℕ, ◌+◌, Bool, true, false, cond, ◌&&◌, inl, ◌⊎◌, List, slice_index, Option, Some, None, Result, Ok, Err, refl, sym, ◌∙◌, ap, subst}
+use Rattle.std.proofs.Common.{◌≡◌, ℕ, ◌+◌, Bool, true, false, cond, ◌&&◌, inl, ◌⊎◌, List, slice_index, Result, Ok, Err, refl, sym, ◌∙◌, subst}
 use Rattle.std.proofs.lemmas.Bool.{and_parts}
+use Rattle.sx_machine.proofs.Meanings.{same_bytes}
 use Rattle.sx_rules.specs.declared.access.Access.TheVariants.{Read, Write}
 use Rattle.sx_rules.specs.declared.access.Violation.{Violation}
 use Rattle.sx_rules.specs.declared.access.Violation.TheVariants as bad
 use Rattle.sx_rules.specs.declared.section.Section.{Section}
 use Rattle.sx_rules.specs.Access.{Sections, extends, in_private, Lives}
-use Rattle.sx_bus.specs.declared.devices.Kind.{Kind}
-use Rattle.sx_bus.specs.declared.devices.Kind.TheVariants.{Sensor, Actuator}
-use Rattle.sx_bus.specs.declared.devices.Window.{Window}
-use Rattle.sx_bus.specs.Devices.{cleared}
 use Rattle.sx_tag.specs.Mac.{Mac}
 use Rattle.sx_machine.specs.declared.kinds.Event.{Event}
 use Rattle.sx_machine.specs.declared.kinds.Exchange.{Exchange}
-use Rattle.sx_machine.specs.declared.kinds.Touch.TheVariants.{DeviceRead}
 use Rattle.sx_machine.specs.Memory.{even, bytes_from, put_bytes}
 use Rattle.sx_machine.specs.Plan.{Plan, Done, Tell, Stop, Fetch, Load, Store, Need, Writable, Bytes, Put}
-use Rattle.sx_machine.specs.Run.{Moment, with_touch, Outcome, Finished, Violated, Module, may_at, may_range, may_each, sampled, device_of, read_device, read_place, load, write_device}
+use Rattle.sx_machine.specs.Run.{Moment, Outcome, Finished, Violated, Module, may_at, may_range, may_each, device_of, read_place, load}
 use Rattle.sx_machine.specs.Run.{write_place, store, fetch_place, fetch, after_read, after_write, after_fetch, exec}
 use Rattle.sx_machine.proofs.PlanGuard.{with_mem}
-use Rattle.sx_links.proofs.Outside.{Unhidden, AgreeAt, SameSections, text_at}
+use Rattle.sx_tmpl.specs.Steady.{AgreeAt}
+use Rattle.sx_links.proofs.Outside.{Unhidden, SameSections, text_at}
 use Rattle.sx_forged.proofs.Tables.{LikeAll}
 use Rattle.sx_forged.proofs.Plans.{may_range_like, may_each_like, load_same, store_same, fetch_same}
-use Rattle.sx_links.proofs.Opened.{AtPlaces, word_agree, read_agree, write_agree, put_agree, bytes_same, IsOutsider, readable_places, range_open, extends_open, blank_mac, blank_all}
+use Rattle.sx_tmpl.proofs.Agreeing.{SameMoments, SameRead, SameWrite, fetch_place_same, put_agree, read_place_same, write_place_same}
+use Rattle.sx_links.proofs.Opened.{IsOutsider, readable_places, range_open, extends_open, blank_mac, blank_all}
 
 -- the private bytes of the section are 0 in both memories
 abbrev pub AreZero : Section → List ℕ → List ℕ → Type 0
@@ -37,72 +35,20 @@ pub record Grown (hides : Section → Bool) (live after : List Section) (m0 m n 
 pub grown_self : (hides : Section → Bool) (live : List Section) (m0 m n : List ℕ) → Grown hides live live m0 m n
 grown_self hides live m0 m n = record { hidden = λ k f. f; known = λ x l. inl l }
 
--- moments whose memories agree at these places, and that are else the same
-pub record SameMoments (places : ℕ → Type 0) (x y : Moment) : Type 0 where
-  pub rest : y ≡ with_mem x y.mem
-  pub mem : AgreeAt places x.mem y.mem
-
 module _ (places : ℕ → Type 0) where
-  abbrev pub SameRead : Result (ℕ × Moment) Violation → Result (ℕ × Moment) Violation → Type 0
-  SameRead (Ok r) (Ok q) = (r.0 ≡ q.0) × SameMoments places r.1 q.1
-  SameRead (Err v) (Err w) = v ≡ w
-  SameRead (Ok r) (Err w) = ⊥
-  SameRead (Err v) (Ok q) = ⊥
-
-  abbrev pub SameWrite : Result Moment Violation → Result Moment Violation → Type 0
-  SameWrite (Ok x) (Ok y) = SameMoments places x y
-  SameWrite (Err v) (Err w) = v ≡ w
-  SameWrite (Ok x) (Err w) = ⊥
-  SameWrite (Err v) (Ok y) = ⊥
-
-  read_if : (b : Bool) (x y : Result (ℕ × Moment) Violation) (v : Violation) → (b ≡ true → SameRead x y) → SameRead (cond b x (Err v)) (cond b y (Err v))
+  read_if : (b : Bool) (x y : Result (ℕ × Moment) Violation) (v : Violation) → (b ≡ true → SameRead places x y) → SameRead places (cond b x (Err v)) (cond b y (Err v))
   read_if true x y v f = f refl
   read_if false x y v f = refl
 
-  write_if : (b : Bool) (x y : Result Moment Violation) (v : Violation) → (b ≡ true → SameWrite x y) → SameWrite (cond b x (Err v)) (cond b y (Err v))
+  write_if : (b : Bool) (x y : Result Moment Violation) (v : Violation) → (b ≡ true → SameWrite places x y) → SameWrite places (cond b x (Err v)) (cond b y (Err v))
   write_if true x y v f = f refl
   write_if false x y v f = refl
 
-  sampled_blind : (device : ℕ) (w : Window) (x : Moment) (n : List ℕ) → AgreeAt places x.mem n → SameRead (Ok (sampled device w x)) (Ok (sampled device w (with_mem x n)))
-  sampled_blind device w x n h =
-      let told : Moment → ℕ × Moment = λ y. (0x8000 + w.value, record { mem = y.mem; devices = cleared y.devices device; touches = with_touch y.touches (DeviceRead device w.value) }) in
-      elim (w.fresh) as (λ b. SameRead (Ok (cond b (told x) (0, x))) (Ok (cond b (told (with_mem x n)) (0, with_mem x n))))
-      [ true ↦ (refl, record { rest = refl; mem = h }) | false ↦ (refl, record { rest = refl; mem = h }) ]
-
-  read_device_blind : (wide : Bool) (device : ℕ) (w : Window) (kind : Kind) (x : Moment) (n : List ℕ) → AgreeAt places x.mem n
-      → SameRead (read_device wide device w kind x) (read_device wide device w kind (with_mem x n))
-  read_device_blind true device w Sensor x n h = sampled_blind device w x n h
-  read_device_blind false device w Sensor x n h = refl
-  read_device_blind true device w Actuator x n h = refl
-  read_device_blind false device w Actuator x n h = refl
-
-  read_place_blind : (wide : Bool) (at : ℕ) (d : Option (ℕ × Window)) (x : Moment) (n : List ℕ) → AgreeAt places x.mem n → AtPlaces places wide at
-      → SameRead (read_place wide at d x) (read_place wide at d (with_mem x n))
-  read_place_blind wide at None x n h p = (read_agree places wide x.mem n at h p, record { rest = refl; mem = h })
-  read_place_blind wide at (Some d) x n h p = read_device_blind wide d.0 d.1 d.1.kind x n h
-
-  write_device_blind : (wide : Bool) (device v : ℕ) (kind : Kind) (x : Moment) (n : List ℕ) → AgreeAt places x.mem n
-      → SameWrite (write_device wide device v kind x) (write_device wide device v kind (with_mem x n))
-  write_device_blind true device v Actuator x n h = record { rest = refl; mem = h }
-  write_device_blind false device v Actuator x n h = refl
-  write_device_blind true device v Sensor x n h = refl
-  write_device_blind false device v Sensor x n h = refl
-
-  write_place_blind : (wide : Bool) (at v : ℕ) (d : Option (ℕ × Window)) (x : Moment) (n : List ℕ) → AgreeAt places x.mem n
-      → SameWrite (write_place wide at v d x) (write_place wide at v d (with_mem x n))
-  write_place_blind wide at v None x n h = record { rest = refl; mem = write_agree places wide x.mem n at v h }
-  write_place_blind wide at v (Some d) x n h = write_device_blind wide d.0 v d.1.kind x n h
-
   pub store_blind : (live : List Section) (own : ℕ) (wide : Bool) (at v : ℕ) (x : Moment) (n : List ℕ) → AgreeAt places x.mem n
-      → SameWrite (store live own wide at v x) (store live own wide at v (with_mem x n))
+      → SameWrite places (store live own wide at v x) (store live own wide at v (with_mem x n))
   store_blind live own wide at v x n h =
       write_if (may_at wide live own Write at) (write_place wide at v (device_of x.devices at) x) (write_place wide at v (device_of x.devices at) (with_mem x n)) bad.Write
-      (λ e. write_place_blind wide at v (device_of x.devices at) x n h)
-
-  fetch_place_blind : (at : ℕ) (d : Option (ℕ × Window)) (x : Moment) (n : List ℕ) → AgreeAt places x.mem n → AtPlaces places true at
-      → fetch_place at d (with_mem x n) ≡ fetch_place at d x
-  fetch_place_blind at None x n h p = ap Ok (sym (word_agree places x.mem n at h p))
-  fetch_place_blind at (Some d) x n h p = refl
+      (λ e. write_place_same places wide at v (device_of x.devices at) x n h)
 
 fetch_if : (b : Bool) (x y : Result ℕ Violation) (v : Violation) → (b ≡ true → y ≡ x) → cond b y (Err v) ≡ cond b x (Err v)
 fetch_if true x y v f = f refl
@@ -116,13 +62,13 @@ module _ (hides : Section → Bool) (live : List Section) (own : ℕ) (outsider 
       → SameRead Free (load live own wide at x) (load live own wide at (with_mem x n))
   load_blind wide at x n h =
       read_if Free (may_at wide live own Read at) (read_place wide at (device_of x.devices at) x) (read_place wide at (device_of x.devices at) (with_mem x n)) bad.Read
-      (λ e. read_place_blind Free wide at (device_of x.devices at) x n h (readable_places hides live own outsider wide at e))
+      (λ e. read_place_same Free wide at (device_of x.devices at) x n h (readable_places hides live own outsider wide at e))
 
   fetch_blind : (at : ℕ) (x : Moment) (n : List ℕ) → AgreeAt Free x.mem n → fetch live own at (with_mem x n) ≡ fetch live own at x
   fetch_blind at x n h =
       fetch_if (extends live own (even at) && extends live own (even at + 1)) (fetch_place at (device_of x.devices at) x) (fetch_place at (device_of x.devices at) (with_mem x n)) bad.Fetch
       (λ e. let p = and_parts (extends live own (even at)) (extends live own (even at + 1)) e in
-      fetch_place_blind Free at (device_of x.devices at) x n h (extends_open hides live own outsider (even at) p.0, extends_open hides live own outsider (even at + 1) p.1))
+      fetch_place_same Free at (device_of x.devices at) x n h (extends_open hides live own outsider (even at) p.0, extends_open hides live own outsider (even at + 1) p.1))
 
 module _ (mac nac : Mac) (hides : Section → Bool) (live : List Section) (m0 : List ℕ) where
   -- outcomes that differ in keys, in the exchange, and in what is hidden
@@ -208,7 +154,7 @@ module _ (mac nac : Mac) (hides : Section → Bool) (m0 : List ℕ) (t u : Secti
       ifs_same mac nac hides t.live m0 (may_range t.live own Read at len) (may_range u.live own Read at len) (exec t own (k (bytes_from x.mem at len)) x)
       (exec u own (k (bytes_from n at len)) (with_mem x n)) bad.Read (may_range_like blank_mac blank_mac t u Blank next own Read at len) (λ e.
       subst (λ (bs : List ℕ). Same (exec t own (k (bytes_from x.mem at len)) x) (exec u own (k bs) (with_mem x n)))
-      (bytes_same x.mem n at len (λ i a b. h.same i (range_open hides t.live own outsider at len e i a b)))
+      (same_bytes n x.mem at len (λ i a b. h.same i (range_open hides t.live own outsider at len e i a b)))
       (same_blind (k (bytes_from x.mem at len)) x n h))
   same_blind (Put at bs k) x n h =
       ifs_same mac nac hides t.live m0 (may_each t.live own Write at bs) (may_each u.live own Write at bs) (exec t own k (record x { mem = put_bytes x.mem at bs }))
@@ -239,4 +185,4 @@ module _ (mac nac : Mac) (hides : Section → Bool) (m0 : List ℕ) (t u : Secti
         ifs_same mac nac hides t.live m0 (may_range t.live own Read at len) (may_range u.live own Read at len) (exec t own (k (bytes_from x.mem at len)) x)
         (exec u own (l (bytes_from n at len)) (with_mem x n)) bad.Read (may_range_like blank_mac blank_mac t u Blank next own Read at len) (λ e.
         subst (λ (bs : List ℕ). Same (exec t own (k (bytes_from x.mem at len)) x) (exec u own (l bs) (with_mem x n)))
-        (bytes_same x.mem n at len (λ i a b. agree.same i (range_open hides t.live own outsider at len e i a b))) (h e))
+        (same_bytes n x.mem at len (λ i a b. agree.same i (range_open hides t.live own outsider at len e i a b))) (h e))

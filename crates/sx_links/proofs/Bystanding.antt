@@ -3,6 +3,7 @@ use Rattle.std.proofs.Common.{◌≡◌, ℕ, ◌+◌, ◌-◌, ◌<◌, ◌≤�
 use Rattle.std.proofs.Common.{◌∙◌, ap, subst, arith}
 use Rattle.std.specs.Prelude.{nat_le, nat_lt, option_and_then}
 use Rattle.std.proofs.lemmas.Bool.{and_parts, and_from, true≢false, false_from_ne_true, leb-true, le-leb, lt-ltb}
+use Rattle.sx_machine.proofs.Meanings.{same_bytes}
 use Rattle.sx_rules.specs.declared.access.Access.TheVariants.{Write}
 use Rattle.sx_rules.specs.declared.access.Violation.{Violation}
 use Rattle.sx_rules.specs.declared.access.Violation.TheVariants as bad
@@ -30,11 +31,13 @@ use Rattle.sx_machine.proofs.Frame.{steps_framed}
 use Rattle.sx_machine.proofs.PublicKept.{framed_public}
 use Rattle.sx_run.specs.Setting.{Site, module_of, deployed}
 use Rattle.sx_forged.specs.Tags.{SameTags}
-use Rattle.sx_links.proofs.Outside.{Kind, sites_on, text_at, is_deployed, Unhidden, AgreeAt, SameSections, InWords, AlikeOutside, UsesKey, given_layout, NoGuess, OutsidersSeeTheSame, IsUntouched}
+use Rattle.sx_tmpl.specs.Steady.{AgreeAt}
+use Rattle.sx_links.proofs.Outside.{Kind, sites_on, text_at, is_deployed, Unhidden, SameSections, InWords, AlikeOutside, UsesKey, given_layout, NoGuess, OutsidersSeeTheSame, IsUntouched}
 use Rattle.sx_links.proofs.Outside.{OutsidersTouchNone}
 use Rattle.sx_forged.proofs.Steps.{ended, caller_like, left_like}
 use Rattle.sx_forged.proofs.Tables.{LikeAll, may_like, holder_like, in_order_like, word_outside_like}
-use Rattle.sx_links.proofs.Opened.{agree_fewer, agree_self, word_agree, bytes_same, IsOutsider, outside_open, blank_mac, blank_all, same_hides}
+use Rattle.sx_tmpl.proofs.Agreeing.{agree_fewer, agree_self, word_agree}
+use Rattle.sx_links.proofs.Opened.{IsOutsider, outside_open, blank_mac, blank_all, same_hides}
 use Rattle.sx_links.proofs.Blind.{AreZero, Grown, grown_self, SameOutcome, ifs_same, same_blind}
 use Rattle.sx_links.proofs.Outsiders.{instruction_blind}
 
@@ -151,7 +154,7 @@ module _ (mac nac : Mac) (kind : Kind) (s : State) (n key : List ℕ) (u : Secti
   text_kept : (after : State) → Framed s.sections.live (own_of s) s.mem after.mem ⊎ (after ≡ reset s) → (z : Section) → Lives s.sections.live z → Lives after.sections.live z
       → text_at after.mem z.layout ≡ text_at s.mem z.layout
   text_kept after (inl f) z l g =
-      bytes_same after.mem s.mem z.layout.pub_from (z.layout.pub_to - z.layout.pub_from) (λ k a b.
+      same_bytes s.mem after.mem z.layout.pub_from (z.layout.pub_to - z.layout.pub_from) (λ k a b.
       framed_public s.sections.live (own_of s) z s.mem after.mem l f k
       (and_from (nat_le z.layout.pub_from k) (nat_lt k z.layout.pub_to) (le-leb z.layout.pub_from k a) (lt-ltb k z.layout.pub_to (below k a b))))
     where

@@ -28,7 +28,7 @@ use Rattle.sx_links.specs.LinksUnseen.{SameOutside, SameWorldOutside, NothingGue
 use Rattle.sx_links.specs.Laws.{HidesKeys, LinksUnseen}
 use Rattle.sx_links.proofs.Outside.{sites_on, is_deployed, SameSections, AlikeOutside}
 use Rattle.sx_links.proofs.Doing.{outside_turn}
-use Rattle.sx_links.proofs.Opened.{agree_self}
+use Rattle.sx_tmpl.proofs.Agreeing.{agree_self}
 use Rattle.sx_links.proofs.Upto.{none_clean}
 use Rattle.sx_links.proofs.Linking.{second, SameNode}
 use Rattle.sx_links.proofs.Worlds.{SameAt, SameWorld, SameRun}

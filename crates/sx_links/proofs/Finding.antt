@@ -5,6 +5,7 @@ use Rattle.std.specs.Int.{w32, to_le_bytes}
 use Rattle.std.proofs.lemmas.Bool.{true≢false}
 use Rattle.std.proofs.lemmas.Nat.{mod_below}
 use Rattle.std.proofs.lemmas.Slice.Eq.{bytes_eq-Decides}
+use Rattle.std.proofs.lemmas.Option.{slice_get_within}
 use Rattle.sx_tag.specs.Keys.{kdf, boot_key, section_key, module_key, identity}
 use Rattle.sx_run.specs.Setting.{Setting, Site}
 use Rattle.sx_run.specs.Deployer.{list_at, key_of}
@@ -50,11 +51,6 @@ bytes_mod boot =
     ∙ ap (λ (z : ℕ). (boot % 256) ∷ (boot / 256 % 256) ∷ z ∷ (boot % 4294967296 / 16777216 % 256) ∷ []) c
     ∙ ap (λ (z : ℕ). (boot % 256) ∷ (boot / 256 % 256) ∷ (boot / 65536 % 256) ∷ z ∷ []) d
 
-get_short : {X : Type 0} (xs : List X) (m : ℕ) (x : X) → slice_get xs m ≡ Some x → m < length xs
-get_short [] m x h = absurd (cc h)
-get_short (y ∷ xs) zero x h = omega arith
-get_short (y ∷ xs) (suc m) x h = omega (arith, get_short xs m x h)
-
 module _ (a : Setting) where
   key_mod : (site : Site) (boot : ℕ) → key_of a site (boot % 4294967296) ≡ key_of a site boot
   unfolding module_key boot_key
@@ -73,7 +69,7 @@ module _ (a : Setting) where
   finds_all : (top : ℕ) → (m boot : ℕ) (site : Site) → boot < top → slice_get a.sites m ≡ Some site → finds top (key_of a site boot) ≡ true
   unfolding finds of_site
   finds_all top m boot site lt found =
-      any_found (length a.sites) m (λ i. of_site top (key_of a site boot) (slice_get a.sites i)) (get_short a.sites m site found)
+      any_found (length a.sites) m (λ i. of_site top (key_of a site boot) (slice_get a.sites i)) (slice_get_within a.sites m site found)
       (ap (of_site top (key_of a site boot)) found
       ∙ any_found top boot (λ i. bytes_eq (key_of a site boot) (key_of a site i)) lt ((bytes_eq-Decides (key_of a site boot) (key_of a site boot)).1 refl))
 

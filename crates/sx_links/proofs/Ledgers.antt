@@ -1,6 +1,7 @@
 -- What the ledgers of the two runs have in common, and what marks show over them.
 use Rattle.std.proofs.Common.{◌≡◌, ℕ, ◌+◌, ◌*◌, ◌==◌, ◌&&◌, ◌||◌, Bool, true, false, if◌then◌else◌, inl, inr, ◌⊎◌, bytes_eq, List, [], ◌∷◌, ◌++◌, length, Some, refl}
 use Rattle.std.proofs.Common.{sym, ◌∙◌, ap, ap₂, subst}
+use Rattle.std.specs.Bool.{one_answer}
 use Rattle.std.proofs.lemmas.Bool.{and_parts, or_cases, true≢false}
 use Rattle.std.proofs.lemmas.Slice.Eq.{bytes_eq-Decides}
 use Rattle.sx_lang.specs.declared.sides.Side.TheVariants.{To}
@@ -25,12 +26,6 @@ use Rattle.sx_forged.proofs.Keyed.{among_right}
 use Rattle.sx_forged.proofs.Unmade.{among_left}
 use Rattle.sx_links.proofs.Twice.{IsKey, SameOpened, SameMarks, IsMark}
 use Rattle.sx_links.proofs.Linking.{second, Linked, Opens}
-
--- two tests that pass together
-both_ways : (x y : Bool) → (x ≡ true → y ≡ true) → (y ≡ true → x ≡ true) → x ≡ y
-both_ways true y f g = sym (f refl)
-both_ways false true f g = g refl
-both_ways false false f g = refl
 
 module _ (a : Setting) (nac : Mac) (keys : List (List ℕ)) (secret : List ℕ) where
   abbrev b : Setting
@@ -87,7 +82,7 @@ module _ (a : Setting) (nac : Mac) (keys : List (List ℕ)) (secret : List ℕ) 
           let p = o g.«end».link g.epoch (side_number g.«end».side) is in
           let x = connection_key a g.«end».link g.epoch in
           let y = connection_key b g.«end».link g.epoch in
-          both_ways (bytes_eq l y) (bytes_eq k x) (λ t. (bytes_eq-Decides k x).1 (p.1 ((bytes_eq-Decides l y).0 t))) (λ t. (bytes_eq-Decides l y).1 (p.0 ((bytes_eq-Decides k x).0 t)))
+          one_answer {P = k ≡ x} (bytes_eq l y) (bytes_eq k x) (λ t. p.1 ((bytes_eq-Decides l y).0 t), λ is. (bytes_eq-Decides l y).1 (p.0 is)) (bytes_eq-Decides k x)
 
       by : SameEntry e f → same_entry (made_entry maker.Deployer m boot header l) f ≡ same_entry (made_entry maker.Deployer m boot header k) e
       by (inl i) = ap (same_entry (made_entry maker.Deployer m boot header l)) i.1 ∙ none l e i.0.0 i.0.1 ∙ sym (none k e i.0.0 i.0.1)

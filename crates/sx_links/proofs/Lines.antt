@@ -3,7 +3,7 @@ use Rattle.std.proofs.Common.{◌≡◌, ℕ, zero, suc, ◌+◌, ◌/◌, ◌<�
 use Rattle.std.proofs.Common.{List, [], ◌∷◌, length, take, drop, Option, Some, None, refl, sym, ◌∙◌, ap, ap₂, subst, arith}
 use Rattle.std.specs.Prelude.{slice_get}
 use Rattle.std.proofs.lemmas.Bool.{eqb-true}
-use Rattle.sx_lists.proofs.Lists.{get_same}
+use Rattle.sx_lists.proofs.Lists.{get_same, get_some}
 use Rattle.sx_trace.specs.declared.items.Item.{Item}
 use Rattle.sx_trace.specs.declared.items.Item.TheVariants as item
 use Rattle.sx_tag.specs.Mac.{Mac}
@@ -12,13 +12,13 @@ use Rattle.sx_machine.specs.Step.{own_of, step}
 use Rattle.sx_machine.specs.Acts.{now}
 use Rattle.sx_sched.specs.Lines as line
 use Rattle.sx_sched.specs.Lines.{Line}
-use Rattle.sx_run.specs.Setting.{Setting, Site, deployed, module_of}
+use Rattle.sx_run.specs.Setting.{Setting, Site, module_of}
 use Rattle.sx_run.specs.State.{World, Acted}
 use Rattle.sx_run.specs.Acts.{only, then_, at_node, after_step}
 use Rattle.sx_run.specs.Run.{is_reset, steps_of, finish, FINISH_STEPS, put_on, put_pieces, Register, set_on, set_all, protect_registers, call_registers, unless_busy, load, call}
 use Rattle.sx_run.specs.Run.{after_line, line_counted, run}
 use Rattle.sx_run.specs.Law.{IsSoundSetting, LineInForm, LinesInForm}
-use Rattle.sx_run.proofs.tie.Lists.{get_some, get_within}
+use Rattle.sx_run.proofs.tie.Lists.{get_within}
 use Rattle.sx_guard.specs.Happening.{Happening, Step, Put, Set, Take, Give, Forge, Sense, Irq, Reset, Ask, Answer, Show, done}
 use Rattle.sx_guard.specs.Script.{Script, End, Do, Look, look, looks}
 use Rattle.sx_guard.specs.Lines.{all, steps, ends, where_node, finishing, unless_running, pieces, setting_of, loading, calling, line_script, script_of}
@@ -212,9 +212,6 @@ module _ (a : Setting) (nac : Mac) (keys : List (List ℕ)) (secret : List ℕ) 
       → NoGuesses a b (unless_running n doing rest (looks w)) w → Goes rest (unless_busy n w f) (unless_busy n v g)
   unless_goes n doing rest f g w v h next guess = by (slice_get w.nodes n) (slice_get v.nodes n) refl refl (h.same.nodes n)
     where
-      busy : Script
-      busy = Do (Show (item.Busy n)) rest
-
       choose : (s t : State) → slice_get w.nodes n ≡ Some s → t.cur ≡ s.cur → (c : Bool) → (s.cur == 0) ≡ c
           → NoGuesses a b (if c then doing (looks w) else Do (Show (item.Busy n)) rest) w
           → Goes rest (if c then f w else only w (item.Busy n ∷ [])) (if c then g v else only v (item.Busy n ∷ []))

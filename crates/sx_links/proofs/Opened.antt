@@ -1,80 +1,18 @@
--- Memories that agree at some places, and tables of sections that differ in keys.
-use Rattle.std.proofs.Common.{◌≡◌, ◌≢◌, ℕ, zero, suc, ◌+◌, ◌/◌, ◌%◌, ◌<◌, ◌≤◌, Bool, true, false, cond, not, ◌&&◌, ◌||◌, ◌==◌, inl, inr, List, [], ◌∷◌, ◌++◌, length, slice_index, slice_set}
+-- What outside code may read is in the open; tables of sections that differ in keys.
+use Rattle.std.proofs.Common.{◌≡◌, ◌≢◌, ℕ, zero, suc, ◌+◌, ◌<◌, ◌≤◌, Bool, true, false, cond, not, ◌&&◌, ◌||◌, ◌==◌, inl, inr, List, [], ◌∷◌, ◌++◌}
 use Rattle.std.proofs.Common.{Option, Some, None, refl, sym, ◌∙◌, ap, subst, arith}
-use Rattle.std.proofs.lemmas.List.{length-set, get_or-set_same, get_or-set_other, set_past}
-use Rattle.std.proofs.lemmas.Bool.{and_parts, cases_eq, cases_lt, not-true}
+use Rattle.std.proofs.lemmas.Bool.{and_parts, cases_lt, not-true}
 use Rattle.sx_rules.specs.declared.access.Access.TheVariants.{Read}
 use Rattle.sx_rules.specs.declared.section.Section.{Section}
 use Rattle.sx_rules.specs.Access.{may, extends, in_private, in_public, Lives, section_of, outside_private}
 use Rattle.sx_rules.specs.Admission.{without}
 use Rattle.sx_tag.specs.Mac.{Mac}
-use Rattle.sx_machine.specs.Memory.{even, word, read_at, write_at, bytes_from, put_bytes, zeroed}
+use Rattle.sx_machine.specs.Memory.{even}
 use Rattle.sx_machine.specs.Run.{may_at, may_range}
 use Rattle.sx_machine.proofs.PlanGuard.{passes, barred}
-use Rattle.sx_links.proofs.Outside.{Unhidden, AgreeAt, SameSection, SameSections}
+use Rattle.sx_tmpl.proofs.Agreeing.{AtPlaces}
+use Rattle.sx_links.proofs.Outside.{Unhidden, SameSection, SameSections}
 use Rattle.sx_forged.proofs.Tables.{LikeAll}
-
--- Memories.
-
--- the bytes of an access, which are a word's two or the one
-abbrev pub AtPlaces : (ℕ → Type 0) → Bool → ℕ → Type 0
-AtPlaces free true at = free (even at) × free (even at + 1)
-AtPlaces free false at = free at
-
-pub agree_fewer : (free shut : ℕ → Type 0) (m n : List ℕ) → ((k : ℕ) → shut k → free k) → AgreeAt free m n → AgreeAt shut m n
-agree_fewer free shut m n f h = record { size = h.size; same = λ k p. h.same k (f k p) }
-
-pub agree_self : (free : ℕ → Type 0) (m : List ℕ) → AgreeAt free m m
-agree_self free m = record { size = refl; same = λ k p. refl }
-
-module _ (free : ℕ → Type 0) where
-  pub word_agree : (m n : List ℕ) (at : ℕ) → AgreeAt free m n → AtPlaces free true at → word m at ≡ word n at
-  word_agree m n at h p =
-      let a = h.same (even at) p.0 in
-      let b = h.same (even at + 1) p.1 in
-      cc
-
-  pub read_agree : (wide : Bool) (m n : List ℕ) (at : ℕ) → AgreeAt free m n → AtPlaces free wide at → read_at wide m at ≡ read_at wide n at
-  read_agree true m n at h p = word_agree m n at h p
-  read_agree false m n at h p = h.same at p
-
-  -- the same byte written to both
-  pub set_agree : (m n : List ℕ) (i v : ℕ) → AgreeAt free m n → AgreeAt free (slice_set m i v) (slice_set n i v)
-  set_agree m n i v h = record {
-    size = length-set m i v ∙ h.size ∙ sym (length-set n i v);
-    same = λ k p.
-        elim (cases_eq k i) [
-          | inl e ↦ elim (cases_lt i (length m)) [
-            | inl lt ↦ subst (λ (j : ℕ). slice_index (slice_set m i v) j ≡ slice_index (slice_set n i v) j) (sym e)
-                (get_or-set_same m i v 0 lt ∙ sym (get_or-set_same n i v 0 (subst (λ (j : ℕ). i < j) h.size lt)))
-            | inr ge ↦ ap (λ (xs : List ℕ). slice_index xs k) (set_past m i v ge) ∙ h.same k p
-                ∙ sym (ap (λ (xs : List ℕ). slice_index xs k) (set_past n i v (subst (λ (j : ℕ). j ≤ i) h.size ge)))
-          ]
-          | inr ne ↦ get_or-set_other m i k v 0 ne ∙ h.same k p ∙ sym (get_or-set_other n i k v 0 ne)
-        ];
-  }
-
-  pub write_agree : (wide : Bool) (m n : List ℕ) (at v : ℕ) → AgreeAt free m n → AgreeAt free (write_at wide m at v) (write_at wide n at v)
-  write_agree true m n at v h = set_agree (slice_set m (even at) (v % 256)) (slice_set n (even at) (v % 256)) (even at + 1) (v / 256) (set_agree m n (even at) (v % 256) h)
-  write_agree false m n at v h = set_agree m n at (v % 256) h
-
-  pub put_agree : (bs m n : List ℕ) (at : ℕ) → AgreeAt free m n → AgreeAt free (put_bytes m at bs) (put_bytes n at bs)
-  put_agree [] m n at h = h
-  put_agree (b ∷ bs) m n at h = put_agree bs (slice_set m at (b % 256)) (slice_set n at (b % 256)) (at + 1) (set_agree m n at (b % 256) h)
-
-  pub zeroed_agree : (m n : List ℕ) (at len : ℕ) → AgreeAt free m n → AgreeAt free (zeroed m at len) (zeroed n at len)
-  unfolding zeroed
-  zeroed_agree m n at zero h = h
-  zeroed_agree m n at (suc len) h = set_agree (zeroed m at len) (zeroed n at len) (at + len) 0 (zeroed_agree m n at len h)
-
--- the bytes of a range where two memories agree
-pub bytes_same : (m n : List ℕ) (at len : ℕ) → ((k : ℕ) → at ≤ k → k < at + len → slice_index m k ≡ slice_index n k) → bytes_from m at len ≡ bytes_from n at len
-unfolding bytes_from
-bytes_same m n at zero f = refl
-bytes_same m n at (suc len) f =
-    let ih : bytes_from m at len ≡ bytes_from n at len = bytes_same m n at len (λ k a b. f k a (omega arith)) in
-    let here : slice_index m (at + len) ≡ slice_index n (at + len) = f (at + len) (omega arith) (omega arith) in
-    cc
 
 -- Code that belongs to none of the sections that hide.
 

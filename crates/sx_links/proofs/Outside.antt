@@ -1,5 +1,5 @@
 -- Nodes that differ in what deployed modules hold.
-use Rattle.std.specs.Prelude.{◌≡◌, ◌⊎◌, ℕ, ◌-◌, ◌<◌, ◌==◌, ◌&&◌, Bool, true, false, List, length, slice_index, bytes_eq}
+use Rattle.std.specs.Prelude.{◌≡◌, ◌⊎◌, ℕ, ◌-◌, ◌<◌, ◌==◌, ◌&&◌, Bool, true, false, List, slice_index, bytes_eq}
 use Rattle.std.specs.Prelude.{Some, None, is_some, [], ◌∷◌}
 use Rattle.std.specs.List.{position_from}
 use Rattle.sx_rules.specs.declared.access.Access.TheVariants.{Read}
@@ -14,6 +14,7 @@ use Rattle.sx_machine.specs.State.{State}
 use Rattle.sx_machine.specs.Run.{may_range}
 use Rattle.sx_machine.specs.ModuleRows.{own_key}
 use Rattle.sx_machine.specs.Step.{pc_of, own_of, is_let_run, step}
+use Rattle.sx_tmpl.specs.Steady.{AgreeAt}
 use Rattle.sx_run.specs.Setting.{Site, same_layout, module_of}
 use Rattle.sx_forged.specs.Tags.{SameTags}
 
@@ -37,11 +38,6 @@ is_deployed kind mem x = kind x.layout x.provider (text_at mem x.layout)
 -- the byte is in no private section that hides
 abbrev pub Unhidden : (Section → Bool) → List Section → ℕ → Type 0
 Unhidden hides live k = (x : Section) → Lives live x → hides x ≡ true → in_private x k ≡ false
-
--- two memories agree at these places
-pub record AgreeAt (places : ℕ → Type 0) (m n : List ℕ) : Type 0 where
-  pub size : length m ≡ length n
-  pub same : (k : ℕ) → places k → slice_index m k ≡ slice_index n k
 
 -- The sections differ in their keys alone, and where a section isn't that of a deployed module no
 -- tag tells the keys apart.

@@ -1,18 +1,19 @@
 -- A module instruction of code of no deployed module does the same where deployed modules' bytes and keys differ.
-use Rattle.std.proofs.Common.{◌≡◌, ◌≢◌, ℕ, zero, suc, ◌+◌, ◌-◌, ◌<◌, ◌≤◌, ◌++◌, Bool, true, false, cond, not, ◌==◌, inl, inr, ◌⊎◌, bytes_eq, List, [], ◌∷◌, length, slice_index, Option, Some}
+use Rattle.std.proofs.Common.{◌≡◌, ℕ, zero, suc, ◌+◌, ◌-◌, ◌<◌, ◌≤◌, ◌++◌, Bool, true, false, cond, not, ◌==◌, inl, inr, ◌⊎◌, bytes_eq, List, [], ◌∷◌, length, slice_index, Option, Some}
 use Rattle.std.proofs.Common.{None, refl, sym, ◌∙◌, ap, subst, arith}
 use Rattle.std.specs.Prelude.{nat_le, nat_lt, slice_set, ◌&&◌}
 use Rattle.std.specs.List.{list_any, list_all}
 use Rattle.std.proofs.lemmas.Bool.{and_parts, eqb-true, or_cases, leb-true, ltb-true, cases_lt, cases_eq}
 use Rattle.std.proofs.lemmas.List.{get_or-set_same, get_or-set_other, set_past, get_or_past}
+use Rattle.sx_machine.proofs.Meanings.{same_bytes}
 use Rattle.sx_rules.specs.declared.access.Access.TheVariants.{Read}
 use Rattle.sx_rules.specs.declared.access.Violation.{Violation}
 use Rattle.sx_rules.specs.declared.access.Violation.TheVariants as bad
 use Rattle.sx_rules.specs.declared.section.Layout.{Layout}
 use Rattle.sx_rules.specs.declared.section.Section.{Section}
 use Rattle.sx_rules.specs.declared.admission.Refusal.{Refusal}
-use Rattle.sx_rules.specs.Access.{Sections, holder, section_of, Lives}
-use Rattle.sx_rules.specs.Admission.{refusal, apart, parts_apart, clear_of, without}
+use Rattle.sx_rules.specs.Access.{Sections, holder, section_of}
+use Rattle.sx_rules.specs.Admission.{refusal, apart, parts_apart, clear_of}
 use Rattle.sx_rules.proofs.Admits.{admits}
 use Rattle.sx_bus.specs.Devices.{places_of}
 use Rattle.sx_tag.specs.Mac.{Mac}
@@ -31,28 +32,19 @@ use Rattle.sx_machine.specs.Modules.{module_instruction}
 use Rattle.sx_machine.proofs.PlanGuard.{passes, with_mem}
 use Rattle.sx_machine.proofs.Frame.{zeroed_other, out_of}
 use Rattle.sx_machine.proofs.Apart.{lives_push, lives_without}
+use Rattle.sx_machine.proofs.ProtectGuard.{lives_on}
+use Rattle.sx_machine.proofs.UnprotectGuard.{lives_still}
 use Rattle.sx_forged.specs.Tags.{SameTags}
-use Rattle.sx_links.proofs.Outside.{Unhidden, AgreeAt, SameSection, SameSections, text_at}
+use Rattle.sx_tmpl.specs.Steady.{AgreeAt}
+use Rattle.sx_links.proofs.Outside.{Unhidden, SameSection, SameSections, text_at}
 use Rattle.sx_forged.proofs.Tables.{LikeAll, holder_like, refusal_like}
 use Rattle.sx_forged.proofs.Instructions.{behind, sealed, opens, attest_same, wrapped_same, unwrapped_same}
-use Rattle.sx_links.proofs.Opened.{bytes_same, zeroed_agree, IsOutsider, blank_mac, blank_all, SameFound, found_same, append_same, without_same}
-use Rattle.sx_links.proofs.Blind.{AreZero, Grown, grown_self, SameMoments, Same, AlikeIn, equal_blind, tell_blind, need_blind, writable_blind, bytes_blind}
+use Rattle.sx_tmpl.proofs.Agreeing.{zeroed_agree}
+use Rattle.sx_links.proofs.Opened.{IsOutsider, blank_mac, blank_all, SameFound, found_same, append_same, without_same}
+use Rattle.sx_tmpl.proofs.Agreeing.{SameMoments}
+use Rattle.sx_links.proofs.Blind.{AreZero, Grown, grown_self, Same, AlikeIn, equal_blind, tell_blind, need_blind, writable_blind, bytes_blind}
 
 -- Where a new section is wiped.
-
--- a section that isn't the one removed stands on
-lives_on : (x : Section) (live : List Section) (id : ℕ) → Lives live x → id ≢ x.id → Lives (without live id) x
-lives_on x [] id l ne = absurd l
-lives_on x (z ∷ zs) id l ne =
-    elim l [
-      | inl q ↦ elim (z.id == id) as (λ b. (z.id == id) ≡ b → Lives (cond b zs (z ∷ without zs id)) x)
-          [ true ↦ λ e. absurd (ne (sym (eqb-true z.id id e) ∙ ap (λ (s : Section). s.id) q)) | false ↦ λ e. inl q ] refl
-      | inr r ↦ elim (z.id == id) as (λ b. Lives (cond b zs (z ∷ without zs id)) x) [ true ↦ r | false ↦ inr (lives_on x zs id r ne) ]
-    ]
-
-lives_pushed : (live : List Section) (x new : Section) → Lives live x → Lives (live ++ new ∷ []) x
-lives_pushed [] x new l = absurd l
-lives_pushed (z ∷ zs) x new l = elim l [ inl e ↦ inl e | inr r ↦ inr (lives_pushed zs x new r) ]
 
 -- one range of bytes stands before the other
 abbrev Apart : Layout → Type 0
@@ -73,7 +65,7 @@ in_text l k a b = elim (cases_lt k l.pub_to) [ inl lt ↦ lt | inr ge ↦ absurd
 
 -- the text of a layout whose parts don't meet isn't wiped with its private part
 text_wiped : (m : List ℕ) (l : Layout) → parts_apart l ≡ true → text_at (wiped m l) l ≡ text_at m l
-text_wiped m l h = bytes_same (wiped m l) m l.pub_from (l.pub_to - l.pub_from) (λ k a b. zeroed_other m l.priv_from (l.priv_to - l.priv_from) k (beside l k a b (parts_cases l h)))
+text_wiped m l h = same_bytes m (wiped m l) l.pub_from (l.pub_to - l.pub_from) (λ k a b. zeroed_other m l.priv_from (l.priv_to - l.priv_from) k (beside l k a b (parts_cases l h)))
 
 zeroed_at : (m : List ℕ) (at len k : ℕ) → at ≤ k → k < at + len → slice_index (zeroed m at len) k ≡ 0
 unfolding zeroed
@@ -281,7 +273,7 @@ module _ (mac nac : Mac) (hides : Section → Bool) (g : Given) (u : Sections) (
   text_open : (l : Layout) → refusal g.sections l (places_of g.devices) ≡ None → text_at n l ≡ text_at m l
   text_open l e =
       let clear = (and_parts (parts_apart l) (list_all (clear_of l) g.sections.live) (admits g.sections l (places_of g.devices) e).overlap).1 in
-      sym (bytes_same m n l.pub_from (l.pub_to - l.pub_from) (λ k a b. agree.same k (λ x lives h.
+      sym (same_bytes n m l.pub_from (l.pub_to - l.pub_from) (λ k a b. agree.same k (λ x lives h.
       let c = passes (clear_of l) g.sections.live x lives clear in
       let p = and_parts (apart l.pub_from l.pub_to x.layout.pub_from x.layout.pub_to) _ c in
       let q = and_parts (apart l.pub_from l.pub_to x.layout.priv_from x.layout.priv_to) _ p.1 in
@@ -289,7 +281,7 @@ module _ (mac nac : Mac) (hides : Section → Bool) (g : Given) (u : Sections) (
 
   grown_push : (new : Section) (l : Layout) → new.layout ≡ l → parts_apart l ≡ true → Grown hides g.sections.live (g.sections.live ++ new ∷ []) m (wiped m l) (wiped n l)
   grown_push new l same_l parts = record {
-    hidden = λ k f x lives h. f x (lives_pushed g.sections.live x new lives) h;
+    hidden = λ k f x lives h. f x (lives_on g.sections.live x new lives) h;
     known = λ x lives. elim (lives_push g.sections.live new x lives) [
       | inl o ↦ inl o
       | inr e ↦ inr (
@@ -351,7 +343,7 @@ module _ (mac nac : Mac) (hides : Section → Bool) (g : Given) (u : Sections) (
         without_same mac nac hides g.sections.live u.live g.own same,
         next,
         refl,
-        record { hidden = λ k f z lives e. f z (lives_on z g.sections.live g.own lives (outsider z lives e)) e; known = λ z lives. inl (lives_without g.sections.live g.own z lives) },
+        record { hidden = λ k f z lives e. f z (lives_still z g.sections.live g.own lives (outsider z lives e)) e; known = λ z lives. inl (lives_without g.sections.live g.own z lives) },
       )
 
   unprotect_alike : Match (unprotect g m) (unprotect other n)

@@ -4,6 +4,7 @@ use Rattle.std.proofs.Common.{Some, None, is_some, not, refl, sym, ◌∙◌, ap
 use Rattle.std.specs.Prelude.{slice_get, replicate}
 use Rattle.std.proofs.lemmas.Bool.{true≢false, and_from, le-leb, lt-ltb}
 use Rattle.std.proofs.option.Match.{None-if_not_some}
+use Rattle.sx_machine.proofs.Meanings.{same_bytes}
 use Rattle.sx_mean.specs.Application.{PartTree}
 use Rattle.sx_mean.specs.Ends.{ends_of}
 use Rattle.sx_mean.specs.declared.events.End.{End}
@@ -46,7 +47,6 @@ use Rattle.sx_forged.proofs.Turns.{NodeTurns}
 use Rattle.sx_forged.proofs.Turning.{stood}
 use Rattle.sx_links.specs.LinksUnseen.{SameModule, wanted, identity_in, KeepsTo}
 use Rattle.sx_links.proofs.Outside.{Kind, sites_on, is_deployed, NoGuess, AlikeOutside, IsUntouched}
-use Rattle.sx_links.proofs.Opened.{bytes_same}
 use Rattle.sx_links.proofs.Bystanding.{outsiders_see, outsiders_touch_none, not_deployed}
 use Rattle.sx_links.proofs.Alike.{own_same, modules_same}
 use Rattle.sx_links.proofs.Twice.{SameEnds}
@@ -183,8 +183,8 @@ module _ (a : Setting) (nac : Mac) (keys : List (List ℕ)) (secret : List ℕ) 
         by (inl k) =
             let len = x.layout.priv_to - x.layout.priv_from in
             states_kept a nac keys secret m q x s.mem t.mem (step a.mac s).state.mem (step nac t).state.mem
-            (bytes_same (step a.mac s).state.mem s.mem x.layout.priv_from len (λ i lo hi. (k.2 i (range_private x i lo hi)).0))
-            (bytes_same (step nac t).state.mem t.mem x.layout.priv_from len (λ i lo hi. (k.2 i (range_private x i lo hi)).1))
+            (same_bytes s.mem (step a.mac s).state.mem x.layout.priv_from len (λ i lo hi. (k.2 i (range_private x i lo hi)).0))
+            (same_bytes t.mem (step nac t).state.mem x.layout.priv_from len (λ i lo hi. (k.2 i (range_private x i lo hi)).1))
             (h.states m q site x part sited k.0 (sym (at_site_same n s.mem (step a.mac s).state.mem x site ((machine_laws a.mac).public s x ta.node k.0 quiet)) ∙ at))
         by (inr zeros) =
             let len = x.layout.priv_to - x.layout.priv_from in

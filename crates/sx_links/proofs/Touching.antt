@@ -2,6 +2,7 @@
 use Rattle.std.proofs.Common.{◌≡◌, ℕ, ◌-◌, Bool, true, false, cond, not, ◌==◌, ◌||◌, inl, inr, ◌⊎◌, List, length, Option, Some, None, Ok, refl, sym, ◌∙◌, ap, ap₂, subst, arith}
 use Rattle.std.specs.Prelude.{nat_le, nat_lt}
 use Rattle.std.proofs.lemmas.Bool.{and_parts, and_from, or_parts, false_from_ne_true, leb-true, ltb-true, le-leb, lt-ltb}
+use Rattle.sx_machine.proofs.Meanings.{same_bytes}
 use Rattle.sx_rules.specs.declared.access.Violation.{Violation}
 use Rattle.sx_rules.specs.declared.section.Section.{Section}
 use Rattle.sx_rules.specs.Access.{Sections, in_private, Lives}
@@ -25,9 +26,11 @@ use Rattle.sx_machine.specs.Frame.{Framed, KeptPublic}
 use Rattle.sx_machine.proofs.Frame.{interrupt_framed}
 use Rattle.sx_machine.proofs.PublicKept.{framed_public, public_kept, none_any, clear_of_range}
 use Rattle.sx_machine.proofs.RunGuard.{not_zero}
-use Rattle.sx_links.proofs.Outside.{Kind, is_deployed, Unhidden, AgreeAt, SameSections, AlikeOutside}
+use Rattle.sx_tmpl.specs.Steady.{AgreeAt}
+use Rattle.sx_links.proofs.Outside.{Kind, is_deployed, Unhidden, SameSections, AlikeOutside}
 use Rattle.sx_forged.proofs.Tables.{LikeAll, meets_private_like, meets_public_like}
-use Rattle.sx_links.proofs.Opened.{agree_fewer, put_agree, bytes_same, IsOutsider, blank_mac, blank_all, same_hides}
+use Rattle.sx_tmpl.proofs.Agreeing.{agree_fewer, put_agree}
+use Rattle.sx_links.proofs.Opened.{IsOutsider, blank_mac, blank_all, same_hides}
 use Rattle.sx_links.proofs.Blind.{SameOutcome, same_blind}
 use Rattle.sx_links.proofs.Bystanding.{with_hidden, reset_same, SameShown}
 
@@ -49,7 +52,7 @@ module _ (mac nac : Mac) (kind : Kind) (s : State) (n key : List ℕ) (u : Secti
 
   status_same : (m : List ℕ) (z : Section) → KeptPublic z s.mem m → is_deployed kind m z ≡ hides z
   status_same m z f =
-      ap (kind z.layout z.provider) (bytes_same m s.mem z.layout.pub_from (z.layout.pub_to - z.layout.pub_from) (λ k a b.
+      ap (kind z.layout z.provider) (same_bytes s.mem m z.layout.pub_from (z.layout.pub_to - z.layout.pub_from) (λ k a b.
       f k (and_from (nat_le z.layout.pub_from k) (nat_lt k z.layout.pub_to) (le-leb z.layout.pub_from k a) (lt-ltb k z.layout.pub_to (omega (arith, a, b))))))
 
   -- the table stays, and so do all texts
@@ -109,7 +112,7 @@ module _ (mac nac : Mac) (kind : Kind) (s : State) (n key : List ℕ) (u : Secti
       by false h = second _ refl h
 
   taken_same : (at len : ℕ) → take_refusal s at len ≡ None → bytes_from s.mem at len ≡ bytes_from n at len
-  taken_same at len e = bytes_same s.mem n at len (λ k a b. agree.same k (λ z l h. false_from_ne_true (in_private z k) (λ p.
+  taken_same at len e = same_bytes n s.mem at len (λ k a b. agree.same k (λ z l h. false_from_ne_true (in_private z k) (λ p.
       let q = and_parts (nat_le z.layout.priv_from k) (nat_lt k z.layout.priv_to) p in
       let m = none_any (λ x. meets at len x.layout.priv_from x.layout.priv_to) s.sections.live z (take_clear at len e) l in
       elim (clear_of_range at len z.layout.priv_from z.layout.priv_to k m (leb-true z.layout.priv_from k q.0) (ltb-true k z.layout.priv_to q.1)) [

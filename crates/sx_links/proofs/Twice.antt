@@ -2,7 +2,7 @@
 use Rattle.std.proofs.Common.{◌≡◌, ℕ, zero, suc, ◌+◌, ◌*◌, ◌<◌, ◌≤◌, Bool, true, false, cond, not, ◌&&◌, ◌||◌, ◌==◌, inl, inr, ◌⊎◌, bytes_eq, List, [], ◌∷◌, ◌++◌, length, take, drop}
 use Rattle.std.proofs.Common.{slice_index, slice_set, Option, Some, None, Result, Ok, Err, refl, sym, ◌∙◌, ap, ap₂, subst, arith}
 use Rattle.std.specs.Prelude.{if◌then◌else◌, nat_lt, nat_le}
-use Rattle.std.proofs.lemmas.Bool.{and_parts, or_parts, true≢false, false_from_ne_true, leb-true, ltb-true}
+use Rattle.std.proofs.lemmas.Bool.{and_parts, or_parts, true≢false, false_from_ne_true, leb-true, ltb-true, not-false}
 use Rattle.sx_lang.specs.declared.sides.Side.TheVariants.{To}
 use Rattle.sx_mean.specs.declared.events.End.{End}
 use Rattle.sx_mean.specs.declared.events.Act.{Act}
@@ -37,10 +37,10 @@ use Rattle.sx_invoke.specs.Entries.{received, is_kind, set_key, set_key_at, key_
 use Rattle.sx_invoke.specs.Entries.{number_taken, field_in, second_in, header_in, end_on, end_found, side_of}
 use Rattle.sx_invoke.specs.Invocation.{invoke, entered, returns_inside, is_no_entry, has_bad_windows}
 use Rattle.sx_forged.specs.Tags.{SameTags}
-use Rattle.sx_links.proofs.Outside.{AgreeAt}
+use Rattle.sx_tmpl.specs.Steady.{AgreeAt}
 use Rattle.sx_forged.proofs.Packets.{read_long}
 use Rattle.sx_forged.proofs.Instructions.{wrapped_same, unwrapped_same}
-use Rattle.sx_links.proofs.Opened.{set_agree}
+use Rattle.sx_tmpl.proofs.Agreeing.{set_agree}
 
 -- the cipher of a set-key packet, and what it opens to
 abbrev pub key_cipher : List ℕ → List ℕ
@@ -439,9 +439,6 @@ module _ (Linked : ℕ → List ℕ → List ℕ → Type 0) (Opens : List ℕ �
         input_same : (packet : List ℕ) → SameInvoked (input s c packet p) (input other c packet q)
         input_same packet = by_end (end_found (link_of (field_in packet)) To 0 s.ends)
           where
-            abbrev_closed : EndState → Bool
-            abbrev_closed e = not e.is_open || not (epoch_of e.field == epoch_of (field_in packet))
-
             tagged : (e : ℕ × End) (now : EndState) (l : List ℕ) → end_of p.state.ends e.0 ≡ now → end_of es e.0 ≡ record now { key = l } → (now.is_open ≡ true → Linked now.field now.key l)
                 → now.is_open ≡ true → SameInvoked (event_numbered s c e packet now p) (event_numbered other c e packet (record now { key = l }) q)
             tagged e now l a b f o =
@@ -460,11 +457,7 @@ module _ (Linked : ℕ → List ℕ → List ℕ → Type 0) (Opens : List ℕ �
                 (cond (not now.is_open || not (epoch_of now.field == epoch_of (field_in packet))) (Returns no_end q) (event_numbered other c e packet (record now { key = l }) q))
             by_open e now l a b f =
                 ways (not now.is_open || not (epoch_of now.field == epoch_of (field_in packet))) (Returns no_end p) (event_numbered s c e packet now p) (Returns no_end q)
-                (event_numbered other c e packet (record now { key = l }) q) (λ t. (refl, plain)) (λ t. tagged e now l a b f (is_on now.is_open (or_parts (not now.is_open) _ t).0))
-              where
-                is_on : (b : Bool) → not b ≡ false → b ≡ true
-                is_on true h = refl
-                is_on false h = sym h
+                (event_numbered other c e packet (record now { key = l }) q) (λ t. (refl, plain)) (λ t. tagged e now l a b f (not-false now.is_open (or_parts (not now.is_open) _ t).0))
 
             by_end : (e : Option (ℕ × End)) → SameInvoked (input_at s c packet e p) (input_at other c packet e q)
             by_end None = (refl, plain)

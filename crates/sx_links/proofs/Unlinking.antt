@@ -5,7 +5,7 @@ use Rattle.std.specs.Prelude.{All, slice_index}
 use Rattle.std.specs.Int.{w16, w32, to_le_bytes}
 use Rattle.std.specs.Int.Bits.{xor_assoc, xor_self, xor_zero_r, xor_comm, xor_lt}
 use Rattle.std.proofs.lemmas.Bool.{ne_eqb}
-use Rattle.std.proofs.lemmas.List.{length-append, length-map, length-drop}
+use Rattle.std.proofs.lemmas.List.{length-append, length-map, length-drop, nil_from_length}
 use Rattle.std.proofs.lemmas.List.Elements.{All-nil, All-cons, All-append, All-take, All-drop, All-head, All-tail}
 use Rattle.sx_mean.specs.Application.{PartTree}
 use Rattle.sx_tag.specs.Mac.{Mac, IsTag, GivesTags}
@@ -116,11 +116,7 @@ module _ (move back : List ℕ → List ℕ) (moving : IsMoving move back) (hold
       ∙ kdf_moved (kdf a.mac base (to_le_bytes w16 provider)) id
 
   move_none : move [] ≡ []
-  move_none = by (move []) (moving.width [])
-    where
-      by : (l : List ℕ) → length l ≡ 0 → l ≡ []
-      by [] e = refl
-      by (x ∷ l) e = absurd (omega (arith, e))
+  move_none = nil_from_length (move []) (moving.width [])
 
   list_moved : (keys : List (List ℕ)) (n : ℕ) → list_at (map move keys) n ≡ move (list_at keys n)
   list_moved [] n = sym move_none

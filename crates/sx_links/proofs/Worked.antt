@@ -23,14 +23,10 @@ use Rattle.sx_bulk.specs.Bulk.{head, setup}
 use Rattle.sx_bulk.specs.Laws.{names}
 use Rattle.sx_bulk.proofs.Accepts.{accepted}
 use Rattle.sx_bulk.proofs.Entries.{entries, counted}
-use Rattle.sx_run.specs.Setting.{Setting}
 use Rattle.sx_run.specs.Accepted.{AreImages, setting_of, sites_of}
 use Rattle.sx_run.specs.AcceptedLaw.{AreLines}
-use Rattle.sx_run.specs.Law.{IsSoundSetting, LinesInForm}
 use Rattle.sx_run.proofs.accepted.Settled.{settled}
 use Rattle.sx_run.proofs.accepted.FormedLines.{lines_in_form}
-use Rattle.sx_forged.specs.Tags.{AgreeOnTags}
-use Rattle.sx_forged.specs.Named.{named_setting}
 use Rattle.sx_forged.proofs.Naming.{names_agree}
 use Rattle.sx_forged.proofs.Tabling.{tags_tabled}
 use Rattle.sx_links.specs.Worked.{lighting_lines, Meets, LightingMeets}
