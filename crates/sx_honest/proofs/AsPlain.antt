@@ -53,11 +53,6 @@ acts_linked app p (a ∷ acts) = All-append (IsLinked app) (act_sends app.links 
     one (Send output v) = subst (λ (k : ℕ). All (λ (w : Waiting). w.link < k) (over 0 p output v app.links)) (zero-add (length app.links)) (over_linked 0 p output v app.links)
     one (Emit v) = All-nil _
 
--- the part at an end that is tied
-pub record Part (app : AppTree) (p : ℕ) : Type 0 where
-  pub part : PartTree
-  pub there : slice_get app.parts p ≡ Some part
-
 has_part : (ports : Decl → Bool) (qs : List PartTree) (p port : ℕ) → has_port ports qs p port ≡ true → (q : PartTree) × (slice_get qs p ≡ Some q)
 has_part ports [] p port h = absurd cc
 has_part ports (q ∷ qs) zero port h = (q, refl)

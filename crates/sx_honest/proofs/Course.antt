@@ -1,5 +1,5 @@
 -- What is kept by each reading and each delivery holds of a whole course.
-use Rattle.std.proofs.Common.{◌≡◌, ℕ, zero, suc, ◌+◌, ◌≤◌, Bool, true, false, if◌then◌else◌, List, [], ◌∷◌, ◌++◌, length, Option, Some, None, slice_get, refl, ap, subst, arith}
+use Rattle.std.proofs.Common.{◌≡◌, ℕ, zero, suc, ◌+◌, ◌≤◌, Bool, true, false, if◌then◌else◌, List, [], ◌∷◌, length, Option, Some, None, slice_get, refl, ap, subst, arith}
 use Rattle.std.specs.List.{All}
 use Rattle.std.specs.Option.{option_map_or}
 use Rattle.std.proofs.lemmas.List.Elements.{All-head, All-tail}
@@ -10,10 +10,6 @@ use Rattle.sx_mean.specs.declared.events.SourceEvent.TheVariants as event
 use Rattle.sx_mean.specs.Application.{AppTree, PartTree}
 use Rattle.sx_honest.specs.Plain.{Plain, Sampling, Waiting, acts_send, delivers, driver_of, goes_in, is_still, oldest, reacted, reaction, reacts}
 use Rattle.sx_honest.specs.Course.{Course, IsSampling, delivered, played, sensed, settled}
-
--- all that was put on its way, in order
-abbrev pub all_of : Course → List Waiting
-all_of c = c.past ++ c.plain.waiting
 
 abbrev pub total : Course → ℕ
 total c = length c.past + length c.plain.waiting

@@ -33,7 +33,7 @@ use Rattle.sx_model.proofs.Written.{get_other}
 use Rattle.sx_model.specs.Changes.{with_pending}
 use Rattle.sx_model.proofs.Idle.{idle_as}
 use Rattle.sx_model.proofs.ReadsAreSensed.{first_stale}
-use Rattle.sx_lists.proofs.Lists.{get_same}
+use Rattle.sx_lists.proofs.Lists.{get_same, get_mid}
 
 -- The ends open one by one.
 
@@ -51,9 +51,6 @@ change_at change c side (x ∷ es) (y ∷ views) (suc j) e v v' f g t before h =
     let not_it : ((x.link == c) && same_side x.side side) ≡ false = before 0 x (omega arith) refl in
     let more = change_at change c side es views j e v v' f g t (λ i a lt k. before (suc i) a (omega (arith, lt)) k) h in
     rw (not_it, more) refl
-
-abbrev closed_view : End → EndView
-closed_view e = record { epoch = None; next = 0 }
 
 -- the views where the first so many ends are open
 abbrev opened : ℕ → List End → List EndView
@@ -167,15 +164,11 @@ module _ (app : AppTree) (s : Model) (p : ℕ) (q : PartTree) (z : Standing) (pa
   opens_ran y cells may node ordered front (e ∷ rest) all =
       let j = length front in
       let r : Present = record { cells = cells; ends = opened j (ends_of app p); pending = None } in
-      let at : slice_get (ends_of app p) j ≡ Some e = (ap (λ (es : List End). slice_get es j) all ∙ get_behind front rest e) in
+      let at : slice_get (ends_of app p) j ≡ Some e = (ap (λ (es : List End). slice_get es j) all ∙ get_mid front rest e) in
       let n : length (front ++ e ∷ []) ≡ suc j = (let m = length-append front (e ∷ []) in omega (arith, m)) in
       one_open (record y { present = Some r }) r e (opened (suc j) (ends_of app p)) (open_items p rest) refl refl node (opened_next (ends_of app p) j e ordered at) (may e.link)
       ∙ ap (λ (k : ℕ). after app (with_standing s p (record y { present = Some (record { cells = cells; ends = opened k (ends_of app p); pending = None }) })) (open_items p rest)) (sym n)
       ∙ opens_ran y cells may node ordered (front ++ e ∷ []) rest (all ∙ sym (append_assoc front (e ∷ []) rest))
-    where
-      get_behind : (xs ys : List End) (y : End) → slice_get (xs ++ y ∷ ys) (length xs) ≡ Some y
-      get_behind [] ys y = refl
-      get_behind (x ∷ xs) ys y = get_behind xs ys y
 
 -- Where the set-up stands before the p-th part.
 

@@ -10,8 +10,9 @@ use Rattle.sx_run.specs.State.{World}
 use Rattle.sx_run.specs.Acts.{after_take}
 use Rattle.sx_run.specs.Law.{IsSoundSetting, RunsLegal}
 use Rattle.std.proofs.lemmas.Bool.{and_parts, ltb-true}
+use Rattle.sx_lists.proofs.Lists.{get_some}
 use Rattle.sx_mean.specs.Application.{PartTree}
-use Rattle.sx_run.proofs.tie.Lists.{get_some, get_within}
+use Rattle.sx_run.proofs.tie.Lists.{get_within}
 use Rattle.sx_run.proofs.acts.Compose.{Keeps, ActsKeep, Wordly, legal_run}
 use Rattle.sx_run.proofs.acts.Asking.{tied_packet, ask_fares, answered_fares}
 use Rattle.sx_run.proofs.steps.Nodes.{reset_fares, reset_is_node}

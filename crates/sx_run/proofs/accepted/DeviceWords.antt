@@ -7,6 +7,7 @@ use Rattle.std.proofs.lemmas.Bool.{and_parts, eqb-true, cases_lt}
 use Rattle.std.proofs.lemmas.Bool.Decides.{nat_tests}
 use Rattle.std.proofs.lemmas.List.{length-map}
 use Rattle.std.proofs.lemmas.Option.{get_or_from_slice_get, slice_get-get_or, slice_get-map}
+use Rattle.sx_lists.proofs.Lists.{get_some}
 use Rattle.sx_mean.specs.declared.apps.AppDevice.{AppDevice}
 use Rattle.sx_bus.specs.declared.devices.Kind.{Kind}
 use Rattle.sx_bus.specs.declared.devices.Window.{Window}
@@ -14,7 +15,7 @@ use Rattle.sx_bus.specs.Devices.{ArePlaces, powered_on, places_of, on_word, devi
 use Rattle.sx_deploy.specs.Law.{Word, words_of, IsWordPlace}
 use Rattle.sx_machine.proofs.Devices.{position_is}
 use Rattle.sx_run.specs.Setting.{devices_at, windows_at, kind_of}
-use Rattle.sx_run.proofs.tie.Lists.{some_inj, get_within, get_some}
+use Rattle.sx_run.proofs.tie.Lists.{some_inj, get_within}
 use Rattle.sx_run.proofs.steps.Steps.{increasing}
 use Rattle.sx_run.proofs.accepted.Windows.{AreSpaced}
 
@@ -119,9 +120,6 @@ abbrev pub AreWordsApart : Word → Word → Type 0
 AreWordsApart v w = v.node ≡ w.node → ¬ (v.at ≡ w.at)
 
 module _ (ds : List AppDevice) (ats : List ℕ) (few : length ds ≤ 32) (words : All IsWordPlace (words_of ds ats)) (apart : AllPairs AreWordsApart (words_of ds ats)) where
-  abbrev windows : ℕ → List Window
-  windows n = powered_on (windows_at n ds ats)
-
   -- a window is a device's
   pub of_window : (n k : ℕ) (w : Window) → slice_get (powered_on (windows_at n ds ats)) k ≡ Some w → IsOf n 0 ds ats k (w.at, w.kind)
   of_window n k w e = window_of n 0 ds ats k (w.at, w.kind) (powered_window (windows_at n ds ats) k w e)

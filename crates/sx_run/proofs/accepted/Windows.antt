@@ -1,15 +1,14 @@
 -- A node's windows: each device of the node is one, and is found at its place.
 use Rattle.std.proofs.Common.{◌≡◌, ℕ, zero, suc, ◌+◌, ◌%◌, ◌<◌, ◌≤◌, ◌==◌, ◌&&◌, nat_lt}
 use Rattle.std.proofs.Common.{nat_le, Bool, true, false, if◌then◌else◌, List, [], ◌∷◌}
-use Rattle.std.proofs.Common.{get_or, Option, Some, None, refl, sym, ◌∙◌, ap, subst, arith}
+use Rattle.std.proofs.Common.{Option, Some, None, refl, sym, ◌∙◌, ap, subst, arith}
 use Rattle.std.specs.Prelude.{slice_get}
 use Rattle.std.proofs.lemmas.Bool.{and_parts, eq-eqb}
 use Rattle.std.proofs.lemmas.Bool.Decides.{nat_tests}
-use Rattle.std.proofs.lemmas.Option.{get_or_from_slice_get, slice_get-map}
 use Rattle.sx_mean.specs.declared.apps.AppDevice.{AppDevice}
 use Rattle.sx_bus.specs.declared.devices.Kind.{Kind}
 use Rattle.sx_bus.specs.declared.devices.Window.{Window}
-use Rattle.sx_bus.specs.Devices.{places_of, on_word, device_at}
+use Rattle.sx_bus.specs.Devices.{on_word, device_at}
 use Rattle.sx_machine.specs.Run.{device_of, found}
 use Rattle.sx_machine.proofs.Devices.{position_is}
 use Rattle.sx_run.specs.Setting.{devices_at, windows_at, kind_of}
@@ -21,9 +20,6 @@ use Rattle.sx_run.proofs.steps.Foreign.{position_some}
 pub record AreSpaced (ws : List Window) : Type 0 where
   pub even : (k : ℕ) (w : Window) → slice_get ws k ≡ Some w → w.at % 2 ≡ 0
   pub apart : (j k : ℕ) (v w : Window) → slice_get ws j ≡ Some v → slice_get ws k ≡ Some w → v.at ≡ w.at → j ≡ k
-
-place_at : (ws : List Window) (k : ℕ) (w : Window) → slice_get ws k ≡ Some w → get_or (places_of ws) k 0 ≡ w.at
-place_at ws k w e = get_or_from_slice_get (places_of ws) k w.at 0 (slice_get-map (λ (w : Window). w.at) ws k ∙ ap (λ o. Rattle.std.specs.Prelude.option_map (λ (w : Window). w.at) o) e)
 
 on_own : (at : ℕ) (w : Window) → w.at ≡ at → on_word at w ≡ true
 on_own at w e = subst (λ p. (nat_le w.at p && nat_lt p (w.at + 2)) ≡ true) e (self w.at)

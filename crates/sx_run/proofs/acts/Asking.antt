@@ -1,5 +1,5 @@
 -- What the deployer does keeps a run tied: asks, answers, and the keys that it gives.
-use Rattle.std.proofs.Common.{◌≡◌, ◌≢◌, ℕ, suc, ◌+◌, ◌*◌, ◌<◌, ◌≤◌, ◌⊎◌, inl}
+use Rattle.std.proofs.Common.{◌≡◌, ◌≢◌, ℕ, suc, ◌+◌, ◌<◌, ◌≤◌, ◌⊎◌, inl}
 use Rattle.std.proofs.Common.{inr, ◌==◌, Bool, true, false, if◌then◌else◌, List, [], ◌∷◌, ◌++◌}
 use Rattle.std.proofs.Common.{length, Option, Some, None, refl, sym, ◌∙◌, ap, subst, arith}
 use Rattle.std.specs.Prelude.{slice_get, slice_set, slice_index, is_some}
@@ -31,12 +31,12 @@ use Rattle.sx_run.specs.State.{World, Acted}
 use Rattle.sx_run.specs.Observation.{unless_made}
 use Rattle.sx_run.specs.Acts.{then_, new_packet, with_deployer, ask, key_given, keys_given, attested, after_denial, after_verdict, after_answer}
 use Rattle.sx_run.specs.Run.{line_counted}
-use Rattle.sx_run.proofs.tie.Lists.{get_other, get_some, get_within, length_set, some_inj}
+use Rattle.sx_run.proofs.tie.Lists.{get_other, get_within, length_set, some_inj}
 use Rattle.sx_run.proofs.tie.Entries.{made_behind}
 use Rattle.sx_run.proofs.acts.Renewal.{renewed_grows, renewed_long, renewed_small, later_boot, higher_epoch, from_end, to_end}
 use Rattle.sx_run.proofs.tie.Verdicts.{Going, judge, Fares, fares_then}
 use Rattle.sx_run.proofs.tie.Tied.{KnownKey, Known, HasEnd, asked_as, DeployerTied, IsTimely, HasSent, IsSane, ModuleTied, Absent, Rests, Runs, Tied}
-use Rattle.sx_lists.proofs.Lists.{get_same}
+use Rattle.sx_lists.proofs.Lists.{get_same, get_some}
 
 -- the tag that answers an ask at a boot
 abbrev pub expected : Setting → Site → ℕ → List ℕ → List ℕ

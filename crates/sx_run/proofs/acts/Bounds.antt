@@ -47,10 +47,10 @@ use Rattle.sx_run.specs.Run.{is_reset, steps_of, FINISH_STEPS, finish, put_on, s
 use Rattle.sx_run.specs.Run.{place_at, sense_at, put_pieces, Register, set_all, register}
 use Rattle.sx_run.specs.Run.{unless_busy, load, call, after_line, line_counted, run}
 use Rattle.sx_run.specs.Law.{IsSoundSetting, LineInForm, LinesInForm}
-use Rattle.sx_run.proofs.tie.Lists.{get_other, get_some, get_within, length_set, some_inj}
+use Rattle.sx_run.proofs.tie.Lists.{get_other, get_within, length_set, some_inj}
 use Rattle.sx_run.proofs.tie.Start.{get_nodes, nodes_long, on_is_node}
 use Rattle.sx_run.proofs.steps.Entry.{shapes_on}
-use Rattle.sx_lists.proofs.Lists.{get_same}
+use Rattle.sx_lists.proofs.Lists.{get_same, get_some}
 
 -- an event that is no reset
 pub no_reset : (e : Event) (v : Violation) → is_reset e ≡ false → e ≡ seen_event.Reset v → ⊥

@@ -1,10 +1,10 @@
 -- An interrupt, which is run as code outside every module, keeps the world tied.
 use Rattle.std.proofs.Common.{◌≡◌, ◌≢◌, ℕ, inl, true, List, [], ◌++◌, Option, Some, None, Ok, refl, sym, ◌∙◌, ap, subst, arith}
 use Rattle.std.specs.Prelude.{slice_get}
+use Rattle.sx_lists.proofs.Lists.{get_some}
 use Rattle.sx_rules.specs.declared.section.Section.{Section}
 use Rattle.sx_rules.specs.Access.{Sections, Lives}
 use Rattle.sx_mean.specs.declared.apps.AppDevice.{AppDevice}
-use Rattle.sx_ledger.specs.declared.entry.Maker.TheVariants as maker
 use Rattle.sx_machine.specs.declared.kinds.Refused.{Refused}
 use Rattle.sx_machine.specs.State.{State}
 use Rattle.sx_machine.specs.Run.{Moment, Outcome, Finished, Violated, Module, exec}
@@ -30,7 +30,7 @@ use Rattle.sx_run.specs.State.{World}
 use Rattle.sx_run.specs.Acts.{with_node, after_interrupt}
 use Rattle.sx_run.specs.Observation.{touch_items, cause_of}
 use Rattle.sx_run.specs.Law.{IsSoundSetting}
-use Rattle.sx_run.proofs.tie.Lists.{get_some, get_within, some_inj}
+use Rattle.sx_run.proofs.tie.Lists.{get_within, some_inj}
 use Rattle.sx_run.proofs.tie.Verdicts.{judge, Fares, fares_map}
 use Rattle.sx_run.proofs.tie.Tied.{SameState, NodeTied, ModuleTied, Absent, Rests, Runs, Tied}
 use Rattle.sx_run.proofs.acts.Compose.{Keeps}

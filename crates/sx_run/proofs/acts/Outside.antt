@@ -2,6 +2,7 @@
 use Rattle.std.proofs.Common.{◌≡◌, ℕ, ◌-◌, ◌<◌, inl, ◌==◌, ◌||◌, not, Bool, true, false, if◌then◌else◌, List, [], ◌∷◌, length, Option, Some, None, refl, sym, ◌∙◌, ap, subst, arith}
 use Rattle.std.specs.Prelude.{slice_get}
 use Rattle.std.proofs.lemmas.Bool.{or_parts, eqb-true}
+use Rattle.sx_lists.proofs.Lists.{get_some}
 use Rattle.sx_rules.specs.declared.section.Section.{Section}
 use Rattle.sx_rules.specs.Access.{Sections, Lives}
 use Rattle.sx_machine.specs.declared.kinds.Refused.{Refused}
@@ -22,7 +23,7 @@ use Rattle.sx_model.specs.State.{Standing, Model}
 use Rattle.sx_run.specs.Setting.{Site, Setting}
 use Rattle.sx_run.specs.State.{World}
 use Rattle.sx_run.specs.Acts.{with_node, refused_item, done_on}
-use Rattle.sx_run.proofs.tie.Lists.{get_some, get_within, some_inj}
+use Rattle.sx_run.proofs.tie.Lists.{get_within, some_inj}
 use Rattle.sx_run.proofs.tie.Verdicts.{judge, Fares}
 use Rattle.sx_run.proofs.steps.Stretch.{set_same}
 use Rattle.sx_run.proofs.steps.Bystanders.{at_site_same}

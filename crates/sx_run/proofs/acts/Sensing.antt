@@ -7,7 +7,6 @@ use Rattle.std.specs.Prelude.{unwrap_or}
 use Rattle.sx_bus.specs.declared.devices.Window.{Window}
 use Rattle.sx_bus.specs.Devices.{with_sample}
 use Rattle.sx_mean.specs.declared.apps.AppDevice.{AppDevice}
-use Rattle.sx_ledger.specs.declared.entry.Maker.TheVariants as maker
 use Rattle.sx_trace.specs.declared.items.Item.TheVariants as item
 use Rattle.sx_machine.specs.declared.kinds.Refused.{Refused}
 use Rattle.sx_machine.specs.State.{State}
@@ -21,7 +20,7 @@ use Rattle.sx_run.specs.State.{World}
 use Rattle.sx_run.specs.Acts.{with_node, done_on}
 use Rattle.sx_run.specs.Run.{place_at}
 use Rattle.sx_run.specs.Law.{IsSoundSetting}
-use Rattle.sx_run.proofs.tie.Lists.{get_other, get_some, get_within, length_set, some_inj}
+use Rattle.sx_run.proofs.tie.Lists.{get_other, get_within, length_set, some_inj}
 use Rattle.sx_run.proofs.tie.Verdicts.{Going, judge_on, judge, Fares}
 use Rattle.sx_run.proofs.steps.Nodes.{tied_node, device_here, index_get, shapes_long, windows_long, known_devices}
 use Rattle.sx_run.proofs.steps.Steps.{nonzero, increasing}
@@ -29,7 +28,7 @@ use Rattle.sx_run.proofs.steps.Foreign.{position_some}
 use Rattle.sx_run.proofs.acts.Outside.{same_tied, refused_fares}
 use Rattle.sx_run.proofs.tie.Tied.{NodeTied, ModuleTied, Absent, Rests, Runs, Tied}
 use Rattle.sx_run.proofs.acts.Compose.{Keeps}
-use Rattle.sx_lists.proofs.Lists.{get_same}
+use Rattle.sx_lists.proofs.Lists.{get_same, get_some}
 use Rattle.sx_machine.proofs.Devices.{sensed_shapes, position_is}
 
 listed_head : (b : Bool) (i j : ℕ) (k : ℕ) (devs : List ℕ) → slice_get devs k ≡ Some (i + 1 + j) → (k2 : ℕ) × (slice_get (if b then i ∷ devs else devs) k2 ≡ Some (i + suc j))

@@ -1,5 +1,5 @@
 -- A checked module emits only where it drives an actuator, and the device that it drives is its own.
-use Rattle.std.proofs.Common.{◌≡◌, ℕ, zero, suc, ◌+◌, ◌<◌, ◌≤◌, ◌⊎◌, inl, inr, ◌==◌, ◌&&◌, ◌||◌, Bool}
+use Rattle.std.proofs.Common.{◌≡◌, ℕ, zero, suc, ◌+◌, ◌<◌, ◌≤◌, ◌⊎◌, inl, inr, ◌==◌, ◌&&◌, Bool}
 use Rattle.std.proofs.Common.{true, false, not, cond, if◌then◌else◌, List, [], ◌∷◌, ◌++◌, length}
 use Rattle.std.proofs.Common.{Option, Some, None, refl, sym, ◌∙◌, ap, subst, arith}
 use Rattle.std.specs.Prelude.{slice_get, slice_index_or, nat_lt, count_by, ◌&&◌}
@@ -7,6 +7,7 @@ use Rattle.std.specs.List.{list_any, find}
 use Rattle.std.proofs.lemmas.List.Sums.{sum_by-cons}
 use Rattle.std.proofs.lemmas.Bool.{true≢false, or_parts, and_cases, not-false, cases_eq, cases_lt, ltb-false}
 use Rattle.std.proofs.lemmas.Option.{none-some}
+use Rattle.sx_lists.proofs.Lists.{get_some}
 use Rattle.sx_lang.specs.declared.tree.Decl.{Decl}
 use Rattle.sx_lang.specs.declared.tree.Decl.TheVariants.{Device, Input, Output, Var, Array}
 use Rattle.sx_lang.specs.declared.tree.DeviceKind.{DeviceKind}
@@ -43,7 +44,7 @@ use Rattle.sx_model.specs.Step.{kind_is}
 use Rattle.sx_run.specs.Setting.{Site, Setting, device_number, devices_at, windows_at}
 use Rattle.sx_run.specs.Run.{place_at}
 use Rattle.sx_run.specs.Law.{IsSoundSetting, IsDeployedModule, devices_of}
-use Rattle.sx_run.proofs.tie.Lists.{get_some, get_within, some_inj}
+use Rattle.sx_run.proofs.tie.Lists.{get_within, some_inj}
 use Rattle.sx_run.proofs.tie.Tied.{NodeTied, IsModule, OwnSensor, shapes}
 use Rattle.sx_run.proofs.steps.Entry.{at_site, shapes_on, device_of_from}
 use Rattle.sx_run.proofs.steps.Nodes.{index_get, shapes_long, windows_long}

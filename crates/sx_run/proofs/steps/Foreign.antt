@@ -6,6 +6,7 @@ use Rattle.std.specs.Prelude.{slice_get, slice_set, nat_lt, nat_le, is_some}
 use Rattle.std.specs.List.{position_from}
 use Rattle.std.proofs.lemmas.Bool.{true≢false, and_parts, and_from, eqb-true, cases_eq, cases_Bool, le-leb}
 use Rattle.std.proofs.lemmas.Option.{none-some}
+use Rattle.sx_lists.proofs.Lists.{get_some}
 use Rattle.sx_rules.specs.declared.access.Access.{Access}
 use Rattle.sx_rules.specs.declared.access.Access.TheVariants.{Read, Write}
 use Rattle.sx_rules.specs.declared.section.Section.{Section}
@@ -38,7 +39,7 @@ use Rattle.sx_run.specs.Acts.{with_node}
 use Rattle.sx_trace.specs.declared.items.Item.TheVariants as item
 use Rattle.sx_run.specs.Observation.{touch_items}
 use Rattle.sx_run.specs.Law.{IsSoundSetting}
-use Rattle.sx_run.proofs.tie.Lists.{get_some, get_within, length_set, some_inj}
+use Rattle.sx_run.proofs.tie.Lists.{get_within, length_set, some_inj}
 use Rattle.sx_run.proofs.tie.Verdicts.{judge, Fares}
 use Rattle.sx_run.proofs.tie.Tied.{Known, IsSane, NodeTied, IsModule, ModuleTied, Absent, Rests, Runs, Tied, shapes}
 use Rattle.sx_run.proofs.steps.Entry.{at_site}

@@ -4,6 +4,7 @@ use Rattle.std.proofs.Common.{◌&&◌, ◌||◌, not, Bool, true, false, if◌t
 use Rattle.std.proofs.Common.{◌++◌, length, Option, Some, None, refl, sym, ◌∙◌, ap, subst, arith}
 use Rattle.std.specs.Prelude.{slice_get, slice_set, slice_index, is_some, nat_le}
 use Rattle.std.proofs.lemmas.Bool.{le-leb, ltb-true, true≢false, and_parts, eqb-true, cases_eq, or_cases, or_left, or_right, and_left, and_right, and_from, false_from_ne_true, ne_eqb, eq-eqb}
+use Rattle.sx_lists.proofs.Lists.{get_some}
 use Rattle.sx_lang.specs.declared.sides.Side.{Side}
 use Rattle.sx_lang.specs.declared.sides.Side.TheVariants.{From, To}
 use Rattle.sx_mean.specs.declared.apps.Link.{Link}
@@ -29,7 +30,7 @@ use Rattle.sx_run.specs.Setting.{device_number}
 use Rattle.sx_wire.specs.Headers.{begins, is_ask, is_set_key_header, is_event_header, challenge_in, link_in, epoch_in, last_in, value_in}
 use Rattle.sx_run.specs.Ledger.{Made, NO_TARGET, made_entry, is_made}
 use Rattle.sx_run.specs.Observation.{Observed, is_driver, read_item, write_item, side_in, has_end, sender_of, unless_made, has_wrapped, has_unwrapped}
-use Rattle.sx_run.proofs.tie.Lists.{get_some, some_inj}
+use Rattle.sx_run.proofs.tie.Lists.{some_inj}
 use Rattle.sx_run.proofs.tie.Ends.{found_at, renumbered, takes_at, opens_at, below_at, open_stays, opens_stays, open_same, takes_leaves, newly_open, open_small, EndOf, has_link, linked, has_end-found}
 use Rattle.sx_run.proofs.tie.Flows.{Flows, flows_same, flows_all, AllSending}
 use Rattle.sx_model.specs.Legal.{is_forged}

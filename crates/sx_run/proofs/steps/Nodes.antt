@@ -25,10 +25,10 @@ use Rattle.sx_run.specs.Ledger.{Made, is_made}
 use Rattle.sx_run.specs.State.{World}
 use Rattle.sx_run.specs.Acts.{with_node}
 use Rattle.sx_run.specs.Law.{IsSoundSetting}
-use Rattle.sx_run.proofs.tie.Lists.{get_other, get_some, get_within, length_set, some_inj}
+use Rattle.sx_run.proofs.tie.Lists.{get_other, get_within, length_set, some_inj}
 use Rattle.sx_run.proofs.tie.Verdicts.{Going, judge, Fares}
 use Rattle.sx_run.proofs.tie.Tied.{Known, IsTimely, HasSent, IsSane, NodeTied, DeviceTied, ModuleTied, Absent, Tied, shapes}
-use Rattle.sx_lists.proofs.Lists.{get_same}
+use Rattle.sx_lists.proofs.Lists.{get_same, get_some}
 use Rattle.sx_ledger.specs.declared.entry.Maker.{Maker}
 use Rattle.sx_ledger.specs.declared.entry.Maker.TheVariants as maker
 

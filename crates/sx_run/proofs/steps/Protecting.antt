@@ -18,7 +18,6 @@ use Rattle.sx_rules.proofs.Admits.{admits}
 use Rattle.sx_machine.proofs.PlanGuard.{passes}
 use Rattle.sx_ledger.specs.declared.entry.Maker.{Maker}
 use Rattle.sx_ledger.specs.declared.entry.Maker.TheVariants as maker
-use Rattle.sx_trace.specs.declared.items.Item.{Item}
 use Rattle.sx_trace.specs.declared.items.Item.TheVariants as item
 use Rattle.sx_machine.specs.declared.kinds.Event.{Event}
 use Rattle.sx_machine.specs.declared.kinds.Event.TheVariants as event
@@ -41,7 +40,7 @@ use Rattle.sx_run.specs.State.{World}
 use Rattle.sx_run.specs.Observation.{Observed, observed, event_seen, touch_items}
 use Rattle.sx_run.specs.Acts.{with_node}
 use Rattle.sx_run.specs.Law.{IsSoundSetting, IsDeployedModule}
-use Rattle.sx_run.proofs.tie.Lists.{get_other, get_some, get_within, length_set, some_inj}
+use Rattle.sx_run.proofs.tie.Lists.{get_other, get_within, length_set, some_inj}
 use Rattle.sx_run.proofs.tie.Verdicts.{Going, judge_on, judge, Fares, fares_then, fares_map}
 use Rattle.sx_run.proofs.tie.Tied.{SameEnds, SameState, Known, open_at, IsTimely, HasSent, IsSane, NodeTied, IsModule, ModuleTied, Absent, Rests, Runs, Tied}
 use Rattle.sx_run.proofs.steps.Entry.{AtSite, at_site}
@@ -50,7 +49,7 @@ use Rattle.sx_run.proofs.steps.Machine.{MachineLaws, onward, Sectioned, Stay, Fe
 use Rattle.sx_run.proofs.steps.Bystanders.{onlooker, apart_self, cur_of}
 use Rattle.sx_run.proofs.steps.Steps.{nonzero, bounds_of, ForeignSteps}
 use Rattle.sx_run.proofs.steps.Foreign.{strangers, append_lives, touches_n, goes_n, unprotected, boot_n, node_n, touched}
-use Rattle.sx_lists.proofs.Lists.{get_same}
+use Rattle.sx_lists.proofs.Lists.{get_same, get_some}
 use Rattle.sx_machine.proofs.Meanings.{end_lives}
 use Rattle.sx_machine.proofs.Stays.{lives_below}
 
@@ -111,9 +110,6 @@ module _ (set : Setting) (w : World) (mo : Model) (n : ℕ) (s : State) (sound :
 
   node : NodeTied set n s boot
   node = node_n set w mo n s sound laws t here none quiet
-
-  abbrev Result : List Item → Type 0
-  Result items = Fares (judge set.app mo items) (Tied set (with_node w n r.state w.ledger (w.steps + 1)))
 
   -- touches, and then nothing more
   no_more : ((m : ℕ) (site : Site) (sec : Section) → slice_get set.sites m ≡ Some site → Lives r.state.sections.live sec → Lives s.sections.live sec ⊎ (is_at_site n r.state.mem sec site ≡ false))

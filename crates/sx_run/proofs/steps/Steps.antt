@@ -41,7 +41,7 @@ use Rattle.sx_run.specs.State.{World}
 use Rattle.sx_run.specs.Observation.{Observed, observed}
 use Rattle.sx_run.specs.Acts.{with_node, after_step}
 use Rattle.sx_run.specs.Law.{IsSoundSetting, IsDeployedModule}
-use Rattle.sx_run.proofs.tie.Lists.{get_other, get_some, get_within, length_set, some_inj}
+use Rattle.sx_run.proofs.tie.Lists.{get_other, get_within, length_set, some_inj}
 use Rattle.sx_run.proofs.tie.Verdicts.{judge, Fares, fares_map}
 use Rattle.sx_run.proofs.tie.Tied.{SameState, OwnSensor, Known, IsSane, NodeTied, IsModule, IsUnderWay, ModuleTied, Absent, Rests, Runs, Tied, shapes}
 use Rattle.sx_run.proofs.steps.Judged.{Readings}
@@ -56,7 +56,7 @@ use Rattle.sx_run.proofs.steps.Nodes.{NodeGoes, tied_node, device_here, reset_is
 use Rattle.sx_machine.specs.Touches.{Replays}
 use Rattle.sx_run.proofs.steps.Machine.{MachineLaws, violates, Onward, onward}
 use Rattle.sx_run.proofs.steps.Bystanders.{bystander, at_site_same, one_section, DevicesTied, Apart, replayed, replayed_shapes}
-use Rattle.sx_lists.proofs.Lists.{get_same}
+use Rattle.sx_lists.proofs.Lists.{get_same, get_some}
 use Rattle.sx_machine.proofs.Stays.{found_lives}
 use Rattle.sx_machine.proofs.RunGuard.{lives_given}
 

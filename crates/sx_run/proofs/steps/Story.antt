@@ -174,10 +174,6 @@ module _ (app : AppTree) (m n : ℕ) (q : PartTree) (s : Setup) (c : Call) (st :
   side_cases (suc zero) = inr (inr refl)
   side_cases (suc (suc k)) = inl refl
 
-  some_side : (t : Side) → ℕ
-  some_side From = 0
-  some_side To = 1
-
   opened_key : (side e0 : ℕ) (t : Side) (cc0 d : ℕ) (rest : List ℕ) (e : ℕ × End) (o : Option (List ℕ))
       → cc0 < 256 → is_set_key_header (1 ∷ 0 ∷ cc0 ∷ d ∷ e0 ∷ 0 ∷ []) ≡ true → side_in (1 ∷ 0 ∷ cc0 ∷ d ∷ e0 ∷ 0 ∷ []) ≡ t
       → end_found cc0 t 0 (ends_of app m) ≡ Some e → is_keyed (end_of st.ends e.0) (cc0 + 256 * d) ≡ false
