@@ -82,9 +82,6 @@ takes_first mac d n old before =
     whole : (k : ℕ) → k ≡ k - 0
     whole k = omega arith
 
-none : (count i : ℕ) → count ≤ i → count - i ≡ 0
-none count i le = omega arith
-
 takes_next : (n count i : ℕ) (set : Setting) (h : Honest) → i < count → takes set n i (count - i) h ≡ then_ (takes_one set n i h) (takes set n (i + 1) (count - (i + 1)))
 takes_next n count i set h lt = ap (λ k. takes set n i k h) (one_less count i lt)
 
@@ -105,7 +102,7 @@ takes_wanted mac d n count i old now new before came after lt remains wanted =
 pub takes_done : (mac : Mac) (d : Deployment) (n count i : ℕ) (old now : Kept) (before came : List Told)
     → count ≤ i → Remains mac d (collects_at n) (takes_from n count i) old now before came → Did mac d old now before came (collects_at n)
 takes_done mac d n count i old now before came le remains =
-    remains_none mac d (collects_at n) (takes_from n count i) old now before came remains (λ set h f. ap (λ k. takes set n i k h) (none count i le))
+    remains_none mac d (collects_at n) (takes_from n count i) old now before came remains (λ set h f. ap (λ k. takes set n i k h) (let none : count - i ≡ 0 = omega (arith, le) in none))
 
 -- the modules of a deployment, of which there are so many
 
@@ -147,7 +144,7 @@ set_up_wanted mac d count m old now new before came after lt remains wanted =
 pub set_up_done : (mac : Mac) (d : Deployment) (count m : ℕ) (old now : Kept) (before came : List Told)
     → count ≤ m → Remains mac d setup (set_up_rest count m) old now before came → Did mac d old now before came setup
 set_up_done mac d count m old now before came le remains =
-    remains_none mac d setup (set_up_rest count m) old now before came remains (λ set h f. ap (λ k. sets_up_from set m k h) (none count m le))
+    remains_none mac d setup (set_up_rest count m) old now before came remains (λ set h f. ap (λ k. sets_up_from set m k h) (let none : count - m ≡ 0 = omega (arith, le) in none))
 
 -- deliveries, of which at most so many are left
 
@@ -241,7 +238,7 @@ settle_none mac d i old now new before came same is remains =
 pub settle_done : (mac : Mac) (d : Deployment) (i : ℕ) (old now : Kept) (before came : List Told)
     → MOST_LINES ≤ i → Remains mac d settle_all (settle_rest i) old now before came → Did mac d old now before came settle_all
 settle_done mac d i old now before came le remains =
-    remains_none mac d settle_all (settle_rest i) old now before came remains (λ set h f. ap (λ k. settles set k h) (none MOST_LINES i le))
+    remains_none mac d settle_all (settle_rest i) old now before came remains (λ set h f. ap (λ k. settles set k h) (let none : MOST_LINES - i ≡ 0 = omega (arith, le) in none))
 
 -- a loop's end by another name
 pub lower : (i n count : ℕ) → i < n → n ≡ count → i < count

@@ -1,17 +1,17 @@
 -- A line that the program's world performed, and what was said of it.
 use Rattle.std.proofs.Common.{◌≡◌, ◌≢◌, ℕ, ◌+◌, ◌<◌, ◌≤◌, ◌==◌, ◌||◌, Bool, true, false, if◌then◌else◌, ◌++◌, List, [], ◌∷◌, length, map, Result, Ok, Err, OnOk, inl, inr}
 use Rattle.std.proofs.Common.{OnErr, refl, sym, subst, ap, ◌∙◌, arith}
-use Rattle.std.proofs.lemmas.Bool.Decides.{nat_tests}
 use Rattle.std.proofs.lemmas.Grind.{flat_map-append}
 use Rattle.std.proofs.lemmas.List.{append-nil, map-append}
+use Rattle.std.proofs.lemmas.Bool.{or_parts, eq-eqb}
 use Rattle.sx_tag.specs.Mac.{Mac}
 use Rattle.sx_trace.specs.declared.items.Item.{Item}
 use Rattle.sx_sched.specs.Lines.{Line}
 use Rattle.sx_deploy.specs.declared.deployment.Deployment.{Deployment}
 use Rattle.sx_run.specs.Setting.{Setting, Site}
 use Rattle.sx_run.specs.State.{World, switched_on}
-use Rattle.sx_run.specs.Run.{after_line, line_counted, run}
-use Rattle.sx_run.proofs.acts.Counting.{counts_lines}
+use Rattle.sx_run.specs.Run.{run}
+use Rattle.sx_run.proofs.acts.Counting.{run_counts}
 use Rattle.sx_world.specs.Held.{Held}
 use Rattle.sx_observe.specs.Observing.{IsFront}
 use Rattle.sx_world.specs.Standing.{Stands, IsGoing}
@@ -30,15 +30,6 @@ use Rattle.sx_drive.proofs.Parts.{does_same}
 pub most : MOST_LINES ≡ 65536
 unfolding MOST_LINES
 most = refl
-
--- a world counts the lines of its run
-run_counts : (set : Setting) (lines : List Line) (w : World) → (run set w lines).world.lines ≡ w.lines + length lines
-run_counts set [] w = omega arith
-run_counts set (x ∷ lines) w =
-    let after = (after_line set (line_counted w) x).world in
-    let rest : (run set after lines).world.lines ≡ after.lines + length lines = run_counts set lines after in
-    let one : after.lines ≡ w.lines + 1 = counts_lines set (line_counted w) x in
-    omega (arith, rest, one)
 
 -- so do the program's world and the world that it stands at
 pub stands_lines : (set : Setting) (held : Held) (w : World) → Stands set held w → w.lines ≡ held.performed
@@ -172,23 +163,16 @@ kept_does mac d r line old mid new before after same does = subst (λ (k : Kept)
 
 -- whether a schedule has room
 
-no_or : (a b : Bool) → (a || b) ≡ false → (a ≡ false) × (b ≡ false)
-no_or false b e = (refl, e)
-no_or true b e = absurd cc
-
-same_number : (a b : ℕ) → a ≡ b → (a == b) ≡ true
-same_number a b e = grind (arith, nat_tests)
-
 other_lines : (n : ℕ) → (n == 65536) ≡ false → n ≢ 65536
-other_lines n e = λ same. absurd (let t : (n == 65536) ≡ true = same_number n 65536 same in let f : true ≡ false = sym t ∙ e in cc)
+other_lines n e = λ same. absurd (let t : (n == 65536) ≡ true = eq-eqb n 65536 same in let f : true ≡ false = sym t ∙ e in cc)
 
 pub is_short : (k : Kept) → is_full k ≡ false → k.long ≡ false
-is_short k e = (no_or k.long (k.world.performed == 65536) e).0
+is_short k e = (or_parts k.long (k.world.performed == 65536) e).0
 
 pub has_room : (mac : Mac) (d : Deployment) (k : Kept) → GoesOn mac d k → is_full k ≡ false → k.world.performed < 65536
 has_room mac d k goes e =
     let f = goes.follows in
-    let other = other_lines k.world.performed (no_or k.long (k.world.performed == 65536) e).1 in
+    let other = other_lines k.world.performed (or_parts k.long (k.world.performed == 65536) e).1 in
     let count : goes.honest.world.lines ≡ k.world.performed = stands_lines goes.set k.world goes.honest.world f.world in
     let room : goes.honest.world.lines ≤ MOST_LINES = f.room in
     omega (arith, count, room, other, most)
