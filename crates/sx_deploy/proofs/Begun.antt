@@ -1,6 +1,7 @@
 -- Modules whose sources are read one after another.
-use Rattle.std.proofs.Common.{◌≡◌, ℕ, ◌+◌, suc, List, [], ◌∷◌, ◌++◌, ◌<◌, ◌≤◌, ◌∙◌, length, drop, get_or, Result, Ok, Err, refl, sym, ap, subst, arith}
+use Rattle.std.proofs.Common.{◌≡◌, ℕ, ◌+◌, suc, List, [], ◌∷◌, ◌++◌, ◌<◌, ◌≤◌, ◌∙◌, length, drop, get_or, Result, Ok, Err, sym, ap, subst, arith}
 use Rattle.std.proofs.Common.{append_assoc, append-nil, length-append, length-drop, drop-cons, add-one}
+use Rattle.std.proofs.lemmas.List.{nil_from_length}
 use Rattle.sx_stage.specs.Gives.{GivesOne}
 use Rattle.sx_stage.specs.declared.fault.DeployFault.{DeployFault}
 use Rattle.sx_stage.specs.declared.fault.DeployError.{DeployError}
@@ -45,12 +46,8 @@ goes_on modules i m done out n c b k e l h o = rw o (record { begun = go })
     go (Ok cs) a = rw (append_assoc done (c ∷ []) cs) (whole.begun (Ok (c ∷ cs)) (each (subst (λ (k : ℕ). IsCoded k m (Ok c)) l h) (rw (one_more done c) at a)))
     go (Err f) a = whole.begun (Err f) (later (subst (λ (k : ℕ). IsCoded k m (Ok c)) l h) (rw (one_more done c) at a))
 
-none_at_end : (rest : List ModuleEntry) → length rest ≡ 0 → rest ≡ []
-none_at_end [] h = refl
-none_at_end (m ∷ ms) h = absurd (omega (arith, h))
-
 pub ends : (modules : List ModuleEntry) (i : ℕ) (done : List Coded) → Begun modules done (drop i modules) → length modules ≤ i → AreCoded 0 modules (Ok done)
-ends modules i done b e = rw (← append-nil done) (b.begun (Ok []) (rw (none_at_end (drop i modules) (omega (arith, length-drop i modules))) none_left))
+ends modules i done b e = rw (← append-nil done) (b.begun (Ok []) (rw (nil_from_length (drop i modules) (omega (arith, length-drop i modules))) none_left))
 
 -- a module that has no tree, or lack of memory
 pub stops : {S T : Type 0} (seen : S → Coded) (seen_all : T → List Coded) (modules : List ModuleEntry) (i : ℕ) (m : ModuleEntry) (done : List Coded) (n : ℕ) (e : DeployError)

@@ -31,9 +31,6 @@ no_module : Coded
 no_module = record { name = []; node = 0; provider = 0; text = 0; start = start.At 0; tree = record { decls = []; handlers = [] } }
 
 module _ (d : Deployed) (a : Accepted d) (k : AreEntries a.e) (f : AreFew a.e) (t : AreFit a.e a.modules a.links) where
-  meant : Deployed
-  meant = arranged a.e a.modules a.links a.placements
-
   few_ends : (p : ℕ) → p < length a.modules → ends_from a.links p + ends_to a.links p ≤ 16
   few_ends p h =
       let tested = tested-at (has_many_ends a.links) [] a.modules t.ends p no_module h in

@@ -86,14 +86,13 @@ extended h live at a w =
     all_weaker (leaves h) (λ s. not (in_private s at) && (not (in_public s at) || h.id == s.id))
     (λ s l. and_from _ _ (not_from_false _ (code_private h at w s l)) (code_public h at w s l)) live a
 
-in_either : (a b c : Bool) → (a || b) ≡ true → (a || (b || c)) ≡ true
-in_either true b c e = refl
-in_either false b c e = or_left b c e
-
 ordered : (h : Home) (live : List Section) (at : ℕ) → list_all (leaves h) live ≡ true → within h.layout.pub_from h.layout.pub_to at ≡ true → in_order live h.id at ≡ true
 ordered h live at a w =
     all_weaker (leaves h) (λ s. not (in_public s at) || (h.id == s.id || at == s.layout.pub_from))
-    (λ s l. in_either (not (in_public s at)) (h.id == s.id) (at == s.layout.pub_from) (code_public h at w s l)) live a
+    (λ s l. elim (or_cases (not (in_public s at)) (h.id == s.id) (code_public h at w s l)) [
+      | inl out ↦ or_left (not (in_public s at)) (h.id == s.id || at == s.layout.pub_from) out
+      | inr own ↦ or_right (not (in_public s at)) _ (or_left (h.id == s.id) (at == s.layout.pub_from) own)
+    ]) live a
 
 reads : (h : Home) (live : List Section) (at : ℕ) → list_all (leaves h) live ≡ true → within h.layout.priv_from h.layout.priv_to at ≡ true → may live h.id Read at ≡ true
 unfolding may

@@ -1,19 +1,16 @@
 -- Lemmas on how a line is put together, its first bytes where the caller keeps them.
-use Rattle.std.proofs.Common.{ℕ, zero, suc, ◌+◌, ◌-◌, ◌<◌, ◌≤◌, ◌==◌, ◌≡◌, ◌∙◌, inr, Bool, false, true, if◌then◌else◌, List, [], ◌∷◌, ◌++◌, length, take, drop}
+use Rattle.std.proofs.Common.{ℕ, zero, suc, ◌+◌, ◌-◌, ◌<◌, ◌≤◌, ◌≡◌, ◌∙◌, inr, Bool, false, true, if◌then◌else◌, List, [], ◌∷◌, ◌++◌, length, take, drop}
 use Rattle.std.proofs.Common.{refl, ap, sym, subst, arith, length-append}
 use Rattle.std.specs.Prelude.{IsTrue, slice_index}
-use Rattle.std.proofs.lemmas.List.{append-nil, take-append-le, length-take, length-take-le, nil_from_length, take_all}
+use Rattle.std.proofs.lemmas.List.{append-nil, length-take, length-take-le, take_all}
 use Rattle.std.proofs.Math.Seq.{take-length}
-use Rattle.sx_io.specs.Reading.{carriage_return, longest, newline, IsPlain, without_return}
-use Rattle.sx_io.specs.Next.{Ahead, IsLineText, Next, TakesLine, Took}
+use Rattle.sx_io.specs.Reading.{newline, IsPlain, without_return}
+use Rattle.sx_io.specs.Next.{Ahead, IsLineText, Next, Took}
 use Rattle.sx_io.specs.Parts.{IsBegun, IsWithin, TakesFront, TakesHeld, TakesPart, TakesTurn, TurnAnswers, returns}
-use Rattle.sx_io.specs.Passing.{FrontOf, Passes, as_read}
-use Rattle.sx_io.specs.Passed.{longest_passed}
+use Rattle.sx_io.specs.Passing.{FrontOf}
 use Rattle.sx_io.specs.Streams.{SourceAt}
 use Rattle.sx_io.specs.declared.lines.LineRead.{LineRead}
 use Rattle.sx_io.specs.declared.lines.LineRead.TheVariants as read
-use Rattle.sx_io.specs.declared.lines.PassRead.{PassRead}
-use Rattle.sx_io.specs.declared.lines.PassRead.TheVariants as pass
 use Rattle.sx_io.specs.declared.lines.Turn.{Turn}
 use Rattle.sx_io.specs.declared.lines.Turn.TheVariants as turn
 use Rattle.sx_io.specs.declared.lines.ReaderState.TheVariants as reader
@@ -36,57 +33,6 @@ take-turned zero (suc m) xs = refl
 take-turned (suc n) zero xs = refl
 take-turned (suc n) (suc m) [] = refl
 take-turned (suc n) (suc m) (x ∷ xs) = ap (λ (ys : List ℕ). x ∷ ys) (take-turned n m xs)
-
-take-over : (n : ℕ) (xs ys : List ℕ) → length xs ≤ n → take n (xs ++ ys) ≡ xs ++ take (n - length xs) ys
-take-over n [] ys h = let e : n - 0 ≡ n = omega arith in ap (λ (k : ℕ). take k ys) (sym e)
-take-over zero (x ∷ xs) ys h = absurd (omega (arith, h))
-take-over (suc n) (x ∷ xs) ys h =
-    let e : suc n - suc (length xs) ≡ n - length xs = omega arith in
-    ap (λ (zs : List ℕ). x ∷ zs) (take-over n xs ys (omega (arith, h))) ∙ ap (λ (k : ℕ). x ∷ (xs ++ take k ys)) (sym e)
-
--- the front of a line, after more of it has come
-
-pub front_all : (old new from line : List ℕ) (at room : ℕ) → length line ≡ at → take at old ≡ take room line → at + length from ≤ room
-    → take (at + length from) new ≡ take at old ++ from → take (at + length from) new ≡ take room (line ++ from)
-front_all old new from line at room size old_is few new_is =
-    let l = length-append line from in
-    new_is ∙ ap (λ (b : List ℕ). b ++ from) (old_is ∙ take_all room line (omega (arith, size, few))) ∙ sym (take_all room (line ++ from) (omega (arith, l, size, few)))
-
-pub front_part : (old new from line : List ℕ) (at left room : ℕ) → length line ≡ at → take at old ≡ take room line → at + left ≡ room → left < length from → length new ≡ room
-    → take (at + length (take left from)) new ≡ take at old ++ take left from → take (at + length from) new ≡ take room (line ++ from)
-front_part old new from line at left room size old_is full many wide new_is =
-    let l : length (take left from) ≡ left = length-take-le left from (omega (arith, many)) in
-    let r : room - length line ≡ left = omega (arith, size, full) in
-    take_all (at + length from) new (omega (arith, full, many, wide))
-    ∙ sym (take_all (at + length (take left from)) new (omega (arith, l, full, wide)))
-    ∙ new_is ∙ ap (λ (b : List ℕ). b ++ take left from) (old_is ∙ take_all room line (omega (arith, size, full)))
-    ∙ sym (take-over room line from (omega (arith, size, full)) ∙ ap (λ (k : ℕ). line ++ take k from) r)
-
-pub front_kept : (old from line : List ℕ) (at room : ℕ) → length line ≡ at → take at old ≡ take room line → room ≤ at → length old ≡ room
-    → take (at + length from) old ≡ take room (line ++ from)
-front_kept old from line at room size old_is past wide =
-    take_all (at + length from) old (omega (arith, past, wide)) ∙ sym (take_all at old (omega (arith, past, wide))) ∙ old_is
-    ∙ sym (take-append-le room line from (omega (arith, size, past)))
-
--- the last byte of a line, after more of it has come
-
-pub returns_none : (begun piece : List ℕ) → piece ≡ [] → returns (begun ++ piece) ≡ returns begun
-returns_none begun piece e = ap (λ (p : List ℕ). returns (begun ++ p)) e ∙ ap returns (append-nil begun)
-
-last-over : (begun : List ℕ) (p : ℕ) (ps : List ℕ) → slice_index (begun ++ p ∷ ps) (length begun + length ps) ≡ slice_index (p ∷ ps) (length ps)
-last-over [] p ps = let e : 0 + length ps ≡ length ps = omega arith in ap (λ (k : ℕ). slice_index (p ∷ ps) k) e
-last-over (b ∷ bs) p ps =
-    let e : suc (length bs) + length ps ≡ suc (length bs + length ps) = omega arith in
-    ap (λ (k : ℕ). slice_index (b ∷ (bs ++ p ∷ ps)) k) e ∙ last-over bs p ps
-
-pub returns_some : (begun piece : List ℕ) → 0 < length piece → returns (begun ++ piece) ≡ returns piece
-returns_some begun [] some = absurd (omega (arith, some))
-returns_some begun (p ∷ ps) some =
-    let l = length-append begun (p ∷ ps) in
-    let e : length (begun ++ p ∷ ps) - 1 ≡ length begun + length ps = omega (arith, l) in
-    let f : suc (length ps) - 1 ≡ length ps = omega arith in
-    ap (λ (k : ℕ). slice_index (begun ++ p ∷ ps) k == carriage_return) e ∙ ap (λ (b : ℕ). b == carriage_return) (last-over begun p ps)
-    ∙ ap (λ (k : ℕ). slice_index (p ∷ ps) k == carriage_return) (sym f)
 
 -- what a part makes of a line
 
@@ -165,19 +111,6 @@ held_whole limit front line held count n new is p =
     let m = p.moves in
     record { into = p.into; answers = took-whole limit (line ++ held) p.into m.1 n new is m.0 m.2 m.3 m.4 m.5; fronts = p.fronts }
 
-pub held_more : (limit : ℕ) (new_front line held : List ℕ) (count : ℕ) (more : Begun) (new : Ahead) → new.state ≡ reader.Open → length line ≡ count → 0 < length held
-    → TakesPart limit line held (part.More more) new_front new.held → TakesHeld limit line held count (turn.More more) new new_front
-held_more limit new_front line held count more new is size some p =
-    let m = p.moves in
-    let e = m.1 in
-    record { into = p.into; answers = (m.0, omega (arith, e, size, some), m.2, is, m.3, m.4); fronts = p.fronts }
-
-pub held_long : (limit : ℕ) (front line held left : List ℕ) (count : ℕ) (new : Ahead) → new.state ≡ reader.TooLong → length line ≡ count → count ≤ limit → length held ≤ longest
-    → TakesPart limit line held part.TooLong front left → TakesHeld limit line held count (turn.Done read.TooLong) new front
-held_long limit front line held left count new is size few small p =
-    let l = length-append line held in
-    record { into = p.into; answers = (p.moves, omega (arith, l, size, few, small), is); fronts = tt }
-
 -- a turn
 
 pub turn_held : (limit : ℕ) (tells : Bool) (s : SourceAt) (line held : List ℕ) (count : ℕ) (t : Turn) (new : Ahead) (front : List ℕ)
@@ -207,17 +140,6 @@ bytes_none : (line old held : List ℕ) → old ≡ [] → held ≡ [] → (line
 bytes_none line old held a b =
     ap (λ (o : List ℕ). (line ++ o) ++ held) a ∙ ap (λ (h : List ℕ). (line ++ []) ++ h) b ∙ append-nil (line ++ []) ∙ append-nil line
 
-pub turn_end : (limit : ℕ) (tells : Bool) (s0 s1 : SourceAt) (line old : List ℕ) (count : ℕ) (new : Ahead) (front : List ℕ) → old ≡ [] → new.held ≡ []
-    → new.state ≡ reader.AtEnd → length line ≡ count → count ≡ 0
-    → (IsTrue tells → s0.rest ≡ new.held ++ s1.rest) → TakesTurn limit tells s0 s1 line old count (turn.Done read.End) new front
-turn_end limit tells s0 s1 line old count new front none left is long first from = record {
-  into = [];
-  got = new.held;
-  from_source = from;
-  answers = (bytes_none line old new.held none left ∙ nil_from_length line (long ∙ first), left, is);
-  fronts = tt;
-}
-
 pub turn_rest : (limit : ℕ) (tells : Bool) (s0 s1 : SourceAt) (line old : List ℕ) (begun : Begun) (new : Ahead) (front : List ℕ) → old ≡ [] → new.held ≡ []
     → new.state ≡ reader.AtEnd → IsBegun front begun line
     → (begun.count ≡ 0 → ⊥) → begun.count ≤ limit → (IsTrue tells → s0.rest ≡ new.held ++ s1.rest)
@@ -236,21 +158,6 @@ turn_rest limit tells s0 s1 line old begun new front none left is h some few fro
         (line, h.plain, omega (arith, size, few), inr (refl, all, omega (arith, size, some), left, is)),
       );
       fronts = h.first ∙ ap (λ (xs : List ℕ). take (length front) xs) (sym all);
-    }
-
-pub turn_failed : (limit : ℕ) (tells : Bool) (s0 s1 : SourceAt) (line old : List ℕ) (begun : Begun) (new : Ahead) (front : List ℕ) → old ≡ [] → new.held ≡ []
-    → new.state ≡ reader.Failed → IsBegun front begun line
-    → begun.count ≤ limit → (IsTrue tells → s0.rest ≡ new.held ++ s1.rest) → TakesTurn limit tells s0 s1 line old begun.count (turn.Done read.Failed) new front
-turn_failed limit tells s0 s1 line old begun new front none left is h few from =
-    let size = h.count in
-    let bytes = bytes_none line old new.held none left in
-    let l = ap (λ (xs : List ℕ). length xs) bytes in
-    record {
-      into = [];
-      got = new.held;
-      from_source = from;
-      answers = (plain-at line ((line ++ old) ++ new.held) (sym bytes) h.plain, omega (arith, l, size, few), is);
-      fronts = tt;
     }
 
 -- the turns so far
@@ -313,20 +220,3 @@ next_open limit tells s0 s1 old new front answer room is t =
       };
       again = λ n. absurd (n is);
     }
-
-pub passes_open : (tells : Bool) (s0 s1 : SourceAt) (old new : Ahead) (front : List ℕ) (answer : LineRead) (result : PassRead) → old.state ≡ reader.Open → TakesFront longest_passed tells s0 s1 old new front answer
-    → length front ≡ 8 → as_read result ≡ answer → Passes tells s0 s1 old new front result
-passes_open tells s0 s1 old new front answer result is t room e = record {
-  into = t.into;
-  next = record { takes = λ _. subst (λ a. TakesLine longest_passed tells s0 s1 old new t.into a) (sym e) t.takes; again = λ n. absurd (n is) };
-  fronts = subst (λ a. FrontOf 8 a t.into front) (sym e) (subst (λ (n : ℕ). FrontOf n answer t.into front) room t.fronts);
-}
-
-pub passes_end : (tells : Bool) (s : SourceAt) (old : Ahead) (front : List ℕ) → old.state ≡ reader.AtEnd → Passes tells s s old old front pass.End
-passes_end tells s old front is = record { into = []; next = record { takes = λ o. absurd (cc (sym is ∙ o)); again = λ _. (refl, refl, rw is refl) }; fronts = tt }
-
-pub passes_long : (tells : Bool) (s : SourceAt) (old : Ahead) (front : List ℕ) → old.state ≡ reader.TooLong → Passes tells s s old old front pass.TooLong
-passes_long tells s old front is = record { into = []; next = record { takes = λ o. absurd (cc (sym is ∙ o)); again = λ _. (refl, refl, rw is refl) }; fronts = tt }
-
-pub passes_failed : (tells : Bool) (s : SourceAt) (old : Ahead) (front : List ℕ) → old.state ≡ reader.Failed → Passes tells s s old old front pass.Failed
-passes_failed tells s old front is = record { into = []; next = record { takes = λ o. absurd (cc (sym is ∙ o)); again = λ _. (refl, refl, rw is refl) }; fronts = tt }

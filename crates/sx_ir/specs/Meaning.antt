@@ -408,10 +408,6 @@ part_from (part ∷ parts) (suc h) c = part_from parts h c
 abbrev pub no_count : ℕ → ℕ
 no_count h = 0
 
--- code without handlers
-abbrev pub no_handler : ℕ → Conf → OperationResult
-no_handler h c = stuck
-
 -- the run is at `Leave`, with a status and a number of pieces
 pub record Leaving (code : List Ir) (status count : ℕ) (c : Conf) : Type 0 where
   pub rest : List ℕ

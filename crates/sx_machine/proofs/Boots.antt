@@ -40,9 +40,6 @@ step_counts mac a = settled_counts a (attempt mac a)
 pub step_quiet : (mac : Mac) (a : State) → ((v : Violation) → (step mac a).shown.event ≡ Reset v → ⊥) → (step mac a).state.boot ≡ a.boot
 step_quiet mac a = settled_quiet a (attempt mac a)
 
-same_counts : (a b : State) → b.boot ≡ a.boot → Counts a b
-same_counts a b e = (omega (arith, e), omega (arith, e))
-
 unless_counts : {T : Type 0} (o : Option Refused) (a : State) (done : Shown T) → Counts a done.state → Counts a (unless o a done).state
 unless_counts None a done h = h
 unless_counts (Some r) a done h = (omega arith, omega arith)

@@ -25,15 +25,6 @@ EndsPlain (Finished r x) (Err w) regs y = ⊥
 EndsPlain (Violated v) (Ok u) regs y = ⊥
 EndsPlain (Module r x t e c) u regs y = ⊥
 
--- the same where the touches are the answer
-abbrev pub Touches : Outcome → Result (List Touch) Violation → List ℕ → List ℕ → List Window
-    → Type 0
-Touches (Finished r x) (Ok touches) regs mem devices = (regs ≡ r) × (moment mem devices touches ≡ x)
-Touches (Violated v) (Err w) regs mem devices = w ≡ v
-Touches (Finished r x) (Err w) regs mem devices = ⊥
-Touches (Violated v) (Ok touches) regs mem devices = ⊥
-Touches (Module r x t e c) u regs mem devices = ⊥
-
 -- a module instruction: its answer, and the registers, memory, sections and exchange that it
 -- leaves; it touches no device
 abbrev pub EndsModule : List Window → Outcome → Result Event Violation → List ℕ → List ℕ → Sections

@@ -21,10 +21,6 @@ use Rattle.sx_machine.specs.Acting.{Act, Step, Restart, Put, Set, Take, Sense, I
 abbrev pub private_bytes : Layout → List ℕ → List ℕ
 private_bytes l mem = bytes_from mem l.priv_from (l.priv_to - l.priv_from)
 
--- the bytes of a public section
-abbrev pub public_bytes : Layout → List ℕ → List ℕ
-public_bytes l mem = bytes_from mem l.pub_from (l.pub_to - l.pub_from)
-
 -- each byte of a layout's private part is 0
 abbrev pub IsZeroed : Layout → List ℕ → Type 0
 IsZeroed l mem = private_bytes l mem ≡ replicate (l.priv_to - l.priv_from) 0

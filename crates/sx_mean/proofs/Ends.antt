@@ -6,6 +6,7 @@ use Rattle.std.proofs.lemmas.Bool.{eqb-true}
 use Rattle.std.proofs.lemmas.List.Elements.{All-nil, All-cons, All-head, All-tail, All-weaker}
 use Rattle.std.proofs.lemmas.List.Kept.{AllPairs-cons}
 use Rattle.std.proofs.lemmas.List.Sums.{sum_by-cons}
+use Rattle.sx_check.proofs.Distinct.{count_by-cons}
 use Rattle.sx_lang.specs.declared.sides.Side.TheVariants.{From, To}
 use Rattle.sx_lang.specs.Tree.{ModuleTree}
 use Rattle.sx_lang.specs.declared.sides.Side.{Side}
@@ -17,9 +18,6 @@ use Rattle.sx_mean.specs.Valid.{IsTied}
 use Rattle.sx_mean.specs.Ends.{ends_after, ends_of, is_sending, same_side}
 use Rattle.sx_mean.specs.EndLaws.{AreCountedEnds, AreEnds, IsBefore, ports_of, senders}
 use Rattle.sx_mean.proofs.ValidApplications.{port_of_part, valid_applications}
-
-pub count_by-cons : {A : Type 0} (p : A → Bool) (x : A) (xs : List A) → count_by p (x ∷ xs) ≡ cond (p x) 1 0 + count_by p xs
-count_by-cons p x xs = sum_by-cons (λ y. cond (p y) 1 0) x xs
 
 -- the two ends of the n-th connection
 abbrev from_end : ℕ → Link → End

@@ -7,7 +7,7 @@ use Rattle.sx_lang.specs.declared.tree.Decl.TheVariants.{Device, Input, Output, 
 use Rattle.sx_lang.specs.declared.tree.DeviceKind.TheVariants.{Sensor, Actuator}
 use Rattle.sx_lang.specs.Tree.{HandlerTree, ModuleTree}
 use Rattle.sx_lang.specs.Words.{BlockHasWords, HandlersHaveWords}
-use Rattle.sx_check.specs.Names.{is_actuator, is_device, is_sensor}
+use Rattle.sx_check.specs.Names.{is_actuator, is_device}
 use Rattle.sx_check.specs.Rules.{first_broken}
 use Rattle.sx_check.specs.Uses.{input_uses}
 use Rattle.sx_check.proofs.Keeps.{In}
@@ -68,13 +68,6 @@ actuator_is_device (Output x) h = absurd (cc)
 actuator_is_device (Var x n) h = absurd (cc)
 actuator_is_device (Array x n) h = absurd (cc)
 
-sensor_is_device : (d : Decl) → is_sensor d ≡ true → is_device d ≡ true
-sensor_is_device (Device k) h = refl
-sensor_is_device (Input x) h = absurd (cc)
-sensor_is_device (Output x) h = absurd (cc)
-sensor_is_device (Var x n) h = absurd (cc)
-sensor_is_device (Array x n) h = absurd (cc)
-
 fewer : (d : Decl) (ds : List Decl) → count_by is_device (d ∷ ds) ≤ 1 → count_by is_device ds ≤ 1
 fewer d ds c = omega (arith, c, sum_by-cons (λ d. cond (is_device d) 1 0) d ds)
 
@@ -87,19 +80,6 @@ actuator_first (Output y ∷ ds) c h = actuator_first ds (fewer (Output y) ds c)
 actuator_first (Var y n ∷ ds) c h = actuator_first ds (fewer (Var y n) ds c) h
 actuator_first (Array y n ∷ ds) c h = actuator_first ds (fewer (Array y n) ds c) h
 
-sensor_first : (ds : List Decl) → count_by is_device ds ≤ 1 → list_any is_sensor ds ≡ true → declared_kind ds ≡ Some Sensor
-sensor_first [] c h = absurd (cc)
-sensor_first (Device Sensor ∷ ds) c h = refl
-sensor_first (Device Actuator ∷ ds) c h = let r = one_device ds is_sensor sensor_is_device h in absurd (omega (arith, r, c, sum_by-cons (λ d. cond (is_device d) 1 0) (Device Actuator) ds))
-sensor_first (Input y ∷ ds) c h = sensor_first ds (fewer (Input y) ds c) h
-sensor_first (Output y ∷ ds) c h = sensor_first ds (fewer (Output y) ds c) h
-sensor_first (Var y n ∷ ds) c h = sensor_first ds (fewer (Var y n) ds c) h
-sensor_first (Array y n ∷ ds) c h = sensor_first ds (fewer (Array y n) ds c) h
-
 -- an accepted module that declares an actuator has the kind of one
 pub drives : (m : ModuleTree) → first_broken m ≡ None → list_any is_actuator m.decls ≡ true → declared_kind m.decls ≡ Some Actuator
 drives m checked h = actuator_first m.decls (accepted m checked).one_device h
-
--- and one that declares a sensor
-pub senses : (m : ModuleTree) → first_broken m ≡ None → list_any is_sensor m.decls ≡ true → declared_kind m.decls ≡ Some Sensor
-senses m checked h = sensor_first m.decls (accepted m checked).one_device h

@@ -1,12 +1,12 @@
 -- Values, cells and acts are words.
 use Rattle.std.specs.Prelude.{unwrap_or}
 use Rattle.std.proofs.Common.{◌≡◌, ℕ, zero, suc, ◌+◌, ◌<◌, ◌==◌, Bool, true, false, if◌then◌else◌, List, [], ◌∷◌, length, get_or, nat_lt, nat_le}
-use Rattle.std.proofs.Common.{replicate, Option, Some, None, refl, ap, ◌∙◌, subst, arith, length-append}
+use Rattle.std.proofs.Common.{replicate, Option, Some, None, refl, ◌∙◌, subst, arith, length-append}
 use Rattle.std.specs.Prelude.{All, slice_set}
 use Rattle.std.specs.List.{find}
 use Rattle.std.proofs.lemmas.Bool.{eqb-false, eqb-true, ltb-false, ltb-true}
 use Rattle.std.proofs.lemmas.Bool.Decides.{nat_tests}
-use Rattle.std.proofs.lemmas.List.{length-replicate}
+use Rattle.std.proofs.lemmas.List.{length-replicate, length-set}
 use Rattle.std.proofs.lemmas.List.Elements.{All-append, All-cons, All-head, All-nil, All-push, All-replicate, All-tail, All-take}
 use Rattle.std.proofs.lemmas.Nat.{or_lt, xor_lt, and_le_l}
 use Rattle.sx_lang.specs.declared.tree.Decl.{Decl}
@@ -95,11 +95,6 @@ initial_words (Array x n ∷ ds) w = All-append IsWord (replicate n 0) (initial_
 pub cells_begin : (ds : List Decl) → DeclsHaveWords ds → AreCells ds (initial_cells ds)
 cells_begin ds w = record { count = length-initial ds; words = initial_words ds w }
 
-pub length-slice_set : {A : Type 0} (xs : List A) (i : ℕ) (v : A) → length (slice_set xs i v) ≡ length xs
-length-slice_set [] i v = refl
-length-slice_set (x ∷ xs) zero v = refl
-length-slice_set (x ∷ xs) (suc i) v = ap suc (length-slice_set xs i v)
-
 pub all-slice_set : {A : Type 0} (P : A → Type 0) (xs : List A) (i : ℕ) (v : A) → P v → All P xs → All P (slice_set xs i v)
 all-slice_set P [] i v p h = h
 all-slice_set P (x ∷ xs) zero v p h = All-cons P v xs p (All-tail P x xs h)
@@ -155,12 +150,12 @@ assigns ds x v st h s =
     either (nat_lt (local_place st.locals x) (length st.locals)) st (record st { locals = slice_set st.locals (local_place st.locals x) (new_local x v) })
     (record st { cells = slice_set st.cells (place ds x) v })
     (record { words = record { locals = all-slice_set IsLocalWord st.locals (local_place st.locals x) (new_local x v) h s.locals; cells = s.cells; acts = s.acts }; count = refl })
-    (record { words = record { locals = s.locals; cells = all-slice_set IsWord st.cells (place ds x) v h s.cells; acts = s.acts }; count = length-slice_set st.cells (place ds x) v })
+    (record { words = record { locals = s.locals; cells = all-slice_set IsWord st.cells (place ds x) v h s.cells; acts = s.acts }; count = length-set st.cells (place ds x) v })
 
 stores : (ds : List Decl) (x : List ℕ) (i v : ℕ) (st : HandlerState) → IsWord v → StateHasWords st → Keeps st (assign_element ds x i v st)
 stores ds x i v st h s =
     either (nat_lt i (array_length ds x)) st (record st { cells = slice_set st.cells (place ds x + i) v }) st
-    (record { words = record { locals = s.locals; cells = all-slice_set IsWord st.cells (place ds x + i) v h s.cells; acts = s.acts }; count = length-slice_set st.cells (place ds x + i) v })
+    (record { words = record { locals = s.locals; cells = all-slice_set IsWord st.cells (place ds x + i) v h s.cells; acts = s.acts }; count = length-set st.cells (place ds x + i) v })
     (same_state st s)
 
 acts_on : (a : _) (st : HandlerState) → ActsOnWord a → StateHasWords st → Keeps st (act a st)

@@ -1,6 +1,6 @@
 -- The lighting application: a light sensor, a module that compares, and a lamp. Nobody has to
 -- believe this file.
-use Rattle.std.specs.Prelude.{List, [], ◌∷◌, codes, Some, None}
+use Rattle.std.specs.Prelude.{[], ◌∷◌, codes, Some, None}
 use Rattle.sx_lang.specs.declared.tree.DeviceKind.TheVariants.{Sensor, Actuator}
 use Rattle.sx_lang.specs.declared.tree.Decl.TheVariants as decl
 use Rattle.sx_lang.specs.declared.tree.BinOp.TheVariants.{Gt}

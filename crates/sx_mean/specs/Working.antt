@@ -33,12 +33,8 @@ local_at i = locals_at + 2 * i
 abbrev pub scratch_at : ℕ
 scratch_at = 104
 
--- The stack grows down from its end. It holds at most 160 words; below them is room for the return
--- addresses of routines.
-abbrev pub stack_from : ℕ
-stack_from = 152
-
--- the end of the stack's place, from which the stack grows down
+-- The end of the stack's place, from which the stack grows down. It holds at most 160 words; below
+-- them is room for the return addresses of routines.
 abbrev pub stack_to : ℕ
 stack_to = 512
 

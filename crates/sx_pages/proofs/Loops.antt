@@ -1,9 +1,9 @@
 -- A turn of each loop over the pages.
-use Rattle.std.proofs.Common.{◌≡◌, ◌≢◌, ℕ, ◌+◌, ◌<◌, Bool, true, false, List, [], length, get_or, set, sym, ◌∙◌, ap, subst, arith, Some, None}
+use Rattle.std.proofs.Common.{◌≡◌, ◌≢◌, ℕ, ◌+◌, ◌<◌, List, [], length, get_or, set, sym, ◌∙◌, ap, subst, arith, Some, None}
 use Rattle.std.proofs.lemmas.Bool.{cases_eq, cases_lt}
 use Rattle.std.proofs.lemmas.List.{get_or-set_same, set-set, set-get_or, length-replicate, get_or-replicate}
 use Rattle.sx_pages.specs.Ownership.{Slot, IsArenaBlock}
-use Rattle.sx_pages.specs.Arena.{first, zeroed, AllLinked, AreCopied}
+use Rattle.sx_pages.specs.Arena.{first, zeroed, AllLinked}
 use Rattle.sx_pages.proofs.Slots.{length-page, choose}
 use Rattle.sx_pages.proofs.Views.{blend, blend-none, blend-more, blend-all}
 use Rattle.sx_pages.proofs.Kept.{first-put, first-other}
@@ -49,10 +49,3 @@ AllLinked-more pages n next is h hn it all page hp = choose (cases_eq page n)
       λ lt. it (subst (λ (k : ℕ). k < 255) e lt) ∙ ap (λ (k : ℕ). k + 1) (sym e),
     ))
     (λ ne. let old = all page (below page n hp ne) in (old.0, old.1, first-other pages n page _ ne ∙ old.2, old.3))
-
-pub AreCopied-more : (lives : List Bool) (from to new : Blocks) (n : ℕ) → ((q : ℕ) → q ≢ n → get_or new q [] ≡ get_or to q [])
-    → (get_or lives n false ≡ true → get_or new n [] ≡ get_or from n []) → (get_or lives n false ≡ false → first new n ≡ first from n)
-    → AreCopied lives from to n → AreCopied lives from new (n + 1)
-AreCopied-more lives from to new n other here there all page hp = choose (cases_eq page n)
-    (λ e. subst (λ (k : ℕ). (get_or lives k false ≡ true → get_or new k [] ≡ get_or from k []) × (get_or lives k false ≡ false → first new k ≡ first from k)) (sym e) (here, there))
-    (λ ne. let old = all page (below page n hp ne) in (λ t. other page ne ∙ old.0 t, λ f. ap (λ (x : List Slot). get_or x 0 None) (other page ne) ∙ old.1 f))

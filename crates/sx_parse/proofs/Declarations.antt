@@ -1,5 +1,6 @@
 -- What one turn of reading the declarations does to the machine.
 use Rattle.std.proofs.Common.{◌≡◌, ℕ, List, [], ◌∷◌, ◌++◌, Option, refl, ◌∙◌, length}
+use Rattle.std.proofs.lemmas.List.{nil_from_length}
 use Rattle.sx_lang.specs.declared.tree.Decl.{Decl}
 use Rattle.sx_lang.specs.declared.tree.DeviceKind.{DeviceKind}
 use Rattle.sx_lex.specs.declared.tokens.Kind.{Kind}
@@ -11,7 +12,7 @@ use Rattle.sx_grammar.specs.Machine as machine
 use Rattle.sx_parse.specs.Wanted.{declarations_wanted, end_wanted, length_wanted}
 use Rattle.sx_parse.specs.Reading.{Stops, TakesSign, Named, Numbered, done}
 use Rattle.sx_parse.specs.Declaring.{Declares, Passes, Declared, AnswersText, holding}
-use Rattle.sx_parse.proofs.Expressions.{said, none_left}
+use Rattle.sx_parse.proofs.Expressions.{said}
 
 pub ended : (ts r : List Placed) (ds us : List Decl) (d : Decl) → TakesSign A_semicolon ts r → us ≡ ds ++ d ∷ [] → Declares (end_wanted d) ds ts us done r
 ended ts r ds us d s e = rw e (record { declares = λ st. s.takes (Say (Do_declare d) ∷ st) (holding ds []) ∙ said (Do_declare d) st (holding ds []) r })
@@ -90,7 +91,7 @@ passes ts a t ds us h x y z u v w e = record {
 }
 
 pub passes_end : (ts : List Placed) (ds us : List Decl) → length ts ≡ 0 → us ≡ ds → Passes ds ts us
-passes_end ts ds us h e = record { passes = λ st vs. rw (none_left ts h) refl; same = e }
+passes_end ts ds us h e = record { passes = λ st vs. rw (nil_from_length ts h) refl; same = e }
 
 pub begins : (ts : List Placed) (ds : List Decl) → ds ≡ [] → Declared ts ds Declarations ts
 begins ts ds e = rw e (record { declared = refl })

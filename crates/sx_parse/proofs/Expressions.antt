@@ -1,5 +1,6 @@
 -- What one turn of reading an expression does to the machine.
 use Rattle.std.proofs.Common.{◌≡◌, ℕ, ◌+◌, ◌<◌, nat_lt, List, [], ◌∷◌, true, Option, Some, None, refl, ap, ◌∙◌, length, arith}
+use Rattle.std.proofs.lemmas.List.{nil_from_length}
 use Rattle.sx_lang.specs.Tree.{Expression, Indexed, Applied, Combined}
 use Rattle.sx_lang.specs.declared.tree.UnOp.{UnOp}
 use Rattle.sx_lang.specs.declared.tree.BinOp.{BinOp}
@@ -27,15 +28,11 @@ expression_is st vs (t ∷ r) = refl
 pub room : (d : ℕ) → d < 48 → nat_lt d 48 ≡ true
 room d h = grind arith
 
-pub none_left : {A : Type 0} (r : List A) → length r ≡ 0 → r ≡ []
-none_left [] h = refl
-none_left (x ∷ r) h = absurd (omega (arith, h))
-
 pub expression_stops : (d : ℕ) (ts : List Placed) (t : Option Placed) → Stops sum_wanted d ts t → Stops (λ st. An_expression ∷ st) d ts t
 expression_stops d ts t s = record { stops = λ st vs o. expression_is st vs ts ∙ s.stops (Comparison ∷ st) vs o }
 
 pub expression_ends : (d : ℕ) (ts r : List Placed) (v : Value) → ReadsValue sum_wanted d ts v done r → length r ≡ 0 → ReadsValue (λ st. An_expression ∷ st) d ts v done r
-expression_ends d ts r v s h = record { reads = λ st vs o. expression_is st vs ts ∙ s.reads (Comparison ∷ st) vs o ∙ rw (none_left r h) refl }
+expression_ends d ts r v s h = record { reads = λ st vs o. expression_is st vs ts ∙ s.reads (Comparison ∷ st) vs o ∙ rw (nil_from_length r h) refl }
 
 pub expression_alone : (d : ℕ) (ts r a : List Placed) (f : Placed) (v : Value) → ReadsValue sum_wanted d ts v done r → r ≡ f ∷ a
     → comparison_operator f.kind ≡ None → ReadsValue (λ st. An_expression ∷ st) d ts v done r

@@ -1,6 +1,7 @@
 -- What one turn of reading the handlers does to the machine.
 use Rattle.std.proofs.Common.{◌≡◌, ℕ, List, [], ◌∷◌, ◌++◌, Option, Some, None, length, refl, ap, ◌∙◌}
 use Rattle.std.specs.Prelude.{map}
+use Rattle.std.proofs.lemmas.List.{nil_from_length}
 use Rattle.sx_lang.specs.Tree.{Block, HandlerTree}
 use Rattle.sx_lang.specs.View.{handler_of}
 use Rattle.sx_lang.specs.declared.tree.Handler.{Handler}
@@ -10,7 +11,7 @@ use Rattle.sx_grammar.specs.Machine.{Of_block, Say, An_open, A_close, A_block, A
 use Rattle.sx_parse.specs.Wanted.{handlers_wanted, parameter_wanted}
 use Rattle.sx_parse.specs.Reading.{ReadsValue, Stops, TakesSign, Named, done}
 use Rattle.sx_parse.specs.Declaring.{Handles, NoHandler, HandlersEnd, HandlersBreak, holding}
-use Rattle.sx_parse.proofs.Expressions.{said, none_left}
+use Rattle.sx_parse.proofs.Expressions.{said}
 
 map-push : (hs : List Handler) (h : Handler) → map handler_of (hs ++ h ∷ []) ≡ map handler_of hs ++ handler_of h ∷ []
 map-push [] h = refl
@@ -36,7 +37,7 @@ pub on_sample : (ts a r : List Placed) (f : Placed) (hs gs : List HandlerTree) �
 on_sample ts a r f hs gs h k q = record { handles = λ ds. rw (h, k) (q.handles ds) }
 
 pub no_handler : (ts : List Placed) (hs gs : List Handler) → length ts ≡ 0 → gs ≡ hs → NoHandler ts hs gs
-no_handler ts hs gs h e = record { none = none_left ts h; same = e }
+no_handler ts hs gs h e = record { none = nil_from_length ts h; same = e }
 
 pub begins : (ts : List Placed) (hs : List Handler) → hs ≡ [] → Handles done [] ts (map handler_of hs) ts
 begins ts hs e = rw e (record { handles = λ ds. refl })

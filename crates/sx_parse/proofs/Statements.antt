@@ -1,5 +1,6 @@
 -- What one turn of reading a statement does to the machine.
 use Rattle.std.proofs.Common.{◌≡◌, ℕ, ◌+◌, ◌<◌, nat_lt, List, [], ◌∷◌, ◌++◌, true, false, Option, refl, sym, ap, ◌∙◌, length}
+use Rattle.std.proofs.lemmas.List.{nil_from_length}
 use Rattle.sx_lang.specs.Tree.{Expression, Statement, Defines, Assigns, Stores, Chooses, Repeats, Sends, Emits, Block, Done, Then}
 use Rattle.sx_lang.specs.View.{statement_of, block_of}
 use Rattle.sx_lang.specs.declared.tree.Stmt.{Stmt}
@@ -11,7 +12,7 @@ use Rattle.sx_grammar.specs.Machine.{For_repeat, Target_of, Argument_of, opens, 
 use Rattle.sx_parse.specs.Wanted.{choice_wanted, element_wanted, value_wanted}
 use Rattle.sx_parse.specs.Reading.{ReadsValue, Stops, TakesSign, Named, Numbered, done}
 use Rattle.sx_parse.specs.Adding.{AddsStatement, Fails, Closes}
-use Rattle.sx_parse.proofs.Expressions.{said, room, none_left}
+use Rattle.sx_parse.proofs.Expressions.{said, room}
 
 pub defines : (d : ℕ) (x : List ℕ) (ts a b r : List Placed) (e : Expression) → Named ts x a → TakesSign An_equals a b
     → ReadsValue value_wanted d b (Of_expression e) done r → AddsStatement (λ st. A_name After_let ∷ st) d ts (Defines x e) r
@@ -97,7 +98,7 @@ repeats d n ts a r x s p v same = rw same (record {
 })
 
 pub no_else_end : (d : ℕ) (ts : List Placed) → length ts ≡ 0 → ReadsValue (λ st. Otherwise ∷ st) d ts (Of_block Done) done ts
-no_else_end d ts h = record { reads = λ st vs o. rw (none_left ts h) refl }
+no_else_end d ts h = record { reads = λ st vs o. rw (nil_from_length ts h) refl }
 
 pub no_else : (d : ℕ) (ts a : List Placed) (f : Placed) → ts ≡ f ∷ a → is_else f.kind ≡ false → ReadsValue (λ st. Otherwise ∷ st) d ts (Of_block Done) done ts
 no_else d ts a f h k = record { reads = λ st vs o. rw (h, k) refl }

@@ -10,6 +10,7 @@ use Rattle.std.proofs.lemmas.List.Folds.{position_or_len_push}
 use Rattle.std.proofs.lemmas.List.Sums.{prefix_len-le-length}
 use Rattle.std.proofs.lemmas.List.Quantifiers.{position-Some}
 use Rattle.std.proofs.lemmas.Slice.Eq.{bytes_eq-Decides}
+use Rattle.std.proofs.lemmas.Option.{none-some}
 use Rattle.indexmap.specs.IndexMap.{get}
 use Rattle.sx_trace.specs.Index.{IsNameIndex, IsNewTo, GrowsIndex}
 use Rattle.sx_trace.specs.Names.{place_of}
@@ -23,9 +24,6 @@ behind : (n l : ℕ) (b : Bool) → n ≤ l → cond (nat_lt n l) (Some n) None 
     → cond (nat_lt (cond (eqb n l) (l + cond b 0 1) n) (l + 1)) (Some (cond (eqb n l) (l + cond b 0 1) n)) None ≡ cond b (Some l) None
 behind n l true le h = grind (arith, nat_tests)
 behind n l false le h = grind (arith, nat_tests)
-
-no-Some : {A : Type 0} {x : A} → None ≡ Some x → ⊥
-no-Some h = cc
 
 module _ (names : List (List ℕ)) (name text : List ℕ) where
   abbrev p : List ℕ → Bool
@@ -45,7 +43,7 @@ module _ (index : NameIndex) (names : List (List ℕ)) (name : List ℕ) (at : �
   same text = by (place_of names text) refl
     where
       other : (b : Bool) → bytes_eq name text ≡ b → place_of names text ≡ None → cond b (Some (length names)) None ≡ place_of names text
-      other true e none = let alike : name ≡ text = (bytes_eq-Decides name text).0 e in absurd (no-Some (sym none ∙ ap (place_of names) (sym alike) ∙ listed))
+      other true e none = let alike : name ≡ text = (bytes_eq-Decides name text).0 e in absurd (none-some _ (sym none ∙ ap (place_of names) (sym alike) ∙ listed))
       other false e none = sym none
 
       by : (o : Option ℕ) → place_of names text ≡ o → place_of (names ++ name ∷ []) text ≡ place_of names text
@@ -80,7 +78,7 @@ module _ (old new : NameIndex) (name : List ℕ) (place : ℕ) (some : 0 < lengt
     placed text = by (bytes_eq name text) refl (place_of names text) refl
       where
         by : (b : Bool) → bytes_eq name text ≡ b → (o : Option ℕ) → place_of names text ≡ o → place_of (names ++ name ∷ []) text ≡ cond b (Some place) o
-        by true e (Some i) f = let alike : name ≡ text = (bytes_eq-Decides name text).0 e in absurd (no-Some (sym fresh ∙ ap (place_of names) alike ∙ f))
+        by true e (Some i) f = let alike : name ≡ text = (bytes_eq-Decides name text).0 e in absurd (none-some _ (sym fresh ∙ ap (place_of names) alike ∙ f))
         by false e (Some i) f = place_of-there names name text i f
         by true e None f = place_of-behind names name text f ∙ ap (λ (b : Bool). cond b (Some (length names)) None) e ∙ ap Some len
         by false e None f = place_of-behind names name text f ∙ ap (λ (b : Bool). cond b (Some (length names)) None) e
