@@ -104,11 +104,6 @@ module _ (s : Setup) (handle : ℕ → Conf → OperationResult) (given : ℕ �
   pub room : (stack : List ℕ) (a : OperationResult) → length stack < stack_words → when (nat_lt (length stack) stack_words) a ≡ a
   room stack a h = ap (λ b. when b a) (lt-ltb (length stack) stack_words h)
 
-  -- one operation of at most 8 instructions
-  pub step : (Q : Conf → Type 0) (i : Ir) (c t : Conf) (k n : ℕ) → slice_get code c.place ≡ Some i → do_at s handle (Some i) c ≡ Goes t → count_of i + handler_count given i ≤ 8 → 8 + k ≤ n → Comes_to Q k t
-      → Comes_to Q n c
-  step Q i c t k n has e small le r = do_one Q i c t k n has e (omega (arith, small)) r
-
   -- an operator of two values
   operator_reach : (o : BinOp) (a b p : ℕ) (stack : List ℕ) (c : Conf) → HasAt code p (operator_code o)
       → Gives (at p ((if is_turned o then a else b) ∷ (if is_turned o then b else a) ∷ stack) c) (at (p + length (operator_code o)) (combine o a b ∷ stack) c) (operator_cost o)

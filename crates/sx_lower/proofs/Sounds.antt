@@ -4,6 +4,7 @@ use Rattle.std.proofs.Common.{nat_le, Some, refl, sym, ap, ◌∙◌, arith, app
 use Rattle.std.specs.Prelude.{slice_get}
 use Rattle.std.specs.List.{list_all}
 use Rattle.std.proofs.lemmas.Bool.{ltb-true, le-leb, lt-ltb, eq-eqb, and_from}
+use Rattle.sx_lists.proofs.Lists.{get_mid}
 use Rattle.sx_lang.specs.declared.tree.Decl.{Decl}
 use Rattle.sx_lang.specs.declared.tree.Decl.TheVariants.{Device, Input, Output, Var, Array}
 use Rattle.sx_lang.specs.declared.tree.BinOp.{BinOp}
@@ -212,11 +213,6 @@ module _ (ds : List Decl) (es : List End) (ops size : ℕ) (fits : cell_at (leng
   expression_sound names (Applied o e) few fine = sound_append ops size es (expression_code ds (length es) names e) _ (expression_sound names e few fine) (tt, tt)
   expression_sound names (Combined o a b) few fine = combined_sound ops size es o _ _ (expression_sound names a few fine.0) (expression_sound names b few fine.1)
 
-  -- an end that stands in the list
-  found_end : (before : List End) (e : End) (rest : List End) → slice_get (before ++ e ∷ rest) (length before) ≡ Some e
-  found_end [] e rest = refl
-  found_end (x ∷ before) e rest = found_end before e rest
-
   sends : (e : End) (output k : ℕ) → slice_get es k ≡ Some e → is_sending output e.side e.port ≡ true → IsSender es k
   sends e output k at is = (e, at, side e.side is)
     where
@@ -229,7 +225,7 @@ module _ (ds : List Decl) (es : List End) (ops size : ℕ) (fits : cell_at (leng
   packets_sound before (e ∷ rest) k output all at =
       let next : (before ++ e ∷ []) ++ rest ≡ es = append_assoc before (e ∷ []) rest ∙ all in
       let more = packets_sound (before ++ e ∷ []) rest (k + 1) output next (omega (arith, at, length-append before (e ∷ []))) in
-      let here : slice_get es k ≡ Some e = ap (λ l. slice_get l k) (sym all) ∙ ap (slice_get (before ++ e ∷ rest)) (sym at) ∙ found_end before e rest in
+      let here : slice_get es k ≡ Some e = ap (λ l. slice_get l k) (sym all) ∙ ap (slice_get (before ++ e ∷ rest)) (sym at) ∙ get_mid before rest e in
       let slot : end_at k + 24 ≤ size = omega (arith, at, fits, length-append before (e ∷ rest), ap length all) in
       go (is_sending output e.side e.port) refl here slot more
     where

@@ -2,6 +2,8 @@
 use Rattle.std.proofs.Common.{◌≡◌, ℕ, ◌+◌, ◌*◌, ◌<◌, ◌≤◌, ◌⊎◌, inl, inr, Bool, true, false, ◌&&◌, not, List, [], ◌∷◌, ◌++◌, length, Result, Ok, Err, refl, sym, ap, ◌∙◌, arith}
 use Rattle.std.proofs.lemmas.Bool.{le-leb, not_from_false}
 use Rattle.std.proofs.lemmas.List.Elements.{All-take}
+use Rattle.sx_machine.proofs.PublicKept.{put_other}
+use Rattle.sx_machine.proofs.Lengths.{length-put_bytes}
 use Rattle.sx_rules.specs.declared.access.Violation.{Violation}
 use Rattle.sx_bus.specs.declared.devices.Window.{Window}
 use Rattle.sx_tag.specs.Mac.{Mac, IsTag}
@@ -26,7 +28,7 @@ use Rattle.sx_ir.specs.declared.ir.Ir.{Ir}
 use Rattle.sx_ir.specs.declared.ir.Ir.TheVariants as ir
 use Rattle.sx_stub.specs.Stub.{answer_code, attest_code, refuse_if, is_wrong_kind}
 use Rattle.sx_stub.specs.Invokes.{ShowsCall, Invokes}
-use Rattle.sx_stub.proofs.Mem.{AllBytes, bytes_from_put, get-put_bytes_other, length-put_bytes, AllBytes-put_bytes}
+use Rattle.sx_stub.proofs.Mem.{AllBytes, bytes_from_put, AllBytes-put_bytes}
 use Rattle.sx_stub.proofs.Straight.{At, at, at_front, at_back}
 use Rattle.sx_stub.proofs.Slots.{IsKept, with_priv, shows_priv, shows_at}
 use Rattle.sx_stub.proofs.Refuse.{returned, goes_on, breaks, runs_on}
@@ -113,12 +115,12 @@ module _ (s : Setup) (call : Call) (handle : ℕ → Conf → OperationResult) (
       let p1 = progress_mark p m in
       let len = tag_length s.mac s.section.key ask (crypt s.mac s.section.key ask []) tag in
       let isb = tag_bytes s.mac s.section.key ask (crypt s.mac s.section.key ask []) tag in
-      let size = length-put_bytes c.priv 16 ask in
+      let size = length-put_bytes ask c.priv 16 in
       let read : bytes_from c1.priv 34 16 ≡ piece = ap (bytes_from c1.priv 34) (sym len) ∙ bytes_from_put priv 34 piece isb (omega (arith, len, size, room)) in
       let shows0 = copied_shows s call handle given code p c shows none bytes room window ask q (omega (arith, e)) in
       let shows1 : ShowsCall s call p1 c1 = shows_mark s call p (with_priv c (put_bytes priv 34 piece) (q + 1) []) m
-      (shows_priv s call p (with_priv c priv q []) (put_bytes priv 34 piece) (q + 1) [] shows0 (length-put_bytes priv 34 piece) (AllBytes-put_bytes priv 34 piece shows0.bytes)
-      (λ i kept. get-put_bytes_other priv 34 piece i (apart i kept (length piece) len))) in
+      (shows_priv s call p (with_priv c priv q []) (put_bytes priv 34 piece) (q + 1) [] shows0 (length-put_bytes piece priv 34) (AllBytes-put_bytes priv 34 piece shows0.bytes)
+      (λ i kept. put_other piece priv 34 i (apart i kept (length piece) len))) in
       let made_room : has_copy_room c1 0 16 ≡ true = let x = made_more c.marks m in le-leb 16 (made_bytes c1.marks) (omega (arith, x)) in
       let r = finished (copied_to (write_bytes s p1.devices p1.mem (call.output + event_size * length p1.pieces) piece) (record p1 { pieces = p1.pieces ++ piece ∷ [] })) in
       goes_on s call handle given code r (ir.Seal 0 16 18 56 0) (with_priv c priv q []) c1 k 272 a.0 (seals ask q e h) refl (omega (arith, le))

@@ -4,7 +4,8 @@ use Rattle.std.proofs.Common.{take, drop, Option, Some, None, refl, sym, ap, ◌
 use Rattle.std.specs.Prelude.{slice_get, if◌then◌else◌, nat_lt, bit_and, ◌&&◌}
 use Rattle.std.proofs.lemmas.List.{length-take, length-drop, take_all, get_or-take}
 use Rattle.std.proofs.lemmas.List.Elements.{All-take}
-use Rattle.std.proofs.lemmas.Bool.{true≢false, and_from, ne_eqb, eqb-false, eqb-true, or_right}
+use Rattle.std.proofs.lemmas.Bool.{true≢false, and_from, ne_eqb, eqb-false, eqb-true, or_right, not-false}
+use Rattle.sx_machine.proofs.PublicKept.{put_other}
 use Rattle.sx_lang.specs.declared.sides.Side.{Side}
 use Rattle.sx_lang.specs.declared.sides.Side.TheVariants.{From, To}
 use Rattle.sx_mean.specs.declared.events.End.{End}
@@ -36,8 +37,8 @@ use Rattle.sx_stub.specs.Stub.{input_code, input_found, key_found, key_place, se
 use Rattle.sx_stub.specs.Stub.{is_receiving, is_to, is_wrong_kind, wanted_receiving, is_closed_code, is_other_epoch, is_past_number, is_last_number}
 use Rattle.sx_stub.specs.Stub.{is_opened_not, handled_by}
 use Rattle.sx_stub.specs.Invokes.{ShowsCall, Ready, Invokes, HandlersDo}
-use Rattle.sx_stub.proofs.Mem.{AllBytes, word_lt, word_same, word-put_same, word-put_other, get-put_other, length-put_bytes, AllBytes-put_word}
-use Rattle.sx_stub.proofs.Mem.{AllBytes-put_bytes, get-put_bytes_other, get-put_bytes_in, bytes_from_same, AllBytes-bytes_from}
+use Rattle.sx_stub.proofs.Mem.{AllBytes, word_lt, word_same, word-put_same, word-put_other, get-put_other, AllBytes-put_word}
+use Rattle.sx_stub.proofs.Mem.{AllBytes-put_bytes, get-put_bytes_in, bytes_from_same, AllBytes-bytes_from}
 use Rattle.sx_stub.proofs.Straight.{At, at, at_front, at_back, pure}
 use Rattle.sx_stub.proofs.Slots.{Same, IsKept, with_priv, shows_priv, end_with, end_state_is, end_in_slot, end_state_same}
 use Rattle.sx_stub.proofs.Refuse.{refuse_does, refuse_zero, or_if, sub_zero, not_twice, goes_on, runs_on, within}
@@ -49,7 +50,7 @@ use Rattle.sx_stub.proofs.Ends.{FewLinks, any_same, found_in, index_found, index
 use Rattle.sx_stub.proofs.Search.{shows_kept_word, some_place, some_none, search_does, found_at, both_at}
 use Rattle.sx_stub.proofs.SetKey.{shows_slot}
 use Rattle.sx_stub.proofs.Handling.{handles}
-use Rattle.sx_machine.proofs.Lengths.{length-put_word}
+use Rattle.sx_machine.proofs.Lengths.{length-put_word, length-put_bytes}
 use Rattle.sx_lists.specs.Truth.{truth}
 
 -- Tests of the end that was found, on words.
@@ -57,10 +58,6 @@ use Rattle.sx_lists.specs.Truth.{truth}
 state_is : (priv : List ℕ) (j : ℕ)
     → end_state priv j ≡ end_with (word priv (end_at j + 4)) (word priv (end_at j)) (word priv (end_at j + 2)) (bytes_from priv (end_at j + 8) 16)
 state_is priv j = end_state_is priv j (word priv (end_at j + 4)) (word priv (end_at j)) (word priv (end_at j + 2)) (bytes_from priv (end_at j + 8) 16) refl refl refl refl
-
-not_not : (b : Bool) → not b ≡ false → b ≡ true
-not_not true h = refl
-not_not false h = absurd (true≢false h)
 
 truth_twice : (b : Bool) → truth b ≡ truth (not (not b))
 truth_twice true = refl
@@ -228,17 +225,17 @@ module _ (s : Setup) (call : Call) (handle : ℕ → Conf → OperationResult) (
           let priv4 = put_bytes c.priv 2 value in
           let c4 = with_mark (with_priv c priv4 (place + 1) (1 ∷ [])) m in
           let shows4 : ShowsCall s call p1 c4 = shows_mark s call p (with_priv c priv4 (place + 1) (1 ∷ [])) m
-          (shows_priv s call p c priv4 (place + 1) (1 ∷ []) shows (length-put_bytes c.priv 2 value) (AllBytes-put_bytes c.priv 2 value shows.bytes)
-          (λ i kept. get-put_bytes_other c.priv 2 value i (apart i kept (length value) len2))) in
+          (shows_priv s call p c priv4 (place + 1) (1 ∷ []) shows (length-put_bytes value c.priv 2) (AllBytes-put_bytes c.priv 2 value shows.bytes)
+          (λ i kept. put_other value c.priv 2 i (apart i kept (length value) len2))) in
           let own : (end_at j + 8 == 0) ≡ false = ne_eqb (end_at j + 8) 0 (omega arith) in
           let d2 : do_at s handle (Some (ir.Open (end_at j + 8) 16 6 2 2)) (at c place []) ≡ Goes c4 = d
           ∙ ap (λ (b : Bool). Goes (with_mark (with_priv c priv4 (place + 1) (1 ∷ [])) (mark.Unwrapped (header_in packet) value b))) own in
-          let second4 : word priv4 20 ≡ second_in packet = word_same c.priv priv4 20 20 refl refl (get-put_bytes_other c.priv 2 value 20 (inr (omega (arith, len2))))
-          (get-put_bytes_other c.priv 2 value 21 (inr (omega (arith, len2)))) ∙ holds_word c.priv packet 4 refl (omega (arith, len)) holds in
+          let second4 : word priv4 20 ≡ second_in packet = word_same c.priv priv4 20 20 refl refl (put_other value c.priv 2 20 (inr (omega (arith, len2))))
+          (put_other value c.priv 2 21 (inr (omega (arith, len2)))) ∙ holds_word c.priv packet 4 refl (omega (arith, len)) holds in
           let value4 : word priv4 2 ≡ word body 0 = word_same body priv4 0 2 refl refl
           (get-put_bytes_in c.priv 2 value 0 isv (omega (arith, len2)) (omega (arith, len2, size)) ∙ get_or-take 2 body 0 0 (omega arith))
           (get-put_bytes_in c.priv 2 value 1 isv (omega (arith, len2)) (omega (arith, len2, size)) ∙ get_or-take 2 body 1 0 (omega arith)) in
-          let state4 : end_state priv4 j ≡ end_of p.state.ends j = end_same c.priv priv4 j (λ i le. get-put_bytes_other c.priv 2 value i (inr (omega (arith, le, len2))))
+          let state4 : end_state priv4 j ≡ end_of p.state.ends j = end_same c.priv priv4 j (λ i le. put_other value c.priv 2 i (inr (omega (arith, le, len2))))
           ∙ sym (end_in_slot s call p c j shows lt) in
           goes_on s call handle given code r (ir.Open (end_at j + 8) 16 6 2 2) (at c place []) c4 (cost + 200) (cost + 170) a.0 d2 refl (omega arith)
           (refuse_does s call handle given code false is_opened_not other_tag 0 c4 (place + 1) (place + 6) (cost + 170) (cost + 100) (1 ∷ []) r p1
@@ -305,7 +302,7 @@ module _ (s : Setup) (call : Call) (handle : ℕ → Conf → OperationResult) (
       let again = sym found2 ∙ index_found t (take_receiving s.tree) s.ends 0 j e links (λ i d. refl) receives found in
       let a6 = subst (λ (x : ℕ). At code place (take_event s.tree place x e2)) (some_place j2 j e2 e again) a5 in
       let a7 = subst (λ (x : End). At code place (take_event s.tree place j x)) (some_end j2 j e2 e again) a6 in
-      opens packet j e place c3 len h lt back (eqb-false second 65535 x4) (not_not st.is_open x1) shows3 holds3 a7)
+      opens packet j e place c3 len h lt back (eqb-false second 65535 x4) (not-false st.is_open x1) shows3 holds3 a7)
       (λ miss. absurd (some_none (j, e) (sym (index_found t (take_receiving s.tree) s.ends 0 j e links (λ i d. refl) receives found) ∙ miss)))))))))
 
 -- an end that is found for a receiving side receives

@@ -1,16 +1,15 @@
 -- Reads after writes of words and bytes.
-use Rattle.std.proofs.Common.{◌≡◌, ◌≢◌, ℕ, zero, suc, ◌+◌, ◌*◌, ◌/◌, ◌%◌, ◌<◌, ◌≤◌, ◌⊎◌, inl, inr, List, [], ◌∷◌, ◌++◌, length, get_or, set, take, ⊎_elim, refl, sym, ap, ◌∙◌, arith}
+use Rattle.std.proofs.Common.{◌≡◌, ◌≢◌, ℕ, zero, suc, ◌+◌, ◌*◌, ◌/◌, ◌%◌, ◌<◌, ◌≤◌, ◌⊎◌, inl, List, [], ◌∷◌, ◌++◌, length, get_or, set, take, ⊎_elim, refl, sym, ap, ◌∙◌, arith}
 use Rattle.std.specs.Prelude.{All}
 use Rattle.std.proofs.Math.Seq.{take-length}
 use Rattle.std.proofs.lemmas.List.{get_or-set_same, get_or-set_other, length-set, take_more}
 use Rattle.std.proofs.lemmas.List.Elements.{All-set, All-append}
 use Rattle.std.proofs.lemmas.Bool.{cases_lt}
 use Rattle.std.proofs.Math.ListN.{get_or-eq_default}
+use Rattle.sx_machine.proofs.PublicKept.{put_other}
+use Rattle.sx_isa.proofs.StandingLemmas.{even_same}
 use Rattle.sx_isa.specs.Memory.{even}
 use Rattle.sx_machine.specs.Memory.{word, put_word, bytes_from, put_bytes}
-
-pub even_same : (a : ℕ) → a % 2 ≡ 0 → even a ≡ a
-even_same a e = omega (arith, e)
 
 pub word_even : (m : List ℕ) (a : ℕ) → a % 2 ≡ 0 → word m a ≡ get_or m a 0 + 256 * get_or m (a + 1) 0
 word_even m a e = ap (λ (b : ℕ). get_or m b 0 + 256 * get_or m (b + 1) 0) (even_same a e)
@@ -44,15 +43,12 @@ pub word-put_other : (m : List ℕ) (a v b : ℕ) → a % 2 ≡ 0 → b % 2 ≡ 
 word-put_other m a v b e f p =
     word_same m (put_word m a v) b b f f (get-put_other m a v b e p (omega arith)) (get-put_other m a v (b + 1) e (omega arith) (omega arith))
 
-pub lt_or_le : (a b : ℕ) → (a < b) ⊎ (b ≤ a)
-lt_or_le a b = cases_lt a b
-
 -- each number of the list is a byte
 abbrev pub AllBytes : List ℕ → Type 0
 AllBytes m = All (λ b. b < 256) m
 
 pub byte_at : (m : List ℕ) (k : ℕ) → AllBytes m → get_or m k 0 < 256
-byte_at m k h = ⊎_elim (λ (p : k < length m). h k 0 p) (λ (p : length m ≤ k). rw (get_or-eq_default m 0 p) (omega arith)) (lt_or_le k (length m))
+byte_at m k h = ⊎_elim (λ (p : k < length m). h k 0 p) (λ (p : length m ≤ k). rw (get_or-eq_default m 0 p) (omega arith)) (cases_lt k (length m))
 
 pub word_lt : (m : List ℕ) (a : ℕ) → AllBytes m → word m a < 65536
 word_lt m a h = let p = byte_at m (even a) h in let q = byte_at m (even a + 1) h in omega (arith, p, q)
@@ -64,24 +60,6 @@ AllBytes-put_word m a v lt h =
 pub AllBytes-put_bytes : (m : List ℕ) (at : ℕ) (bs : List ℕ) → AllBytes m → AllBytes (put_bytes m at bs)
 AllBytes-put_bytes m at [] h = h
 AllBytes-put_bytes m at (b ∷ bs) h = AllBytes-put_bytes (set m at (b % 256)) (at + 1) bs (All-set (λ (b : ℕ). b < 256) m at (b % 256) (omega arith) h)
-
-pub length-put_bytes : (m : List ℕ) (at : ℕ) (bs : List ℕ) → length (put_bytes m at bs) ≡ length m
-length-put_bytes m at [] = refl
-length-put_bytes m at (b ∷ bs) = length-put_bytes (set m at (b % 256)) (at + 1) bs ∙ length-set m at (b % 256)
-
-pub get-put_bytes_other : (m : List ℕ) (at : ℕ) (bs : List ℕ) (k : ℕ) → (k < at) ⊎ (at + length bs ≤ k)
-    → get_or (put_bytes m at bs) k 0 ≡ get_or m k 0
-get-put_bytes_other m at [] k o = refl
-get-put_bytes_other m at (b ∷ bs) k o =
-    get-put_bytes_other (set m at (b % 256)) (at + 1) bs k (later o) ∙ get_or-set_other m at k (b % 256) 0 (ne o)
-  where
-    later : (k < at) ⊎ (at + length (b ∷ bs) ≤ k) → (k < at + 1) ⊎ (at + 1 + length bs ≤ k)
-    later (inl p) = inl (omega arith)
-    later (inr p) = inr (omega arith)
-
-    ne : (k < at) ⊎ (at + length (b ∷ bs) ≤ k) → k ≢ at
-    ne (inl p) = omega arith
-    ne (inr p) = omega arith
 
 pub bytes_from_same : (m n : List ℕ) (a b k : ℕ) → ((i : ℕ) → i < k → get_or n (b + i) 0 ≡ get_or m (a + i) 0)
     → bytes_from n b k ≡ bytes_from m a k
@@ -109,7 +87,7 @@ pub get-put_bytes_in : (m : List ℕ) (at : ℕ) (bs : List ℕ) (i : ℕ) → A
 get-put_bytes_in m at [] i h lt le = absurd (omega (arith, lt))
 get-put_bytes_in m at (b ∷ bs) zero h lt le =
     let p : b < 256 = h 0 0 (omega arith) in
-    let here = get-put_bytes_other (set m at (b % 256)) (at + 1) bs (at + 0) (inl (omega arith)) in
+    let here = put_other bs (set m at (b % 256)) (at + 1) (at + 0) (inl (omega arith)) in
     let e : at + 0 ≡ at = omega arith in
     here ∙ ap (λ (k : ℕ). get_or (set m at (b % 256)) k 0) e ∙ get_or-set_same m at (b % 256) 0 (omega (arith, le)) ∙ omega (arith, p)
 get-put_bytes_in m at (b ∷ bs) (suc i) h lt le =

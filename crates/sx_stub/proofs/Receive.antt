@@ -4,6 +4,8 @@ use Rattle.std.proofs.Common.{get_or, Option, Some, None, Result, Ok, Err, refl,
 use Rattle.std.specs.Prelude.{slice_get, slice_index, if◌then◌else◌, nat_le}
 use Rattle.std.proofs.lemmas.Bool.{leb-true, not_from_false}
 use Rattle.std.proofs.lemmas.Bool.Decides.{eqb_tells}
+use Rattle.sx_machine.proofs.PublicKept.{put_other}
+use Rattle.sx_machine.proofs.Lengths.{length-put_bytes}
 use Rattle.sx_rules.specs.declared.access.Violation.{Violation}
 use Rattle.sx_rules.specs.declared.access.Access.TheVariants.{Read}
 use Rattle.sx_rules.specs.declared.access.Violation.TheVariants as bad
@@ -24,7 +26,7 @@ use Rattle.sx_ir.specs.declared.ir.Ir.{Ir}
 use Rattle.sx_ir.specs.declared.ir.Ir.TheVariants as ir
 use Rattle.sx_stub.specs.Stub.{refuse_if, is_wrong_kind}
 use Rattle.sx_stub.specs.Invokes.{ShowsCall, Invokes}
-use Rattle.sx_stub.proofs.Mem.{AllBytes, byte_at, word_lt, word_even, get-put_bytes_in, get-put_bytes_other, length-put_bytes, AllBytes-put_bytes}
+use Rattle.sx_stub.proofs.Mem.{AllBytes, byte_at, word_lt, word_even, get-put_bytes_in, AllBytes-put_bytes}
 use Rattle.sx_stub.proofs.Straight.{At, at, pure}
 use Rattle.sx_stub.proofs.Slots.{IsKept, with_priv, shows_priv}
 use Rattle.sx_stub.proofs.Refuse.{refuse_zero, sub_zero, not_twice, goes_on, breaks}
@@ -108,8 +110,8 @@ module _ (s : Setup) (call : Call) (handle : ℕ → Conf → OperationResult) (
   pub copied_shows : (packet : List ℕ) (q : ℕ) → length packet ≤ 40
       → ShowsCall s call p (with_priv c (put_bytes c.priv 16 packet) q [])
   copied_shows packet q le =
-      shows_priv s call p c (put_bytes c.priv 16 packet) q [] shows (length-put_bytes c.priv 16 packet) (AllBytes-put_bytes c.priv 16 packet shows.bytes)
-      (λ i k. get-put_bytes_other c.priv 16 packet i (apart i k))
+      shows_priv s call p c (put_bytes c.priv 16 packet) q [] shows (length-put_bytes packet c.priv 16) (AllBytes-put_bytes c.priv 16 packet shows.bytes)
+      (λ i k. put_other packet c.priv 16 i (apart i k))
     where
       apart : (i : ℕ) → IsKept i → (i < 16) ⊎ (16 + length packet ≤ i)
       apart i (inl k) = inl (omega (arith, k.1))

@@ -1,5 +1,6 @@
 -- The search for the end that a packet is for, which set-key and input share.
 use Rattle.std.proofs.Common.{◌≡◌, ◌≢◌, ℕ, ◌+◌, ◌*◌, ◌%◌, ◌<◌, ◌≤◌, inl, inr, List, [], ◌∷◌, ◌++◌, length, Option, Some, None, refl, sym, ap, subst, arith}
+use Rattle.sx_stub.proofs.Fit.{length-find}
 use Rattle.sx_lang.specs.Tree.{ModuleTree}
 use Rattle.sx_mean.specs.declared.events.End.{End}
 use Rattle.sx_machine.specs.Memory.{word, put_word}
@@ -43,17 +44,13 @@ shows_kept_word s call p c a v q stack h e lo hi small =
     ne i (inl k) d b e lt = omega (arith, k.1, e, lo)
     ne i (inr k) d b e lt = omega (arith, k, e, hi, lt)
 
-length-find : (found : ℕ) (es : List End) (place k : ℕ) → length (cases (find_any found) place k es) ≡ 7 * length es
-length-find found [] place k = refl
-length-find found (e ∷ es) place k = let x = length-find found es (place + 7) (k + 1) in omega (arith, x)
-
 -- where the found end's code stands
 pub found_at : (tree : ModuleTree) (ends : List End) (code : List Ir) (q : ℕ) → At code q (search_code tree ends q)
     → At code (q + 7 * length ends + 3) (found_code tree ends (q + 7 * length ends + 3))
 found_at tree ends code q a =
     let found = q + 7 * length ends + 3 in
     let search = cases (find_any found) q 0 ends in
-    let l = length-find found ends q 0 in
+    let l = length-find found q 0 ends in
     at_back code (q + length search) found (returns 5) (found_code tree ends found) (omega (arith, l)) (at_back code q (q + length search) search (returns 5 ++ found_code tree ends found) refl a)
 
 pub both_at : (tree : ModuleTree) (ends : List End) (code : List Ir) (q : ℕ) → At code q (search_code tree ends q)

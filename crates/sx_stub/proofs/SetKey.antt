@@ -5,6 +5,7 @@ use Rattle.std.specs.Prelude.{if◌then◌else◌, nat_lt, bit_and}
 use Rattle.std.proofs.lemmas.List.{length-take, length-drop, take_all}
 use Rattle.std.proofs.lemmas.List.Elements.{All-take}
 use Rattle.std.proofs.lemmas.Bool.{false≢true, true≢false, and_from, lt-ltb, or_right}
+use Rattle.sx_machine.proofs.PublicKept.{put_other}
 use Rattle.sx_lang.specs.declared.sides.Side.{Side}
 use Rattle.sx_lang.specs.declared.sides.Side.TheVariants.{From, To}
 use Rattle.sx_mean.specs.declared.events.End.{End}
@@ -30,8 +31,8 @@ use Rattle.sx_ir.specs.declared.ir.Ir.TheVariants as ir
 use Rattle.sx_stub.specs.Stub.{set_key_code, key_found, key_place, search_code, refuse_if, cases, find_any, open_any, open_end, is_wrong_kind, is_no_side}
 use Rattle.sx_stub.specs.Stub.{wanted_end, is_keyed_code, is_opened_not, is_to, slot_word}
 use Rattle.sx_stub.specs.Invokes.{ShowsCall, Invokes}
-use Rattle.sx_stub.proofs.Mem.{AllBytes, word_lt, word_same, word-put_same, word-put_other, get-put_other, length-put_bytes, AllBytes-put_word}
-use Rattle.sx_stub.proofs.Mem.{AllBytes-put_bytes, get-put_bytes_other, bytes_from_put, AllBytes-bytes_from}
+use Rattle.sx_stub.proofs.Mem.{AllBytes, word_lt, word_same, word-put_same, word-put_other, get-put_other, AllBytes-put_word}
+use Rattle.sx_stub.proofs.Mem.{AllBytes-put_bytes, bytes_from_put, AllBytes-bytes_from}
 use Rattle.sx_stub.proofs.Straight.{At, at, at_front, at_back, pure}
 use Rattle.sx_stub.proofs.Slots.{Same, IsKept, with_priv, shows_priv, end_state_is, end_in_slot, state_put}
 use Rattle.sx_stub.proofs.Refuse.{returned, refuse_does, goes_on, runs_on}
@@ -41,7 +42,7 @@ use Rattle.sx_stub.proofs.Attest.{with_mark, progress_mark, shows_mark}
 use Rattle.sx_stub.proofs.Packets.{Holds, holds_copied, holds_put, holds_word, holds_part, upper, lower, upper_lt, IsOpened, opened_body}
 use Rattle.sx_stub.proofs.Ends.{FewLinks, any_same, found_in, index_found, index_words, slot_pure, and_truth}
 use Rattle.sx_stub.proofs.Search.{shows_kept_word, some_place, some_none, search_does, found_at, key_at}
-use Rattle.sx_machine.proofs.Lengths.{length-put_word}
+use Rattle.sx_machine.proofs.Lengths.{length-put_word, length-put_bytes}
 use Rattle.sx_lists.specs.Truth.{truth}
 use Rattle.sx_lists.proofs.Truths.{truth_small}
 
@@ -88,8 +89,8 @@ keyed_end priv key k field h len le =
     (ap (bytes_from p4 (end_at k + 8)) (sym len) ∙ bytes_from_put p3 (end_at k + 8) key h (omega (arith, le, l1, l2, l3, len)))
   where
     unput : (m : List ℕ) (a : ℕ) → a % 2 ≡ 0 → a + 1 < end_at k + 8 → word (put_bytes m (end_at k + 8) key) a ≡ word m a
-    unput m a e lt = word_same m (put_bytes m (end_at k + 8) key) a a e e (get-put_bytes_other m (end_at k + 8) key a (inl (omega (arith, lt))))
-        (get-put_bytes_other m (end_at k + 8) key (a + 1) (inl (omega (arith, lt))))
+    unput m a e lt = word_same m (put_bytes m (end_at k + 8) key) a a e e (put_other key m (end_at k + 8) a (inl (omega (arith, lt))))
+        (put_other key m (end_at k + 8) (a + 1) (inl (omega (arith, lt))))
 
 -- nothing but the slot changes
 pub keyed_other : (priv key : List ℕ) (k field i : ℕ) → length key ≡ 16 → (i < end_at k) ⊎ (end_at k + 24 ≤ i)
@@ -98,7 +99,7 @@ keyed_other priv key k field i len o =
     let p1 = put_word priv (end_at k) field in
     let p2 = put_word p1 (end_at k + 2) 0 in
     let p3 = put_word p2 (end_at k + 4) 1 in
-    get-put_bytes_other p3 (end_at k + 8) key i (beyond o)
+    put_other key p3 (end_at k + 8) i (beyond o)
     ∙ get-put_other p2 (end_at k + 4) 1 i (omega arith) (ne o 4 (end_at k + 4) refl (omega arith)) (ne o 5 (end_at k + 4 + 1) (omega arith) (omega arith))
     ∙ get-put_other p1 (end_at k + 2) 0 i (omega arith) (ne o 2 (end_at k + 2) refl (omega arith)) (ne o 3 (end_at k + 2 + 1) (omega arith) (omega arith))
     ∙ get-put_other priv (end_at k) field i (omega arith) (ne o 0 (end_at k) (omega arith) (omega arith)) (ne o 1 (end_at k + 1) refl (omega arith))
@@ -159,7 +160,7 @@ module _ (s : Setup) (call : Call) (handle : ℕ → Conf → OperationResult) (
       let l1 = length-put_word c.priv (end_at j) (field_in packet) in
       let l2 = length-put_word (put_word c.priv (end_at j) (field_in packet)) (end_at j + 2) 0 in
       let l3 = length-put_word (put_word (put_word c.priv (end_at j) (field_in packet)) (end_at j + 2) 0) (end_at j + 4) 1 in
-      let l4 = length-put_bytes (put_word (put_word (put_word c.priv (end_at j) (field_in packet)) (end_at j + 2) 0) (end_at j + 4) 1) (end_at j + 8) key in
+      let l4 = length-put_bytes key (put_word (put_word (put_word c.priv (end_at j) (field_in packet)) (end_at j + 2) 0) (end_at j + 4) 1) (end_at j + 8) in
       let bytes5 : AllBytes priv =
       AllBytes-put_bytes (put_word (put_word (put_word c.priv (end_at j) (field_in packet)) (end_at j + 2) 0) (end_at j + 4) 1) (end_at j + 8) key
       (AllBytes-put_word (put_word (put_word c.priv (end_at j) (field_in packet)) (end_at j + 2) 0) (end_at j + 4) 1 (omega arith)
@@ -245,15 +246,15 @@ module _ (s : Setup) (call : Call) (handle : ℕ → Conf → OperationResult) (
               let room = room_is c3 shows3 in
               let priv4 = put_bytes c3.priv 56 key in
               let c4 = with_mark (with_priv c3 priv4 (q + 23 + 1) (1 ∷ [])) m in
-              let lp = length-put_bytes c3.priv 56 key in
+              let lp = length-put_bytes key c3.priv 56 in
               let shows4 : ShowsCall s call p1 c4 = shows_mark s call p (with_priv c3 priv4 (q + 23 + 1) (1 ∷ [])) m
               (shows_priv s call p c3 priv4 (q + 23 + 1) (1 ∷ []) shows3 lp (AllBytes-put_bytes c3.priv 56 key shows3.bytes)
-              (λ i kept. get-put_bytes_other c3.priv 56 key i (apart i kept (length key) (omega (arith, lk, g.0))))) in
+              (λ i kept. put_other key c3.priv 56 i (apart i kept (length key) (omega (arith, lk, g.0))))) in
               let read : bytes_from priv4 56 16 ≡ key = ap (bytes_from priv4 56) (omega (arith, lk, g.0)) ∙ bytes_from_put c3.priv 56 key isk (omega (arith, lk, room)) in
-              let index4 : word priv4 74 ≡ 12 * j = word_same c3.priv priv4 74 74 refl refl (get-put_bytes_other c3.priv 56 key 74 (inr (omega (arith, lk))))
-              (get-put_bytes_other c3.priv 56 key 75 (inr (omega (arith, lk)))) ∙ index3 in
-              let field4 : word priv4 18 ≡ field_in packet = word_same c3.priv priv4 18 18 refl refl (get-put_bytes_other c3.priv 56 key 18 (inl (omega arith)))
-              (get-put_bytes_other c3.priv 56 key 19 (inl (omega arith))) ∙ holds_word c3.priv packet 2 refl (omega (arith, len)) holds3 in
+              let index4 : word priv4 74 ≡ 12 * j = word_same c3.priv priv4 74 74 refl refl (put_other key c3.priv 56 74 (inr (omega (arith, lk))))
+              (put_other key c3.priv 56 75 (inr (omega (arith, lk)))) ∙ index3 in
+              let field4 : word priv4 18 ≡ field_in packet = word_same c3.priv priv4 18 18 refl refl (put_other key c3.priv 56 18 (inl (omega arith)))
+              (put_other key c3.priv 56 19 (inl (omega arith))) ∙ holds_word c3.priv packet 2 refl (omega (arith, len)) holds3 in
               let rest = refuse_if (q + 24) is_opened_not other_tag ++ cases open_any (q + 29) 0 s.ends in
               let all : At code (q + 24) rest = subst (λ (x : ℕ). At code x rest) (omega arith) a1.1 in
               goes_on s call handle given code r (ir.Open 0 16 6 56 16) (at c3 (q + 23) []) c4 900 860 a1.0 does refl (omega arith)
