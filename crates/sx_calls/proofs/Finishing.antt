@@ -1,7 +1,6 @@
 -- The steps from a module's entry come to an end within the bound.
 use Rattle.std.proofs.Common.{◌≡◌, ℕ, ◌+◌, ◌≤◌, List, [], Some, sym, ◌∙◌, ap, arith}
 use Rattle.std.specs.Prelude.{slice_get}
-use Rattle.sx_lang.specs.declared.tree.DeviceKind.TheVariants as declared
 use Rattle.sx_lang.specs.Sizes.{module_cost}
 use Rattle.sx_mean.specs.Application.{declared_kind}
 use Rattle.sx_check.proofs.Accepted.{accepted}

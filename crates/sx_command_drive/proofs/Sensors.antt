@@ -1,12 +1,12 @@
 -- What a line of readings says is a reading of the deployment: a sensor that a module drives, with a value that it can have.
 use Rattle.std.proofs.Common.{◌≡◌, ◌∙◌, ◌||◌, ◌+◌, ◌<◌, ◌≤◌, ℕ, suc, Bool, true, false, List, [], ◌∷◌, length, map, Option, Some, None, Result, Ok, Err, refl, sym, ap, subst, arith}
-use Rattle.std.proofs.lemmas.Bool.Decides.{nat_tests}
 use Rattle.std.proofs.lemmas.List.{length-map}
 use Rattle.std.proofs.lemmas.List.Quantifiers.{position-Some}
-use Rattle.std.specs.Prelude.{IsSome, cond, if◌then◌else◌, is_some, nat_le, nat_lt, ok_or, option_and_then, option_map, slice_get, unwrap_or}
+use Rattle.std.specs.Prelude.{IsSome, cond, if◌then◌else◌, is_some, nat_lt, ok_or, option_and_then, option_map, slice_get}
 use Rattle.std.specs.List.{position_from}
 use Rattle.std.specs.Str.{bytes_eq}
-use Rattle.sx_io.specs.Numbers.{number_of, up_to, written_number}
+use Rattle.sx_lists.proofs.Lists.{get_some}
+use Rattle.sx_io.specs.Numbers.{number_of}
 use Rattle.sx_io.specs.Reading.{Answer, End, Long, Fault}
 use Rattle.sx_io.specs.Reading as answer
 use Rattle.sx_mean.specs.Application.{AppTree, PartTree}
@@ -16,10 +16,10 @@ use Rattle.sx_mean.specs.View.{part_as}
 use Rattle.sx_trace.specs.Names.{NameLists, if_sensor, place_of, sensor_place}
 use Rattle.sx_sched.specs.Reading.{is_comment}
 use Rattle.sx_sched.specs.Words.{one_word, words_of}
+use Rattle.sx_sched.proofs.Form.{number_within, sensor_get}
 use Rattle.sx_deploy.specs.Deployment.{Deployed}
 use Rattle.sx_deploy.specs.SeenDeployment.{deployed_as}
 use Rattle.sx_deploy.specs.declared.deployment.Deployment.{Deployment}
-use Rattle.sx_run.proofs.tie.Lists.{get_some}
 use Rattle.sx_drive.specs.Honest.{Callee, callee_at, driver_of as driver_in}
 use Rattle.sx_drive_laws.proofs.Tracking.{drivers_same}
 use Rattle.sx_drive.specs.Driving.{IsDrivenSensor}
@@ -34,14 +34,6 @@ use Rattle.sx_command_drive.proofs.Quiet.{AreReadings}
 ok_some : {A : Type 0} (o : Option A) (e : ℕ) (x : A) → ok_or o e ≡ Ok x → o ≡ Some x
 ok_some None e x h = absurd (cc h)
 ok_some (Some y) e x h = let same : y ≡ x = cc in ap (λ z. Some z) same
-
-sensor_get : (sensors : List Bool) (d i : ℕ) → if_sensor sensors d ≡ Some i → (d ≡ i) × (slice_get sensors d ≡ Some true)
-sensor_get sensors d i h = by_get (slice_get sensors d) refl h
-  where
-    by_get : (o : Option Bool) → slice_get sensors d ≡ o → (if unwrap_or o false then Some d else None) ≡ Some i → (d ≡ i) × (slice_get sensors d ≡ Some true)
-    by_get None e f = absurd (cc)
-    by_get (Some false) e f = absurd (cc)
-    by_get (Some true) e f = (cc, e)
 
 -- a sensor that was found has a name
 record IsSensor (names : NameLists) (i : ℕ) : Type 0 where
@@ -98,18 +90,6 @@ sensor_given d word i h = by_place (sensor_place d.names word) refl (ok_some (op
         let driven = driven_by d.app k i (driver_in d.app k) refl (sym (drivers_alike d.app k) ∙ f) in
         let is = sensor_there d.names word k e in
         subst (λ (n : ℕ). IsDrivenSensor d n) driven.0 (record { there = is.there; sensor = is.sensor; driven = driven.1 })
-
-within : (limit : ℕ) (o : Option ℕ) (k : ℕ) → up_to limit o ≡ Some k → k ≤ limit
-within limit None k h = absurd (cc h)
-within limit (Some m) k h = by_test (nat_le m limit) refl h
-  where
-    by_test : (t : Bool) → nat_le m limit ≡ t → (if t then Some m else None) ≡ Some k → k ≤ limit
-    by_test true e f = let same : m ≡ k = cc in let fits : m ≤ limit = grind (arith, nat_tests, e) in omega arith
-    by_test false e f = absurd (cc)
-
-number_within : (word : List ℕ) (limit k : ℕ) → number_of word limit ≡ Some k → k ≤ limit
-unfolding number_of
-number_within word limit k h = within limit (written_number word) k h
 
 value_given : (word : List ℕ) (value : ℕ) → value_in word ≡ Ok value → value < 32768
 value_given word value h = let few : value ≤ 32767 = number_within word 32767 value (ok_some (number_of word 32767) no_value value h) in omega (arith, few)

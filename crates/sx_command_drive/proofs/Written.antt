@@ -27,10 +27,6 @@ ended_short h stop e = ap (λ (b : Bool). if b then long_output else stop_output
 pub ended_long : (h : Honest) (stop : Stop) → h.long ≡ true → ended_output h stop ≡ long_output
 ended_long h stop e = ap (λ (b : Bool). if b then long_output else stop_output h.world.steps stop) e
 
--- nothing was said, and the run ended so
-nothing_said : (names : NameLists) (h : Honest) (stop : Stop) → h.long ≡ false → told_run names (record { honest = h; said = [] }) stop ≡ stop_output h.world.steps stop
-nothing_said names h stop e = ended_short h stop e
-
 -- what a part says stands before what the rest says
 said_then : (names : NameLists) (a b : Driven) (o : Output) → behind (said_text names (a.said ++ b.said)) o ≡ behind (said_text names a.said) (behind (said_text names b.said) o)
 said_then names a b o =

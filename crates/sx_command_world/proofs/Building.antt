@@ -4,6 +4,7 @@ use Rattle.std.proofs.Common.{Option, Some, None, nat_lt, zero, suc, Result, Ok,
 use Rattle.std.specs.Prelude.{slice_get, slice_index_or}
 use Rattle.std.specs.List.{list_any}
 use Rattle.std.proofs.lemmas.Bool.{ltb-false, or_parts}
+use Rattle.sx_lists.proofs.Lists.{get_some}
 use Rattle.sx_lang.specs.Tree.{Statement, Defines, Assigns, Stores, Chooses, Repeats, Sends, Emits, Block, Done, Then, ModuleTree, HandlerTree}
 use Rattle.sx_lang.specs.declared.tree.Decl.{Decl}
 use Rattle.sx_rules.specs.declared.section.Layout.{Layout}
@@ -26,7 +27,7 @@ use Rattle.sx_image.specs.Realizes.{Realizes}
 use Rattle.sx_lower.specs.Lowering.{SendFew}
 use Rattle.sx_compile.specs.Compiled.{HasSections, compiled_text}
 use Rattle.sx_run.proofs.accepted.LaidSites.{laid_long, laid_at}
-use Rattle.sx_run.proofs.tie.Lists.{get_some, get_within, some_inj}
+use Rattle.sx_run.proofs.tie.Lists.{get_within, some_inj}
 use Rattle.sx_run.specs.Accepted.{AreByteTexts, AreImages}
 use Rattle.sx_command_world.specs.Built.{AreBuilt, BuiltAt, IsBuilt, texts_from}
 use Rattle.sx_command_world.specs.Compiled.{compiled_texts}

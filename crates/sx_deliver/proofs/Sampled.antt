@@ -44,9 +44,9 @@ use Rattle.sx_run.proofs.acts.Sensing.{place_is}
 use Rattle.sx_run.proofs.steps.Fits.{drivers_fit}
 use Rattle.sx_run.proofs.steps.Nodes.{index_get, shapes_long, windows_long}
 use Rattle.sx_run.proofs.steps.Steps.{increasing}
-use Rattle.sx_run.proofs.tie.Lists.{get_some, get_within, some_inj}
+use Rattle.sx_run.proofs.tie.Lists.{get_within, some_inj}
 use Rattle.sx_run.proofs.tie.Tied.{IsModule, NodeTied, OwnSensor}
-use Rattle.sx_lists.proofs.Lists.{get_same}
+use Rattle.sx_lists.proofs.Lists.{get_same, get_some}
 use Rattle.sx_gives.specs.Effect.{Effect, acts_made}
 use Rattle.sx_gives.proofs.Few.{few_made}
 use Rattle.sx_calls.specs.Calls.{setup_of}

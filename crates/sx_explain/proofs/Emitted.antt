@@ -30,7 +30,7 @@ use Rattle.sx_model.specs.Changes.{with_pending}
 use Rattle.sx_model.proofs.Emits.{emits_to}
 use Rattle.sx_model.proofs.Idle.{idle_is}
 use Rattle.sx_model.proofs.OutsAreCaused.{present_elsewhere}
-use Rattle.sx_explain.specs.Causes.{Reacts, emits_of, event_of, out_of, outs_of}
+use Rattle.sx_explain.specs.Causes.{Reacts, emits_of, out_of, outs_of}
 use Rattle.sx_explain.proofs.After.{after_more}
 
 -- What the acts of an event emit.

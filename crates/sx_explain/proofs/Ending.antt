@@ -1,5 +1,5 @@
 -- What a judge's call comes to.
-use Rattle.std.proofs.Common.{◌≡◌, ◌||◌, Bool, List, false, true, None, Result, Ok, Err, refl, sym, ap, ◌∙◌, subst}
+use Rattle.std.proofs.Common.{◌≡◌, List, false, None, Result, Ok, Err, sym, ap, ◌∙◌, subst}
 use Rattle.std.specs.Prelude.{IfOk, OnErr, OnOk}
 use Rattle.std.proofs.lemmas.Result.{IfOk-weaker, on_err_weaker}
 use Rattle.sx_mean.specs.Application.{AppTree}
@@ -9,10 +9,6 @@ use Rattle.sx_explain.specs.declared.judge.Judged.{Judged}
 use Rattle.sx_explain.specs.Judging.{judged}
 use Rattle.sx_explain.specs.Followed.{items_after, FillsFor, Follows, IsFullFor, Seen, Stands, answered, taken_in}
 use Rattle.sx_explain.proofs.Following.{answers, caught_up, follows, same_forged}
-
-pub wants_late : (a b : Bool) → b ≡ true → (a || b) ≡ true
-wants_late true b e = refl
-wants_late false b e = e
 
 module _ (app : AppTree) (items : List Item) (item : Item) (old mid new : Seen) (h : Follows app items old) (e : old.has_forged ≡ false)
     (is : mid ≡ record old { causes = mid.causes; behind = None }) (fills : FillsFor old.behind old.model.sent old.causes mid.causes) (all : IsFullFor old.behind app.links old.model mid.causes) where

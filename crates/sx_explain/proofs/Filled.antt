@@ -232,12 +232,6 @@ links_more n links s m start a b count ends more l d h lt is f full size = recor
   ];
 }
 
-none_left : (links : List Link) (count : ℕ) → length links ≤ count → drop count links ≡ []
-none_left [] zero h = refl
-none_left [] (suc count) h = refl
-none_left (l ∷ ls) zero h = absurd (omega (arith, h))
-none_left (l ∷ ls) (suc count) h = none_left ls count (omega (arith, h))
-
 -- one number more
 pub fill_turn : (n count at : ℕ) (xs start ys : List ℕ) → (full n count xs ≡ full n count start) × (length xs ≡ at) → at < count → ys ≡ xs ++ n ∷ []
     → (full n count ys ≡ full n count start) × (length ys ≡ at + 1)

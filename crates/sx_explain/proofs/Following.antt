@@ -6,6 +6,7 @@ use Rattle.std.specs.List.{list_any}
 use Rattle.std.proofs.lemmas.Bool.{cases_eq, cases_lt, eq-eqb, eqb-true, ne_eqb, and_parts}
 use Rattle.std.proofs.lemmas.List.{append-nil, length-append, length-replicate, length-set}
 use Rattle.std.proofs.lemmas.Option.{same_Some, slice_get_past, slice_get_within}
+use Rattle.sx_lists.proofs.Truths.{or_none}
 use Rattle.sx_mean.specs.declared.events.Act.{Act}
 use Rattle.sx_mean.specs.declared.events.Act.TheVariants.{Send, Emit}
 use Rattle.sx_mean.specs.declared.events.End.{End}
@@ -50,11 +51,7 @@ latest_more test n (i ∷ is) item =
     at false = refl
 
 pub any_more : (test : Item → Bool) (items : List Item) (item : Item) → list_any test items ≡ false → list_any test (items ++ item ∷ []) ≡ test item
-any_more test [] item h = at (test item)
-  where
-    at : (b : Bool) → (b || false) ≡ b
-    at true = refl
-    at false = refl
+any_more test [] item h = or_none (test item)
 any_more test (i ∷ is) item h = at (test i) h (any_more test is item)
   where
     at : (b : Bool) → (b || list_any test is) ≡ false → (list_any test is ≡ false → list_any test (is ++ item ∷ []) ≡ test item) → (b || list_any test (is ++ item ∷ [])) ≡ test item
@@ -491,9 +488,6 @@ said_after items None item = at (is_forged item)
     at : (b : Bool) → items_after items item (if b then verdict.Forged else verdict.Fine) ≡ items ++ item ∷ []
     at true = refl
     at false = refl
-
-pub unjudged : (app : AppTree) (items : List Item) (item : Item) (j : Seen) → Follows app items j → j.has_forged ≡ true → judged app items item ≡ verdict.Unjudged
-unjudged app items item j h e = let f : list_any is_forged items ≡ true = (sym h.forged ∙ e) in rw f refl
 
 pub unjudged_follows : (app : AppTree) (items : List Item) (item : Item) (j : Seen) → Follows app items j → j.has_forged ≡ true → Follows app (items ++ item ∷ []) j
 unjudged_follows app items item j h e =

@@ -18,6 +18,7 @@ use Rattle.sx_machine.specs.Events.{Says}
 use Rattle.sx_machine.proofs.Meanings.{steps_say}
 use Rattle.sx_rules.specs.Access.{holder}
 use Rattle.std.specs.Prelude.{slice_index}
+use Rattle.std.proofs.lemmas.List.{append_assoc}
 use Rattle.sx_run.specs.Setting.{Site, Setting}
 use Rattle.sx_run.specs.State.{World, Acted}
 use Rattle.sx_run.specs.Acts.{only, then_, at_node, after_step}
@@ -64,17 +65,13 @@ reset_shows mac a p = boot_shows mac a (attempt mac a) (steps_say mac a p)
 then_same : (a : Acted) (f g : World → Acted) → f a.world ≡ g a.world → then_ a f ≡ then_ a g
 then_same a f g e = ap (λ (z : Acted). record { world = z.world; items = a.items ++ z.items }) e
 
-append_all : (xs ys zs : List Item) → (xs ++ ys) ++ zs ≡ xs ++ (ys ++ zs)
-append_all [] ys zs = refl
-append_all (x ∷ xs) ys zs = ap (λ (r : List Item). x ∷ r) (append_all xs ys zs)
-
 append_none : (xs : List Item) → xs ++ [] ≡ xs
 append_none [] = refl
 append_none (x ∷ xs) = ap (λ (r : List Item). x ∷ r) (append_none xs)
 
 then_then : (a : Acted) (f g : World → Acted) → then_ (then_ a f) g ≡ then_ a (λ v. then_ (f v) g)
 then_then a f g =
-    ap (λ (items : List Item). record { world = (g (f a.world).world).world; items = items }) (append_all a.items (f a.world).items (g (f a.world).world).items)
+    ap (λ (items : List Item). record { world = (g (f a.world).world).world; items = items }) (append_assoc a.items (f a.world).items (g (f a.world).world).items)
 
 then_none : (a : Acted) → then_ a (λ v. only v []) ≡ a
 then_none a = ap (λ (items : List Item). record { world = a.world; items = items }) (append_none a.items)

@@ -24,10 +24,6 @@ front_none old due = ([], sym (append-nil old), (due, refl))
 pub front_same : (new old due : List Item) → new ≡ old → AddsFront old new due
 front_same new old due e = ([], e ∙ sym (append-nil old), (due, refl))
 
-pub err_same : {T E : Type 0} (r : Result T E) (new old due : List Item) → OnErr r (new ≡ old) → OnErr r (AddsFront old new due)
-err_same (Ok x) new old due e = tt
-err_same (Err w) new old due e = front_same new old due e
-
 -- and so whatever the ledger is
 pub due_none : {T E : Type 0} (r : Result T E) (old : List Entry) (before after : List Item) (due : List Made → Observed) → OnErr r (after ≡ before)
     → OnErr r (ObservesFront old before after due)

@@ -1,8 +1,8 @@
 -- The set of the ledger's entries holds what was made.
-use Rattle.std.proofs.Common.{◌≡◌, ◌↔◌, ℕ, inl, inr, ◌-◌, Bool, true, false, IsTrue, Result, Ok, Err, OnOk, List, [], ◌∷◌, ◌++◌, length, take, replicate, sym, subst, ap, ◌∙◌}
+use Rattle.std.proofs.Common.{◌≡◌, ℕ, inl, inr, ◌-◌, true, Result, Ok, Err, OnOk, List, [], ◌∷◌, ◌++◌, length, take, replicate, sym, subst, ap, ◌∙◌}
 use Rattle.std.specs.List.{Contains}
 use Rattle.std.proofs.Math.Seq.{take-append_seam}
-use Rattle.std.proofs.lemmas.Bool.{or_left, cases_Bool, true≢false}
+use Rattle.std.proofs.lemmas.Bool.{or_left}
 use Rattle.std.proofs.lemmas.List.Folds.{list_any-append}
 use Rattle.sx_ledger.specs.declared.entry.Entry.{Entry}
 use Rattle.sx_ledger.specs.Made.{Made}
@@ -38,16 +38,6 @@ recorded old new list m adds h = λ e short. (there e short, back e short)
       | inl o ↦ (adds (entry_of e)).1 (inl ((h e short).1 o))
       | inr s ↦ (adds (entry_of e)).1 (inr (ap entry_of s))
     ]
-
--- what the set says of an entry
-pub said : (entries : List Entry) (list : List Made) (m : Made) (b : Bool) → IsShort m → IsTrue b ↔ Contains entries (entry_of m) → Records entries list → b ≡ is_made list m
-said entries list m b short says h = elim (cases_Bool b) [
-  | inl t ↦ t ∙ sym ((h m short).0 (says.0 t))
-  | inr f ↦ elim (cases_Bool (is_made list m)) [
-    | inl t ↦ absurd (true≢false (sym (says.1 ((h m short).1 t)) ∙ f))
-    | inr g ↦ f ∙ sym g
-  ]
-]
 
 -- so it is where the entry found memory
 pub recorded_ok : {X E : Type 0} (r : Result X E) (old new : List Entry) (m : Made) (e : Entry) → e ≡ entry_of m → OnOk r (AddsEntry old new e)

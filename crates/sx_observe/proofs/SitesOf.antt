@@ -1,5 +1,5 @@
 -- The sites of a deployment's modules, one after the other.
-use Rattle.std.proofs.Common.{◌≡◌, ℕ, zero, suc, ◌+◌, ◌≤◌, List, [], ◌∷◌, ◌++◌, length, take, Some, refl, sym, ◌∙◌, ap, arith}
+use Rattle.std.proofs.Common.{◌≡◌, ℕ, zero, suc, ◌+◌, List, [], ◌∷◌, ◌++◌, length, take, Some, sym, ◌∙◌, ap, arith}
 use Rattle.std.specs.Prelude.{slice_get}
 use Rattle.sx_rules.specs.declared.section.Layout.{Layout}
 use Rattle.sx_mean.specs.Application.{PartTree}
@@ -16,12 +16,6 @@ take_next (y ∷ xs) zero x e = let same : y ≡ x = cc in ap (λ z. z ∷ []) s
 take_next (y ∷ xs) (suc m) x e =
     let next : suc m + 1 ≡ suc (m + 1) = omega arith in
     ap (λ (k : ℕ). take k (y ∷ xs)) next ∙ ap (λ r. y ∷ r) (take_next xs m x e)
-
-pub take_whole : {X : Type 0} (xs : List X) (m : ℕ) → length xs ≤ m → take m xs ≡ xs
-take_whole [] zero le = refl
-take_whole [] (suc m) le = refl
-take_whole (x ∷ xs) zero le = absurd (omega arith)
-take_whole (x ∷ xs) (suc m) le = ap (λ r. x ∷ r) (take_whole xs m (omega arith))
 
 -- Sites
 

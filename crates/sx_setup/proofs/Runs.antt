@@ -1,7 +1,7 @@
 -- Runs of lines, one after the other.
 use Rattle.std.proofs.Common.{◌≡◌, ℕ, List, [], ◌∷◌, ◌++◌, refl, sym, ◌∙◌, ap}
 use Rattle.std.specs.Prelude.{slice_set}
-use Rattle.std.proofs.lemmas.List.{set-set}
+use Rattle.std.proofs.lemmas.List.{set-set, append_assoc}
 use Rattle.sx_trace.specs.declared.items.Item.{Item}
 use Rattle.sx_machine.specs.State.{State}
 use Rattle.sx_sched.specs.Lines.{Line}
@@ -14,16 +14,12 @@ use Rattle.sx_run.specs.Run.{after_line, line_counted, run}
 use Rattle.sx_setup.proofs.forms.ByLine.{shown_by}
 use Rattle.sx_setup.proofs.forms.Served.{Moves}
 
-pub assoc : {X : Type 0} → (xs ys zs : List X) → (xs ++ ys) ++ zs ≡ xs ++ (ys ++ zs)
-assoc [] ys zs = refl
-assoc (x ∷ xs) ys zs = ap (λ r. x ∷ r) (assoc xs ys zs)
-
 pub run_append : (set : Setting) (xs ys : List Line) (w : World) → run set w (xs ++ ys) ≡ then_ (run set w xs) (λ v. run set v ys)
 run_append set [] ys w = refl
 run_append set (x ∷ xs) ys w =
     let a = after_line set (line_counted w) x in
     ap (λ (r : Acted). record { world = r.world; items = a.items ++ r.items }) (run_append set xs ys a.world)
-    ∙ ap (λ is. record { world = (run set (run set a.world xs).world ys).world; items = is }) (sym (assoc a.items (run set a.world xs).items (run set (run set a.world xs).world ys).items))
+    ∙ ap (λ is. record { world = (run set (run set a.world xs).world ys).world; items = is }) (sym (append_assoc a.items (run set a.world xs).items (run set (run set a.world xs).world ys).items))
 
 pub shown_append : (set : Setting) (xs ys : List Line) (w : World) → shown_by set w (xs ++ ys) ≡ shown_by set w xs ++ shown_by set (run set w xs).world ys
 shown_append set [] ys w = refl

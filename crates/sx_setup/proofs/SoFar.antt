@@ -27,8 +27,8 @@ use Rattle.sx_run.specs.Deployer.{key_of, list_at}
 use Rattle.sx_run.specs.State.{World}
 use Rattle.sx_run.specs.Law.{AreApartLayouts, IsSoundSetting, IsDeployedModule, devices_of}
 use Rattle.sx_run.proofs.steps.Entry.{shapes_on}
-use Rattle.sx_run.proofs.tie.Lists.{get_before, get_other, get_some, get_within, length_set, some_inj}
-use Rattle.sx_lists.proofs.Lists.{get_same, get_mid}
+use Rattle.sx_run.proofs.tie.Lists.{get_before, get_other, get_within, length_set, some_inj}
+use Rattle.sx_lists.proofs.Lists.{get_same, get_mid, get_some}
 use Rattle.sx_run.proofs.steps.Stretch.{set_same}
 use Rattle.sx_run.proofs.tie.Start.{zero_epochs}
 use Rattle.sx_run.proofs.acts.Bounds.{own_few}

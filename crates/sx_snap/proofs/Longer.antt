@@ -1,9 +1,10 @@
 -- The timeline without a line, and one with a line more.
 use Rattle.std.proofs.Common.{◌≡◌, ◌∙◌, ◌⊎◌, inl, inr, ℕ, zero, suc, ◌+◌, ◌-◌, ◌*◌, ◌<◌, ◌≤◌, List, [], ◌∷◌, ◌++◌, length, take, refl, sym, ap, subst, arith}
-use Rattle.std.proofs.Common.{false, Some, add-mul, mul-le-mul_right, length-append}
+use Rattle.std.proofs.Common.{false, Some, add-mul, mul-le-mul_right}
 use Rattle.std.specs.Prelude.{slice_get, OnErr, OnOk, Result, Ok, Err}
-use Rattle.std.proofs.lemmas.List.{take-append-le}
+use Rattle.std.proofs.lemmas.List.{take-append-le, length_push}
 use Rattle.std.proofs.lemmas.Option.{slice_get_within}
+use Rattle.std.proofs.Math.Seq.{take-length}
 use Rattle.sx_tag.specs.Mac.{Mac}
 use Rattle.sx_sched.specs.Lines.{Line}
 use Rattle.sx_sched.specs.InForm.{IsLine}
@@ -20,14 +21,6 @@ use Rattle.sx_snap.proofs.Stretches.{formed_more}
 take_none : (n : ℕ) → ◌≡◌ {A = List Line} (take n []) []
 take_none zero = refl
 take_none (suc n) = refl
-
--- all lines are the first of them that are as many
-pub take_all : (lines : List Line) → take (length lines) lines ≡ lines
-take_all [] = refl
-take_all (x ∷ lines) = ap (λ (xs : List Line). x ∷ xs) (take_all lines)
-
-one_longer : {X : Type 0} (xs : List X) (x : X) → length (xs ++ x ∷ []) ≡ length xs + 1
-one_longer xs x = length-append xs (x ∷ [])
 
 -- a further checkpoint leaves the first one
 pub first_kept : (checkpoints : List Held) (held : Held) → 1 ≤ length checkpoints → first_sites (checkpoints ++ held ∷ []) ≡ first_sites checkpoints
@@ -96,7 +89,7 @@ module _ (mac : Mac) (d : Deployed) where
   pub pushed : (t : Kept) (line : Line) → IsTimeline mac d t → IsLine d.names line → length t.lines < 65536 → length t.lines + 1 < length t.checkpoints * t.every
       → IsTimeline mac d (record { sites = t.sites; lines = t.lines ++ line ∷ []; every = t.every; checkpoints = t.checkpoints })
   pushed t line is form few room =
-      let long = one_longer t.lines line in
+      let long = length_push t.lines line in
       let last = is.last in
       record {
         some = is.some;
@@ -112,8 +105,8 @@ module _ (mac : Mac) (d : Deployed) where
       → length t.lines + 1 ≡ length t.checkpoints * t.every → StandsAfter (setting mac d t.sites) (t.lines ++ line ∷ []) held
       → IsTimeline mac d (record { sites = t.sites; lines = t.lines ++ line ∷ []; every = t.every; checkpoints = t.checkpoints ++ held ∷ [] })
   pushed_both t line held is form few full here =
-      let long = one_longer t.lines line in
-      let many = one_longer t.checkpoints held in
+      let long = length_push t.lines line in
+      let many = length_push t.checkpoints held in
       let times : length (t.checkpoints ++ held ∷ []) * t.every ≡ length t.checkpoints * t.every + 1 * t.every =
       ap (λ (n : ℕ). n * t.every) many ∙ add-mul (length t.checkpoints) 1 t.every in
       let some = is.some in
@@ -127,7 +120,7 @@ module _ (mac : Mac) (d : Deployed) where
           | inl old ↦ old_checkpoint t line i h is old
           | inr new ↦
               let whole : take (i * t.every) (t.lines ++ line ∷ []) ≡ t.lines ++ line ∷ [] =
-              ap (λ (n : ℕ). take n (t.lines ++ line ∷ [])) (ap (λ (n : ℕ). n * t.every) new.0 ∙ sym full ∙ sym long) ∙ take_all (t.lines ++ line ∷ []) in
+              ap (λ (n : ℕ). take n (t.lines ++ line ∷ [])) (ap (λ (n : ℕ). n * t.every) new.0 ∙ sym full ∙ sym long) ∙ take-length (t.lines ++ line ∷ []) in
               subst (λ (lines : List Line). StandsAfter (setting mac d t.sites) lines h) (sym whole)
               (subst (λ (w : Held). StandsAfter (setting mac d t.sites) (t.lines ++ line ∷ []) w) new.1 here)
         ];

@@ -1,5 +1,5 @@
 -- The lines that are written, given to `run`, give the same items.
-use Rattle.std.proofs.Common.{◌≡◌, ◌∙◌, List, ◌++◌, sym, ap}
+use Rattle.std.proofs.Common.{◌∙◌, List, ◌++◌, sym, ap}
 use Rattle.sx_told.specs.Told.{behind}
 use Rattle.sx_trace.specs.declared.items.Item.{Item}
 use Rattle.sx_run.specs.State.{switched_on}

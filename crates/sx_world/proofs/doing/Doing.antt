@@ -19,8 +19,8 @@ use Rattle.sx_run.specs.Acts.{at_node, with_node, done_on, or_refused}
 use Rattle.sx_world.specs.Held.{Running, Shows, Did, Wanted, ArePlaced, boots_of}
 use Rattle.sx_observe.specs.Observing.{Records}
 use Rattle.sx_observe.proofs.Fronts.{front_same}
-use Rattle.sx_run.proofs.tie.Lists.{get_other, get_some, some_inj, length_set}
-use Rattle.sx_lists.proofs.Lists.{get_same}
+use Rattle.sx_run.proofs.tie.Lists.{get_other, some_inj, length_set}
+use Rattle.sx_lists.proofs.Lists.{get_same, get_some}
 
 -- what is kept, with other nodes, another ledger, and another count of steps
 abbrev pub with_nodes : Running → List State → List Entry → ℕ → Running

@@ -2,16 +2,12 @@
 use Rattle.std.proofs.Common.{◌≡◌, ℕ, zero, suc, ◌+◌, ◌<◌, ◌==◌, cond, Bool, List, [], ◌∷◌, length, drop, Some, refl, sym, ap, ◌∙◌}
 use Rattle.std.specs.Prelude.{slice_get, if◌then◌else◌}
 use Rattle.std.specs.List.{position_from}
-use Rattle.std.proofs.lemmas.Bool.{eq-eqb, ne_eqb}
+use Rattle.std.proofs.lemmas.Bool.{eq-eqb}
 use Rattle.std.specs.Prelude.{unwrap_or}
+use Rattle.sx_lists.proofs.Lists.{get_some}
 use Rattle.sx_mean.specs.declared.apps.AppDevice.{AppDevice}
 use Rattle.sx_run.specs.Setting.{devices_at}
-use Rattle.sx_run.proofs.tie.Lists.{get_some, some_inj}
-
--- a device of another node
-pub none_before : (ds : List AppDevice) (n d i c : ℕ) (x : AppDevice) → (x.node ≡ n → ⊥)
-    → position_from (λ k. k == d) c (devices_at n i (x ∷ ds)) ≡ position_from (λ k. k == d) c (devices_at n (i + 1) ds)
-none_before ds n d i c x h = ap (λ (b : Bool). position_from (λ k. k == d) c (if b then i ∷ devices_at n (i + 1) ds else devices_at n (i + 1) ds)) (ne_eqb x.node n h)
+use Rattle.sx_run.proofs.tie.Lists.{some_inj}
 
 -- the d-th device itself
 pub found : (ds : List AppDevice) (n d c : ℕ) (x : AppDevice) → x.node ≡ n → position_from (λ k. k == d) c (devices_at n d (x ∷ ds)) ≡ Some c

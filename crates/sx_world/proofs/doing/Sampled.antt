@@ -3,6 +3,7 @@ use Rattle.std.proofs.Common.{◌≡◌, ℕ, zero, suc, ◌<◌, ◌≤◌, Boo
 use Rattle.std.specs.Prelude.{slice_get}
 use Rattle.std.proofs.lemmas.List.{append-nil}
 use Rattle.std.proofs.lemmas.Option.{slice_get_past}
+use Rattle.sx_lists.proofs.Lists.{get_some}
 use Rattle.sx_lang.specs.declared.tree.DeviceKind.{DeviceKind}
 use Rattle.sx_lang.specs.declared.tree.DeviceKind.TheVariants as declared_kind
 use Rattle.sx_mean.specs.declared.apps.AppDevice.{AppDevice}
@@ -24,7 +25,7 @@ use Rattle.sx_run.specs.Acts.{at_node, done_on}
 use Rattle.sx_world.specs.Held.{Running, Shows, Did, DoesAct}
 use Rattle.sx_run.specs.Accepted.{setting}
 use Rattle.sx_run.specs.Run.{place_at, sense_at}
-use Rattle.sx_run.proofs.tie.Lists.{get_some, get_within, some_inj}
+use Rattle.sx_run.proofs.tie.Lists.{get_within, some_inj}
 use Rattle.sx_run.proofs.acts.Sensing.{place_is}
 use Rattle.sx_run.proofs.steps.Steps.{increasing}
 use Rattle.sx_run.proofs.accepted.Windows.{own_device, shape_window}

@@ -7,6 +7,7 @@ use Rattle.std.proofs.lemmas.Bool.{true≢false}
 use Rattle.std.proofs.lemmas.List.{append_assoc}
 use Rattle.std.proofs.lemmas.Option.{none-some}
 use Rattle.std.specs.Option.{option_flatten}
+use Rattle.sx_lists.proofs.Lists.{get_some}
 use Rattle.sx_trace.specs.declared.items.Item.{Item}
 use Rattle.sx_trace.specs.declared.items.Item.TheVariants.{Attested, Denied}
 use Rattle.sx_ledger.specs.declared.entry.Maker.TheVariants as maker
@@ -24,7 +25,6 @@ use Rattle.sx_world.specs.Granted.{granted, accepted_ask, judged_by, confirmed}
 use Rattle.sx_world.specs.Held.{Running, IsKept, Shows, Wanted, DoesAct}
 use Rattle.sx_observe.specs.Observing.{Records, AddsFront}
 use Rattle.sx_observe.proofs.Fronts.{front_more, front_next, front_same}
-use Rattle.sx_run.proofs.tie.Lists.{get_some}
 use Rattle.sx_world.proofs.granting.SameKeys.{same_ask, same_boot, unknown_site, accepted_kept, same_accepts}
 use Rattle.sx_world.proofs.granting.SameGrants.{same_grants}
 use Rattle.sx_world.proofs.granting.Sent.{sent, deployer_shown}
@@ -97,9 +97,6 @@ seen set old k m boot n ask lt known kj aa w h = by_packet (slice_get old.packet
     Due : Type 0
     Due = (v : World) × Shows set (sent old old.packets k old.ledger) v
         × (confirmed set m boot ask (keeping.attested_at old.deployer m) v ≡ after_answer set w m boot (slice_get set.sites m) (slice_get w.packets n))
-
-    last : Option ℕ
-    last = keeping.attested_at old.deployer m
 
     by_site : (answer : List ℕ) → slice_get old.packets n ≡ Some answer → keeping.accepts set.mac old.deployer m boot answer ≡ true
         → k ≡ keeping.accepted old.deployer m boot → keeping.open_ask old.deployer m ≡ Some ask → (o : Option Site) → slice_get set.sites m ≡ o → Due

@@ -26,13 +26,13 @@ use Rattle.sx_observe.specs.Observing.{Records, Observes, ObservesFront}
 use Rattle.sx_run.specs.Accepted.{setting}
 use Rattle.sx_run.specs.Run.{is_reset, steps_of}
 use Rattle.sx_world.specs.Passing.{after_steps, AreQuiet, EndsWith, stepped, taken}
-use Rattle.sx_run.proofs.tie.Lists.{get_some, some_inj, length_set}
+use Rattle.sx_run.proofs.tie.Lists.{some_inj, length_set}
 use Rattle.sx_run.proofs.steps.Stretch.{set_same}
 use Rattle.sx_world.proofs.passing.Going.{Going, Steps, next, going_on, going_over, is_last}
 use Rattle.sx_run.proofs.acts.Bounds.{no_reset}
 use Rattle.sx_world.proofs.passing.Stepped.{step_does, program_did, program_wanted, seen_behind}
 use Rattle.sx_world.proofs.doing.Doing.{with_nodes}
-use Rattle.sx_lists.proofs.Lists.{get_same}
+use Rattle.sx_lists.proofs.Lists.{get_same, get_some}
 
 -- what a step shows that shows nothing
 abbrev nothing : Seen
@@ -146,18 +146,6 @@ all_passed mac d sites idle ends n all left k old now mid before came last going
     let left_by : mid ≡ stepped mac n k s now = leaves s found.1 ∙ ap (λ o. stepped mac n (taken k o) s now) no in
     subst (λ r. Going set (λ s. idle && (s.cur == 0)) ends n all 0 old r before came) (sym left_by)
     (going_quiet mac d sites idle ends n all left k 0 old now before came s going (omega (arith, same)) found.1 (quiet s found.1))
-
--- they are no more than were asked for
-pub taken_most : (mac : Mac) (all k : ℕ) (last : Option Seen) (s : State) → EndsWith mac all k last s → taken k last ≤ all
-taken_most mac all k None s e = omega (arith, e)
-taken_most mac all k (Some seen) s e = let lt = e.0 in omega (arith, lt)
-
--- what is kept of a struct whose view it is, after these steps
-pub as_passed : (old view : Running) (nodes : List State) (n : ℕ) (t : State) (many by : ℕ) → view ≡ old → nodes ≡ slice_set old.nodes n t → many ≡ by
-    → with_nodes view nodes view.ledger (view.steps + many) ≡ with_nodes old (slice_set old.nodes n t) old.ledger (old.steps + by)
-as_passed old view nodes n t many by v e m =
-    ap (λ ns. with_nodes view ns view.ledger (view.steps + many)) e ∙ ap (λ (k : Running). with_nodes k (slice_set old.nodes n t) k.ledger (k.steps + many)) v
-    ∙ ap (λ i. with_nodes old (slice_set old.nodes n t) old.ledger (old.steps + i)) m
 
 -- the node, read at its place
 pub node_there : (items old : List State) (n i : ℕ) (s node : State) → items ≡ old → slice_get old n ≡ Some s → i ≡ n → node ≡ get_or items i node → node ≡ s

@@ -1,12 +1,12 @@
 use Rattle.std.proofs.Common.{◌++◌, ◌∷◌, [], List, map, sym, ap, ◌∙◌, arith}
-use Rattle.std.proofs.lemmas.List.{map-append}
+use Rattle.std.proofs.lemmas.List.{map-append, take_all}
 use Rattle.sx_deploy.specs.SeenDeployment.{deployed_as}
 use Rattle.sx_deployer.specs.Keeping.{Known, known}
 use Rattle.sx_deployer.specs.declared.target.Target.{Target}
 use Rattle.sx_world.specs.Held.{targets_from}
 use Rattle.sx_run.specs.Accepted.{setting}
 use Rattle.sx_world.proofs.standing.Readying.{targets_long}
-use Rattle.sx_observe.proofs.SitesOf.{take_next, take_whole}
+use Rattle.sx_observe.proofs.SitesOf.{take_next}
 use Rattle.sx_world.proofs.targets.targets_of.Goals as goal
 
 pub loop-m-preserved : goal.loop-m-preserved
@@ -20,4 +20,4 @@ pub returns : goal.returns
 returns c = λ mac.
     let set = setting mac (deployed_as c.args.deployment.now) c.args.sites.now in
     let long = targets_long set 0 c.args.sites.now in
-    c.loop-m.invariant mac ∙ take_whole (targets_from set 0 c.args.sites.now) c.loop-m.m (omega (arith, long, c.loop-m-test.false))
+    c.loop-m.invariant mac ∙ take_all c.loop-m.m (targets_from set 0 c.args.sites.now) (omega (arith, long, c.loop-m-test.false))

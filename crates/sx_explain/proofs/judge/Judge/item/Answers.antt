@@ -1,10 +1,11 @@
 use Rattle.std.proofs.Common.{◌≡◌, ◌∙◌, false, true, is_some, refl, sym, ap}
 use Rattle.std.proofs.lemmas.Result.{on_err_weaker}
+use Rattle.std.proofs.lemmas.Bool.{or_right}
 use Rattle.sx_mean.specs.View.{app_as}
 use Rattle.sx_mean.proofs.ValidApplications.{valid_applications}
 use Rattle.sx_explain.specs.Followed.{Seen}
 use Rattle.sx_model.specs.Memory.{may_take_memory}
-use Rattle.sx_explain.proofs.Ending.{answer_is, err_is, follows_is, wants_late}
+use Rattle.sx_explain.proofs.Ending.{answer_is, err_is, follows_is}
 use Rattle.sx_explain.proofs.Following.{tried_up, unjudged_follows}
 use Rattle.sx_explain.proofs.judge.Judge.item.Goals as goal
 use Rattle.sx_lists.proofs.Results.{on_any_err}
@@ -41,7 +42,7 @@ returns-clause-memory c = on_err_weaker c.judge_next.result (λ e. rw e refl) c.
 
 pub returns-in_err-catch_up-clause-memory : goal.returns-in_err-catch_up-clause-memory
 returns-in_err-catch_up-clause-memory c =
-    on_any_err c.from_residual.result (wants_late (may_take_memory c.args.item.now) (is_some c.args.self.now.behind) c.in_err-catch_up.ensures.memory)
+    on_any_err c.from_residual.result (or_right (may_take_memory c.args.item.now) (is_some c.args.self.now.behind) c.in_err-catch_up.ensures.memory)
 
 pub returns-then-self-clause-follows : goal.returns-then-self-clause-follows
 returns-then-self-clause-follows c items h =

@@ -1,5 +1,6 @@
 use Rattle.std.proofs.Common.{◌≡◌, ◌+◌, ◌*◌, ◌≤◌, ◌∙◌, ℕ, List, length, take, ap, arith, subst, sym}
 use Rattle.std.proofs.lemmas.List.{length-map}
+use Rattle.std.proofs.Math.Seq.{take-length}
 use Rattle.sx_deploy.specs.SeenDeployment.{deployed_as}
 use Rattle.sx_sched.specs.Lines.{Line}
 use Rattle.sx_sched.specs.Seen.{line_of}
@@ -10,7 +11,6 @@ use Rattle.sx_world.specs.Whole.{next}
 use Rattle.sx_world.specs.Standing.{Stands}
 use Rattle.sx_snap.specs.Kept.{Kept}
 use Rattle.sx_snap.specs.Checkpoints.{StandsAfter}
-use Rattle.sx_snap.proofs.Longer.{take_all}
 use Rattle.sx_snap.proofs.Stretches.{one_more}
 use Rattle.sx_snap.proofs.timeline.Timeline.next_checkpoint.Goals as goal
 
@@ -30,7 +30,7 @@ returns g c =
     let above : length t.checkpoints * t.every ≤ length t.lines + 1 = grind (arith, times, long, c.if-len-self.false) in
     let next_one = c.requires.timeline.next in
     let Q : List Line → Type 0 = λ ls. StandsAfter set ls world in
-    let here : StandsAfter set t.lines world = subst Q (ap (λ (n : ℕ). take n t.lines) c.count-long.ensures ∙ take_all t.lines) c.in_ok-world.ensures in
+    let here : StandsAfter set t.lines world = subst Q (ap (λ (n : ℕ). take n t.lines) c.count-long.ensures ∙ take-length t.lines) c.in_ok-world.ensures in
     let P : List Site → Type 0 = λ sites. (w : World) → Stands (setting mac d sites) world w → Stands (setting mac d sites) left (next (setting mac d sites) w line).world in
     let acts = subst P here.sites (λ w stands. (c.in_ok-act.ensures.acted w stands).0) in
     (omega (arith, above, next_one), one_more set t.lines line world left here acts c.act.ensures.sites c.in_ok-act.ensures.counts c.in_ok-act.ensures.goes_on)

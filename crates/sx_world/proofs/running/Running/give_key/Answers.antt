@@ -1,4 +1,4 @@
-use Rattle.std.proofs.Common.{rules, map, List, refl, sym, subst, ◌∙◌}
+use Rattle.std.proofs.Common.{map, List, refl, sym, subst, ◌∙◌}
 use Rattle.std.specs.Prelude.{slice_get}
 use Rattle.std.proofs.lemmas.List.{length-map}
 use Rattle.sx_deploy.specs.SeenDeployment.{deployed_as}
