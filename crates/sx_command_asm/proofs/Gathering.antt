@@ -9,16 +9,15 @@ use Rattle.sx_io.specs.Streams.{SourceAt}
 use Rattle.sx_io.specs.Reading.{Answer, Line, longest, newline}
 use Rattle.sx_io.specs.Next.{Ahead, Next}
 use Rattle.sx_io.specs.declared.lines.LineRead.TheVariants as read
-use Rattle.sx_io.specs.declared.lines.ReaderState.TheVariants.{Open}
 use Rattle.sx_told.specs.Reads.{Reads, anything}
 use Rattle.sx_told.specs.Got.{Got}
-use Rattle.sx_told.proofs.Takings.{got-new, got-line, got-same, reads-map, reads-stop, reads-end, reads-too-long, reads-failed}
+use Rattle.sx_told.proofs.Takings.{got-line, got-same, reads-map, reads-stop, reads-end, reads-too-long, reads-failed}
 use Rattle.sx_head.proofs.Turns.{alone}
 use Rattle.sx_command_asm.specs.declared.assembling.GatheredText.{GatheredText}
 use Rattle.sx_command_asm.specs.declared.assembling.GatherFault.{GatherFault}
 use Rattle.sx_command_asm.specs.declared.assembling.GatherFault.TheVariants as fault
 use Rattle.sx_command_asm.specs.Gathering.{Gathers}
-use Rattle.sx_command_asm.specs.Assembling.{Gathered, nothing, broken_at, with_line, Whole, Unread, asm_lines, most_bytes, gather, input}
+use Rattle.sx_command_asm.specs.Assembling.{Gathered, broken_at, with_line, Whole, Unread, asm_lines, most_bytes, gather, input}
 
 -- this many lines have come, and this many bytes, and this was gathered of them
 abbrev pub Come : Bool → SourceAt → SourceAt → Ahead → ℕ → ℕ → Gathered → Type 0
@@ -35,10 +34,6 @@ pub whole_as : {tells : Bool} {s0 s1 : SourceAt} (g other : Gathered) → g ≡ 
     → Reads tells asm_lines s0 s1 input Unread (λ answers. input answers ≡ Whole other)
 whole_as {tells} {s0} {s1} g other e r =
     let P : Gathered → Type 0 = λ v. Reads tells asm_lines s0 s1 input Unread (λ answers. input answers ≡ Whole v) in subst P e r
-
-pub come_new : {tells : Bool} {s : SourceAt} (a : Ahead) (g : Gathered) → a ≡ record { held = []; state = Open } → g ≡ nothing
-    → Come tells s s a 1 0 g
-come_new a g e h = come_as nothing g (sym h) (got-new asm_lines a input e)
 
 -- ---- a line is added
 

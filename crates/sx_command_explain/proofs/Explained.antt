@@ -1,5 +1,5 @@
 -- What is said of a whole trace.
-use Rattle.std.proofs.Common.{◌≡◌, ◌∙◌, ℕ, ◌+◌, ◌||◌, Bool, true, false, List, [], ◌∷◌, ◌++◌, length, Option, Some, None, refl, sym, ap, subst, append_assoc}
+use Rattle.std.proofs.Common.{◌≡◌, ◌∙◌, ℕ, ◌+◌, Bool, true, false, List, [], ◌∷◌, ◌++◌, length, Option, Some, None, refl, sym, ap, subst, append_assoc}
 use Rattle.std.specs.Prelude.{if◌then◌else◌, is_none, IsSome}
 use Rattle.std.specs.List.{list_any}
 use Rattle.std.proofs.lemmas.List.{append-nil}
@@ -15,6 +15,7 @@ use Rattle.sx_explain.specs.Causes.{cause}
 use Rattle.sx_explain.specs.Judging.{said}
 use Rattle.sx_explain.specs.declared.judge.Judged.TheVariants as verdict
 use Rattle.sx_explain.proofs.After.{after_more}
+use Rattle.sx_explain.proofs.Explained.{none_front}
 use Rattle.sx_explain.proofs.Following.{any_more, any_still}
 use Rattle.sx_explain.proofs.JudgesLegal.{allowed_next, is_not_none, judged_is, legal_front}
 use Rattle.sx_command_explain.specs.Explain.{explain_from, illegal_output, stop_output, told_item, told_items}
@@ -65,14 +66,6 @@ module _ (app : AppTree) (last : Output) where
           one_more front i is (causes_text app (front ++ i ∷ []) (before is)) last f g some
           (more (any_more is_forged front i f ∙ g) (subst (λ xs. IsSome (after app (power_on app) xs)) (sym (append_assoc front (i ∷ []) (before is))) legal))
 
-  none_in : (xs ys : List Item) → list_any is_forged (xs ++ ys) ≡ false → list_any is_forged xs ≡ false
-  none_in [] ys h = refl
-  none_in (x ∷ xs) ys h = at (is_forged x) h (none_in xs ys)
-    where
-      at : (b : Bool) → (b || list_any is_forged (xs ++ ys)) ≡ false → (list_any is_forged (xs ++ ys) ≡ false → list_any is_forged xs ≡ false) → (b || list_any is_forged xs) ≡ false
-      at true h more = absurd cc
-      at false h more = more h
-
   some_of_is : (o : Option Model) (s : Model) → o ≡ Some s → IsSome o
   some_of_is o s e = subst (λ o. IsSome o) (sym e) refl
 
@@ -88,8 +81,8 @@ module _ (app : AppTree) (last : Output) where
       ∙ ap (λ (xs : List Item). illegal_output (length xs + 1)) (sym whole)
   illegal_told front (x ∷ seen) i rest s f ran refused =
       let moved : (front ++ x ∷ []) ++ seen ≡ front ++ x ∷ seen = append_assoc front (x ∷ []) seen in
-      let forged : list_any is_forged (front ++ x ∷ []) ≡ false = none_in (front ++ x ∷ []) seen (ap (λ xs. list_any is_forged xs) moved ∙ f) in
-      let first : list_any is_forged front ≡ false = none_in front (x ∷ []) forged in
+      let forged : list_any is_forged (front ++ x ∷ []) ≡ false = none_front (front ++ x ∷ []) seen (ap (λ xs. list_any is_forged xs) moved ∙ f) in
+      let first : list_any is_forged front ≡ false = none_front front (x ∷ []) forged in
       let there : after app (power_on app) ((front ++ x ∷ []) ++ seen) ≡ Some s = (ap (λ xs. after app (power_on app) xs) moved ∙ ran) in
       one_more front x (seen ++ i ∷ rest) (causes_text app (front ++ x ∷ []) seen) (illegal_output (length (front ++ x ∷ seen) + 1)) first (sym (any_more is_forged front x first) ∙ forged)
       (legal_front app (front ++ x ∷ []) seen (power_on app) (some_of_is (after app (power_on app) ((front ++ x ∷ []) ++ seen)) s there))

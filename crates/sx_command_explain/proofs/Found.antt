@@ -1,6 +1,6 @@
 -- Which item has a line: there is one answer, and one alone.
 use Rattle.std.proofs.Common.{◌≡◌, ◌∙◌, ◌⊎◌, inl, inr, ◌<◌, ◌^◌, ℕ, Bool, true, false, List, length, Option, Some, None, sym, ap, refl, subst, arith}
-use Rattle.std.specs.Prelude.{IsTrue, MatchOption}
+use Rattle.std.specs.Prelude.{IsTrue}
 use Rattle.std.proofs.lemmas.Bool.{cases_lt}
 use Rattle.std.proofs.lemmas.Slice.Eq.{bytes_eq-Decides}
 use Rattle.std.specs.Str.{bytes_eq}
@@ -9,7 +9,7 @@ use Rattle.sx_trace.specs.declared.items.Item.TheVariants.{Reset, Protect, Sense
 use Rattle.sx_trace.specs.Names.{NameLists}
 use Rattle.sx_trace.specs.ValidNames.{are_valid}
 use Rattle.sx_trace.specs.Items.{item_text}
-use Rattle.sx_trace.specs.KnownItems.{IsIndexOrNone, IsItem, IsNamedItem, IsNoItem, IsSizedItem}
+use Rattle.sx_trace.specs.KnownItems.{IsIndexOrNone, IsItem, IsNamedItem, IsSizedItem}
 use Rattle.sx_trace.specs.Finding.{item_in}
 use Rattle.sx_trace.proofs.ItemsDiffer.{found_only, items_differ}
 use Rattle.sx_command_head.proofs.Known.{known, is_known}

@@ -17,10 +17,10 @@ use Rattle.sx_told.specs.Reads.{Asked, Enough}
 use Rattle.sx_told.specs.Got.{Follows, HoldsBehind}
 use Rattle.sx_told.specs.Told.{CommandAt, CommandEnds, Output, Told, behind, command_at, unread_output, write_failed}
 use Rattle.sx_told.specs.Parts.{Begun}
+use Rattle.sx_told.proofs.Takings.{holds-open, open-not-at-end}
 use Rattle.sx_told.proofs.Laws.{begun-line, begun-put, ends-behind, ends-same, ends-write-failed, prefix-more, told-stop}
 use Rattle.sx_command_explain.specs.Trace.{trace_lines}
 use Rattle.sx_command.specs.Batch.{WritesPrefix}
-use Rattle.sx_command_head.proofs.Given.{not_at_end}
 use Rattle.sx_command_explain.specs.Turns.{ComesNext, Puts, WasHeld, Wrote}
 
 -- all that is kept was written, or not
@@ -151,10 +151,6 @@ follows_open : (limit : Limit) (lines : List ℕ) (F f : List Answer → Output)
     → (e : Ending) (more : List ℕ) → F (scan limit e [] (lines ++ more)) ≡ f (scan trace_lines e [] more)
 follows_open limit lines F f s o w = let P : ReaderState → Type 0 = λ t. Follows t limit trace_lines lines F f in subst P o w
 
-holds_open : (limit : Limit) (lines : List ℕ) (also : List Answer → Type 0) (s : ReaderState) → s ≡ reader.Open → HoldsBehind s limit lines also
-    → (e : Ending) (more : List ℕ) → also (scan limit e [] (lines ++ more))
-holds_open limit lines also s o w = let P : ReaderState → Type 0 = λ t. HoldsBehind t limit lines also in subst P o w
-
 -- what was written where the command ends
 record PartOf (to_tell : Bool) (k0 k2 : SinkAt) (said : List ℕ) : Type 0 where
   pub part : List ℕ
@@ -184,7 +180,7 @@ waits_stop {tells} {to_tell} {limit} {m0} {s} {k1} {k2} {now} {defined} {kept} {
           let held : List ℕ = given.old.held in
           let part = part_of to_tell m0.sink k1 k2 b.said b.part status (behind kept (f [])) b.wrote (ends []) in
           let to_come = follows_open limit lines defined (λ answers. behind text (given.before answers)) given.old.state given.opened b.got.follows in
-          let hold = holds_open limit lines also given.old.state given.opened b.got.holds in
+          let hold = holds-open limit lines also given.old.state given.opened b.got.holds in
           let same : (e : Ending) (more : List ℕ) → defined (scan limit e [] ((lines ++ held) ++ more)) ≡ behind text (behind kept (f (scan trace_lines e [] (now.held ++ more)))) =
           λ e more. ap (λ (v : List ℕ). defined (scan limit e [] v)) (append_assoc lines held more) ∙ to_come e (held ++ more)
           ∙ ap (λ (v : List ℕ). behind text (given.before (scan trace_lines e [] v))) (ap (λ (v : List ℕ). v ++ more) given.held ∙ append_assoc given.lines now.held more)
@@ -199,7 +195,7 @@ waits_stop {tells} {to_tell} {limit} {m0} {s} {k1} {k2} {now} {defined} {kept} {
               left = Enough;
               decides = (
                 b.got.no_fault,
-                λ i. b.got.no_end (not_at_end given.old.state given.opened) i,
+                λ i. b.got.no_end (open-not-at-end given.old.state given.opened) i,
                 λ e more. (
                   ends-same to_tell m0.sink k2 status _ _ (same e more)
                       (ends-behind to_tell m0.sink k1 k2 text status (behind kept (f (scan trace_lines e [] (now.held ++ more)))) b.wrote b.no_fault (ends (scan trace_lines e [] (now.held ++ more)))),
@@ -253,7 +249,7 @@ waits_written {tells} {to_tell} {limit} {m0} {s} {k1} {k2} {now} {defined} {kept
           let first : List ℕ = b.got.before ++ b.got.line in
           let all : List ℕ = first ++ given.lines in
           let to_come = follows_open limit first defined (λ answers. behind text (given.before answers)) given.old.state given.opened b.got.follows in
-          let hold = holds_open limit first also given.old.state given.opened b.got.holds in
+          let hold = holds-open limit first also given.old.state given.opened b.got.holds in
           let parts : (more : List ℕ) → (all ++ []) ++ more ≡ first ++ (given.lines ++ more) =
           λ more. ap (λ (v : List ℕ). v ++ more) (append-nil all) ∙ append_assoc first given.lines more in
           let P : ReaderState → Type 0 = λ st. Follows st limit trace_lines (all ++ []) defined (λ answers. behind ((text ++ kept) ++ []) (f answers)) in
@@ -278,8 +274,8 @@ waits_written {tells} {to_tell} {limit} {m0} {s} {k1} {k2} {now} {defined} {kept
               due = ap (λ (v : List ℕ). defined (scan limit Broken [] (first ++ v))) (sym (append-nil given.lines)) ∙ to_come Broken (given.lines ++ [])
                   ∙ ap (behind text) (given.same Broken [] ∙ ap (behind kept) unread) ∙ joined text kept unread_output;
               no_fault = b.got.no_fault;
-              at_end = λ e. absurd (not_at_end now.state given.still e);
-              no_end = λ e i. b.got.no_end (not_at_end given.old.state given.opened) i;
+              at_end = λ e. absurd (open-not-at-end now.state given.still e);
+              no_end = λ e i. b.got.no_end (open-not-at-end given.old.state given.opened) i;
               asked = λ i. asked_more m0.source s b.got.before b.got.line given.lines (b.got.asked i);
             };
           }

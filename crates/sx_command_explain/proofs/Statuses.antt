@@ -169,18 +169,14 @@ item_zero number verdict.Fine rest e = (λ h. cc h, e)
 item_zero number verdict.Forged rest e = (λ h. cc h, e)
 item_zero number verdict.Unjudged rest e = (λ h. cc h, e)
 
-first_same : (a b : Item) (xs ys : List Item) → a ∷ xs ≡ b ∷ ys → a ≡ b
-first_same a b xs ys e = cc e
-
-rest_same : (a b : Item) (xs ys : List Item) → a ∷ xs ≡ b ∷ ys → xs ≡ ys
-rest_same a b xs ys e = cc e
-
 none_more : (app : AppTree) (seen : List Item) (i : Item) (is : List Item) → (judged app seen i ≡ verdict.Illegal → ⊥) → NoneFrom app (seen ++ i ∷ []) is → NoneFrom app seen (i ∷ is)
 none_more app seen i is here rest [] behind item e h =
-    here (ap (judged app seen) (first_same i item is behind e) ∙ ap (λ xs. judged app xs item) (sym (append-nil seen)) ∙ h)
+    let first : i ≡ item = cc e in
+    here (ap (judged app seen) first ∙ ap (λ xs. judged app xs item) (sym (append-nil seen)) ∙ h)
 none_more app seen i is here rest (f ∷ fs) behind item e h =
-    rest fs behind item (rest_same i f is (fs ++ item ∷ behind) e)
-    (ap (λ xs. judged app xs item) (append_assoc seen (i ∷ []) fs ∙ ap (λ (x : Item). seen ++ x ∷ fs) (first_same i f is (fs ++ item ∷ behind) e)) ∙ h)
+    let first : i ≡ f = cc e in
+    rest fs behind item (cc e)
+    (ap (λ xs. judged app xs item) (append_assoc seen (i ∷ []) fs ∙ ap (λ (x : Item). seen ++ x ∷ fs) first) ∙ h)
 
 nothing_in : (front behind : List Item) (item : Item) → [] ≡ front ++ item ∷ behind → ⊥
 nothing_in [] behind item e = cc e

@@ -8,13 +8,11 @@ use Rattle.sx_io.specs.Next.{Ahead, GivesHeld, Next, Took}
 use Rattle.sx_io.specs.Passed.{longest_passed}
 use Rattle.sx_io.specs.declared.lines.LineRead.{LineRead}
 use Rattle.sx_io.specs.declared.lines.LineRead.TheVariants as read
-use Rattle.sx_io.specs.declared.lines.ReaderState.{ReaderState}
-use Rattle.sx_io.specs.declared.lines.ReaderState.TheVariants as reader
 use Rattle.sx_io.specs.declared.outside.Failed.{Failed}
 use Rattle.sx_told.specs.Reads.{anything}
 use Rattle.sx_told.specs.Got.{Got}
 use Rattle.sx_told.specs.Told.{CommandAt, command_at, out_of_memory}
-use Rattle.sx_told.proofs.Takings.{got-line, got-same}
+use Rattle.sx_told.proofs.Takings.{got-line, got-same, open-not-at-end}
 use Rattle.sx_stage.specs.Gives.{GivesOne}
 use Rattle.sx_stage.specs.declared.fault.DeployError.{DeployError}
 use Rattle.sx_head.specs.Head.{Found, Unread, head, head_lines}
@@ -33,7 +31,7 @@ use Rattle.sx_explain.specs.Wants.{IsBehindEvent, item_may}
 use Rattle.sx_command_head.specs.Given.{GivenSince, RanOutSince, WantsLast}
 use Rattle.sx_command_head.specs.Headless.{EndsHeadless}
 use Rattle.sx_command_head.specs.Wanting.{RanOutAt}
-use Rattle.sx_command_head.proofs.Given.{given_line, given_none, given_then, not_at_end, ran_out_at, ran_out_behind, wants_last}
+use Rattle.sx_command_head.proofs.Given.{given_line, given_none, given_then, ran_out_at, ran_out_behind, wants_last}
 use Rattle.sx_command_explain.specs.declared.images.ImageLine.{ImageLine}
 use Rattle.sx_command_explain.specs.declared.images.ImageLine.TheVariants as image
 use Rattle.sx_command_explain.specs.declared.lines.TraceLine.{TraceLine}
@@ -70,7 +68,7 @@ held_next tells s old new into n few held =
         from_source = λ t. refl;
         took = subst P (sym (append-nil old.held)) held.2;
         faults = record { faults = refl; left = refl };
-        at_end = λ e. absurd (not_at_end new.state held.1 e);
+        at_end = λ e. absurd (open-not-at-end new.state held.1 e);
         no_end = λ e t. refl;
         asked = λ t. inl refl;
         few = few_left old.held held.2.1 new.held held.2.2 few;
@@ -100,7 +98,7 @@ module _ {tells : Bool} {s1 s2 s3 : SourceAt} {old now new : Ahead} (lines : Lis
       elim came.how [
         | inl held ↦ (
           (lines, take n into, refl, may),
-          λ limit s0 f due b i. inl ((given_came limit s0 f due b).1.no_end (not_at_end new.state held.1.1) i),
+          λ limit s0 f due b i. inl ((given_came limit s0 f due b).1.no_end (open-not-at-end new.state held.1.1) i),
         )
         | inr next ↦ wants_last May lines into n given next may
       ]

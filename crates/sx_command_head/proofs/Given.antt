@@ -10,7 +10,7 @@ use Rattle.sx_io.specs.declared.lines.ReaderState.TheVariants as reader
 use Rattle.sx_told.specs.Reads.{anything}
 use Rattle.sx_told.specs.Got.{Follows, Got}
 use Rattle.sx_told.specs.Told.{CommandAt}
-use Rattle.sx_told.proofs.Takings.{got-line, got-same}
+use Rattle.sx_told.proofs.Takings.{got-line, got-same, open-not-at-end}
 use Rattle.sx_head.specs.Head.{Found, Head, Unread, head}
 use Rattle.sx_deploy.specs.Deployment.{Deployed, IsRead}
 use Rattle.sx_command_head.specs.Wanting.{FoundNoEnd, LastMay, RanOutAt}
@@ -46,10 +46,6 @@ is_open limit limit' lines n f reader.AtEnd w again = absurd (let e = again (λ 
 is_open limit limit' lines n f reader.TooLong w again = absurd w
 is_open limit limit' lines n f reader.Failed w again = absurd w
 
--- an open reader isn't at the end
-pub not_at_end : (s : ReaderState) → s ≡ reader.Open → s ≡ reader.AtEnd → ⊥
-not_at_end s o e = let z : reader.Open ≡ reader.AtEnd = sym o ∙ e in cc z
-
 -- the input where its end ended the line
 rest_is : (all before held first got second raw new line : List ℕ) → all ≡ before ++ (held ++ first) → first ≡ got ++ second → held ++ got ≡ raw ++ new → raw ≡ line → new ≡ [] → second ≡ []
     → all ≡ before ++ line
@@ -66,7 +62,7 @@ line_unended {limit} {left} {tells} {s0} {s1} {s2} {old} {new} {f} {due} {into} 
     let t = x.takes o in
     let line = t.took.3 in
     elim line.3 [
-      | inl ended ↦ inl (t.no_end (not_at_end new.state ended.2) i ∙ b.no_end (not_at_end old.state o) i)
+      | inl ended ↦ inl (t.no_end (open-not-at-end new.state ended.2) i ∙ b.no_end (open-not-at-end old.state o) i)
       | inr rest ↦ inr (
         b.before ++ b.line,
         line.0,

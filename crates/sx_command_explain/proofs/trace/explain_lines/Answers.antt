@@ -1,7 +1,6 @@
-use Rattle.std.proofs.Common.{◌≡◌, ◌∙◌, ◌+◌, ◌∷◌, ◌++◌, ◌≤◌, [], ℕ, inl, inr, take, arith, ap, refl, sym, subst, List, Result, Err, Ok}
+use Rattle.std.proofs.Common.{◌≡◌, ◌∙◌, ◌+◌, ◌∷◌, ◌++◌, ◌≤◌, [], ℕ, take, arith, ap, refl, sym, subst, List, Result, Err, Ok}
 use Rattle.std.specs.Prelude.{OnOk}
 use Rattle.sx_io.specs.Reading.{Answer, Line}
-use Rattle.sx_io.specs.declared.lines.LineRead.{LineRead}
 use Rattle.sx_io.specs.declared.lines.LineRead.TheVariants as read
 use Rattle.sx_io.specs.declared.outside.Failed.{Failed}
 use Rattle.sx_io.specs.Streams.{SinkAt, SourceAt}
@@ -14,7 +13,6 @@ use Rattle.sx_mean.specs.View.{app_as}
 use Rattle.sx_explain.proofs.Following.{few_taken}
 use Rattle.sx_command_explain.specs.Explain.{broken_output, explain_from, stop_output}
 use Rattle.sx_command_explain.specs.Trace.{judged_line, line_of, stop_behind}
-use Rattle.sx_command_explain.specs.Turns.{ComesNext}
 use Rattle.sx_command_explain.proofs.Keeping.{Waits, waits_asked, waits_failed, waits_more, waits_new, waits_stop, waits_text, waits_written}
 use Rattle.sx_command_explain.proofs.Written.{said_broken, said_end, said_item, said_last, said_long, said_unread}
 use Rattle.sx_command_explain.proofs.Wanted.{came_text, trace_more, trace_none, trace_wants}
