@@ -16,7 +16,7 @@ use Rattle.sx_machine.specs.Run.{Moment, Outcome, Finished, Violated, Module, ma
 use Rattle.sx_machine.specs.Run.{write_place, store, fetch_place, fetch, after_read, after_write, after_fetch, exec}
 use Rattle.sx_machine.proofs.PlanGuard.{with_mem}
 use Rattle.sx_invoke.specs.Setup.{Setup}
-use Rattle.sx_tmpl.specs.Unseen.{AreShown, PlanShowsNone, MovesKey}
+use Rattle.sx_tmpl.specs.Unseen.{IsWordShown, MovesKey, PlanShowsNone}
 use Rattle.sx_tmpl.specs.Steady.{AgreeAt, AreOpen}
 use Rattle.sx_tmpl.proofs.Agreeing.{AtPlaces, SameMoments, SameRead, SameWrite, fetch_place_same, read_place_same, write_apart, write_place_same}
 
@@ -74,31 +74,11 @@ module _ (s : Setup) (t u : Sections) (live : t.live ≡ s.live) (places : ℕ �
           fetch_place_same places at (device_of x.devices at) x n h (fit.fetched (even at) p.0, fit.fetched (even at + 1) p.1)
       by false e = refl
 
-  -- where a word or a byte that is read holds no key
-  shown_high : (a : ℕ) → AreShown s a 2 → AreShown s (a + 1) 1
-  shown_high a h = (
-    h.0 + 1,
-    omega (arith, h.1),
-    record {
-      plain = elim (h.2.plain) [ inl p ↦ inl (omega arith) | inr p ↦ inr (omega arith) ];
-      slots = λ k lt. elim (h.2.slots k lt) [ inl p ↦ inl (omega arith) | inr p ↦ inr (omega arith) ];
-    },
-  )
-
-  shown_low : (a : ℕ) → AreShown s a 2 → AreShown s a 1
-  shown_low a h = (
-    h.0,
-    h.1,
-    record {
-      plain = elim (h.2.plain) [ inl p ↦ inl (omega arith) | inr p ↦ inr p ];
-      slots = λ k lt. elim (h.2.slots k lt) [ inl p ↦ inl (omega arith) | inr p ↦ inr p ];
-    },
-  )
-
-  open_word : (at : ℕ) → AreShown s (even at) 2 → may_at true s.live own Read at ≡ true → AtPlaces places true at
+  -- where a word that is read holds no key
+  open_word : (at : ℕ) → IsWordShown s (even at) → may_at true s.live own Read at ≡ true → AtPlaces places true at
   open_word at h e =
       let p = and_parts (may s.live own Read (even at)) (may s.live own Read (even at + 1)) e in
-      (fit.read (even at) p.0 (inr (shown_low (even at) h)), fit.read (even at + 1) p.1 (inr (shown_high (even at) h)))
+      (fit.read (even at) p.0 h.0, fit.read (even at + 1) p.1 h.1)
 
   fetched_on : (r : Result ℕ Violation) (k : ℕ → Plan) (x : Moment) (n : List ℕ) → ((w : ℕ) → r ≡ Ok w → Alike (k w) (k w) x n)
       → SamePlain places (after_fetch r (λ w. exec (record t { live = s.live }) own (k w) x)) (after_fetch r (λ w. exec u own (k w) (with_mem x n)))

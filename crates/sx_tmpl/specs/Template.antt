@@ -21,13 +21,14 @@ use Rattle.sx_isa.specs.Assembly.{push, call, pop, ret, br, clr, tst, inc, incd,
 use Rattle.sx_isa.specs.Assembly.{back, jnz, jz, jnc, jc, jmp, wrap, unwrap}
 
 -- the addresses of places, of the ends' packet routines, of handlers' parts, the place of the exit,
--- and the address of the routine that opens a slot
+-- and the addresses of the routine that opens a slot and of a word of zeros
 pub record Addresses : Type 0 where
   pub at : ℕ → ℕ
   pub packet : ℕ → ℕ
   pub part : ℕ → ℕ
   pub exit : ℕ
   pub slots : ℕ
+  pub zero : ℕ
 
 -- A product by shifts and adds, from the highest bit on.
 abbrev pub multiply : List Instr
@@ -250,7 +251,7 @@ template l a p (ir.StoreAt o n) = store_at_words (l.priv_from + o) n
 template l a p (ir.Op f) = operator_words f
 template l a p (ir.Jump q) = words_of (br (## (a.at q)) ∷ [])
 template l a p (ir.JumpZero q) =
-    words_of (pop r12 ∷ tst r12 ∷ jnz (ahead 2) ∷ br (## (a.at q)) ∷ [])
+    words_of (cmp (increment sp) (& a.zero) ∷ jnz (ahead 2) ∷ br (## (a.at q)) ∷ [])
 template l a p (ir.Packet k) = words_of (call (## (a.packet k)) ∷ [])
 template l a p ir.Drop = words_of (incd sp ∷ [])
 template l a p ir.Emit = words_of (pop (& l.priv_from) ∷ [])

@@ -25,7 +25,8 @@ places_from a (i ∷ ops) = a ∷ places_from (a + op_bytes i) ops
 abbrev pub places_of : Layout → Code → List ℕ
 places_of l code = places_from (l.pub_from + entry_bytes) code.ops.items
 
--- After the operations stand the exit, the routine that opens a slot, and the packet routines.
+-- After the operations stand the exit, the routine that opens a slot, and the packet routines. The
+-- third word of the second is an index of 0.
 abbrev pub addresses_of : Layout → List Ir → List (ℕ × ℕ) → Addresses
 addresses_of l ops parts =
     let at = slice_index (places_from (l.pub_from + entry_bytes) ops) in
@@ -36,6 +37,7 @@ addresses_of l ops parts =
       part = part_place parts;
       exit = exit;
       slots = at exit + exit_bytes;
+      zero = at exit + exit_bytes + 4;
     }
 
 -- those of a code

@@ -44,6 +44,10 @@ AreShown s a n = (o : ℕ) × (a ≡ s.section.layout.priv_from + o) × HoldsNoK
 abbrev pub IsShown : Setup → ℕ → Type 0
 IsShown s a = (in_private s.section a ≡ false) ⊎ AreShown s a 1
 
+-- neither byte of a word holds one
+abbrev pub IsWordShown : Setup → ℕ → Type 0
+IsWordShown s a = IsShown s a × IsShown s (a + 1)
+
 -- what was read at this place is only stored, in a slot's key, where none of these devices is
 pub record MovesKey (s : Setup) (devices : List Window) (read : ℕ) (k : ℕ → Plan) : Type 0 where
   pub from : device_at devices read ≡ None
@@ -62,7 +66,7 @@ PlanShowsNone s (Tell regs event exchange) x = ⊥
 PlanShowsNone s (Stop v) x = Unit {0}
 PlanShowsNone s (Fetch at k) x =
     (w : ℕ) → fetch s.live s.section.id at x ≡ Ok w → PlanShowsNone s (k w) x
-PlanShowsNone s (Load true at k) x = MovesKey s x.devices at k ⊎ (AreShown s (even at) 2
+PlanShowsNone s (Load true at k) x = MovesKey s x.devices at k ⊎ (IsWordShown s (even at)
     × ((v : ℕ) (y : Moment) → load s.live s.section.id true at x ≡ Ok (v, y)
     → PlanShowsNone s (k v) y))
 PlanShowsNone s (Load false at k) x = IsShown s at

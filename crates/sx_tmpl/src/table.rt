@@ -20,6 +20,9 @@ pub const EXIT: u16 = 34;
 /// The bytes of the routine that opens a slot.
 pub const SLOT_ROUTINE: u16 = 64;
 
+/// Where in that routine a word of zeros stands: the index 0 of its first instruction.
+pub const ZERO: u16 = 4;
+
 /// The bytes of an end's packet routine.
 pub const PACKET_ROUTINE: u16 = 140;
 

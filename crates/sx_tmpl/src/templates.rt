@@ -13,7 +13,7 @@ ghost use Rattle.sx_tmpl.specs.Text.{addresses, part_place, PutsWords};
 
 use crate::put::{put, put_words};
 use crate::scratch::{CALLER, IN_WINDOW, OUT_WINDOW, RETURN};
-use crate::table::{EXIT, PACKET_ROUTINE, SLOT_ROUTINE, Table};
+use crate::table::{EXIT, PACKET_ROUTINE, SLOT_ROUTINE, Table, ZERO};
 use std::alloc::AllocError as OutOfMemory;
 use sx_ir::{Code, Ir, IrOp, turn_size};
 use sx_isa::Operand::{Absolute, Const, Immediate, Increment, Indexed, Indirect};
@@ -386,7 +386,8 @@ pub fn put_operation(
         }
         Ir::JumpZero(to) => {
             let to = place_address(table, code, layout, usize::from(to));
-            put! { text; pop R12; tst R12; jnz 2; br Immediate(to); }
+            let zero = Absolute(exit + EXIT + ZERO);
+            put! { text; cmp POPPED, zero; jnz 2; br Immediate(to); }
         }
         Ir::Packet(end) => put! { text; call Immediate(packet_address(table, code, layout, end)); },
         Ir::SetEnd(end) =>

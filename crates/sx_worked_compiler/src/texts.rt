@@ -51,6 +51,33 @@ fn a_comparison(rt: HostRuntime) -> Result<(), Fail> {
     Ok(())
 }
 
+/// PUSH #3; CMP @SP+, &zero; JNZ .+2; BR #leave; leave: BR #exit
+const BRANCH: [u8; 18] = [
+    0x30, 0x12, 3, 0, 0xb2, 0x91, 0x50, 0x40, 0x02, 0x20, 0x30, 0x40, 0x26, 0x40, 0x30, 0x40, 0x2a,
+    0x40,
+];
+
+fn branch(alloc: Global) -> Result<Code, AllocError> {
+    Ok(Code {
+        ops: vec![in alloc; Ir::Push(3), Ir::JumpZero(2), Ir::Leave]?,
+        parts: vec![in alloc;]?,
+    })
+}
+
+/// The word of zeros is the third of the routine behind the exit.
+fn branches(rt: &impl Abort, text: &[u8]) {
+    assert!(rt; text.len() == 142);
+    assert!(rt; &text[24..42] == BRANCH.as_slice() && &text[80..82] == [0, 0].as_slice());
+}
+
+#[test]
+fn a_branch(rt: HostRuntime) -> Result<(), Fail> {
+    let alloc = rt.alloc();
+    let text = text_of(alloc, &branch(alloc)?)?;
+    branches(&rt, &text);
+    Ok(())
+}
+
 /// The text of `sending` as assembly by hand: the templates of the operations, and what stands once
 /// in a text, where the private section begins at 0x6000.
 const SENDING: &str = "

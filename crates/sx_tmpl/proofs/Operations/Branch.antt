@@ -1,18 +1,19 @@
 -- Operations whose template branches.
 use Rattle.sx_tmpl.specs.Template.{comparison}
 use Rattle.sx_isa.specs.Shaped.{is_shaped}
-use Rattle.sx_machine.specs.Step.{is_module_word}
+use Rattle.sx_machine.specs.Step.{is_module_word, start}
 use Rattle.sx_isa.specs.Spelling.{spelling}
 use Rattle.sx_isa.specs.Instructions.{first_word}
 use Rattle.sx_isa.specs.Standing.{words_of}
 use Rattle.sx_isa.specs.Assembly as asm
-use Rattle.sx_isa.specs.Assembly.{##◌, #◌, ◌⟨◌⟩, ahead, br, clr, cmp, increment, jc, jnz, mov, pc, pop, r12, sp, tst}
-use Rattle.sx_tmpl.proofs.Running.Instructions.{step}
+use Rattle.sx_isa.specs.Assembly.{##◌, #◌, &◌, ◌⟨◌⟩, ahead, br, clr, cmp, increment, jc, jnz, mov, sp}
+use Rattle.sx_tmpl.proofs.Running.Instructions.{reads_of, step}
 use Rattle.std.proofs.Common.{◌≡◌, ℕ, suc, ◌+◌, ◌-◌, ◌*◌, ◌%◌, ◌<◌, ◌≤◌, inl, inr, Bool, true, false, not, List, [], ◌∷◌, length, refl, sym, ◌∙◌, ap, subst, arith}
 use Rattle.sx_isa.specs.declared.instruction.Op2.TheVariants as op2
 use Rattle.sx_alu.specs.Status.{flags_of}
 use Rattle.sx_lang.specs.declared.tree.BinOp.TheVariants as binary
 use Rattle.sx_mean.specs.Meaning.{combine}
+use Rattle.sx_isa.specs.declared.instruction.Instr.{Instr}
 use Rattle.sx_isa.specs.declared.instruction.Instr.TheVariants.{Jump}
 use Rattle.sx_rules.specs.declared.access.Violation.{Violation}
 use Rattle.sx_machine.specs.declared.kinds.Event.TheVariants as event
@@ -20,11 +21,12 @@ use Rattle.sx_invoke.specs.Marks.{Mark}
 use Rattle.sx_image.specs.Watched.{Watched}
 use Rattle.sx_ir.specs.Conf.{Conf}
 use Rattle.sx_ir.specs.Meaning.{next}
-use Rattle.sx_tmpl.specs.Running.{Regs, Fixed, Data, running, Safe}
-use Rattle.sx_tmpl.proofs.Running.MidRun.{Stands, Runs, put_cell}
+use Rattle.sx_tmpl.specs.Running.{Regs, Fixed, Data, running, Safe, cell}
+use Rattle.sx_tmpl.proofs.Running.MidRun.{PublicWord, Runs, Stands, place_of, put_cell}
+use Rattle.sx_tmpl.proofs.Running.Owes.{compared_met, compared_shown}
 use Rattle.sx_tmpl.specs.Shows.{MemoryHolds, ShowsConfiguration, Stood}
 use Rattle.sx_machine.specs.Rows.{jump_taken}
-use Rattle.sx_tmpl.proofs.Running.Steps.{Text, InText}
+use Rattle.sx_tmpl.proofs.Running.Steps.{InText, NoTell, Text, Then, text_word, two_met}
 use Rattle.sx_tmpl.proofs.Running.Flags.{flags_after, no_borrow, borrow, equal, unequal, carry_of, zero_of}
 use Rattle.std.specs.Prelude.{drop, take, nat_lt, ◌==◌}
 use Rattle.std.proofs.lemmas.Bool.{cases_lt, cases_eq, lt-ltb, le-ltb, eq-eqb, ne_eqb}
@@ -43,51 +45,43 @@ module _ (f : Fixed) (st : Stands f) (all : List Mark) (B : Watched → Violatio
       step f st all B _ t 0 (br (## (at q))) refl (omega arith) refl refl event.Quiet r d 0 (omega (arith, sh.pc)) safe
       (λ kept. (r2, rw e refl, to, λ safe2. stood f st all B at (record c { place = q }) r2 d.mem d 0 safe2 refl sh.holds sh.devices sh.marks))
 
-  abbrev branch_words : ℕ → List ℕ
-  branch_words to = words_of (pop r12 ∷ tst r12 ∷ jnz (ahead 2) ∷ br (## to) ∷ [])
+  abbrev branch_words : ℕ → ℕ → List ℕ
+  branch_words z to = words_of (cmp (increment sp) (& z) ∷ jnz (ahead 2) ∷ br (## to) ∷ [])
 
-  -- the first two instructions of a test of the top word
-  tested : (Q : Watched → Type 0) (c : Conf) (x q : ℕ) (rest : List ℕ) (k : ℕ) (r : Regs) (d : Data) → Text f (at c.place) 5 (branch_words (at q))
+  -- the first instruction of a test: the top word is popped and compared with a word of zeros
+  tested : (Q : Watched → Type 0) (c : Conf) (x z to : ℕ) (rest : List ℕ) (k : ℕ) (r : Regs) (d : Data) → Text f z 1 (0 ∷ []) → Text f (at c.place) 5 (branch_words z to)
       → ShowsConfiguration f at (record c { stack = x ∷ rest }) r d → Safe f all (running f r d)
-      → (let r2 = record r { pc = at c.place + 4; sp = r.sp + 2; r12 = x; sr = flags_after op2.Cmp 0 (x % 65536) (flags_after op2.Mov 0 0 r.sr) } in
-      Safe f all (running f r2 d) → Runs f all B Q k (running f r2 d)) → Runs f all B Q (suc (suc k)) (running f r d)
-  tested Q c x q rest k r d t sh safe after =
+      → (let r2 = record r { pc = at c.place + 4; sp = r.sp + 2; sr = flags_after op2.Cmp x 0 r.sr } in Safe f all (running f r2 d) → Runs f all B Q k (running f r2 d))
+      → Runs f all B Q (suc k) (running f r d)
+  tested Q c x z to rest k r d zeros t sh safe after =
       let h = sh.holds in
       let p1 = stack_word f st r.sp (length (x ∷ rest)) h.top (omega arith) (omega (arith, h.room)) in
       let up : (r.sp + 2) % 65536 ≡ r.sp + 2 = omega (arith, p1.high, st.beneath) in
-      let r1 = record r { pc = at c.place + 2; sp = r.sp + 2; r12 = x; sr = flags_after op2.Mov 0 0 r.sr } in
-      let r2 = record r1 { pc = at c.place + 4; sr = flags_after op2.Cmp 0 (x % 65536) r1.sr } in
-      step f st all B Q t 0 (pop r12) refl (omega arith) refl refl event.Quiet r d (suc k) (omega (arith, sh.pc)) safe (
-        r.sp,
-        refl,
-        p1,
-        x,
-        h.words.0,
-        λ kept. (
-          r1,
-          rw up refl,
-          inside t 1 (omega arith),
-          λ s1.
-              step f st all B Q t 1 (tst r12) refl (omega arith) refl refl event.Quiet r1 d k refl s1
-              (λ kept. (r2, refl, inside t 2 (omega arith), after)),
-        ),
-      )
+      let r2 = record r { pc = at c.place + 4; sp = r.sp + 2; sr = flags_after op2.Cmp x 0 r.sr } in
+      let w = first_word (cmp (increment asm.sp) (& 0)) in
+      let i : ℕ → ℕ → Instr = λ x y. cmp (increment asm.sp) (& x) in
+      let here : PublicWord f z = record { low = zeros.from; high = omega (arith, zeros.to); is_even = zeros.is_even } in
+      let same : z + 2 * 0 ≡ z = omega arith in
+      let is : cell d.mem z ≡ 0 = text_word f st all B Q d.mem z 0 safe.memory zeros.from (omega (arith, zeros.to)) (subst (λ a. cell f.entered a ≡ 0) same (zeros.word 0 0 refl)) in
+      two_met f st all B Q t 0 w z i refl refl (omega arith) (reads_of (cmp (increment asm.sp) (& 0)) refl refl) event.Quiet r d k (omega (arith, sh.pc)) safe
+      (compared_met f st (Then f st all B Q k d) (NoTell f st all B Q) (B (running f r d)) r.sp r.sp z z x 0 _ (start (running f r d).node) refl (place_of p1) h.words.0 refl here is
+      safe.devices safe.memory (λ kept. (r2, rw up refl, inside t 2 (omega arith), after)))
+      (compared_shown f st (Then f st all B Q k d) (NoTell f st all B Q) (B (running f r d)) r.sp r.sp z z _ (start (running f r d).node) refl p1 refl here)
 
-  pub jump_zero_leads : (c : Conf) (q : ℕ) (rest : List ℕ) → InText f (at q) → at q % 2 ≡ 0
-      → L 5 (branch_words (at q)) 4 (record c { stack = 0 ∷ rest }) (record c { place = q; stack = rest })
-  jump_zero_leads c q rest to ev r d t on sh safe =
+  pub jump_zero_leads : (c : Conf) (q z : ℕ) (rest : List ℕ) → Text f z 1 (0 ∷ []) → InText f (at q) → at q % 2 ≡ 0
+      → L 5 (branch_words z (at q)) 3 (record c { stack = 0 ∷ rest }) (record c { place = q; stack = rest })
+  jump_zero_leads c q z rest zeros to ev r d t on sh safe =
       let h = sh.holds in
       let e : at q % 65536 - at q % 65536 % 2 ≡ at q = omega (arith, to.to, st.below) in
-      let sr1 = flags_after op2.Mov 0 0 r.sr in
-      let z = equal 0 0 sr1 (omega arith) refl in
-      tested _ c 0 q rest 2 r d t sh safe (λ s2.
-      let r2 = record r { pc = at c.place + 4; sp = r.sp + 2; r12 = 0; sr = flags_after op2.Cmp 0 (0 % 65536) sr1 } in
+      let is = equal 0 0 r.sr (omega arith) refl in
+      tested _ c 0 z (at q) rest 2 r d zeros t sh safe (λ s2.
+      let r2 = record r { pc = at c.place + 4; sp = r.sp + 2; sr = flags_after op2.Cmp 0 0 r.sr } in
       let r3 = record r2 { pc = at c.place + 6 } in
       let r4 = record r3 { pc = at q; sr = flags_after op2.Mov 0 0 r3.sr } in
       step f st all B _ t 2 (jnz (ahead 2)) refl (omega arith) refl refl event.Quiet r2 d 1 refl s2
       (λ kept. (
         r3,
-        rw z refl,
+        rw is refl,
         inside t 3 (omega arith),
         λ s3.
             step f st all B _ t 3 (br (## (at q))) refl (omega arith) refl refl event.Quiet r3 d 0 refl s3
@@ -100,20 +94,19 @@ module _ (f : Fixed) (st : Stands f) (all : List Mark) (B : Watched → Violatio
             )),
       )))
 
-  pub jump_not_leads : (c : Conf) (q v : ℕ) (rest : List ℕ) → L 5 (branch_words (at q)) 4 (record c { stack = suc v ∷ rest }) (next c rest)
-  jump_not_leads c q v rest r d t on sh safe =
+  pub jump_not_leads : (c : Conf) (q z v : ℕ) (rest : List ℕ) → Text f z 1 (0 ∷ []) → L 5 (branch_words z (at q)) 3 (record c { stack = suc v ∷ rest }) (next c rest)
+  jump_not_leads c q z v rest zeros r d t on sh safe =
       let h = sh.holds in
       let lt : suc v < 65536 = subst (λ (n : ℕ). n < 65536) h.words.0 (cell_below f st d.mem r.sp safe.memory) in
-      let sr1 = flags_after op2.Mov 0 0 r.sr in
-      let z = unequal 0 (suc v % 65536) sr1 (omega arith) (omega arith) (omega arith) in
+      let is = unequal (suc v) 0 r.sr lt (omega arith) (omega arith) in
       let to : (at c.place + 6 + 4) % 65536 ≡ at c.place + 10 = omega (arith, t.to, st.below) in
-      tested _ c (suc v) q rest 2 r d t sh safe (λ s2.
-      let r2 = record r { pc = at c.place + 4; sp = r.sp + 2; r12 = suc v; sr = flags_after op2.Cmp 0 (suc v % 65536) sr1 } in
+      tested _ c (suc v) z (at q) rest 2 r d zeros t sh safe (λ s2.
+      let r2 = record r { pc = at c.place + 4; sp = r.sp + 2; sr = flags_after op2.Cmp (suc v) 0 r.sr } in
       let r3 = record r2 { pc = at c.place + 10 } in
       step f st all B _ t 2 (jnz (ahead 2)) refl (omega arith) refl refl event.Quiet r2 d 1 refl s2
       (λ kept. (
         r3,
-        rw (z, to) refl,
+        rw (is, to) refl,
         inside t 5 (omega arith),
         λ s3. stood f st all B at (next c rest) r3 d.mem d 1 s3 (omega (arith, on))
             (holds_pop f st at c.back (suc v) rest c.priv c.mem r.sp d.mem h) sh.devices sh.marks,

@@ -27,13 +27,13 @@ use Rattle.sx_machine.specs.Run.{Moment, Finished, untouched, with_touch, device
 use Rattle.sx_image.specs.Watched.{marks_of_touches, watch, Watched}
 use Rattle.sx_tmpl.proofs.Running.Owned.{may_read, may_write, own_above, run_holder}
 use Rattle.sx_tmpl.proofs.Running.Owes.{load_word, store_word, kept_word}
-use Rattle.sx_tmpl.specs.Unseen.{AreShown, PlanShowsNone, StepShowsNone}
+use Rattle.sx_tmpl.specs.Unseen.{IsWordShown, PlanShowsNone, StepShowsNone}
 use Rattle.sx_machine.specs.Step.{own_of, start, attempt}
 use Rattle.sx_tmpl.proofs.Running.Flags.{flags_stay, flags_after}
 use Rattle.sx_ir.specs.Conf.{Conf}
 use Rattle.sx_ir.specs.Meaning.{next}
 use Rattle.sx_tmpl.specs.Running.{Regs, regs16, Fixed, Data, running, Safe, cell, OutsideKept}
-use Rattle.sx_tmpl.proofs.Running.MidRun.{Stands, Runs, place_of, put_cell}
+use Rattle.sx_tmpl.proofs.Running.MidRun.{Stands, Runs, place_of, put_cell, word_shown}
 use Rattle.sx_tmpl.specs.Shows.{base_of, Stood}
 use Rattle.sx_machine.specs.Rows.{row}
 use Rattle.sx_machine.specs.Registers.{at_pc}
@@ -164,7 +164,7 @@ module _ (f : Fixed) (st : Stands f) (all : List Mark) (B : Watched → Violatio
       ∙ ap (λ v. Finished g (record x { touches = with_touch untouched (DeviceWrite i v) })) is
       ∙ ap (λ g. Finished g (record x { touches = with_touch untouched (DeviceWrite i v) })) (rw (up, flags_stay r.sr) refl) in
       let shown = two_step f st all B Q t 0 (first_word (pop (& 0))) (base_of f) (λ x y. Two op2.Mov false (Increment 1) (Absolute x)) refl refl (omega arith)
-      (reads_of (pop (& 0)) refl refl) r d (omega (arith, sh.pc)) safe (inr (subst (λ (a : ℕ). AreShown f.setup a 2) (sym (even_same r.sp p1.is_even)) p1.shown, λ v y e z g. tt)) in
+      (reads_of (pop (& 0)) refl refl) r d (omega (arith, sh.pc)) safe (inr (subst (λ (a : ℕ). IsWordShown f.setup a) (sym (even_same r.sp p1.is_even)) (word_shown f.setup r.sp p1.shown), λ v y e z g. tt)) in
       let at_ = two_attempt f st all B Q t 0 (first_word (pop (& 0))) (base_of f) (λ x y. Two op2.Mov false (Increment 1) (Absolute x)) refl refl (omega arith)
       (reads_of (pop (& 0)) refl refl) r d (omega (arith, sh.pc)) safe
       ∙ ap (λ r. after_read r (λ v y. after_write (store f.setup.live f.setup.section.id true (base_of f) v y) (λ y. Finished g y))) (load_word f st r.sp r.sp x refl (place_of p1) safe.devices) ∙ done in
@@ -204,7 +204,7 @@ module _ (f : Fixed) (st : Stands f) (all : List Mark) (B : Watched → Violatio
       let m2 = put_cell d.mem sp v in
       let zero_at : base_of f ≡ base_of f + 0 = omega arith in
       let shown = two_step f st all B Q t 0 (first_word (push (& 0))) (base_of f) (λ x y. One op1.Push false (Absolute x)) refl refl (omega arith)
-      (reads_of (push (& 0)) refl refl) r d (omega (arith, sh.pc)) safe (inr ((0, even_same (base_of f) st.base_even ∙ zero_at, low_shown (length f.setup.ends) 0 2 (omega arith)), λ v y e z g. tt)) in
+      (reads_of (push (& 0)) refl refl) r d (omega (arith, sh.pc)) safe (inr (word_shown f.setup _ (0, even_same (base_of f) st.base_even ∙ zero_at, low_shown (length f.setup.ends) 0 2 (omega arith)), λ v y e z g. tt)) in
       let at_ = two_attempt f st all B Q t 0 (first_word (push (& 0))) (base_of f) (λ x y. One op1.Push false (Absolute x)) refl refl (omega arith)
       (reads_of (push (& 0)) refl refl) r d (omega (arith, sh.pc)) safe
       ∙ ap (λ r_. after_read r_ (λ v y. after_write (store f.setup.live f.setup.section.id true ((r.sp + 65534) % 65536) v y) (λ y. Finished g y))) (load_fresh x i w here kind fresh)
@@ -245,7 +245,7 @@ module _ (f : Fixed) (st : Stands f) (all : List Mark) (B : Watched → Violatio
       let m2 = put_cell d.mem sp 0 in
       let zero_at : base_of f ≡ base_of f + 0 = omega arith in
       let shown = two_step f st all B Q t 0 (first_word (push (& 0))) (base_of f) (λ x y. One op1.Push false (Absolute x)) refl refl (omega arith)
-      (reads_of (push (& 0)) refl refl) r d (omega (arith, sh.pc)) safe (inr ((0, even_same (base_of f) st.base_even ∙ zero_at, low_shown (length f.setup.ends) 0 2 (omega arith)), λ v y e z g. tt)) in
+      (reads_of (push (& 0)) refl refl) r d (omega (arith, sh.pc)) safe (inr (word_shown f.setup _ (0, even_same (base_of f) st.base_even ∙ zero_at, low_shown (length f.setup.ends) 0 2 (omega arith)), λ v y e z g. tt)) in
       let at_ = two_attempt f st all B Q t 0 (first_word (push (& 0))) (base_of f) (λ x y. One op1.Push false (Absolute x)) refl refl (omega arith)
       (reads_of (push (& 0)) refl refl) r d (omega (arith, sh.pc)) safe
       ∙ ap (λ r_. after_read r_ (λ v y. after_write (store f.setup.live f.setup.section.id true ((r.sp + 65534) % 65536) v y) (λ y. Finished g y))) (load_stale x i w here kind fresh)

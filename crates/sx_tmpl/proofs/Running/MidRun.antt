@@ -1,6 +1,6 @@
 -- What templates rely on of a module in mid-run, and the bytes of its private section.
 use Rattle.std.specs.Prelude.{◌≡◌, ℕ, ◌+◌, ◌/◌, ◌%◌, ◌<◌, ◌≤◌, true, false, List, Option, Some, None, slice_set, if◌then◌else◌}
-use Rattle.std.proofs.Common.{arith}
+use Rattle.std.proofs.Common.{arith, inl, inr}
 use Rattle.sx_reach.specs.Reach.{Comes, Here, Next, Ends}
 use Rattle.sx_bus.specs.Devices.{device_at}
 use Rattle.sx_rules.specs.declared.access.Access.{Access}
@@ -9,9 +9,10 @@ use Rattle.sx_rules.specs.declared.access.Violation.TheVariants as bad
 use Rattle.sx_rules.specs.Access.{may, in_public, in_private, Lives}
 use Rattle.sx_rules.specs.Placed.{Placed}
 use Rattle.sx_invoke.specs.Marks.{Mark}
+use Rattle.sx_invoke.specs.Setup.{Setup}
 use Rattle.sx_image.specs.Watched.{Watched, watch}
 use Rattle.sx_tmpl.specs.Running.{Fixed, sections_of, Safe}
-use Rattle.sx_tmpl.specs.Unseen.{AreShown, StepShowsNone}
+use Rattle.sx_tmpl.specs.Unseen.{AreShown, IsWordShown, StepShowsNone}
 
 -- the module runs, its first private word is the only one that a device may have, and its public section has none
 pub record Stands (f : Fixed) : Type 0 where
@@ -71,7 +72,34 @@ pub record PrivateWord (f : Fixed) (a : ℕ) : Type 0 where
 pub place_of : {f : Fixed} {a : ℕ} → PrivateWord f a → PrivatePlace f a
 place_of p = record { low = p.low; high = p.high; is_even = p.is_even }
 
--- this many bytes of it
+-- neither byte of a word that holds no key holds one
+pub word_shown : (s : Setup) (a : ℕ) → AreShown s a 2 → IsWordShown s a
+word_shown s a h = (
+  inr (
+    h.0,
+    h.1,
+    record {
+      plain = elim (h.2.plain) [ inl p ↦ inl (omega arith) | inr p ↦ inr p ];
+      slots = λ k lt. elim (h.2.slots k lt) [ inl p ↦ inl (omega arith) | inr p ↦ inr p ];
+    },
+  ),
+  inr (
+    h.0 + 1,
+    omega (arith, h.1),
+    record {
+      plain = elim (h.2.plain) [ inl p ↦ inl (omega arith) | inr p ↦ inr (omega arith) ];
+      slots = λ k lt. elim (h.2.slots k lt) [ inl p ↦ inl (omega arith) | inr p ↦ inr (omega arith) ];
+    },
+  ),
+)
+
+-- an even word of the public section
+pub record PublicWord (f : Fixed) (a : ℕ) : Type 0 where
+  pub low : f.setup.section.layout.pub_from ≤ a
+  pub high : a + 2 ≤ f.setup.section.layout.pub_to
+  pub is_even : a % 2 ≡ 0
+
+-- this many bytes of the private section
 pub record PrivateRange (f : Fixed) (a n : ℕ) : Type 0 where
   pub low : f.setup.section.layout.priv_from + 2 ≤ a
   pub high : a + n ≤ f.setup.section.layout.priv_to

@@ -22,9 +22,9 @@ use Rattle.sx_machine.specs.Plan.{Plan, Done, Tell, Stop, Fetch, Load, Store, Ne
 use Rattle.sx_machine.specs.Run.{Moment, Outcome, Finished, Violated, Module, may_range, may_each, found, read_place, read_device, write_place, write_device}
 use Rattle.sx_machine.specs.Run.{load, store, after_read, after_write, exec}
 use Rattle.sx_tmpl.specs.Running.{sections_of, Fixed, Elsewhere, OutsideKept, cell}
-use Rattle.sx_tmpl.proofs.Running.MidRun.{Stands, refused, device_refusal, PrivateByte, PrivatePlace, PrivateWord, PrivateRange, place_of, put_cell}
-use Rattle.sx_tmpl.specs.Unseen.{AreShown, IsShown, PlanShowsNone}
-use Rattle.sx_tmpl.proofs.Running.Owned.{in_private_yes, may_read, may_write, written_not_public, public_bounds, public_not_private}
+use Rattle.sx_tmpl.proofs.Running.MidRun.{Stands, refused, device_refusal, PrivateByte, PrivatePlace, PrivateWord, PrivateRange, PublicWord, place_of, put_cell, word_shown}
+use Rattle.sx_tmpl.specs.Unseen.{IsShown, IsWordShown, PlanShowsNone}
+use Rattle.sx_tmpl.proofs.Running.Owned.{in_private_yes, in_public_yes, may_read, may_read_text, may_write, written_not_public, public_bounds, public_not_private}
 use Rattle.sx_tmpl.proofs.Running.Mem.{length-put, get-put_other, bytes_put, word_is, put_word_is}
 
 -- a byte that may be written: in the private section, or in the window outside it
@@ -127,6 +127,15 @@ module _ (f : Fixed) (st : Stands f) where
       let m1 = may_read f st a (omega (arith, p.low)) (omega (arith, p.high)) in
       let m2 = may_read f st (a + 1) (omega (arith, p.low)) (omega (arith, p.high)) in
       let d : device_at x.devices a ≡ None = same a ∙ st.private_plain a inside p.low in
+      rw (e, e1, m1, m2, d) (ap (λ v. Ok (v, x)) (word_is x.mem a p.is_even))
+
+  -- a word of the text is read
+  pub load_text : (at a : ℕ) (x : Moment) → at ≡ a → PublicWord f a → ((b : ℕ) → device_at x.devices b ≡ device_at f.devices b) → load f.setup.live f.setup.section.id true at x ≡ Ok (cell x.mem a, x)
+  load_text at a x e p same =
+      let e1 = even_same a p.is_even in
+      let m1 = may_read_text f st a p.low (omega (arith, p.high)) in
+      let m2 = may_read_text f st (a + 1) (omega (arith, p.low)) (omega (arith, p.high)) in
+      let d : device_at x.devices a ≡ None = same a ∙ st.public_plain a (in_public_yes f.setup.section a p.low (omega (arith, p.high))) in
       rw (e, e1, m1, m2, d) (ap (λ v. Ok (v, x)) (word_is x.mem a p.is_even))
 
   pub store_word : (at a v : ℕ) (x : Moment) → at ≡ a → PrivatePlace f a → ((b : ℕ) → device_at x.devices b ≡ device_at f.devices b)
@@ -291,6 +300,16 @@ module _ (f : Fixed) (st : Stands f) (Q : List ℕ → List ℕ → Type 0) (T :
       (subst (λ r. M x (after_write r (λ y. exec (sections_of f) f.setup.section.id (Done regs) y))) (sym (store_word f st to b v x eb pb same))
       (let k2 = kept_word f st x.mem b v kept pb lt in (refl, k2, h k2))))
 
+  -- a word of the private section is compared with one of the text
+  pub compared_met : (at a to b v w : ℕ) (regs : ℕ → ℕ → List ℕ) (x : Moment) → at ≡ a → PrivatePlace f a → cell x.mem a ≡ v → to ≡ b → PublicWord f b → cell x.mem b ≡ w
+      → ((b : ℕ) → device_at x.devices b ≡ device_at f.devices b) → OutsideKept f x.mem → (OutsideKept f x.mem → Q (regs v w) x.mem)
+      → M x (exec (sections_of f) f.setup.section.id (Load true at (λ v. Load true to (λ w. Done (regs v w)))) x)
+  compared_met at a to b v w regs x ea pa va eb pb vb same kept h =
+      subst (λ r. M x (after_read r (λ v y. exec (sections_of f) f.setup.section.id (Load true to (λ w. Done (regs v w))) y))) (sym (load_word f st at a x ea pa same))
+      (subst (λ (v : ℕ). M x (exec (sections_of f) f.setup.section.id (Load true to (λ w. Done (regs v w))) x)) (sym va)
+      (subst (λ r. M x (after_read r (λ w y. exec (sections_of f) f.setup.section.id (Done (regs v w)) y))) (sym (load_text f st to b x eb pb same))
+      (subst (λ (w : ℕ). M x (exec (sections_of f) f.setup.section.id (Done (regs v w)) x)) (sym vb) (refl, kept, h kept))))
+
   -- so does a module instruction's
   pub seal_met : (p : Plan) (x : Moment) → OutsideKept f x.mem → OwesSeal f Q T B p x.mem → M x (exec (sections_of f) f.setup.section.id p x)
   seal_met (Done regs) x k h = (refl, k, h k)
@@ -341,6 +360,17 @@ module _ (f : Fixed) (st : Stands f) (Q : List ℕ → List ℕ → Type 0) (T :
   written_on : (k : Plan) (r : Result Moment Violation) (x y : Moment) → r ≡ Ok x → r ≡ Ok y → Shows_none k x → Shows_none k y
   written_on k r x y here there h = let e : x ≡ y = ap (written_of x) (sym here ∙ there) in subst (λ (z : Moment). Shows_none k z) e h
 
+  -- a comparison of a word of the private section that holds no key with one of the text shows none
+  pub compared_shown : (at a to b : ℕ) (regs : ℕ → ℕ → List ℕ) (x : Moment) → at ≡ a → PrivateWord f a → to ≡ b → PublicWord f b → Shows_none (Load true at (λ v. Load true to (λ w. Done (regs v w)))) x
+  compared_shown at a to b regs x ea pa eb pb =
+      let ev : even at ≡ a = ap even ea ∙ even_same a pa.is_even in
+      let ew : even to ≡ b = ap even eb ∙ even_same b pb.is_even in
+      let text : IsWordShown f.setup b = (inl (public_not_private f st b pb.low (omega (arith, pb.high))), inl (public_not_private f st (b + 1) (omega (arith, pb.low)) (omega (arith, pb.high)))) in
+      inr (
+        subst (λ (a : ℕ). IsWordShown f.setup a) (sym ev) (word_shown f.setup a pa.shown),
+        λ v y e. inr (subst (λ (a : ℕ). IsWordShown f.setup a) (sym ew) text, λ w z g. tt),
+      )
+
   -- a plan that does what it owes shows no key
   pub owes_shown : (p : Plan) (x : Moment) → ((b : ℕ) → device_at x.devices b ≡ device_at f.devices b) → OutsideKept f x.mem → Owes f Q T B p x.mem → PlanShowsNone f.setup p x
   owes_shown (Done regs) x same kept h = tt
@@ -351,7 +381,7 @@ module _ (f : Fixed) (st : Stands f) (Q : List ℕ → List ℕ → Type 0) (T :
       let ev : even at ≡ h.0 = ap even h.1 ∙ even_same h.0 h.2.is_even in
       let here = load_word f st at h.0 x h.1 (place_of h.2) same in
       inr (
-        subst (λ (a : ℕ). AreShown f.setup a 2) (sym ev) h.2.shown,
+        subst (λ (a : ℕ). IsWordShown f.setup a) (sym ev) (word_shown f.setup h.0 h.2.shown),
         λ v y e. read_on k (load f.setup.live f.setup.section.id true at x) (cell x.mem h.0) v x y here e
             (subst (λ (n : ℕ). PlanShowsNone f.setup (k n) x) (sym h.4) (owes_shown (k h.3) x same kept h.5)),
       )

@@ -101,7 +101,13 @@ module _ (f : Fixed) (st : Stands f) where
       (and_from _ _ (ap not (private_not_public a p q)) (or_right (not (in_private f.setup.section a)) _ (eq-eqb f.setup.section.id f.setup.section.id refl)))
       (λ u b. and_from _ _ (ap not (private_in_public a u p q b)) (or_left _ (f.setup.section.id == u.id) (ap not (private_in_private a u p q b))))
 
-  -- own public bytes are run, and never written
+  -- own public bytes are read
+  pub may_read_text : (a : ℕ) → f.setup.section.layout.pub_from ≤ a → a < f.setup.section.layout.pub_to → may f.setup.live f.setup.section.id Read a ≡ true
+  unfolding may
+  may_read_text a p q = others (allows f.setup.section.id Read a) (or_left _ (f.setup.section.id == f.setup.section.id) (ap not (public_not_private a p q)))
+      (λ u b. or_left _ (f.setup.section.id == u.id) (ap not (public_in_private a u p q b)))
+
+  -- they are run, and never written
   pub run_outside : (a : ℕ) → f.setup.section.layout.pub_from ≤ a → a < f.setup.section.layout.pub_to → outside_private f.setup.live a ≡ true
   run_outside a p q = others (λ s. not (in_private s a)) (ap not (public_not_private a p q)) (λ u b. ap not (public_in_private a u p q b))
 

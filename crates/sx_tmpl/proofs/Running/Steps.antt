@@ -233,11 +233,12 @@ module _ (f : Fixed) (st : Stands f) (all : List Mark) (B : Watched → Violatio
       from_met j e r d _ safe shown (record { from = here; to = omega arith }) at (owes_met f st (Then j d) NoTell (B (running_after e f r d)) _ x safe.devices safe.memory owed)
 
   -- the same with an extension word
-  pub two : {P n : ℕ} {ws : List ℕ} (t : Text f P n ws) (k w u : ℕ) (i : ℕ → ℕ → Instr) → slice_get ws k ≡ Some w → slice_get ws (k + 1) ≡ Some u → k + 2 ≤ n → Reads w 2 i
+  pub two_met : {P n : ℕ} {ws : List ℕ} (t : Text f P n ws) (k w u : ℕ) (i : ℕ → ℕ → Instr) → slice_get ws k ≡ Some w → slice_get ws (k + 1) ≡ Some u → k + 2 ≤ n → Reads w 2 i
       → (e : Event) (r : Regs) (d : Data) (j : ℕ) → r.pc ≡ P + 2 * k → Safe f all (running_after e f r d)
-      → Owes f (Then j d) NoTell (B (running_after e f r d)) (row (i u 0) (at_pc (regs16 f r) (P + 2 * (k + 1))) (P + 2 * (k + 2))) d.mem
+      → Meets j e r d (exec_own (row (i u 0) (at_pc (regs16 f r) (P + 2 * (k + 1))) (P + 2 * (k + 2))) (start (running_after e f r d).node))
+      → PlanShowsNone f.setup (row (i u 0) (at_pc (regs16 f r) (P + 2 * (k + 1))) (P + 2 * (k + 2))) (start (running_after e f r d).node)
       → R (suc j) (running_after e f r d)
-  two {P = P} {n = n} t k w u i has has1 fits reads e r d j pc safe owed =
+  two_met {P = P} {n = n} t k w u i has has1 fits reads e r d j pc safe met none =
       let low = t.from in
       let high = t.to in
       let even = t.is_even in
@@ -255,9 +256,19 @@ module _ (f : Fixed) (st : Stands f) (all : List Mark) (B : Watched → Violatio
       ∙ ap (λ b. exec_own (row (i u 0) (at_pc (regs16 f r) b) (onward r.pc 4)) x) next ∙ ap (λ b. exec_own (row (i u 0) (at_pc (regs16 f r) (P + 2 * (k + 1))) b) x) next2 in
       let p : ℕ → ℕ → Plan = λ b c. row (i u 0) (at_pc (regs16 f r) b) c in
       let shown = step_shown (running_after e f r d) w ev is reads.plain (shown_two w u i (regs16 f r) x reads got (subst (λ b. PlanShowsNone f.setup (p b (onward r.pc 4)) x) (sym next)
-      (subst (λ c. PlanShowsNone f.setup (p (P + 2 * (k + 1)) c) x) (sym next2)
-      (owes_shown f st (Then j d) NoTell (B (running_after e f r d)) (p (P + 2 * (k + 1)) (P + 2 * (k + 2))) x safe.devices safe.memory owed)))) in
-      from_met j e r d _ safe shown (record { from = here; to = omega arith }) at (owes_met f st (Then j d) NoTell (B (running_after e f r d)) _ x safe.devices safe.memory owed)
+      (subst (λ c. PlanShowsNone f.setup (p (P + 2 * (k + 1)) c) x) (sym next2) none))) in
+      from_met j e r d _ safe shown (record { from = here; to = omega arith }) at met
+
+  -- by what it owes
+  pub two : {P n : ℕ} {ws : List ℕ} (t : Text f P n ws) (k w u : ℕ) (i : ℕ → ℕ → Instr) → slice_get ws k ≡ Some w → slice_get ws (k + 1) ≡ Some u → k + 2 ≤ n → Reads w 2 i
+      → (e : Event) (r : Regs) (d : Data) (j : ℕ) → r.pc ≡ P + 2 * k → Safe f all (running_after e f r d)
+      → Owes f (Then j d) NoTell (B (running_after e f r d)) (row (i u 0) (at_pc (regs16 f r) (P + 2 * (k + 1))) (P + 2 * (k + 2))) d.mem
+      → R (suc j) (running_after e f r d)
+  two {P = P} {n = n} t k w u i has has1 fits reads e r d j pc safe owed =
+      let x = start (running_after e f r d).node in
+      let p = row (i u 0) (at_pc (regs16 f r) (P + 2 * (k + 1))) (P + 2 * (k + 2)) in
+      two_met t k w u i has has1 fits reads e r d j pc safe (owes_met f st (Then j d) NoTell (B (running_after e f r d)) p x safe.devices safe.memory owed)
+      (owes_shown f st (Then j d) NoTell (B (running_after e f r d)) p x safe.devices safe.memory owed)
 
   -- and with two
   pub three_met : {P n : ℕ} {ws : List ℕ} (t : Text f P n ws) (k w u v : ℕ) (i : ℕ → ℕ → Instr) → slice_get ws k ≡ Some w → slice_get ws (k + 1) ≡ Some u → slice_get ws (k + 2) ≡ Some v → k + 3 ≤ n

@@ -25,7 +25,7 @@ use Rattle.sx_tmpl.specs.Shows.{Stood}
 use Rattle.sx_tmpl.specs.Template.{Addresses}
 use Rattle.sx_tmpl.specs.Text.{addresses, bytes_of, part_place, text_words}
 use Rattle.sx_tmpl.proofs.Texts.SoundOps.{AreSound, sound_op}
-use Rattle.sx_tmpl.proofs.Texts.TextStands.{code_emitted, packet_text, slots_text, target}
+use Rattle.sx_tmpl.proofs.Texts.TextStands.{code_emitted, packet_text, slots_text, target, zero_text}
 use Rattle.sx_tmpl.proofs.Texts.Whole.{Emitted, Good, IsTarget, step_goes, step_stops}
 use Rattle.sx_invoke.specs.Setup.{Call}
 
@@ -65,7 +65,7 @@ module _ (f : Fixed) (st : Stands f) (all : List Mark) (window : f.to ≡ pieces
 
   pub done : Emitted f a ops
   done = code_emitted f st code text sound.fits
-      (λ p i h. sound_op f st a parts ops sound (λ h. refl) there (packet_text f st code text sound.fits) (slots_text f st code text sound.fits) narrow p i h (sound.each p i h))
+      (λ p i h. sound_op f st a parts ops sound (λ h. refl) there (packet_text f st code text sound.fits) (slots_text f st code text sound.fits) (zero_text f st code text sound.fits) narrow p i h (sound.each p i h))
 
   -- a configuration that is regular is one that templates can run from
   good : (call : Call) (c : Conf) → call.output ≡ f.from → IsRegular (length f.setup.ends) (private_bytes f.setup.section.layout f.entered) ops call all c → Good f all a ops c

@@ -101,7 +101,7 @@ are_sound ops parts l h =
 module _ (f : Fixed) (st : Stands f) (a : Addresses) (parts : List (ℕ × ℕ)) (ops : List Ir) (sound : AreSound ops parts f.setup.section.layout) (at_parts : (h : ℕ)
     → a.part h ≡ part_place parts h) (target : (q : ℕ) → q ≤ length ops → IsTarget f (a.at q))
     (packet : (p k : ℕ) → slice_get ops p ≡ Some (ir.Packet k) → k < 256
-    → Text f (a.packet k) 70 (routine_words (base_of f) k)) (slots : Text f a.slots 32 (slot_words (base_of f))) (narrow : (p : ℕ) (i : Ir) → slice_get ops p ≡ Some i → IsNarrow i) where
+    → Text f (a.packet k) 70 (routine_words (base_of f) k)) (slots : Text f a.slots 32 (slot_words (base_of f))) (zeros : Text f a.zero 1 (0 ∷ [])) (narrow : (p : ℕ) (i : Ir) → slice_get ops p ≡ Some i → IsNarrow i) where
   abbrev size : ℕ
   size = size_of f
 
@@ -127,7 +127,7 @@ module _ (f : Fixed) (st : Stands f) (a : Addresses) (parts : List (ℕ × ℕ))
   sound_op p (ir.StoreAt o n) e h = let b = and_parts (is_even o) (may_change size o (2 * n)) h in array_place size o n short b.0 (changes size o (2 * n) b.1)
   sound_op p (ir.Op g) e h = tt
   sound_op p (ir.Jump q) e h = let lt = ltb-true q (length ops) h in target q (omega (arith, lt))
-  sound_op p (ir.JumpZero q) e h = let lt = ltb-true q (length ops) h in target q (omega (arith, lt))
+  sound_op p (ir.JumpZero q) e h = let lt = ltb-true q (length ops) h in (target q (omega (arith, lt)), zeros)
   sound_op p (ir.Packet k) e h = (packet p k e (narrow p (ir.Packet k) e), slot_place k h)
   sound_op p ir.Drop e h = tt
   sound_op p ir.Emit e h = tt

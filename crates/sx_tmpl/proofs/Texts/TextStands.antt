@@ -2,6 +2,7 @@
 use Rattle.std.proofs.Common.{◌≡◌, ℕ, zero, suc, ◌+◌, ◌*◌, ◌%◌, ◌/◌, ◌<◌, ◌≤◌, inl, inr, Bool, true, List, [], ◌∷◌, ◌++◌, take, length, Some, sym, ap, ◌∙◌, subst, arith}
 use Rattle.std.specs.Prelude.{slice_index, slice_get, if◌then◌else◌}
 use Rattle.std.proofs.lemmas.Bool.{cases_lt}
+use Rattle.std.proofs.lemmas.Option.{none-some}
 use Rattle.sx_rules.specs.declared.section.Layout.{Layout}
 use Rattle.sx_ir.specs.declared.ir.Code.{Code}
 use Rattle.sx_ir.specs.declared.ir.Ir.{Ir}
@@ -126,6 +127,14 @@ module _ (f : Fixed) (st : Stands f) (code : Code) (text : (k : ℕ) → k < 2 *
       subst (λ b. Text f b 32 (slot_words (base_of f))) z
       (text_at (behind + 2 * 17) 32 (slot_words l.priv_from) (omega arith) (omega (arith, room)) (omega (arith, e, c))
       (words_front f.entered (behind + 2 * 17) (slot_words l.priv_from) packets slots_words))
+
+  -- the index 0 in it
+  zero_word : (k w : ℕ) → slice_get (0 ∷ []) k ≡ Some w → cell f.entered (a.zero + 2 * k) ≡ w
+  zero_word zero w e = let at : a.slots + 2 * 2 ≡ a.zero + 2 * 0 = omega arith in subst (λ (b : ℕ). cell f.entered b ≡ w) at (slots_text.word 2 w e)
+  zero_word (suc k) w e = absurd (none-some w e)
+
+  pub zero_text : Text f a.zero 1 (0 ∷ [])
+  zero_text = record { from = omega (arith, slots_text.from); to = omega (arith, slots_text.to); is_even = omega (arith, slots_text.is_even); word = zero_word }
 
   pub packet_text : (p k : ℕ) → slice_get ops p ≡ Some (ir.Packet k) → k < 256 → Text f (a.packet k) 70 (routine_words (base_of f) k)
   packet_text p k here lt =

@@ -76,7 +76,7 @@ IsSoundOp f a (ir.LoadAt o n) = (n < 65536) × IsArray o n (size_of f)
 IsSoundOp f a (ir.StoreAt o n) = (n < 65536) × IsArray o n (size_of f)
 IsSoundOp f a (ir.Op g) = Unit {0}
 IsSoundOp f a (ir.Jump q) = IsTarget f (a.at q)
-IsSoundOp f a (ir.JumpZero q) = IsTarget f (a.at q)
+IsSoundOp f a (ir.JumpZero q) = IsTarget f (a.at q) × Text f a.zero 1 (0 ∷ [])
 IsSoundOp f a (ir.Packet k) = Text f (a.packet k) 70 (routine_words (base_of f) k) × (offsets.end_at k + 24 ≤ size_of f)
 IsSoundOp f a ir.Drop = Unit {0}
 IsSoundOp f a ir.Emit = Unit {0}
@@ -290,8 +290,8 @@ module _ (f : Fixed) (st : Stands f) (all : List Mark) (BV : Violation → List 
   op_goes (ir.Op h) stack c t here ok u ks g gt e = lift _ (count_of (ir.Op h)) (count_of (ir.Op h) + 0) _ t t (omega arith) refl (operator_goes h stack c t e)
   op_goes (ir.Jump q) stack c t here ok u ks g gt e = lift _ 1 8 _ _ t (omega arith) (goes_same _ t e) (jump_leads f st all B a.at (record c { stack = stack }) q ok.0 ok.1)
   op_goes (ir.JumpZero q) [] c t here ok u ks g gt e = absurd (never Stuck t e)
-  op_goes (ir.JumpZero q) (zero ∷ rest) c t here ok u ks g gt e = lift _ 4 8 _ _ t (omega arith) (goes_same _ t e) (jump_zero_leads f st all B a.at c q rest ok.0 ok.1)
-  op_goes (ir.JumpZero q) (suc v ∷ rest) c t here ok u ks g gt e = lift _ 4 8 _ _ t (omega arith) (goes_same _ t e) (jump_not_leads f st all B a.at c q v rest)
+  op_goes (ir.JumpZero q) (zero ∷ rest) c t here ok u ks g gt e = lift _ 3 8 _ _ t (omega arith) (goes_same _ t e) (jump_zero_leads f st all B a.at c q a.zero rest ok.1 ok.0.0 ok.0.1)
+  op_goes (ir.JumpZero q) (suc v ∷ rest) c t here ok u ks g gt e = lift _ 3 8 _ _ t (omega arith) (goes_same _ t e) (jump_not_leads f st all B a.at c q a.zero v rest ok.1)
   op_goes (ir.Packet k) [] c t here ok u ks g gt e = absurd (never Stuck t e)
   op_goes (ir.Packet k) (v ∷ rest) c t here ok u ks g gt e =
       with_size _ 200 _ t (λ sz. lift _ 63 200 _ t t (omega arith) refl (packet_goes f st all B a.at tag c t k v (a.packet k) rest (omega (arith, ok.1)) u (are_kept f (record c { stack = v ∷ rest }) ks g.slots) g.stack ok.0 e gt g.from g.to))
