@@ -23,8 +23,8 @@ use Rattle.sx_ir.specs.declared.ir.Ir.TheVariants as ir
 use Rattle.sx_ir.specs.declared.ir.IrOp.TheVariants as op
 use Rattle.sx_mean.specs.Handlers.{number_of, number_of_name}
 use Rattle.sx_stub.specs.Stub.{Cases, answer_code, attest_code, case_of, cases, entries, find_any, found_code, handled_by, input_code, input_found}
-use Rattle.sx_stub.specs.Stub.{is_above_last, is_closed_code, is_keyed_code, is_last_number, is_opened_not, is_other_epoch, is_past_number}
-use Rattle.sx_stub.specs.Stub.{is_stale_code, is_to, is_wrong_kind, jump_on, key_found, key_place, named_end, open_any, refuse_if, returns, sample_code}
+use Rattle.sx_stub.specs.Stub.{is_above_last, is_fresh_code, is_keyed_code, has_number_above, is_open_code, is_other_epoch, is_past_number}
+use Rattle.sx_stub.specs.Stub.{is_to, is_wrong_kind, jump_on, key_found, key_place, named_end, open_any, refuse_if, refuse_unless, returns, sample_code}
 use Rattle.sx_stub.specs.Stub.{sampled_code, search_code, set_key_code, slot_word, stub_code, stub_ops, take_event, take_receiving, tests}
 use Rattle.sx_stub.proofs.Plain.{is_fit, is_low}
 use Rattle.sx_lists.specs.Truth.{truth}
@@ -64,6 +64,12 @@ module _ (n ops parts : ℕ) (few : n ≤ 16) where
 
   refuse_fit : (place : ℕ) (test : List Ir) (status : ℕ) → nat_lt status 65536 ≡ true → place + length test + 4 < ops → Fit test → Fit (refuse_if place test status)
   refuse_fit place test status small lt h = both test (ir.JumpZero (place + length test + 4) ∷ returns status) h (and_from _ _ (lt-ltb (place + length test + 4) ops lt) (and_from _ _ small refl))
+
+  unless_fit : (place : ℕ) (test : List Ir) (status : ℕ) → nat_lt status 65536 ≡ true → place + length test + 5 < ops → Fit test → Fit (refuse_unless place test status)
+  unless_fit place test status small lt h =
+      let here = place + length test in
+      both test (ir.JumpZero (here + 2) ∷ ir.Jump (here + 5) ∷ returns status) h
+      (and_from _ _ (lt-ltb (here + 2) ops (omega (arith, lt))) (and_from _ _ (lt-ltb (here + 5) ops lt) (and_from _ _ small refl)))
 
   jump_fit : (entry place : ℕ) → nat_lt entry 65536 ≡ true → place < ops → Fit (jump_on entry place)
   jump_fit entry place small lt = and_from _ _ small (one (ir.JumpZero place) (lt-ltb place ops lt))
@@ -134,6 +140,9 @@ module _ (tree : ModuleTree) (ends : List End) (ops : ℕ) (few : length ends �
   abbrev refuses : (place : ℕ) (test : List Ir) (status : ℕ) → nat_lt status 65536 ≡ true → place + length test + 4 < ops → Fits test → Fits (refuse_if place test status)
   refuses = refuse_fit (length ends) ops (length tree.handlers) few
 
+  abbrev needs : (place : ℕ) (test : List Ir) (status : ℕ) → nat_lt status 65536 ≡ true → place + length test + 5 < ops → Fits test → Fits (refuse_unless place test status)
+  needs = unless_fit (length ends) ops (length tree.handlers) few
+
   abbrev slots : (k : ℕ) → nat_lt k 65536 ≡ true → Fits (slot_word (length ends) k)
   slots = slot_fit (length ends) ops (length tree.handlers) few
 
@@ -145,26 +154,26 @@ module _ (tree : ModuleTree) (ends : List End) (ops : ℕ) (few : length ends �
       let rest = handled_by (number_of tree (event.Input e.port 0)) in
       let store = ir.Store (512 + 24 * k + 2) ∷ [] in
       let raise = ir.Load 20 ∷ ir.Push 1 ∷ ir.Op op.Add ∷ [] in
-      let refuse = refuse_if (place + 1) is_opened_not other_tag in
+      let refuse = refuse_unless (place + 1) [] other_tag in
       join (ir.Open (512 + 24 * k + 8) 16 6 2 2 ∷ []) (refuse ++ (raise ++ (store ++ rest))) (key_fits (length ends) ops (length tree.handlers) few k lt)
-      (join refuse (raise ++ (store ++ rest)) (refuses (place + 1) is_opened_not other_tag refl (omega (arith, short)) refl)
+      (join refuse (raise ++ (store ++ rest)) (needs (place + 1) [] other_tag refl (omega (arith, short)) refl)
       (join raise (store ++ rest) refl (join store rest (number_fits (length ends) ops (length tree.handlers) few k lt) (handled (event.Input e.port 0)))))
 
   input_fit : (place : ℕ) → place + length (input_found tree ends place) < ops → Fits (input_found tree ends place)
   input_fit place short =
       let n = length ends in
       let last = cases (take_receiving tree) (place + 41) 0 ends in
-      let fourth = refuse_if (place + 34) is_last_number 6 ++ last in
-      let third = refuse_if (place + 24) (is_past_number n) 6 ++ fourth in
-      let second = refuse_if (place + 10) (is_other_epoch n) 5 ++ third in
-      join (refuse_if place (is_closed_code n) 5) second (refuses place (is_closed_code n) 5 refl (omega (arith, short)) (join (slot_word n 2) (ir.Push 0 ∷ ir.Op op.Eq ∷ []) (slots 2 refl) refl))
-      (join (refuse_if (place + 10) (is_other_epoch n) 5) third
-      (refuses (place + 10) (is_other_epoch n) 5 refl (omega (arith, short)) (join (slot_word n 0) (ir.Push 0xFF00 ∷ ir.Op op.And ∷ ir.Load 18 ∷ ir.Push 0xFF00 ∷ ir.Op op.And ∷ ir.Op op.Sub ∷ [])
+      let fourth = refuse_unless (place + 33) has_number_above 6 ++ last in
+      let third = refuse_if (place + 23) (is_past_number n) 6 ++ fourth in
+      let second = refuse_if (place + 9) (is_other_epoch n) 5 ++ third in
+      join (refuse_unless place (is_open_code n) 5) second (needs place (is_open_code n) 5 refl (omega (arith, short)) (slots 2 refl))
+      (join (refuse_if (place + 9) (is_other_epoch n) 5) third
+      (refuses (place + 9) (is_other_epoch n) 5 refl (omega (arith, short)) (join (slot_word n 0) (ir.Push 0xFF00 ∷ ir.Op op.And ∷ ir.Load 18 ∷ ir.Push 0xFF00 ∷ ir.Op op.And ∷ ir.Op op.Sub ∷ [])
       (slots 0 refl) refl))
-      (join (refuse_if (place + 24) (is_past_number n) 6) fourth
-      (refuses (place + 24) (is_past_number n) 6 refl (omega (arith, short))
+      (join (refuse_if (place + 23) (is_past_number n) 6) fourth
+      (refuses (place + 23) (is_past_number n) 6 refl (omega (arith, short))
       (join (ir.Load 20 ∷ []) (slot_word n 1 ++ ir.Op op.Lt ∷ []) refl (join (slot_word n 1) (ir.Op op.Lt ∷ []) (slots 1 refl) refl)))
-      (join (refuse_if (place + 34) is_last_number 6) last (refuses (place + 34) is_last_number 6 refl (omega (arith, short)) refl)
+      (join (refuse_unless (place + 33) has_number_above 6) last (needs (place + 33) has_number_above 6 refl (omega (arith, short)) refl)
       (cases_fit n ops (length tree.handlers) few (take_receiving tree) refl (λ k e lt link. index_small n ops (length tree.handlers) few k lt) take_fit (place + 41) 0 ends (omega arith) links
       (omega (arith, short))))))
 
@@ -172,10 +181,10 @@ module _ (tree : ModuleTree) (ends : List End) (ops : ℕ) (few : length ends �
   key_fit place short =
       let n = length ends in
       let last = cases open_any (place + 29) 0 ends in
-      let opened = refuse_if (place + 24) is_opened_not other_tag in
+      let opened = refuse_unless (place + 24) [] other_tag in
       let unwrap = ir.Open 0 16 6 56 16 ∷ [] in
       join (refuse_if place (is_keyed_code n) 5) (unwrap ++ (opened ++ last)) (refuses place (is_keyed_code n) 5 refl (omega (arith, short)) (keyed_fit n ops (length tree.handlers) few))
-      (join unwrap (opened ++ last) refl (join opened last (refuses (place + 24) is_opened_not other_tag refl (omega (arith, short)) refl)
+      (join unwrap (opened ++ last) refl (join opened last (needs (place + 24) [] other_tag refl (omega (arith, short)) refl)
       (cases_fit n ops (length tree.handlers) few open_any refl (λ k e lt link. index_small n ops (length tree.handlers) few k lt) (λ p k e lt s. and_from _ _ (lt-ltb k n lt) refl)
       (place + 29) 0 ends (omega arith) links (omega (arith, short)))))
 
@@ -204,7 +213,7 @@ module _ (tree : ModuleTree) (ends : List End) (ops : ℕ) (few : length ends �
 
   sample_fit : (place : ℕ) → place + length (sample_code tree place) < ops → Fits (sample_code tree place)
   sample_fit place short =
-      join (refuse_if (place + 2) is_stale_code 8) (sampled_code tree) (refuses (place + 2) is_stale_code 8 refl (omega (arith, short)) refl) (handled (event.Sample 0))
+      join (refuse_unless (place + 2) is_fresh_code 8) (sampled_code tree) (needs (place + 2) is_fresh_code 8 refl (omega (arith, short)) refl) (handled (event.Sample 0))
 
   set_key_fit : (search place : ℕ) → search < ops → place + 24 < ops → Fits (set_key_code search place)
   set_key_fit search place lt short =

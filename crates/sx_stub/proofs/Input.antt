@@ -33,15 +33,14 @@ use Rattle.sx_ir.specs.declared.ir.Ir.{Ir}
 use Rattle.sx_ir.specs.declared.ir.Ir.TheVariants as ir
 use Rattle.sx_ir.specs.declared.ir.IrOp.TheVariants as op
 use Rattle.sx_ir.proofs.Shown.{number_spared, slot_body, slot_key, slot_shown}
-use Rattle.sx_stub.specs.Stub.{input_code, input_found, key_found, key_place, search_code, refuse_if, cases, find_any, take_receiving, take_event, taken_code}
-use Rattle.sx_stub.specs.Stub.{is_receiving, is_to, is_wrong_kind, wanted_receiving, is_closed_code, is_other_epoch, is_past_number, is_last_number}
-use Rattle.sx_stub.specs.Stub.{is_opened_not, handled_by}
+use Rattle.sx_stub.specs.Stub.{input_code, input_found, key_found, key_place, search_code, refuse_if, refuse_unless, cases, find_any, take_receiving, take_event, taken_code}
+use Rattle.sx_stub.specs.Stub.{handled_by, has_number_above, is_open_code, is_other_epoch, is_past_number, is_receiving, is_to, is_wrong_kind, wanted_receiving}
 use Rattle.sx_stub.specs.Invokes.{ShowsCall, Ready, Invokes, HandlersDo}
 use Rattle.sx_stub.proofs.Mem.{AllBytes, word_lt, word_same, word-put_same, word-put_other, get-put_other, AllBytes-put_word}
 use Rattle.sx_stub.proofs.Mem.{AllBytes-put_bytes, get-put_bytes_in, bytes_from_same, AllBytes-bytes_from}
 use Rattle.sx_stub.proofs.Straight.{At, at, at_front, at_back, pure}
 use Rattle.sx_stub.proofs.Slots.{Same, IsKept, with_priv, shows_priv, end_with, end_state_is, end_in_slot, end_state_same}
-use Rattle.sx_stub.proofs.Refuse.{refuse_does, refuse_zero, or_if, sub_zero, not_twice, goes_on, runs_on, within}
+use Rattle.sx_stub.proofs.Refuse.{refuse_does, refuse_zero, unless_does, or_if, sub_zero, not_twice, goes_on, runs_on, within}
 use Rattle.sx_stub.proofs.Chain.{found_by, case_test, chain_does}
 use Rattle.sx_stub.proofs.Receive.{receive_does, copied_shows}
 use Rattle.sx_stub.proofs.Attest.{with_mark, progress_mark, shows_mark}
@@ -59,16 +58,16 @@ state_is : (priv : List ℕ) (j : ℕ)
     → end_state priv j ≡ end_with (word priv (end_at j + 4)) (word priv (end_at j)) (word priv (end_at j + 2)) (bytes_from priv (end_at j + 8) 16)
 state_is priv j = end_state_is priv j (word priv (end_at j + 4)) (word priv (end_at j)) (word priv (end_at j + 2)) (bytes_from priv (end_at j + 8) 16) refl refl refl refl
 
-truth_twice : (b : Bool) → truth b ≡ truth (not (not b))
-truth_twice true = refl
-truth_twice false = refl
+not_not : (b : Bool) → not b ≡ false → b ≡ true
+not_not true h = refl
+not_not false h = absurd (true≢false h)
 
-closed_word : (s : Setup) (priv : List ℕ) (ends j : ℕ) → ends ≤ 16 → j < ends → word priv 74 ≡ 12 * j
-    → pure s priv (is_closed_code ends) [] ≡ Some (truth (not (end_state priv j).is_open) ∷ [])
-closed_word s priv ends j few lt index =
-    slot_pure s priv ends j 2 (ir.Push 0 ∷ ir.Op op.Eq ∷ []) [] few lt (omega arith) index refl refl
-    ∙ ap (λ (x : ℕ). Some (x ∷ [])) (truth_twice (word priv (end_at j + 4) == 0))
-    ∙ sym (ap (λ (x : EndState). Some (truth (not x.is_open) ∷ [])) (state_is priv j))
+open_word : (s : Setup) (priv : List ℕ) (ends j : ℕ) → ends ≤ 16 → j < ends → word priv 74 ≡ 12 * j
+    → pure s priv (is_open_code ends) [] ≡ Some (word priv (end_at j + 4) ∷ [])
+open_word s priv ends j few lt index = slot_pure s priv ends j 2 [] [] few lt (omega arith) index refl refl
+
+open_zero : (priv : List ℕ) (j : ℕ) → (word priv (end_at j + 4) == 0) ≡ not (end_state priv j).is_open
+open_zero priv j = not_twice (word priv (end_at j + 4) == 0) ∙ sym (ap (λ (x : EndState). not x.is_open) (state_is priv j))
 
 epoch_word : (s : Setup) (priv : List ℕ) (ends j field : ℕ) → AllBytes priv → ends ≤ 16 → j < ends
     → word priv 74 ≡ 12 * j → word priv 18 ≡ field → field < 65536
@@ -211,8 +210,8 @@ module _ (s : Setup) (call : Call) (handle : ℕ → Conf → OperationResult) (
       by_tag None g d =
           let r = Returns other_tag p in
           goes_on s call handle given code r (ir.Open (end_at j + 8) 16 6 2 2) (at c place []) (at c (place + 1) (0 ∷ [])) (cost + 200) (cost + 170) a.0 d refl (omega arith)
-          (refuse_does s call handle given code true is_opened_not other_tag 1 c (place + 1) (place + 6) (cost + 170) (cost + 100) (0 ∷ []) r p
-          (at_front code (place + 1) (refuse_if (place + 1) is_opened_not other_tag) (taken_code s.tree j e) a.1) refl refl shows none (omega arith) (omega arith) (λ x. absurd (true≢false x)))
+          (unless_does s call handle given code true [] other_tag 0 c (place + 1) (place + 6) (cost + 170) (cost + 100) (0 ∷ []) r p
+          (at_front code (place + 1) (refuse_unless (place + 1) [] other_tag) (taken_code s.tree j e) a.1) refl refl shows none (omega arith) (omega arith) (λ x. absurd (true≢false x)))
       by_tag (Some body) g d =
           let value = take 2 body in
           let lv = length-take 2 body in
@@ -238,9 +237,9 @@ module _ (s : Setup) (call : Call) (handle : ℕ → Conf → OperationResult) (
           let state4 : end_state priv4 j ≡ end_of p.state.ends j = end_same c.priv priv4 j (λ i le. put_other value c.priv 2 i (inr (omega (arith, le, len2))))
           ∙ sym (end_in_slot s call p c j shows lt) in
           goes_on s call handle given code r (ir.Open (end_at j + 8) 16 6 2 2) (at c place []) c4 (cost + 200) (cost + 170) a.0 d2 refl (omega arith)
-          (refuse_does s call handle given code false is_opened_not other_tag 0 c4 (place + 1) (place + 6) (cost + 170) (cost + 100) (1 ∷ []) r p1
-          (at_front code (place + 1) (refuse_if (place + 1) is_opened_not other_tag) (taken_code s.tree j e) a.1) refl refl shows4 none (omega arith) (omega arith)
-          (λ x. takes packet body j e (place + 6) c4 len h g.1 g.0 lt back last shows4 second4 value4 state4 (at_back code (place + 1) (place + 6) (refuse_if (place + 1) is_opened_not other_tag)
+          (unless_does s call handle given code false [] other_tag 1 c4 (place + 1) (place + 6) (cost + 170) (cost + 100) (1 ∷ []) r p1
+          (at_front code (place + 1) (refuse_unless (place + 1) [] other_tag) (taken_code s.tree j e) a.1) refl refl shows4 none (omega arith) (omega arith)
+          (λ x. takes packet body j e (place + 6) c4 len h g.1 g.0 lt back last shows4 second4 value4 state4 (at_back code (place + 1) (place + 6) (refuse_unless (place + 1) [] other_tag)
           (taken_code s.tree j e) (omega arith) a.1)))
         where
           apart : (i : ℕ) → IsKept i → (n : ℕ) → n ≡ 2 → (i < 2) ⊎ (2 + n ≤ i)
@@ -266,36 +265,39 @@ module _ (s : Setup) (call : Call) (handle : ℕ → Conf → OperationResult) (
       let state3 = end_in_slot s call p c3 j shows3 lt in
       let smalls : st.field < 65536 = subst (λ (x : EndState). x.field < 65536) (sym (state3 ∙ state_is c3.priv j)) (word_lt c3.priv (end_at j) shows3.bytes) in
       let d = (epoch_of st.field * 256 + (65536 - epoch_of field * 256)) % 65536 in
-      let closed : pure s c3.priv (is_closed_code n) [] ≡ Some (truth (not st.is_open) ∷ []) = closed_word s c3.priv n j few lt index3
-      ∙ sym (ap (λ (x : EndState). Some (truth (not x.is_open) ∷ [])) state3) in
+      let open_mark = word c3.priv (end_at j + 4) in
+      let opened : pure s c3.priv (is_open_code n) [] ≡ Some (open_mark ∷ []) = open_word s c3.priv n j few lt index3 in
+      let closed : (open_mark == 0) ≡ not st.is_open = open_zero c3.priv j ∙ sym (ap (λ (x : EndState). not x.is_open) state3) in
       let epoch : pure s c3.priv (is_other_epoch n) [] ≡ Some (d ∷ []) = epoch_word s c3.priv n j field shows3.bytes few lt index3 field3 smallf
       ∙ sym (ap (λ (x : EndState). Some ((epoch_of x.field * 256 + (65536 - epoch_of field * 256)) % 65536 ∷ [])) state3) in
       let number : pure s c3.priv (is_past_number n) [] ≡ Some (truth (nat_lt second st.number) ∷ []) = number_word s c3.priv n j second few lt index3 second3
       ∙ sym (ap (λ (x : EndState). Some (truth (nat_lt second x.number) ∷ [])) state3) in
-      let final : pure s c3.priv is_last_number [] ≡ Some (truth (second == 65535) ∷ []) = ap (λ (x : ℕ). Some (truth (x == 65535) ∷ [])) second3 in
+      let above = (second + (65536 - 65535)) % 65536 in
+      let small : second < 65536 = word_lt packet 4 h in
+      let final : pure s c3.priv has_number_above [] ≡ Some (above ∷ []) = ap (λ (x : ℕ). Some ((x + (65536 - 65535)) % 65536 ∷ [])) second3 in
       let r4 = cases (take_receiving s.tree) (q + 41) 0 s.ends in
-      let r3 = refuse_if (q + 34) is_last_number 6 ++ r4 in
-      let r2 = refuse_if (q + 24) (is_past_number n) 6 ++ r3 in
-      let r1 = refuse_if (q + 10) (is_other_epoch n) 5 ++ r2 in
-      let a1 = at_back code q (q + 10) (refuse_if q (is_closed_code n) 5) r1 (omega arith) a in
-      let a2 = at_back code (q + 10) (q + 24) (refuse_if (q + 10) (is_other_epoch n) 5) r2 (omega arith) a1 in
-      let a3 = at_back code (q + 24) (q + 34) (refuse_if (q + 24) (is_past_number n) 6) r3 (omega arith) a2 in
-      let a4 = at_back code (q + 34) (q + 41) (refuse_if (q + 34) is_last_number 6) r4 (omega arith) a3 in
+      let r3 = refuse_unless (q + 33) has_number_above 6 ++ r4 in
+      let r2 = refuse_if (q + 23) (is_past_number n) 6 ++ r3 in
+      let r1 = refuse_if (q + 9) (is_other_epoch n) 5 ++ r2 in
+      let a1 = at_back code q (q + 9) (refuse_unless q (is_open_code n) 5) r1 (omega arith) a in
+      let a2 = at_back code (q + 9) (q + 23) (refuse_if (q + 9) (is_other_epoch n) 5) r2 (omega arith) a1 in
+      let a3 = at_back code (q + 23) (q + 33) (refuse_if (q + 23) (is_past_number n) 6) r3 (omega arith) a2 in
+      let a4 = at_back code (q + 33) (q + 41) (refuse_unless (q + 33) has_number_above 6) r4 (omega arith) a3 in
       let R = input_at s call packet (Some (j, e)) p in
       let numbered = event_numbered s call (j, e) packet st p in
       let u = unwrapped s.mac st.key (header_in packet) (take 2 (drop 6 packet)) (drop 8 packet) in
       let rest = event_opened s call (j, e) packet u p in
       subst (λ (x : Invoked). Invokes s call handle given code x (cost + 1400) (at c3 q [])) (sym (or_if (not st.is_open) (not (epoch_of st.field == epoch_of field)) (Returns no_end p) numbered))
-      (refuse_does s call handle given code (not st.is_open) (is_closed_code n) 5 (truth (not st.is_open)) c3 q (q + 10) (cost + 1400) (cost + 1320) []
-      (if not (epoch_of st.field == epoch_of field) then Returns no_end p else numbered) p (at_front code q (refuse_if q (is_closed_code n) 5) r1 a) closed refl shows3 none (omega arith)
+      (unless_does s call handle given code (not st.is_open) (is_open_code n) 5 open_mark c3 q (q + 9) (cost + 1400) (cost + 1320) []
+      (if not (epoch_of st.field == epoch_of field) then Returns no_end p else numbered) p (at_front code q (refuse_unless q (is_open_code n) 5) r1 a) opened closed shows3 none (omega arith)
       (omega arith)
-      (λ x1. refuse_zero s call handle given code (not (epoch_of st.field == epoch_of field)) (is_other_epoch n) 5 d c3 (q + 10) (q + 24) (cost + 1320) (cost + 1200) [] numbered p
-      (at_front code (q + 10) (refuse_if (q + 10) (is_other_epoch n) 5) r2 a1) epoch (epoch_zero st.field field smalls smallf) shows3 none (omega arith) (omega arith)
-      (λ x2. subst (λ (x : Invoked). Invokes s call handle given code x (cost + 1200) (at c3 (q + 24) [])) (sym (or_if (nat_lt second st.number) (second == 65535) (Returns past_number p) rest))
-      (refuse_does s call handle given code (nat_lt second st.number) (is_past_number n) 6 (truth (nat_lt second st.number)) c3 (q + 24) (q + 34) (cost + 1200) (cost + 1100) []
-      (if second == 65535 then Returns past_number p else rest) p (at_front code (q + 24) (refuse_if (q + 24) (is_past_number n) 6) r3 a2) number refl shows3 none (omega arith) (omega arith)
-      (λ x3. refuse_does s call handle given code (second == 65535) is_last_number 6 (truth (second == 65535)) c3 (q + 34) (q + 41) (cost + 1100) (cost + 1000) [] rest p
-      (at_front code (q + 34) (refuse_if (q + 34) is_last_number 6) r4 a3) final refl shows3 none (omega arith) (omega arith)
+      (λ x1. refuse_zero s call handle given code (not (epoch_of st.field == epoch_of field)) (is_other_epoch n) 5 d c3 (q + 9) (q + 23) (cost + 1320) (cost + 1200) [] numbered p
+      (at_front code (q + 9) (refuse_if (q + 9) (is_other_epoch n) 5) r2 a1) epoch (epoch_zero st.field field smalls smallf) shows3 none (omega arith) (omega arith)
+      (λ x2. subst (λ (x : Invoked). Invokes s call handle given code x (cost + 1200) (at c3 (q + 23) [])) (sym (or_if (nat_lt second st.number) (second == 65535) (Returns past_number p) rest))
+      (refuse_does s call handle given code (nat_lt second st.number) (is_past_number n) 6 (truth (nat_lt second st.number)) c3 (q + 23) (q + 33) (cost + 1200) (cost + 1100) []
+      (if second == 65535 then Returns past_number p else rest) p (at_front code (q + 23) (refuse_if (q + 23) (is_past_number n) 6) r3 a2) number refl shows3 none (omega arith) (omega arith)
+      (λ x3. unless_does s call handle given code (second == 65535) has_number_above 6 above c3 (q + 33) (q + 41) (cost + 1100) (cost + 1000) [] rest p
+      (at_front code (q + 33) (refuse_unless (q + 33) has_number_above 6) r4 a3) final (sub_zero second 65535 small (omega arith)) shows3 none (omega arith) (omega arith)
       (λ x4. chain_does s call handle given code rest (take_receiving s.tree) (12 * j) c3 index3 (omega (arith, few, lt)) refl s.ends 0 (q + 41) (q + 41 + length r4) (cost + 1000) (cost + 200)
       (index_words (take_receiving s.tree) s.ends 0 (λ i d. refl) (omega (arith, few))) a4 refl (omega (arith, few))
       (λ j2 e2 place found2 a5.

@@ -13,7 +13,7 @@ use Rattle.sx_ir.specs.Counts.{count_of}
 use Rattle.sx_ir.specs.Meaning.{OperationResult, do_at, handler_count}
 use Rattle.sx_ir.specs.declared.ir.Ir.{Ir}
 use Rattle.sx_ir.specs.declared.ir.Ir.TheVariants as ir
-use Rattle.sx_stub.specs.Stub.{returns, refuse_if}
+use Rattle.sx_stub.specs.Stub.{refuse_if, refuse_unless, returns}
 use Rattle.sx_stub.specs.Invokes.{ShowsCall, EndsSo, LeavesSo, Invokes}
 use Rattle.sx_stub.proofs.Straight.{At, at, at_front, at_back, pure, counts, goes, halts, runs, wider}
 use Rattle.sx_stub.proofs.Slots.{shows_at}
@@ -85,6 +85,34 @@ module _ (s : Setup) (call : Call) (handle : ℕ → Conf → OperationResult) (
       go false zero t back r =
           goes_on result (ir.JumpZero (p + length test + 4)) (at c (p + length test) (0 ∷ [])) (at c (p + length test + 4) []) (24 + m) m back.0 refl refl (omega arith)
           (subst (λ (x : ℕ). Goal result m (at c x [])) (sym f) (r refl))
+
+  -- a test that leaves 0 where it holds, and what is done where it holds not
+  pub unless_does : (b : Bool) (test : List Ir) (status v : ℕ) (c : Conf) (p q n m : ℕ) (stack : List ℕ) (result : Invoked) (progress : Progress)
+      → At code p (refuse_unless p test status) → pure s c.priv test stack ≡ Some (v ∷ []) → (v == 0) ≡ b
+      → ShowsCall s call progress c → progress.pieces ≡ [] → p + length test + 5 ≡ q → counts test + 24 + m ≤ n
+      → (b ≡ false → Goal result m (at c q [])) → Goal (if b then Returns status progress else result) n (at c p stack)
+  unless_does b test status v c p q n m stack result progress a e t h none f le r =
+      let here = p + length test in
+      let jumps = ir.JumpZero (here + 2) ∷ ir.Jump (here + 5) ∷ returns status in
+      let R = if b then Returns status progress else result in
+      runs_on R test c p here stack (v ∷ []) n (24 + m) (at_front code p test jumps a) e refl (omega (arith, le))
+      (go b v t (at_back code p here test jumps refl a) r)
+    where
+      go : (b : Bool) (v : ℕ) → (v == 0) ≡ b
+          → At code (p + length test) (ir.JumpZero (p + length test + 2) ∷ ir.Jump (p + length test + 5) ∷ returns status)
+          → (b ≡ false → Goal result m (at c q []))
+          → Goal (if b then Returns status progress else result) (24 + m) (at c (p + length test) (v ∷ []))
+      go true zero t a r =
+          let here = p + length test in
+          goes_on (Returns status progress) (ir.JumpZero (here + 2)) (at c here (0 ∷ [])) (at c (here + 2) []) (24 + m) 16 a.0 refl refl (omega arith)
+          (returns_does status progress c (here + 2) 16 (subst (λ (x : ℕ). At code x (returns status)) (omega arith) a.1.1) h none (omega arith))
+      go true (suc v) t a r = let e = eqb-true (suc v) 0 t in absurd (omega (arith, e))
+      go false zero t a r = absurd (true≢false t)
+      go false (suc v) t a r =
+          let here = p + length test in
+          goes_on result (ir.JumpZero (here + 2)) (at c here (suc v ∷ [])) (at c (here + 1) []) (24 + m) (16 + m) a.0 refl refl (omega arith)
+          (goes_on result (ir.Jump (here + 5)) (at c (here + 1) []) (at c (here + 5) []) (16 + m) m a.1.0 refl refl (omega arith)
+          (subst (λ (x : ℕ). Goal result m (at c x [])) (sym f) (r refl)))
 
   pub refuse_does : (b : Bool) (test : List Ir) (status v : ℕ) (c : Conf) (p q n m : ℕ) (stack : List ℕ) (result : Invoked) (progress : Progress)
       → At code p (refuse_if p test status) → pure s c.priv test stack ≡ Some (v ∷ []) → v ≡ truth b

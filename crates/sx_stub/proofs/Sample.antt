@@ -28,16 +28,15 @@ use Rattle.sx_ir.specs.Meaning.{OperationResult, do_op, has_key_mark, sense, sen
 use Rattle.sx_ir.specs.declared.ir.Ir.{Ir}
 use Rattle.sx_ir.specs.declared.ir.Ir.TheVariants as ir
 use Rattle.sx_ir.specs.declared.ir.IrOp.TheVariants as op
-use Rattle.sx_stub.specs.Stub.{sample_code, sampled_code, refuse_if, is_stale_code, handled_by}
+use Rattle.sx_stub.specs.Stub.{handled_by, is_fresh_code, refuse_unless, sample_code, sampled_code}
 use Rattle.sx_stub.specs.Invokes.{ShowsCall, Ready, Invokes, HandlersDo}
 use Rattle.sx_stub.proofs.Mem.{word-put_same, get-put_other, AllBytes-put_word}
 use Rattle.sx_stub.proofs.Straight.{At, at, at_front, at_back}
 use Rattle.sx_stub.proofs.Slots.{with_priv, shows_priv, kept_high}
-use Rattle.sx_stub.proofs.Refuse.{refuse_does, goes_on, runs_on, within}
+use Rattle.sx_stub.proofs.Refuse.{goes_on, runs_on, unless_does, within}
 use Rattle.sx_stub.proofs.Handling.{handles}
 use Rattle.sx_machine.proofs.Lengths.{length-put_word}
 use Rattle.sx_machine.proofs.Devices.{device_of_parts}
-use Rattle.sx_lists.specs.Truth.{truth}
 
 -- The module's device, before and after its sample was read.
 
@@ -133,9 +132,9 @@ module _ (s : Setup) (call : Call) (handle : ℕ → Conf → OperationResult) (
           (at c place []) 0) f) refl (omega (arith, le))
           (goes_on s call handle given code r (ir.Store 2) (at c (place + 1) (0 ∷ [])) (at c1 (place + 1 + 1) []) (cost + 290) (cost + 280) a.1.0 refl refl (omega arith)
           (subst (λ (x : ℕ). Invokes s call handle given code r (cost + 280) (at c1 x [])) (omega arith)
-          (refuse_does s call handle given code true is_stale_code 8 (truth (word c1.priv 2 == 0)) c1 (place + 2) (place + 9) (cost + 280) (cost + 100) [] r p
-          (at_front code (place + 2) (refuse_if (place + 2) is_stale_code 8) (sampled_code s.tree) (subst (λ (x : ℕ). At code x (refuse_if (place + 2) is_stale_code 8 ++ sampled_code s.tree))
-          (omega arith) a.1.1)) refl (ap (λ (x : ℕ). truth (x == 0)) e) shows1 none (omega arith) (omega arith) (λ x. absurd (true≢false x))))))
+          (unless_does s call handle given code true is_fresh_code 8 (word c1.priv 2) c1 (place + 2) (place + 8) (cost + 280) (cost + 100) [] r p
+          (at_front code (place + 2) (refuse_unless (place + 2) is_fresh_code 8) (sampled_code s.tree) (subst (λ (x : ℕ). At code x (refuse_unless (place + 2) is_fresh_code 8 ++ sampled_code s.tree))
+          (omega arith) a.1.1)) refl (ap (λ (x : ℕ). x == 0) e) shows1 none (omega arith) (omega arith) (λ x. absurd (true≢false x))))))
       by_fresh true f d =
           let v = win.value in
           let p1 = sample_read (dev, win) p in
@@ -161,11 +160,11 @@ module _ (s : Setup) (call : Call) (handle : ℕ → Conf → OperationResult) (
           let shows1 = event_word p1 c0 (0x8000 + v) (place + 2) shows0 (omega (arith, small)) in
           let e : word c1.priv 2 ≡ 0x8000 + v = word-put_same c0.priv 2 (0x8000 + v) refl (omega (arith, size)) in
           let size1 = shows1.size in
-          let c2 = with_priv c1 (put_word c1.priv 2 v) (place + 13) [] in
-          let shows2 = event_word p1 c1 v (place + 13) shows1 (omega (arith, small)) in
+          let c2 = with_priv c1 (put_word c1.priv 2 v) (place + 12) [] in
+          let shows2 = event_word p1 c1 v (place + 12) shows1 (omega (arith, small)) in
           let all = sampled_code s.tree in
-          let a2 : At code (place + 2) (refuse_if (place + 2) is_stale_code 8 ++ all) = subst (λ (x : ℕ). At code x (refuse_if (place + 2) is_stale_code 8 ++ all)) (omega arith) a.1.1 in
-          let a3 = at_back code (place + 2) (place + 9) (refuse_if (place + 2) is_stale_code 8) all (omega arith) a2 in
+          let a2 : At code (place + 2) (refuse_unless (place + 2) is_fresh_code 8 ++ all) = subst (λ (x : ℕ). At code x (refuse_unless (place + 2) is_fresh_code 8 ++ all)) (omega arith) a.1.1 in
+          let a3 = at_back code (place + 2) (place + 8) (refuse_unless (place + 2) is_fresh_code 8) all (omega arith) a2 in
           let ready : Ready s call (event.Sample v) p1 c2 = record {
             shows = shows2;
             value = word-put_same c1.priv 2 v refl (omega (arith, size1));
@@ -184,14 +183,14 @@ module _ (s : Setup) (call : Call) (handle : ℕ → Conf → OperationResult) (
           (at c place []) 0) f) refl (omega (arith, le))
           (goes_on s call handle given code r (ir.Store 2) (at c0 (place + 1) ((0x8000 + v) ∷ [])) (at c1 (place + 1 + 1) []) (cost + 290) (cost + 280) a.1.0 refl refl (omega arith)
           (subst (λ (x : ℕ). Invokes s call handle given code r (cost + 280) (at c1 x [])) (omega arith)
-          (refuse_does s call handle given code false is_stale_code 8 (truth (word c1.priv 2 == 0)) c1 (place + 2) (place + 9) (cost + 280) (cost + 100) [] r p1
-          (at_front code (place + 2) (refuse_if (place + 2) is_stale_code 8) all a2) refl (ap (λ (x : ℕ). truth (x == 0)) e
-          ∙ ap truth (ne_eqb (0x8000 + v) 0 (omega arith))) shows1 none (omega arith) (omega arith)
-          (λ x. runs_on s call handle given code r (ir.Load 2 ∷ ir.Push 0x8000 ∷ ir.Op op.Sub ∷ []) c1 (place + 9) (place + 12) [] (v ∷ []) (cost + 100) (cost + 70) (a3.0, (a3.1.0, (a3.1.1.0, tt)))
+          (unless_does s call handle given code false is_fresh_code 8 (word c1.priv 2) c1 (place + 2) (place + 8) (cost + 280) (cost + 100) [] r p1
+          (at_front code (place + 2) (refuse_unless (place + 2) is_fresh_code 8) all a2) refl (ap (λ (x : ℕ). x == 0) e
+          ∙ ne_eqb (0x8000 + v) 0 (omega arith)) shows1 none (omega arith) (omega arith)
+          (λ x. runs_on s call handle given code r (ir.Load 2 ∷ ir.Push 0x8000 ∷ ir.Op op.Sub ∷ []) c1 (place + 8) (place + 11) [] (v ∷ []) (cost + 100) (cost + 70) (a3.0, (a3.1.0, (a3.1.1.0, tt)))
           (ap (λ (x : ℕ). Some ((x + (65536 - 0x8000)) % 65536 ∷ [])) e ∙ ap (λ (x : ℕ). Some (x ∷ [])) (omega (arith, small))) (omega arith) (omega arith)
-          (goes_on s call handle given code r (ir.Store 2) (at c1 (place + 12) (v ∷ [])) (at c2 (place + 12 + 1) []) (cost + 70) (cost + 60) (ap (slice_get code) (omega arith)
+          (goes_on s call handle given code r (ir.Store 2) (at c1 (place + 11) (v ∷ [])) (at c2 (place + 11 + 1) []) (cost + 70) (cost + 60) (ap (slice_get code) (omega arith)
           ∙ a3.1.1.1.0) refl refl (omega arith)
           (subst (λ (x : ℕ). Invokes s call handle given code r (cost + 60) (at c2 x [])) (omega arith)
-          (within s call handle given code r (cost + 60) (cost + 16) (at c2 (place + 13) []) (omega arith)
-          (handles s call handle given code (event.Sample v) p1 c2 (place + 13) cost ready (λ x n. does (event.Sample v) x n)
+          (within s call handle given code r (cost + 60) (cost + 16) (at c2 (place + 12) []) (omega arith)
+          (handles s call handle given code (event.Sample v) p1 c2 (place + 12) cost ready (λ x n. does (event.Sample v) x n)
           (subst (λ (x : ℕ). At code x (handled_by (number_of s.tree (event.Sample v)))) (omega arith) a3.1.1.1.1))))))))))

@@ -28,14 +28,14 @@ use Rattle.sx_ir.specs.Meaning as meaning
 use Rattle.sx_ir.specs.declared.ir.IrOp.TheVariants as op
 use Rattle.sx_ir.specs.declared.ir.Ir.{Ir}
 use Rattle.sx_ir.specs.declared.ir.Ir.TheVariants as ir
-use Rattle.sx_stub.specs.Stub.{set_key_code, key_found, key_place, search_code, refuse_if, cases, find_any, open_any, open_end, is_wrong_kind, is_no_side}
-use Rattle.sx_stub.specs.Stub.{wanted_end, is_keyed_code, is_opened_not, is_to, slot_word}
+use Rattle.sx_stub.specs.Stub.{set_key_code, key_found, key_place, search_code, refuse_if, refuse_unless, cases, find_any, open_any, open_end, is_wrong_kind, is_no_side}
+use Rattle.sx_stub.specs.Stub.{wanted_end, is_keyed_code, is_to, slot_word}
 use Rattle.sx_stub.specs.Invokes.{ShowsCall, Invokes}
 use Rattle.sx_stub.proofs.Mem.{AllBytes, word_lt, word_same, word-put_same, word-put_other, get-put_other, AllBytes-put_word}
 use Rattle.sx_stub.proofs.Mem.{AllBytes-put_bytes, bytes_from_put, AllBytes-bytes_from}
 use Rattle.sx_stub.proofs.Straight.{At, at, at_front, at_back, pure}
 use Rattle.sx_stub.proofs.Slots.{Same, IsKept, with_priv, shows_priv, end_state_is, end_in_slot, state_put}
-use Rattle.sx_stub.proofs.Refuse.{returned, refuse_does, goes_on, runs_on}
+use Rattle.sx_stub.proofs.Refuse.{returned, refuse_does, unless_does, goes_on, runs_on}
 use Rattle.sx_stub.proofs.Chain.{found_by, case_test, chain_does}
 use Rattle.sx_stub.proofs.Receive.{receive_does, copied_shows, truth_not}
 use Rattle.sx_stub.proofs.Attest.{with_mark, progress_mark, shows_mark}
@@ -198,7 +198,7 @@ module _ (s : Setup) (call : Call) (handle : ℕ → Conf → OperationResult) (
       keyed_word c3.priv (length s.ends) j field shows3.bytes few lt index3 field3 small s
       ∙ sym (ap (λ (x : EndState). Some (truth (is_keyed x field) ∷ [])) state3) in
       let rest2 = cases open_any (q + 29) 0 s.ends in
-      let rest1 = ir.Open 0 16 6 56 16 ∷ (refuse_if (q + 24) is_opened_not other_tag ++ rest2) in
+      let rest1 = ir.Open 0 16 6 56 16 ∷ (refuse_unless (q + 24) [] other_tag ++ rest2) in
       let a1 = at_back code q (q + 23) (refuse_if q (is_keyed_code (length s.ends)) 5) rest1 (omega arith) a in
       refuse_does s call handle given code (is_keyed (end_of p.state.ends j) field) (is_keyed_code (length s.ends)) 5 (truth (is_keyed (end_of p.state.ends j) field)) c3 q (q + 23) 1100 900 []
       (key_opened j packet (unwrapped s.mac s.section.key (header_in packet) (take 16 (drop 6 packet)) (drop 22 packet)) p) p
@@ -208,7 +208,7 @@ module _ (s : Setup) (call : Call) (handle : ℕ → Conf → OperationResult) (
       unseals : (packet : List ℕ) (j : ℕ) (e : End) (t : ℕ → End → Bool) (c3 : Conf) (q : ℕ) → length packet ≡ 38
           → AllBytes packet → ShowsCall s call p c3 → Holds c3.priv packet → found_by t 0 s.ends ≡ Some (j, e)
           → j < length s.ends → word c3.priv 74 ≡ 12 * j
-          → At code (q + 23) (ir.Open 0 16 6 56 16 ∷ refuse_if (q + 24) is_opened_not other_tag ++ cases open_any (q + 29) 0 s.ends)
+          → At code (q + 23) (ir.Open 0 16 6 56 16 ∷ refuse_unless (q + 24) [] other_tag ++ cases open_any (q + 29) 0 s.ends)
           → Invokes s call handle given code (key_opened j packet (unwrapped s.mac s.section.key (header_in packet) (take 16 (drop 6 packet)) (drop 22 packet)) p) 900 (at c3 (q + 23) [])
       unseals packet j e t c3 q len h shows3 holds3 found lt index3 a1 =
           let d6 = length-drop 6 packet in
@@ -232,9 +232,9 @@ module _ (s : Setup) (call : Call) (handle : ℕ → Conf → OperationResult) (
               let r = Returns other_tag p in
               goes_on s call handle given code r (ir.Open 0 16 6 56 16) (at c3 (q + 23) []) (at c3 (q + 23 + 1) (0 ∷ [])) 900 860 a1.0 does refl (omega arith)
               (subst (λ (x : ℕ). Invokes s call handle given code r 860 (at c3 x (0 ∷ []))) (omega arith)
-              (refuse_does s call handle given code true is_opened_not other_tag 1 c3 (q + 24) (q + 29) 860 780 (0 ∷ []) r p
-              (at_front code (q + 24) (refuse_if (q + 24) is_opened_not other_tag) (cases open_any (q + 29) 0 s.ends)
-              (subst (λ (x : ℕ). At code x (refuse_if (q + 24) is_opened_not other_tag ++ cases open_any (q + 29) 0 s.ends)) (omega arith) a1.1)) refl refl shows3 none (omega arith)
+              (unless_does s call handle given code true [] other_tag 0 c3 (q + 24) (q + 29) 860 780 (0 ∷ []) r p
+              (at_front code (q + 24) (refuse_unless (q + 24) [] other_tag) (cases open_any (q + 29) 0 s.ends)
+              (subst (λ (x : ℕ). At code x (refuse_unless (q + 24) [] other_tag ++ cases open_any (q + 29) 0 s.ends)) (omega arith) a1.1)) refl refl shows3 none (omega arith)
               (omega arith) (λ x. absurd (true≢false x))))
           by_tag (Some body) g does =
               let key = take 16 body in
@@ -255,14 +255,14 @@ module _ (s : Setup) (call : Call) (handle : ℕ → Conf → OperationResult) (
               (put_other key c3.priv 56 75 (inr (omega (arith, lk)))) ∙ index3 in
               let field4 : word priv4 18 ≡ field_in packet = word_same c3.priv priv4 18 18 refl refl (put_other key c3.priv 56 18 (inl (omega arith)))
               (put_other key c3.priv 56 19 (inl (omega arith))) ∙ holds_word c3.priv packet 2 refl (omega (arith, len)) holds3 in
-              let rest = refuse_if (q + 24) is_opened_not other_tag ++ cases open_any (q + 29) 0 s.ends in
+              let rest = refuse_unless (q + 24) [] other_tag ++ cases open_any (q + 29) 0 s.ends in
               let all : At code (q + 24) rest = subst (λ (x : ℕ). At code x rest) (omega arith) a1.1 in
               goes_on s call handle given code r (ir.Open 0 16 6 56 16) (at c3 (q + 23) []) c4 900 860 a1.0 does refl (omega arith)
               (subst (λ (x : ℕ). Invokes s call handle given code r 860 (at c4 x (1 ∷ []))) (omega arith)
-              (refuse_does s call handle given code false is_opened_not other_tag 0 c4 (q + 24) (q + 29) 860 780 (1 ∷ []) r p1
-              (at_front code (q + 24) (refuse_if (q + 24) is_opened_not other_tag) (cases open_any (q + 29) 0 s.ends) all) refl refl shows4 none (omega arith) (omega arith)
+              (unless_does s call handle given code false [] other_tag 1 c4 (q + 24) (q + 29) 860 780 (1 ∷ []) r p1
+              (at_front code (q + 24) (refuse_unless (q + 24) [] other_tag) (cases open_any (q + 29) 0 s.ends) all) refl refl shows4 none (omega arith) (omega arith)
               (λ x. chain_does s call handle given code r open_any (12 * j) c4 index4 (omega (arith, few, lt)) refl s.ends 0 (q + 29) (q + 29 + length (cases open_any (q + 29) 0 s.ends)) 780 60
-              (index_words open_any s.ends 0 (λ i d. refl) (omega (arith, few))) (at_back code (q + 24) (q + 29) (refuse_if (q + 24) is_opened_not other_tag) (cases open_any (q + 29) 0 s.ends)
+              (index_words open_any s.ends 0 (λ i d. refl) (omega (arith, few))) (at_back code (q + 24) (q + 29) (refuse_unless (q + 24) [] other_tag) (cases open_any (q + 29) 0 s.ends)
               (omega arith) all) refl (omega (arith, few))
               (λ j2 e2 place found2 a2.
               let same : j2 ≡ j = some_place j2 j e2 e (sym found2 ∙ index_found t open_any s.ends 0 j e links (λ i d. refl) (λ i d lt x. refl) found) in

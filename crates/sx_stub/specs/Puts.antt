@@ -6,8 +6,8 @@ use Rattle.sx_invoke.specs.Protocol.{entry_register}
 use Rattle.sx_ir.specs.declared.ir.IrOp.TheVariants as op
 use Rattle.sx_ir.specs.declared.ir.Ir.{Ir}
 use Rattle.sx_ir.specs.declared.ir.Ir.TheVariants as ir
-use Rattle.sx_stub.specs.Stub.{Cases, case_of, cases, index_at, refuse_if, take_receiving}
-use Rattle.sx_stub.specs.Stub.{wanted_at}
+use Rattle.sx_stub.specs.Stub.{Cases, case_of, cases, index_at, refuse_if, refuse_unless}
+use Rattle.sx_stub.specs.Stub.{take_receiving, wanted_at}
 
 -- these operations
 abbrev pub Puts : List Ir → List Ir → List Ir → Type 0
@@ -20,6 +20,10 @@ PutsAt piece old new = Puts (piece (length old)) old new
 -- a return with this status where the test leaves a word other than 0
 abbrev pub RefusesWith : List Ir → ℕ → List Ir → List Ir → Type 0
 RefusesWith test status = PutsAt (λ p. refuse_if p test status)
+
+-- such a return where the test leaves 0
+abbrev pub RefusesUnless : List Ir → ℕ → List Ir → List Ir → Type 0
+RefusesUnless test status = PutsAt (λ p. refuse_unless p test status)
 
 -- the case of the end at this index
 abbrev pub PutsCase : Cases → ℕ → End → List Ir → List Ir → Type 0

@@ -62,6 +62,12 @@ returns status = ir.Push status ∷ ir.Push 0 ∷ ir.Leave ∷ []
 abbrev pub refuse_if : ℕ → List Ir → ℕ → List Ir
 refuse_if place test status = test ++ ir.JumpZero (place + length test + 4) ∷ returns status
 
+-- such a return where the test leaves 0; without a test it is the word on the stack that is tested
+abbrev pub refuse_unless : ℕ → List Ir → ℕ → List Ir
+refuse_unless place test status =
+    test ++ ir.JumpZero (place + length test + 2) ∷ ir.Jump (place + length test + 5)
+    ∷ returns status
+
 -- goes on at a place where the caller's entry is this one
 abbrev pub jump_on : ℕ → ℕ → List Ir
 jump_on entry place =
@@ -129,10 +135,6 @@ epoch = ir.Push 0xFF00 ∷ ir.Op op.And ∷ []
 abbrev pub is_wrong_kind : ℕ → List Ir
 is_wrong_kind kind = ir.Load kind_at ∷ ir.Push kind ∷ ir.Op op.Sub ∷ []
 
--- an unwrap was refused
-abbrev pub is_opened_not : List Ir
-is_opened_not = ir.Op op.Not ∷ []
-
 -- Set-key, and the cases in it.
 
 -- the end that is looked for is found, whichever side it is of
@@ -170,7 +172,7 @@ abbrev pub key_found : List End → ℕ → List Ir
 key_found ends place =
     refuse_if place (is_keyed_code (length ends)) no_end
     ++ ir.Open 0 working.packet_at header_size working.plain_at key_size
-    ∷ (refuse_if (place + 24) is_opened_not other_tag
+    ∷ (refuse_unless (place + 24) [] other_tag
     ++ cases open_any (place + 29) 0 ends)
 
 -- the packet is copied and tested, and its end is searched for
@@ -221,16 +223,16 @@ taken_code tree k e =
 abbrev pub take_event : ModuleTree → ℕ → ℕ → End → List Ir
 take_event tree place k e =
     ir.Open (offsets.end_key_at k) working.packet_at header_size working.event_at value_size
-    ∷ (refuse_if (place + 1) is_opened_not other_tag ++ taken_code tree k e)
+    ∷ (refuse_unless (place + 1) [] other_tag ++ taken_code tree k e)
 
 -- the receiving end that was found takes the packet
 abbrev pub take_receiving : ModuleTree → Cases
 take_receiving tree =
     record { offset = index_at; has = is_receiving; number = index_of; body = take_event tree }
 
--- the end isn't open
-abbrev pub is_closed_code : ℕ → List Ir
-is_closed_code ends = slot_word ends 2 ++ ir.Push 0 ∷ ir.Op op.Eq ∷ []
+-- the end is open
+abbrev pub is_open_code : ℕ → List Ir
+is_open_code ends = slot_word ends 2
 
 -- its epoch isn't the packet's
 abbrev pub is_other_epoch : ℕ → List Ir
@@ -241,18 +243,18 @@ is_other_epoch ends =
 abbrev pub is_past_number : ℕ → List Ir
 is_past_number ends = ir.Load second_at ∷ (slot_word ends 1 ++ ir.Op op.Lt ∷ [])
 
--- it has no number above it
-abbrev pub is_last_number : List Ir
-is_last_number = ir.Load second_at ∷ ir.Push last_number ∷ ir.Op op.Eq ∷ []
+-- there is a number above it
+abbrev pub has_number_above : List Ir
+has_number_above = ir.Load second_at ∷ ir.Push last_number ∷ ir.Op op.Sub ∷ []
 
 -- of the end that was found: the tests, and then the event's taking
 abbrev pub input_found : ModuleTree → List End → ℕ → List Ir
 input_found tree ends place =
     let n = length ends in
-    refuse_if place (is_closed_code n) no_end
-    ++ (refuse_if (place + 10) (is_other_epoch n) no_end
-    ++ (refuse_if (place + 24) (is_past_number n) past_number
-    ++ (refuse_if (place + 34) is_last_number past_number
+    refuse_unless place (is_open_code n) no_end
+    ++ (refuse_if (place + 9) (is_other_epoch n) no_end
+    ++ (refuse_if (place + 23) (is_past_number n) past_number
+    ++ (refuse_unless (place + 33) has_number_above past_number
     ++ cases (take_receiving tree) (place + 41) 0 ends)))
 
 -- the packet is copied and tested, and its end is searched for
@@ -282,9 +284,9 @@ search_code tree ends place =
 
 -- Sample: the value is what the sensor's word reads, without its bit 15.
 
--- the sensor wasn't fresh
-abbrev pub is_stale_code : List Ir
-is_stale_code = ir.Load working.event_at ∷ ir.Push 0 ∷ ir.Op op.Eq ∷ []
+-- the sensor was fresh
+abbrev pub is_fresh_code : List Ir
+is_fresh_code = ir.Load working.event_at ∷ []
 
 -- the handler runs with the value
 abbrev pub sampled_code : ModuleTree → List Ir
@@ -295,7 +297,7 @@ sampled_code tree =
 -- the sensor is read, tested and taken
 abbrev pub sample_code : ModuleTree → ℕ → List Ir
 sample_code tree place =
-    ir.Sense ∷ ir.Store working.event_at ∷ (refuse_if (place + 2) is_stale_code no_sample
+    ir.Sense ∷ ir.Store working.event_at ∷ (refuse_unless (place + 2) is_fresh_code no_sample
     ++ sampled_code tree)
 
 -- The tests of the entry and the windows, and the way to the four entries.

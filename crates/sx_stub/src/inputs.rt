@@ -2,16 +2,17 @@
 
 ghost use Rattle.std.specs.Prelude.{◌≡◌, ◌+◌, ◌<◌, ◌≤◌, ◌++◌, OnOk, length};
 ghost use Rattle.sx_lang.specs.View.{module_of};
-ghost use Rattle.sx_stub.specs.Stub.{case_of, input_code, input_found, is_closed_code};
-ghost use Rattle.sx_stub.specs.Stub.{is_last_number, is_other_epoch, is_past_number, is_receiving};
+ghost use Rattle.sx_stub.specs.Stub.{case_of, input_code, input_found, has_number_above};
+ghost use Rattle.sx_stub.specs.Stub.{is_open_code, is_other_epoch, is_past_number, is_receiving};
 ghost use Rattle.sx_stub.specs.Stub.{take_event, take_receiving, taken_code};
 ghost use Rattle.sx_stub.specs.Stub.{wanted_receiving};
-ghost use Rattle.sx_stub.specs.Puts.{Puts, PutsAt, PutsCase, PutsCases, RefusesWith, behind_cases};
-ghost use Rattle.sx_stub.specs.Puts.{searched};
+ghost use Rattle.sx_stub.specs.Puts.{Puts, PutsAt, PutsCase, PutsCases, RefusesUnless, RefusesWith};
+ghost use Rattle.sx_stub.specs.Puts.{behind_cases, searched};
 
 use crate::handled::{handled_len, input_handler, put_handled};
 use crate::pieces::{
     FIELD, INDEX, KIND, SECOND, SLOTS, WANTED, put, put_all, put_choice, put_refuse,
+    put_refuse_unless,
 };
 use std::alloc::AllocError;
 use sx_invoke::protocol::{
@@ -92,7 +93,7 @@ fn put_take(code: &mut Vec<Ir>, tree: &Module, k: u8, e: &End) -> Result<(), All
         code,
         Ir::Open(end_key_at(k), PACKET, HEADER_SIZE, EVENT, VALUE_SIZE),
     )?;
-    put_refuse(code, &[Ir::Op(IrOp::Not)], OTHER_TAG)?;
+    put_refuse_unless(code, &[], OTHER_TAG)?;
     put_taken(code, tree, k, e)
 }
 
@@ -174,20 +175,18 @@ pub fn behind_input_found(tree: &Module, ends: &[End], place: u16) -> u16
     behind_takes(tree, ends, place + 41)
 }
 
-fn put_closed_test(code: &mut Vec<Ir>, ends: u16) -> Result<(), AllocError>
+fn put_open_test(code: &mut Vec<Ir>, ends: u16) -> Result<(), AllocError>
     requires short { length code.old.items < 60000 }
     requires few { ends ≤ 16 }
-    ensures { OnOk result (RefusesWith (is_closed_code ends) 5 code.old.items code.new.items) }
+    ensures { OnOk result (RefusesUnless (is_open_code ends) 5 code.old.items code.new.items) }
 {
     let test = [
         Ir::Load(INDEX),
         Ir::Push(2),
         Ir::Op(IrOp::Add),
         Ir::LoadAt(SLOTS, 12 * ends),
-        Ir::Push(0),
-        Ir::Op(IrOp::Eq),
     ];
-    put_refuse(code, &test, NO_END)
+    put_refuse_unless(code, &test, NO_END)
 }
 
 fn put_epoch_test(code: &mut Vec<Ir>, ends: u16) -> Result<(), AllocError>
@@ -228,11 +227,11 @@ fn put_past_test(code: &mut Vec<Ir>, ends: u16) -> Result<(), AllocError>
 
 fn put_last_test(code: &mut Vec<Ir>) -> Result<(), AllocError>
     requires short { length code.old.items < 60000 }
-    ensures { OnOk result (RefusesWith is_last_number 6 code.old.items code.new.items) }
+    ensures { OnOk result (RefusesUnless has_number_above 6 code.old.items code.new.items) }
 {
-    put_refuse(
+    put_refuse_unless(
         code,
-        &[Ir::Load(SECOND), Ir::Push(LAST_NUMBER), Ir::Op(IrOp::Eq)],
+        &[Ir::Load(SECOND), Ir::Push(LAST_NUMBER), Ir::Op(IrOp::Sub)],
         PAST_NUMBER,
     )
 }
@@ -247,7 +246,7 @@ pub fn put_input_found(code: &mut Vec<Ir>, tree: &Module, ends: &[End]) -> Resul
         (PutsAt (input_found (module_of tree.now) ends.now) code.old.items code.new.items) }
 {
     let count = ends.len() as u16;
-    put_closed_test(code, count)?;
+    put_open_test(code, count)?;
     put_epoch_test(code, count)?;
     put_past_test(code, count)?;
     put_last_test(code)?;

@@ -6,6 +6,7 @@ ghost use Rattle.sx_stub.specs.Stub.{is_keyed_code, key_found, open_any, set_key
 
 use crate::pieces::{
     FIELD, INDEX, KIND, SECOND, SLOTS, WANTED, put, put_all, put_choice, put_refuse,
+    put_refuse_unless,
 };
 use std::alloc::AllocError;
 use sx_invoke::protocol::{
@@ -120,6 +121,6 @@ pub fn put_key_found(code: &mut Vec<Ir>, ends: &[End]) -> Result<(), AllocError>
 {
     put_keyed_test(code, ends.len() as u16)?;
     put(code, Ir::Open(0, PACKET, HEADER_SIZE, PLAIN, KEY_SIZE))?;
-    put_refuse(code, &[Ir::Op(IrOp::Not)], OTHER_TAG)?;
+    put_refuse_unless(code, &[], OTHER_TAG)?;
     put_open_cases(code, ends)
 }

@@ -1,7 +1,7 @@
 //! Pieces of code of which the protocol's parts are made.
 
 ghost use Rattle.std.specs.Prelude.{◌+◌, ◌<◌, ◌∷◌, [], OnOk, length};
-ghost use Rattle.sx_stub.specs.Puts.{Puts, PutsAt, RefusesWith, choice};
+ghost use Rattle.sx_stub.specs.Puts.{Puts, PutsAt, RefusesUnless, RefusesWith, choice};
 ghost use Rattle.sx_stub.specs.Stub.{jump_on, returns};
 
 use std::alloc::AllocError;
@@ -60,6 +60,18 @@ pub fn put_refuse(code: &mut Vec<Ir>, test: &[Ir], status: u16) -> Result<(), Al
     let next = (code.len() + test.len() + 4) as u16;
     put_all(code, test)?;
     put(code, Ir::JumpZero(next))?;
+    put_returns(code, status)
+}
+
+/// Appends a return with this status where the test leaves 0. The error says that memory ran out.
+pub fn put_refuse_unless(code: &mut Vec<Ir>, test: &[Ir], status: u16) -> Result<(), AllocError>
+    requires short { length code.old.items + length test.now < 65531 }
+    ensures { OnOk result (RefusesUnless test.now status code.old.items code.new.items) }
+{
+    let refused = (code.len() + test.len() + 2) as u16;
+    put_all(code, test)?;
+    put(code, Ir::JumpZero(refused))?;
+    put(code, Ir::Jump(refused + 3))?;
     put_returns(code, status)
 }
 

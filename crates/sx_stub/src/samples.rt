@@ -6,7 +6,7 @@ ghost use Rattle.sx_stub.specs.Puts.{Puts, PutsAt};
 ghost use Rattle.sx_stub.specs.Stub.{sample_code, sample_place, sampled_code};
 
 use crate::handled::{handled_len, put_handled, sample_handler};
-use crate::pieces::{put, put_all, put_refuse};
+use crate::pieces::{put, put_all, put_refuse_unless};
 use std::alloc::AllocError;
 use sx_invoke::protocol::NO_SAMPLE;
 use sx_ir::{Ir, IrOp};
@@ -20,9 +20,9 @@ pub const SAMPLE_PLACE: u16 = 30;
 pub fn sample_len(tree: &Module) -> u16
     requires few { length tree.now.handlers.items ≤ 256 }
     ensures len { result ≡ length (sample_code (module_of tree.now) sample_place) }
-    ensures small { result ≤ 17 }
+    ensures small { result ≤ 16 }
 {
-    13 + handled_len(sample_handler(tree))
+    12 + handled_len(sample_handler(tree))
 }
 
 fn put_sampled(code: &mut Vec<Ir>, tree: &Module) -> Result<(), AllocError>
@@ -48,10 +48,6 @@ pub fn put_sample(code: &mut Vec<Ir>, tree: &Module) -> Result<(), AllocError>
 {
     put(code, Ir::Sense)?;
     put(code, Ir::Store(EVENT))?;
-    put_refuse(
-        code,
-        &[Ir::Load(EVENT), Ir::Push(0), Ir::Op(IrOp::Eq)],
-        NO_SAMPLE,
-    )?;
+    put_refuse_unless(code, &[Ir::Load(EVENT)], NO_SAMPLE)?;
     put_sampled(code, tree)
 }

@@ -3,7 +3,7 @@ use Rattle.std.proofs.Common.{ℕ, ◌+◌, ◌*◌, List, [], ◌∷◌, ◌++�
 use Rattle.sx_lang.specs.View.{module_of}
 use Rattle.sx_ir.specs.declared.ir.Ir.{Ir}
 use Rattle.sx_ir.specs.declared.ir.Ir.TheVariants as ir
-use Rattle.sx_stub.specs.Stub.{is_opened_not, refuse_if, taken_code}
+use Rattle.sx_stub.specs.Stub.{refuse_unless, taken_code}
 use Rattle.sx_stub.proofs.Steps.{behind}
 use Rattle.sx_stub.proofs.inputs.put_take.Goals as goal
 
@@ -11,10 +11,10 @@ pub returns : goal.returns
 returns c =
     let x = c.args.code.now.items in
     let y = c.put.new.code.items in
-    let w = c.put_refuse.new.code.items in
+    let w = c.put_refuse_unless.new.code.items in
     let z = c.put_taken.new.code.items in
     let last = taken_code (module_of c.args.tree.now) c.args.k c.args.e.now in
-    let refused : ℕ → List Ir = λ p. refuse_if p is_opened_not other_tag in
+    let refused : ℕ → List Ir = λ p. refuse_unless p [] other_tag in
     let first = c.in_ok-put.ensures ∙ ap (λ o. x ++ ir.Open o 16 header_size 2 value_size ∷ []) c.end_key_at.ensures in
     behind c.put_taken.result x y z (ir.Open (512 + 24 * c.args.k + 8) 16 header_size 2 value_size ∷ []) (λ p. refused p ++ last) (length x + 1) first refl
-    (behind c.put_taken.result y w z (refused (length y)) (λ p. last) (length y + 5) c.in_ok-put_refuse.ensures refl c.put_taken.ensures)
+    (behind c.put_taken.result y w z (refused (length y)) (λ p. last) (length y + 5) c.in_ok-put_refuse_unless.ensures refl c.put_taken.ensures)
