@@ -1,6 +1,6 @@
 -- The entry protocol and the handlers, joined, are the module's whole code.
 use Rattle.std.proofs.Common.{◌≡◌, ℕ, ◌+◌, ◌<◌, ◌≤◌, true, List, [], ◌∷◌, ◌++◌, length, map, Result, Ok, Err, refl, ap, ◌∙◌, arith}
-use Rattle.std.specs.Prelude.{IfOk, nat_le, nat_lt}
+use Rattle.std.specs.Prelude.{IfOk, nat_le, nat_lt, ◌&&◌}
 use Rattle.std.specs.List.{All, list_all}
 use Rattle.std.proofs.lemmas.Bool.{and_parts, leb-true, ltb-true}
 use Rattle.std.proofs.lemmas.List.{length-append, length-map}
@@ -12,7 +12,7 @@ use Rattle.sx_ir.specs.declared.ir.Code.{Code}
 use Rattle.sx_ir.specs.declared.ir.Ir.{Ir}
 use Rattle.sx_ir.specs.declared.ir.Ir.TheVariants as ir
 use Rattle.sx_ir.specs.Joined.{joined_ops, moved, moved_part, moved_place}
-use Rattle.sx_ir.specs.Sound.{is_sound_op, is_sound_part}
+use Rattle.sx_ir.specs.Sound.{is_even, is_free, is_sound_op, is_sound_part}
 use Rattle.sx_lower.specs.Lowered.{handlers_code}
 use Rattle.sx_lower.specs.Lowering.{IsLowerable, LowersTo}
 use Rattle.sx_lower.specs.Moved as lowered
@@ -29,6 +29,9 @@ place_same k p le = omega (arith, le)
 moved_same : (n m size k : ℕ) (i : Ir) → k + n ≤ 65535 → is_sound_op n m size i ≡ true → moved k i ≡ lowered.moved k i
 moved_same n m size k (ir.Jump p) le h = let lt = ltb-true p n h in ap (λ (q : ℕ). ir.Jump q) (place_same k p (omega (arith, le, lt)))
 moved_same n m size k (ir.JumpZero p) le h = let lt = ltb-true p n h in ap (λ (q : ℕ). ir.JumpZero q) (place_same k p (omega (arith, le, lt)))
+moved_same n m size k (ir.JumpEqual o x p) le h =
+    let lt = ltb-true p n (and_parts (is_free size o 2) (nat_lt p n) (and_parts (is_even o) (is_free size o 2 && nat_lt p n) h).1).1 in
+    ap (λ (q : ℕ). ir.JumpEqual o x q) (place_same k p (omega (arith, le, lt)))
 moved_same n m size k (ir.Push x) le h = refl
 moved_same n m size k (ir.Load o) le h = refl
 moved_same n m size k (ir.Store o) le h = refl

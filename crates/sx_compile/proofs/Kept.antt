@@ -298,6 +298,7 @@ module _ (s : Setup) (handle : ℕ → Conf → OperationResult) (handles : (h :
   op_kept ops parts size (ir.Op f) c ok = operator_kept f c
   op_kept ops parts size (ir.Jump p) c ok = same c p c.stack (λ r. r)
   op_kept ops parts size (ir.JumpZero p) c ok = top_kept c c.stack (m.jump_zero c p) (λ x rest e. jump_kept c p x rest (λ r. omega (arith, e, r)))
+  op_kept ops parts size (ir.JumpEqual o n p) c ok = same c (if word c.priv o == n then p else c.place + 1) c.stack (λ r. r)
   op_kept ops parts size (ir.Packet k) c ok = top_kept c c.stack (λ v rest. m.send s c k v (end_state c.priv k)) (λ v rest e. send_kept c k v (end_state c.priv k))
   op_kept ops parts size ir.Drop c ok = top_kept c c.stack (λ x rest. Goes (next c rest)) (λ x rest e. same c (c.place + 1) rest (λ r. omega (arith, e, r)))
   op_kept ops parts size ir.Emit c ok = top_kept c c.stack (λ x rest. m.emit c x rest (own_window s c.devices)) (λ x rest e. emit_kept c x rest (own_window s c.devices) (λ r. omega (arith, e, r)))

@@ -273,6 +273,7 @@ module _ (s : Setup) (handle : ℕ → Conf → OperationResult) (handles : (h :
   op_spares ops parts size (ir.Op f) c ok e = operator_spares f c
   op_spares ops parts size (ir.Jump p) c ok e = inr (still c)
   op_spares ops parts size (ir.JumpZero p) c ok e = at_top c c.stack (m.jump_zero c p) (λ x rest. jump_spares c p x rest)
+  op_spares ops parts size (ir.JumpEqual o v p) c ok e = inr (still c)
   op_spares ops parts size (ir.Packet k) c ok e = at_top c c.stack (λ v rest. m.send s c k v (end_state c.priv k)) (λ v rest. send_spares c k v (end_state c.priv k))
   op_spares ops parts size ir.Drop c ok e = at_top c c.stack (λ x rest. Goes (next c rest)) (λ x rest. inr (still c))
   op_spares ops parts size ir.Emit c ok e = at_top c c.stack (λ x rest. m.emit c x rest (own_window s c.devices)) (λ x rest. emit_spares c x rest (own_window s c.devices))

@@ -29,6 +29,7 @@ count_of (ir.StoreAt o n) = 8
 count_of (ir.Op f) = operator_count f
 count_of (ir.Jump p) = 8
 count_of (ir.JumpZero p) = 8
+count_of (ir.JumpEqual o n p) = 8
 count_of (ir.Packet k) = 200
 count_of ir.Drop = 8
 count_of ir.Emit = 8

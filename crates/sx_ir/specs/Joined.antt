@@ -12,6 +12,7 @@ moved_place k p = min (k + p) 65535
 abbrev pub moved : ℕ → Ir → Ir
 moved k (ir.Jump p) = ir.Jump (moved_place k p)
 moved k (ir.JumpZero p) = ir.JumpZero (moved_place k p)
+moved k (ir.JumpEqual o n p) = ir.JumpEqual o n (moved_place k p)
 moved k i = i
 
 -- a part whose places are moved by k

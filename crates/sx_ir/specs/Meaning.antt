@@ -275,6 +275,8 @@ do_op s handle (ir.StoreAt o n) c =
 do_op s handle (ir.Op f) c = operated f c
 do_op s handle (ir.Jump p) c = Goes (record c { place = p })
 do_op s handle (ir.JumpZero p) c = on_top c.stack (jump_zero c p)
+do_op s handle (ir.JumpEqual o n p) c =
+    Goes (record c { place = if word c.priv o == n then p else c.place + 1 })
 do_op s handle (ir.Packet k) c = on_top c.stack (λ v rest. send s c k v (end_state c.priv k))
 do_op s handle ir.Drop c = on_top c.stack (λ x rest. Goes (next c rest))
 do_op s handle ir.Emit c = on_top c.stack (λ x rest. emit c x rest (own_window s c.devices))
@@ -325,6 +327,7 @@ names_no_key ends (ir.Load o) stack = is_shown ends o 2
 names_no_key ends (ir.Store o) stack = is_shown ends o 2
 names_no_key ends (ir.LoadAt o n) (i ∷ rest) = is_shown_element ends o n i
 names_no_key ends (ir.StoreAt o n) (v ∷ i ∷ rest) = is_shown_element ends o n i
+names_no_key ends (ir.JumpEqual o n p) stack = is_shown ends o 2
 names_no_key ends (ir.Packet k) stack = nat_lt k ends
 names_no_key ends (ir.CopyOut n o) stack = is_shown ends o n
 names_no_key ends (ir.Seal k h hn b bn) stack =

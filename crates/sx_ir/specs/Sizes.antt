@@ -38,6 +38,7 @@ op_bytes (ir.StoreAt o n) = 16
 op_bytes (ir.Op f) = operator_bytes f
 op_bytes (ir.Jump p) = 4
 op_bytes (ir.JumpZero p) = 10
+op_bytes (ir.JumpEqual o n p) = 12
 op_bytes (ir.Packet k) = 4
 op_bytes ir.Drop = 2
 op_bytes ir.Emit = 4

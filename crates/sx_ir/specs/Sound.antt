@@ -48,6 +48,7 @@ is_sound_op ops parts size (ir.StoreAt o n) = is_even o && may_change size o (2 
 is_sound_op ops parts size (ir.Op f) = true
 is_sound_op ops parts size (ir.Jump p) = nat_lt p ops
 is_sound_op ops parts size (ir.JumpZero p) = nat_lt p ops
+is_sound_op ops parts size (ir.JumpEqual o n p) = is_even o && (is_free size o 2 && nat_lt p ops)
 is_sound_op ops parts size (ir.Packet k) = has_slot size k
 is_sound_op ops parts size ir.Drop = true
 is_sound_op ops parts size ir.Emit = true

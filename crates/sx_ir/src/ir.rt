@@ -52,6 +52,9 @@ pub enum Ir {
     Jump(u16),
     /// Takes the top word, and goes on at this place where it is 0.
     JumpZero(u16),
+    /// Compares the word at this offset with this word, and goes on at this place where they are
+    /// equal.
+    JumpEqual(u16, u16, u16),
     /// Makes the packet of this end from the top word, which stays, where the end is open and its
     /// number below 65,535.
     Packet(u8),

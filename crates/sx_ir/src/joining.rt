@@ -19,6 +19,7 @@ fn moved(by: u16, op: Ir) -> Ir
     match op {
         Ir::Jump(place) => Ir::Jump(moved_place(by, place)),
         Ir::JumpZero(place) => Ir::JumpZero(moved_place(by, place)),
+        Ir::JumpEqual(at, word, place) => Ir::JumpEqual(at, word, moved_place(by, place)),
         op => op,
     }
 }

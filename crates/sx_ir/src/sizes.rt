@@ -55,6 +55,7 @@ pub fn op_bytes(op: &Ir) -> u16
         | Ir::Leave => 4,
         Ir::SetEnd(_) => 8,
         Ir::JumpZero(_) => 10,
+        Ir::JumpEqual(_, _, _) => 12,
         Ir::Handler(_) => 14,
         Ir::StoreAt(_, _) => 16,
         Ir::LoadAt(_, _) | Ir::Inside => 18,

@@ -80,6 +80,9 @@ fn is_sound_op(ops: u32, parts: u64, size: u32, op: &Ir) -> bool
         Ir::LoadAt(at, n) => is_even(*at) && is_free(size, u32::from(*at), 2 * u32::from(*n)),
         Ir::StoreAt(at, n) => is_even(*at) && may_change(size, u32::from(*at), 2 * u32::from(*n)),
         Ir::Jump(place) | Ir::JumpZero(place) => u32::from(*place) < ops,
+        Ir::JumpEqual(at, _, place) => {
+            is_even(*at) && (is_free(size, u32::from(*at), 2) && u32::from(*place) < ops)
+        }
         Ir::Packet(end) | Ir::SetEnd(end) => has_slot(size, *end),
         Ir::Saved(register) => is_saved(*register),
         Ir::Meets(register, n) => is_saved(*register) && 2 <= *n,

@@ -33,6 +33,7 @@ is_fit ends ops parts (ir.StoreAt o n) = false
 is_fit ends ops parts (ir.Op f) = true
 is_fit ends ops parts (ir.Jump p) = nat_lt p ops
 is_fit ends ops parts (ir.JumpZero p) = nat_lt p ops
+is_fit ends ops parts (ir.JumpEqual o n p) = (is_even o && is_low o 2) && (nat_lt n 65536 && nat_lt p ops)
 is_fit ends ops parts (ir.Packet k) = false
 is_fit ends ops parts ir.Drop = true
 is_fit ends ops parts ir.Emit = true
@@ -125,6 +126,10 @@ module _ (ends ops parts size : ℕ) (few : ends ≤ 16) (room : 512 + 24 * ends
   fit_sound (ir.Op f) h = refl
   fit_sound (ir.Jump p) h = h
   fit_sound (ir.JumpZero p) h = h
+  fit_sound (ir.JumpEqual o n p) h =
+      let a = and_parts (is_even o && is_low o 2) (nat_lt n 65536 && nat_lt p ops) h in
+      let b = and_parts (is_even o) (is_low o 2) a.0 in
+      and_from _ _ b.0 (and_from _ _ (free_low o 2 b.1) (and_parts (nat_lt n 65536) (nat_lt p ops) a.1).1)
   fit_sound (ir.Packet k) h = absurd (false≢true h)
   fit_sound ir.Drop h = refl
   fit_sound ir.Emit h = refl
@@ -159,6 +164,7 @@ module _ (ends ops parts size : ℕ) (few : ends ≤ 16) (room : 512 + 24 * ends
   fit_plain (ir.Op f) h = refl
   fit_plain (ir.Jump p) h = refl
   fit_plain (ir.JumpZero p) h = refl
+  fit_plain (ir.JumpEqual o n p) h = (and_parts (nat_lt n 65536) (nat_lt p ops) (and_parts (is_even o && is_low o 2) (nat_lt n 65536 && nat_lt p ops) h).1).0
   fit_plain (ir.Packet k) h = absurd (false≢true h)
   fit_plain ir.Drop h = refl
   fit_plain ir.Emit h = refl

@@ -75,6 +75,7 @@ pure_op s priv (ir.StoreAt o n) stack = None
 pure_op s priv (ir.Op f) stack = operator f stack
 pure_op s priv (ir.Jump p) stack = None
 pure_op s priv (ir.JumpZero p) stack = None
+pure_op s priv (ir.JumpEqual o n p) stack = None
 pure_op s priv (ir.Packet k) stack = None
 pure_op s priv ir.Drop stack = None
 pure_op s priv ir.Emit stack = None
@@ -158,6 +159,7 @@ module _ (s : Setup) (handle : ℕ → Conf → OperationResult) where
   pure_does (ir.Op f) c st h = operator_does f c st h
   pure_does (ir.Jump p) c st h = absurd (none-some st h)
   pure_does (ir.JumpZero p) c st h = absurd (none-some st h)
+  pure_does (ir.JumpEqual o n p) c st h = absurd (none-some st h)
   pure_does (ir.Packet k) c st h = absurd (none-some st h)
   pure_does ir.Drop c st h = absurd (none-some st h)
   pure_does ir.Emit c st h = absurd (none-some st h)

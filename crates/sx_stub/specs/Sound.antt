@@ -12,6 +12,7 @@ use Rattle.sx_stub.specs.Stub.{stub_ops}
 -- it makes no packet, its words have 16 bits, and its end has 8
 abbrev pub is_plain : Ir → Bool
 is_plain (ir.Push n) = nat_lt n 65536
+is_plain (ir.JumpEqual o n p) = nat_lt n 65536
 is_plain (ir.Meets r n) = nat_lt n 65536
 is_plain (ir.SetEnd k) = nat_lt k 256
 is_plain (ir.Packet k) = false

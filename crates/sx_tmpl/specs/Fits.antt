@@ -29,6 +29,8 @@ OperationFits l code (ir.StoreAt o n) = l.priv_from + o < 65536
 OperationFits l code (ir.Op f) = Unit {0}
 OperationFits l code (ir.Jump q) = q < length code.ops.items
 OperationFits l code (ir.JumpZero q) = q < length code.ops.items
+OperationFits l code (ir.JumpEqual o n q) =
+    (l.priv_from + o < 65536) × (q < length code.ops.items)
 OperationFits l code (ir.Packet k) = Unit {0}
 OperationFits l code ir.Drop = Unit {0}
 OperationFits l code ir.Emit = Unit {0}
@@ -54,6 +56,7 @@ OperationFits l code ir.Leave = Unit {0}
 abbrev pub is_plain : Ir → Bool
 is_plain (ir.Jump q) = false
 is_plain (ir.JumpZero q) = false
+is_plain (ir.JumpEqual o n q) = false
 is_plain (ir.Packet k) = false
 is_plain (ir.SetEnd k) = false
 is_plain (ir.Handler h) = false

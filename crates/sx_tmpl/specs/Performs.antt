@@ -134,6 +134,7 @@ pub record HasRoom (l : Layout) : Type 0 where
 -- operands have the width that operations give them: a word, and a byte for an end
 abbrev pub IsNarrow : Ir → Type 0
 IsNarrow (ir.Push n) = n < 65536
+IsNarrow (ir.JumpEqual o n q) = n < 65536
 IsNarrow (ir.Packet k) = k < 256
 IsNarrow (ir.Meets r n) = n < 65536
 IsNarrow i = Unit {0}

@@ -252,6 +252,8 @@ template l a p (ir.Op f) = operator_words f
 template l a p (ir.Jump q) = words_of (br (## (a.at q)) ∷ [])
 template l a p (ir.JumpZero q) =
     words_of (cmp (increment sp) (& a.zero) ∷ jnz (ahead 2) ∷ br (## (a.at q)) ∷ [])
+template l a p (ir.JumpEqual o n q) =
+    words_of (cmp (## n) (& (l.priv_from + o)) ∷ jnz (ahead 2) ∷ br (## (a.at q)) ∷ [])
 template l a p (ir.Packet k) = words_of (call (## (a.packet k)) ∷ [])
 template l a p ir.Drop = words_of (incd sp ∷ [])
 template l a p ir.Emit = words_of (pop (& l.priv_from) ∷ [])

@@ -123,6 +123,7 @@ NamesNoKey ends (ir.Load o) stack = HoldsNoKey ends o 2
 NamesNoKey ends (ir.Store o) stack = HoldsNoKey ends o 2
 NamesNoKey ends (ir.LoadAt o n) (i ∷ rest) = i < n → HoldsNoKey ends (o + 2 * i) 2
 NamesNoKey ends (ir.StoreAt o n) (v ∷ i ∷ rest) = i < n → HoldsNoKey ends (o + 2 * i) 2
+NamesNoKey ends (ir.JumpEqual o n p) stack = HoldsNoKey ends o 2
 NamesNoKey ends (ir.Packet k) stack = k < ends
 NamesNoKey ends (ir.CopyOut n o) stack = HoldsNoKey ends o n
 NamesNoKey ends (ir.Seal k h hn b bn) stack =

@@ -389,6 +389,15 @@ pub fn put_operation(
             let zero = Absolute(exit + EXIT + ZERO);
             put! { text; cmp POPPED, zero; jnz 2; br Immediate(to); }
         }
+        Ir::JumpEqual(offset, word, to) => {
+            let to = place_address(table, code, layout, usize::from(to));
+            put! {
+                text;
+                cmp Immediate(word), Absolute(base + offset);
+                jnz 2;
+                br Immediate(to);
+            }
+        }
         Ir::Packet(end) => put! { text; call Immediate(packet_address(table, code, layout, end)); },
         Ir::SetEnd(end) =>
             put! { text; mov Immediate(base + end_at(end)), R12; call Immediate(exit + EXIT); },

@@ -78,6 +78,31 @@ fn a_branch(rt: HostRuntime) -> Result<(), Fail> {
     Ok(())
 }
 
+/// CMP #7, &0x6010; JNZ .+2; BR #leave; leave: BR #exit
+const EQUAL: [u8; 16] = [
+    0xb2, 0x90, 7, 0, 0x10, 0x60, 0x02, 0x20, 0x30, 0x40, 0x24, 0x40, 0x30, 0x40, 0x28, 0x40,
+];
+
+fn equal(alloc: Global) -> Result<Code, AllocError> {
+    Ok(Code {
+        ops: vec![in alloc; Ir::JumpEqual(16, 7, 1), Ir::Leave]?,
+        parts: vec![in alloc;]?,
+    })
+}
+
+fn tells_equal(rt: &impl Abort, text: &[u8]) {
+    assert!(rt; text.len() == 140);
+    assert!(rt; &text[24..40] == EQUAL.as_slice());
+}
+
+#[test]
+fn a_branch_on_a_word_of_the_data(rt: HostRuntime) -> Result<(), Fail> {
+    let alloc = rt.alloc();
+    let text = text_of(alloc, &equal(alloc)?)?;
+    tells_equal(&rt, &text);
+    Ok(())
+}
+
 /// The text of `sending` as assembly by hand: the templates of the operations, and what stands once
 /// in a text, where the private section begins at 0x6000.
 const SENDING: &str = "

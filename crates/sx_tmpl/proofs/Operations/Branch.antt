@@ -20,18 +20,20 @@ use Rattle.sx_machine.specs.declared.kinds.Event.TheVariants as event
 use Rattle.sx_invoke.specs.Marks.{Mark}
 use Rattle.sx_image.specs.Watched.{Watched}
 use Rattle.sx_ir.specs.Conf.{Conf}
+use Rattle.sx_machine.specs.Memory.{word}
 use Rattle.sx_ir.specs.Meaning.{next}
+use Rattle.sx_tmpl.specs.Unseen.{HoldsNoKey}
 use Rattle.sx_tmpl.specs.Running.{Regs, Fixed, Data, running, Safe, cell}
 use Rattle.sx_tmpl.proofs.Running.MidRun.{PublicWord, Runs, Stands, place_of, put_cell}
 use Rattle.sx_tmpl.proofs.Running.Owes.{compared_met, compared_shown}
-use Rattle.sx_tmpl.specs.Shows.{MemoryHolds, ShowsConfiguration, Stood}
+use Rattle.sx_tmpl.specs.Shows.{base_of, IsData, MemoryHolds, ShowsConfiguration, Stood}
 use Rattle.sx_machine.specs.Rows.{jump_taken}
 use Rattle.sx_tmpl.proofs.Running.Steps.{InText, NoTell, Text, Then, text_word, two_met}
 use Rattle.sx_tmpl.proofs.Running.Flags.{flags_after, no_borrow, borrow, equal, unequal, carry_of, zero_of}
-use Rattle.std.specs.Prelude.{drop, take, nat_lt, ◌==◌}
+use Rattle.std.specs.Prelude.{drop, take, nat_lt, ◌==◌, if◌then◌else◌}
 use Rattle.std.proofs.lemmas.Bool.{cases_lt, cases_eq, lt-ltb, le-ltb, eq-eqb, ne_eqb}
 use Rattle.sx_tmpl.proofs.Operations.Plain.{inside, Leads, stood}
-use Rattle.sx_tmpl.proofs.Running.Holding.{stack_word, holds_pop, holds_replace, cell_below}
+use Rattle.sx_tmpl.proofs.Running.Holding.{stack_word, data_word, holds_pop, holds_replace, holds_word, cell_below}
 use Rattle.sx_lists.specs.Truth.{truth}
 
 module _ (f : Fixed) (st : Stands f) (all : List Mark) (B : Watched → Violation → Type 0) (at : ℕ → ℕ) where
@@ -111,6 +113,55 @@ module _ (f : Fixed) (st : Stands f) (all : List Mark) (B : Watched → Violatio
         λ s3. stood f st all B at (next c rest) r3 d.mem d 1 s3 (omega (arith, on))
             (holds_pop f st at c.back (suc v) rest c.priv c.mem r.sp d.mem h) sh.devices sh.marks,
       )))
+
+  -- a word of the data is compared
+  pub jump_equal_leads : (c : Conf) (o n q : ℕ) → o % 2 ≡ 0 → IsData o → HoldsNoKey (length f.setup.ends) o 2 → o + 2 ≤ length c.priv → n < 65536 → InText f (at q) → at q % 2 ≡ 0
+      → L 6 (words_of (cmp (## n) (& (base_of f + o)) ∷ jnz (ahead 2) ∷ br (## (at q)) ∷ [])) 3 c (record c { place = if word c.priv o == n then q else c.place + 1 })
+  jump_equal_leads c o n q ev i shown fits small to even_to r d t on sh safe =
+      let h = sh.holds in
+      let x = word c.priv o in
+      let c2 = record c { place = if x == n then q else c.place + 1 } in
+      let po = data_word f st o shown i.low ev (omega (arith, h.size)) in
+      let is = holds_word f st at c.back c.stack c.priv c.mem r.sp d.mem o h ev i fits in
+      let lx = subst (λ (v : ℕ). v < 65536) is (cell_below f st d.mem (base_of f + o) safe.memory) in
+      let over : (at c.place + 8 + 4) % 65536 ≡ at c.place + 12 = omega (arith, t.to, st.below) in
+      let e : at q % 65536 - at q % 65536 % 2 ≡ at q = omega (arith, to.to, st.below) in
+      let imm : n % 65536 ≡ n = omega (arith, small) in
+      let sr = flags_after op2.Cmp n x r.sr in
+      let r1 = record r { pc = at c.place + 6; sr = sr } in
+      step f st all B _ t 0 (cmp (## n) (& (base_of f + o))) refl (omega arith) refl refl event.Quiet r d 2 (omega (arith, sh.pc)) safe (
+        base_of f + o,
+        refl,
+        po,
+        x,
+        is,
+        λ kept. (
+          r1,
+          rw imm refl,
+          inside t 3 (omega arith),
+          λ s1. elim (cases_eq x n) [
+            | inl same ↦
+                let jumps = equal n x r.sr small same in
+                let there : (if x == n then q else c.place + 1) ≡ q = ap (λ (b : Bool). if b then q else c.place + 1) (eq-eqb x n same) in
+                let r2 = record r1 { pc = at c.place + 8 } in
+                let r3 = record r2 { pc = at q; sr = flags_after op2.Mov 0 0 r2.sr } in
+                step f st all B _ t 3 (jnz (ahead 2)) refl (omega arith) refl refl event.Quiet r1 d 1 refl s1 (λ kept2. (
+                  r2,
+                  rw jumps refl,
+                  inside t 4 (omega arith),
+                  λ s2.
+                      step f st all B _ t 4 (br (## (at q))) refl (omega arith) refl refl event.Quiet r2 d 0 refl s2
+                      (λ kept3. (r3, rw e refl, to, λ s3. stood f st all B at c2 r3 d.mem d 0 s3 (sym (ap at there)) h sh.devices sh.marks)),
+                ))
+            | inr other ↦
+                let stays = unequal n x r.sr small lx other in
+                let there : (if x == n then q else c.place + 1) ≡ c.place + 1 = ap (λ (b : Bool). if b then q else c.place + 1) (ne_eqb x n other) in
+                let r2 = record r1 { pc = at c.place + 12 } in
+                step f st all B _ t 3 (jnz (ahead 2)) refl (omega arith) refl refl event.Quiet r1 d 1 refl s1
+                (λ kept2. (r2, rw (stays, over) refl, inside t 6 (omega arith), λ s2. stood f st all B at c2 r2 d.mem d 1 s2 (sym on ∙ sym (ap at there)) h sh.devices sh.marks))
+          ],
+        ),
+      )
 
   -- the end of a comparison: a jump over the next instruction, which makes the top word 1, is taken where it doesn't hold
   pub compare_end : {P n : ℕ} {ws : List ℕ} (t : Text f P n ws) (k : ℕ) (c2 : Conf) (rest : List ℕ) (cond : ℕ) (b : Bool) (r : Regs) (d : Data)

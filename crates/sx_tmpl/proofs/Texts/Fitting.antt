@@ -1,6 +1,6 @@
 -- The operands of sound code fit the words of its text.
 use Rattle.std.proofs.Common.{◌≡◌, ℕ, ◌+◌, ◌*◌, ◌<◌, ◌≤◌, inl, inr, true, ◌&&◌, List, [], ◌∷◌, length, Some, subst, arith}
-use Rattle.std.specs.Prelude.{slice_get, nat_le}
+use Rattle.std.specs.Prelude.{slice_get, nat_le, nat_lt}
 use Rattle.std.specs.List.{list_all, list_any}
 use Rattle.std.proofs.lemmas.Bool.{leb-true, ltb-true, and_parts, eqb-true, or_cases, false≢true}
 use Rattle.sx_rules.specs.declared.section.Layout.{Layout}
@@ -27,6 +27,7 @@ named n m size k (ir.StoreAt o x) e h = absurd (false≢true e)
 named n m size k (ir.Op f) e h = absurd (false≢true e)
 named n m size k (ir.Jump q) e h = absurd (false≢true e)
 named n m size k (ir.JumpZero q) e h = absurd (false≢true e)
+named n m size k (ir.JumpEqual o x q) e h = absurd (false≢true e)
 named n m size k ir.Drop e h = absurd (false≢true e)
 named n m size k ir.Emit e h = absurd (false≢true e)
 named n m size k ir.Stop e h = absurd (false≢true e)
@@ -83,6 +84,10 @@ module _ (code : Code) (l : Layout) (room : HasRoom l) (sound : is_sound code.op
   fit (ir.Op f) h = tt
   fit (ir.Jump q) h = ltb-true q (length ops) h
   fit (ir.JumpZero q) h = ltb-true q (length ops) h
+  fit (ir.JumpEqual o n q) h =
+      let b = and_parts (is_free size o 2) (nat_lt q (length ops)) (and_parts (is_even o) (is_free size o 2 && nat_lt q (length ops)) h).1 in
+      let x = below o 2 b.0 in
+      (omega (arith, x), ltb-true q (length ops) b.1)
   fit (ir.Packet k) h = tt
   fit ir.Drop h = tt
   fit ir.Emit h = tt

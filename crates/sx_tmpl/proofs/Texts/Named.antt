@@ -84,6 +84,7 @@ names_none ends (ir.StoreAt o n) (v ∷ i ∷ rest) e = element_shown ends o n i
 names_none ends (ir.Op f) stack e = tt
 names_none ends (ir.Jump p) stack e = tt
 names_none ends (ir.JumpZero p) stack e = tt
+names_none ends (ir.JumpEqual o n p) stack e = holds_no_key ends o 2 e
 names_none ends (ir.Packet k) stack e = ltb-true k ends e
 names_none ends ir.Drop stack e = tt
 names_none ends ir.Emit stack e = tt

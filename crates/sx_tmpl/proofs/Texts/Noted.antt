@@ -45,6 +45,7 @@ one (ir.StoreAt o x) noted = same noted
 one (ir.Op f) noted = same noted
 one (ir.Jump q) noted = same noted
 one (ir.JumpZero q) noted = same noted
+one (ir.JumpEqual o n q) noted = same noted
 one ir.Drop noted = same noted
 one ir.Emit noted = same noted
 one ir.Stop noted = same noted

@@ -128,6 +128,11 @@ module _ (f : Fixed) (st : Stands f) (a : Addresses) (parts : List (ℕ × ℕ))
   sound_op p (ir.Op g) e h = tt
   sound_op p (ir.Jump q) e h = let lt = ltb-true q (length ops) h in target q (omega (arith, lt))
   sound_op p (ir.JumpZero q) e h = let lt = ltb-true q (length ops) h in (target q (omega (arith, lt)), zeros)
+  sound_op p (ir.JumpEqual o n q) e h =
+      let b = and_parts (is_even o) (is_free size o 2 && nat_lt q (length ops)) h in
+      let d = and_parts (is_free size o 2) (nat_lt q (length ops)) b.1 in
+      let lt = ltb-true q (length ops) d.1 in
+      (word_place size o b.0 d.0, narrow p (ir.JumpEqual o n q) e, target q (omega (arith, lt)))
   sound_op p (ir.Packet k) e h = (packet p k e (narrow p (ir.Packet k) e), slot_place k h)
   sound_op p ir.Drop e h = tt
   sound_op p ir.Emit e h = tt

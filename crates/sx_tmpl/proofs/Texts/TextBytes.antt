@@ -48,6 +48,7 @@ op_size l a p (ir.StoreAt o n) = refl
 op_size l a p (ir.Op f) = operator_size l a p f
 op_size l a p (ir.Jump q) = refl
 op_size l a p (ir.JumpZero q) = refl
+op_size l a p (ir.JumpEqual o n q) = refl
 op_size l a p (ir.Packet k) = refl
 op_size l a p ir.Drop = refl
 op_size l a p ir.Emit = refl

@@ -33,7 +33,7 @@ use Rattle.sx_ir.specs.declared.ir.Ir.TheVariants as ir
 use Rattle.sx_ir.specs.Counts.{count_of}
 use Rattle.sx_ir.specs.Meaning.{op_step, op_count, count_at, handler_count, has_key_mark, is_key_kept, is_open_slot, keeps_slots, names_no_key, OnViolation, send, spares_slots}
 use Rattle.sx_tmpl.specs.Template.{Addresses, operator_words, template, slot_words, routine_words}
-use Rattle.sx_tmpl.proofs.Operations.Branch.{jump_leads, jump_zero_leads, jump_not_leads, lt_leads, eq_leads}
+use Rattle.sx_tmpl.proofs.Operations.Branch.{jump_leads, jump_zero_leads, jump_not_leads, jump_equal_leads, lt_leads, eq_leads}
 use Rattle.sx_tmpl.proofs.Operations.Arrays.{IsArray, load_at_leads, store_at_leads}
 use Rattle.sx_tmpl.proofs.Operations.Arith.{sub_leads, and_leads, or_leads, xor_leads, neg_leads, inv_leads, not_leads, drop_leads}
 use Rattle.sx_tmpl.proofs.Operations.Multiply.{mul_leads}
@@ -77,6 +77,7 @@ IsSoundOp f a (ir.StoreAt o n) = (n < 65536) × IsArray o n (size_of f)
 IsSoundOp f a (ir.Op g) = Unit {0}
 IsSoundOp f a (ir.Jump q) = IsTarget f (a.at q)
 IsSoundOp f a (ir.JumpZero q) = IsTarget f (a.at q) × Text f a.zero 1 (0 ∷ [])
+IsSoundOp f a (ir.JumpEqual o n q) = ((o % 2 ≡ 0) × IsData o × (o + 2 ≤ size_of f)) × (n < 65536) × IsTarget f (a.at q)
 IsSoundOp f a (ir.Packet k) = Text f (a.packet k) 70 (routine_words (base_of f) k) × (offsets.end_at k + 24 ≤ size_of f)
 IsSoundOp f a ir.Drop = Unit {0}
 IsSoundOp f a ir.Emit = Unit {0}
@@ -292,6 +293,9 @@ module _ (f : Fixed) (st : Stands f) (all : List Mark) (BV : Violation → List 
   op_goes (ir.JumpZero q) [] c t here ok u ks g gt e = absurd (never Stuck t e)
   op_goes (ir.JumpZero q) (zero ∷ rest) c t here ok u ks g gt e = lift _ 3 8 _ _ t (omega arith) (goes_same _ t e) (jump_zero_leads f st all B a.at c q a.zero rest ok.1 ok.0.0 ok.0.1)
   op_goes (ir.JumpZero q) (suc v ∷ rest) c t here ok u ks g gt e = lift _ 3 8 _ _ t (omega arith) (goes_same _ t e) (jump_not_leads f st all B a.at c q a.zero v rest ok.1)
+  op_goes (ir.JumpEqual o n q) stack c t here ok u ks g gt e =
+      with_size _ 8 _ t (λ sz. lift _ 3 8 _ _ t (omega arith) (goes_same _ t e)
+      (jump_equal_leads f st all B a.at (record c { stack = stack }) o n q ok.0.0 ok.0.1 u (omega (arith, ok.0.2)) ok.1 ok.2.0 ok.2.1))
   op_goes (ir.Packet k) [] c t here ok u ks g gt e = absurd (never Stuck t e)
   op_goes (ir.Packet k) (v ∷ rest) c t here ok u ks g gt e =
       with_size _ 200 _ t (λ sz. lift _ 63 200 _ t t (omega arith) refl (packet_goes f st all B a.at tag c t k v (a.packet k) rest (omega (arith, ok.1)) u (are_kept f (record c { stack = v ∷ rest }) ks g.slots) g.stack ok.0 e gt g.from g.to))
@@ -476,6 +480,7 @@ module _ (f : Fixed) (st : Stands f) (all : List Mark) (BV : Violation → List 
   op_stops (ir.JumpZero q) [] c w here ok u ks g e b = absurd (no_meaning [] c w (stuck_is w e) b)
   op_stops (ir.JumpZero q) (zero ∷ rest) c w here ok u ks g e b = absurd (goes_stops _ w e)
   op_stops (ir.JumpZero q) (suc v ∷ rest) c w here ok u ks g e b = absurd (goes_stops _ w e)
+  op_stops (ir.JumpEqual o n q) stack c w here ok u ks g e b = absurd (goes_stops _ w e)
   op_stops (ir.Packet k) [] c w here ok u ks g e b = absurd (no_meaning [] c w (stuck_is w e) b)
   op_stops (ir.Packet k) (v ∷ rest) c w here ok u ks g e b = packet_stops k v rest c w here ok u ks g e b
   op_stops ir.Drop [] c w here ok u ks g e b = absurd (no_meaning [] c w (stuck_is w e) b)
