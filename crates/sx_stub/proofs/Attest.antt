@@ -26,7 +26,7 @@ use Rattle.sx_ir.specs.Conf.{Conf}
 use Rattle.sx_ir.specs.Meaning.{OperationResult, do_op, copied_out, copy_out, has_copy_room, on_top, when, saved, next}
 use Rattle.sx_ir.specs.declared.ir.Ir.{Ir}
 use Rattle.sx_ir.specs.declared.ir.Ir.TheVariants as ir
-use Rattle.sx_stub.specs.Stub.{answer_code, attest_code, refuse_if, is_wrong_kind}
+use Rattle.sx_stub.specs.Stub.{answer_code, attest_code, refuse_kind}
 use Rattle.sx_stub.specs.Invokes.{ShowsCall, Invokes}
 use Rattle.sx_stub.proofs.Mem.{AllBytes, bytes_from_put, AllBytes-put_bytes}
 use Rattle.sx_stub.proofs.Straight.{At, at, at_front, at_back}
@@ -168,7 +168,7 @@ module _ (s : Setup) (call : Call) (handle : ℕ → Conf → OperationResult) (
   pub attest_does : (place k : ℕ) → At code place (attest_code place) → 600 ≤ k
       → Invokes s call handle given code (with_received s call ask_size ask_kind p (λ packet. attest s call packet p)) k (at c place [])
   attest_does place k a le =
-      let tests = refuse_if (place + 1) (is_wrong_kind ask_kind) 4 in
+      let tests = refuse_kind (place + 1) ask_kind in
       receive_does s call handle given code p c shows none bytes room window place 18 2 k 300 (λ packet. attest s call packet p) a.0 (at_front code (place + 1) tests answer_code a.1) refl
       (omega arith) (omega arith) (omega arith) (omega (arith, le))
-      (λ ask e h. answers ask (place + 8) 300 (at_back code (place + 1) (place + 8) tests answer_code (omega arith) a.1) e h (omega arith))
+      (λ ask e h. answers ask (place + 5) 300 (at_back code (place + 1) (place + 5) tests answer_code (omega arith) a.1) e h (omega arith))

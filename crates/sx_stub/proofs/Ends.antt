@@ -18,9 +18,8 @@ use Rattle.sx_ir.proofs.Shown.{element_shown, slot_shown}
 use Rattle.sx_invoke.specs.Setup.{Setup}
 use Rattle.sx_stub.specs.Stub.{Cases, find_any, is_to, slot_word}
 use Rattle.sx_stub.proofs.Straight.{after_pure, pure}
-use Rattle.sx_stub.proofs.Chain.{found_by, case_test, AreWords}
+use Rattle.sx_stub.proofs.Chain.{found_by, case_test}
 use Rattle.sx_lists.specs.Truth.{truth}
-use Rattle.sx_lists.proofs.Truths.{truth_small}
 
 abbrev pub FewLinks : List End → Type 0
 FewLinks es = All (λ e. e.link < 256) es
@@ -140,17 +139,3 @@ and_truth true true = refl
 and_truth true false = refl
 and_truth false true = refl
 and_truth false false = refl
-
--- the numbers of the cases are words
-pub index_words : (cs : Cases) (es : List End) (k : ℕ) → ((i : ℕ) (d : End) → cs.number i d ≡ 12 * i)
-    → k + length es ≤ 16 → AreWords cs k es
-index_words cs [] k number le = tt
-index_words cs (e ∷ es) k number le = (let n = number k e in omega (arith, n, le), index_words cs es (k + 1) number (omega (arith, le)))
-
-pub named_words : (found : ℕ) (es : List End) (k : ℕ) → FewLinks es → AreWords (find_any found) k es
-named_words found [] k few = tt
-named_words found (e ∷ es) k few = (
-  let n = few 0 e (omega arith) in let t = truth_small (is_to e.side) in
-      omega (arith, n, t),
-  named_words found es (k + 1) (λ i d p. few (suc i) d (omega (arith, p))),
-)

@@ -24,7 +24,7 @@ use Rattle.sx_ir.specs.declared.ir.IrOp.TheVariants as op
 use Rattle.sx_mean.specs.Handlers.{number_of, number_of_name}
 use Rattle.sx_stub.specs.Stub.{Cases, answer_code, attest_code, case_of, cases, entries, find_any, found_code, handled_by, input_code, input_found}
 use Rattle.sx_stub.specs.Stub.{is_above_last, is_fresh_code, is_keyed_code, has_number_above, is_open_code, is_other_epoch, is_past_number}
-use Rattle.sx_stub.specs.Stub.{is_to, is_wrong_kind, jump_on, key_found, key_place, named_end, open_any, refuse_if, refuse_unless, returns, sample_code}
+use Rattle.sx_stub.specs.Stub.{is_to, jump_on, key_found, key_place, named_end, open_any, refuse_if, refuse_kind, refuse_unless, returns, sample_code}
 use Rattle.sx_stub.specs.Stub.{sampled_code, search_code, set_key_code, slot_word, stub_code, stub_ops, take_event, take_receiving, tests}
 use Rattle.sx_stub.proofs.Plain.{is_fit, is_low}
 use Rattle.sx_lists.specs.Truth.{truth}
@@ -48,9 +48,9 @@ number_below tree (event.Input j v) r h = named (nth (input_names tree.decls) j)
 number_below tree (event.Sample v) r h = let l = position_below (λ g. same_input None g.input) 0 tree.handlers r h in omega (arith, l)
 
 -- the operations of a search for an end
-pub length-find : (found place k : ℕ) (es : List End) → length (cases (find_any found) place k es) ≡ 7 * length es
+pub length-find : (found place k : ℕ) (es : List End) → length (cases (find_any found) place k es) ≡ 4 * length es
 length-find found place k [] = omega arith
-length-find found place k (e ∷ es) = let r = length-find found (place + 7) (k + 1) es in omega (arith, r)
+length-find found place k (e ∷ es) = let r = length-find found (place + 4) (k + 1) es in omega (arith, r)
 
 module _ (n ops parts : ℕ) (few : n ≤ 16) where
   abbrev Fit : List Ir → Type 0
@@ -71,8 +71,11 @@ module _ (n ops parts : ℕ) (few : n ≤ 16) where
       both test (ir.JumpZero (here + 2) ∷ ir.Jump (here + 5) ∷ returns status) h
       (and_from _ _ (lt-ltb (here + 2) ops (omega (arith, lt))) (and_from _ _ (lt-ltb (here + 5) ops lt) (and_from _ _ small refl)))
 
+  kind_fit : (place kind : ℕ) → nat_lt kind 65536 ≡ true → place + 4 < ops → Fit (refuse_kind place kind)
+  kind_fit place kind small lt = and_from _ _ (and_from _ _ small (lt-ltb (place + 4) ops lt)) refl
+
   jump_fit : (entry place : ℕ) → nat_lt entry 65536 ≡ true → place < ops → Fit (jump_on entry place)
-  jump_fit entry place small lt = and_from _ _ small (one (ir.JumpZero place) (lt-ltb place ops lt))
+  jump_fit entry place small lt = one (ir.JumpEqual 6 entry place) (and_from _ _ small (lt-ltb place ops lt))
 
   cases_fit : (cs : Cases) → is_fit n ops parts (ir.Load cs.offset) ≡ true → ((k : ℕ) (e : End) → k < n → e.link < 256 → nat_lt (cs.number k e) 65536 ≡ true)
       → ((place k : ℕ) (e : End) → k < n → place + length (cs.body place k e) < ops → Fit (cs.body place k e))
@@ -85,14 +88,13 @@ module _ (n ops parts : ℕ) (few : n ≤ 16) where
       both first rest (here (cs.has e) (omega (arith, lt, long)))
       (cases_fit cs load number f (place + length first) (k + 1) es (omega (arith, le)) (All-tail (λ e. e.link < 256) e es links) (omega (arith, lt, long)))
     where
-      here : (b : Bool) → place + length (if b then ir.Load cs.offset ∷ ir.Push (cs.number k e) ∷ ir.Op op.Sub ∷ ir.JumpZero (place + 5) ∷ ir.Jump
-          (place + 5 + length (cs.body (place + 5) k e)) ∷ cs.body (place + 5) k e else []) < ops
-          → Fit (if b then ir.Load cs.offset ∷ ir.Push (cs.number k e) ∷ ir.Op op.Sub ∷ ir.JumpZero (place + 5) ∷ ir.Jump (place + 5 + length (cs.body (place + 5) k e)) ∷ cs.body
-          (place + 5) k e else [])
+      here : (b : Bool) → place + length (if b then ir.JumpEqual cs.offset (cs.number k e) (place + 2) ∷ ir.Jump (place + 2 + length (cs.body (place + 2) k e))
+          ∷ cs.body (place + 2) k e else []) < ops
+          → Fit (if b then ir.JumpEqual cs.offset (cs.number k e) (place + 2) ∷ ir.Jump (place + 2 + length (cs.body (place + 2) k e)) ∷ cs.body (place + 2) k e else [])
       here true h =
-          let body = cs.body (place + 5) k e in
-          and_from _ _ load (and_from _ _ (number k e (omega (arith, le)) (All-head (λ e. e.link < 256) e es links)) (and_from _ _ (lt-ltb (place + 5) ops (omega (arith, h)))
-          (and_from _ _ (lt-ltb (place + 5 + length body) ops (omega (arith, h))) (f (place + 5) k e (omega (arith, le)) (omega (arith, h))))))
+          let body = cs.body (place + 2) k e in
+          and_from _ _ (and_from _ _ load (and_from _ _ (number k e (omega (arith, le)) (All-head (λ e. e.link < 256) e es links)) (lt-ltb (place + 2) ops (omega (arith, h)))))
+          (and_from _ _ (lt-ltb (place + 2 + length body) ops (omega (arith, h))) (f (place + 2) k e (omega (arith, le)) (omega (arith, h))))
       here false h = refl
 
   handled_fit : (h : Option ℕ) → ((r : ℕ) → h ≡ Some r → r < parts) → Fit (handled_by h)
@@ -142,6 +144,9 @@ module _ (tree : ModuleTree) (ends : List End) (ops : ℕ) (few : length ends �
 
   abbrev needs : (place : ℕ) (test : List Ir) (status : ℕ) → nat_lt status 65536 ≡ true → place + length test + 5 < ops → Fits test → Fits (refuse_unless place test status)
   needs = unless_fit (length ends) ops (length tree.handlers) few
+
+  abbrev kinds : (place kind : ℕ) → nat_lt kind 65536 ≡ true → place + 4 < ops → Fits (refuse_kind place kind)
+  kinds = kind_fit (length ends) ops (length tree.handlers) few
 
   abbrev slots : (k : ℕ) → nat_lt k 65536 ≡ true → Fits (slot_word (length ends) k)
   slots = slot_fit (length ends) ops (length tree.handlers) few
@@ -200,7 +205,7 @@ module _ (tree : ModuleTree) (ends : List End) (ops : ℕ) (few : length ends �
   search_fit : (place : ℕ) → place + length (search_code tree ends place) < ops → Fits (search_code tree ends place)
   search_fit place short =
       let n = length ends in
-      let found = place + 7 * n + 3 in
+      let found = place + 4 * n + 3 in
       let find = cases (find_any found) place 0 ends in
       let rest = returns 5 ++ found_code tree ends found in
       let long = length-append find rest in
@@ -215,21 +220,21 @@ module _ (tree : ModuleTree) (ends : List End) (ops : ℕ) (few : length ends �
   sample_fit place short =
       join (refuse_unless (place + 2) is_fresh_code 8) (sampled_code tree) (needs (place + 2) is_fresh_code 8 refl (omega (arith, short)) refl) (handled (event.Sample 0))
 
-  set_key_fit : (search place : ℕ) → search < ops → place + 24 < ops → Fits (set_key_code search place)
+  set_key_fit : (search place : ℕ) → search < ops → place + 21 < ops → Fits (set_key_code search place)
   set_key_fit search place lt short =
       let last = ir.Load 18 ∷ ir.Push 255 ∷ ir.Op op.And ∷ ir.Load 20 ∷ ir.Push 256 ∷ ir.Op op.Mul ∷ ir.Op op.Add ∷ ir.Store 72 ∷ ir.Jump search ∷ [] in
-      let sides = refuse_if (place + 8) (ir.Push 1 ∷ ir.Load 20 ∷ ir.Op op.Lt ∷ []) 5 in
-      join (refuse_if (place + 1) (is_wrong_kind set_key_kind) 4) (sides ++ last) (refuses (place + 1) (is_wrong_kind set_key_kind) 4 refl (omega (arith, short)) refl)
-      (join sides last (refuses (place + 8) (ir.Push 1 ∷ ir.Load 20 ∷ ir.Op op.Lt ∷ []) 5 refl (omega (arith, short)) refl)
+      let sides = refuse_if (place + 5) (ir.Push 1 ∷ ir.Load 20 ∷ ir.Op op.Lt ∷ []) 5 in
+      join (refuse_kind (place + 1) set_key_kind) (sides ++ last) (kinds (place + 1) set_key_kind refl (omega (arith, short)))
+      (join sides last (refuses (place + 5) (ir.Push 1 ∷ ir.Load 20 ∷ ir.Op op.Lt ∷ []) 5 refl (omega (arith, short)) refl)
       (one (length ends) ops (length tree.handlers) few (ir.Jump search) (lt-ltb search ops lt)))
 
-  attest_fit : (place : ℕ) → place + 14 < ops → Fits (attest_code place)
-  attest_fit place short = join (refuse_if (place + 1) (is_wrong_kind ask_kind) 4) answer_code (refuses (place + 1) (is_wrong_kind ask_kind) 4 refl (omega (arith, short)) refl) refl
+  attest_fit : (place : ℕ) → place + 11 < ops → Fits (attest_code place)
+  attest_fit place short = join (refuse_kind (place + 1) ask_kind) answer_code (kinds (place + 1) ask_kind refl (omega (arith, short))) refl
 
-  asked_fit : (search place : ℕ) → search < ops → place + 15 < ops → Fits (input_code search place)
+  asked_fit : (search place : ℕ) → search < ops → place + 12 < ops → Fits (input_code search place)
   asked_fit search place lt short =
       let last = ir.Load 18 ∷ ir.Push 255 ∷ ir.Op op.And ∷ ir.Push 256 ∷ ir.Op op.Add ∷ ir.Store 72 ∷ ir.Jump search ∷ [] in
-      join (refuse_if (place + 1) (is_wrong_kind event_kind) 4) last (refuses (place + 1) (is_wrong_kind event_kind) 4 refl (omega (arith, short)) refl)
+      join (refuse_kind (place + 1) event_kind) last (kinds (place + 1) event_kind refl (omega (arith, short)))
       (one (length ends) ops (length tree.handlers) few (ir.Jump search) (lt-ltb search ops lt))
 
   above_fit : Fits (is_above_last tree)
@@ -249,21 +254,21 @@ module _ (tree : ModuleTree) (ends : List End) (ops : ℕ) (few : length ends �
 
   entries_fit : 18 + length (entries tree ends) < ops → Fits (entries tree ends)
   entries_fit short =
-      let set_key = 30 + length (sample_code tree 30) in
-      let attest = set_key + 24 in
-      let input = attest + 14 in
-      let search = input + 15 in
+      let set_key = 21 + length (sample_code tree 21) in
+      let attest = set_key + 21 in
+      let input = attest + 11 in
+      let search = input + 12 in
       let l8 = search_code tree ends search in
       let l7 = input_code search input ++ l8 in
       let l6 = attest_code attest ++ l7 in
       let l5 = set_key_code search set_key ++ l6 in
-      let l4 = sample_code tree 30 ++ l5 in
-      let long = length-append (sample_code tree 30) l5 in
+      let l4 = sample_code tree 21 ++ l5 in
+      let long = length-append (sample_code tree 21) l5 in
       let jumps = jump_fit (length ends) ops (length tree.handlers) few in
       join (jump_on 2 input) (jump_on 0 set_key ++ (jump_on 1 attest ++ l4)) (jumps 2 input refl (omega (arith, short, long)))
       (join (jump_on 0 set_key) (jump_on 1 attest ++ l4) (jumps 0 set_key refl (omega (arith, short, long)))
       (join (jump_on 1 attest) l4 (jumps 1 attest refl (omega (arith, short, long)))
-      (join (sample_code tree 30) l5 (sample_fit 30 (omega (arith, short, long)))
+      (join (sample_code tree 21) l5 (sample_fit 21 (omega (arith, short, long)))
       (join (set_key_code search set_key) l6 (set_key_fit search set_key (omega (arith, short, long)) (omega (arith, short, long)))
       (join (attest_code attest) l7 (attest_fit attest (omega (arith, short, long)))
       (join (input_code search input) l8 (asked_fit search input (omega (arith, short, long)) (omega (arith, short, long)))

@@ -33,8 +33,8 @@ use Rattle.sx_ir.specs.declared.ir.Ir.{Ir}
 use Rattle.sx_ir.specs.declared.ir.Ir.TheVariants as ir
 use Rattle.sx_ir.specs.declared.ir.IrOp.TheVariants as op
 use Rattle.sx_ir.proofs.Shown.{number_spared, slot_body, slot_key, slot_shown}
-use Rattle.sx_stub.specs.Stub.{input_code, input_found, key_found, key_place, search_code, refuse_if, refuse_unless, cases, find_any, take_receiving, take_event, taken_code}
-use Rattle.sx_stub.specs.Stub.{handled_by, has_number_above, is_open_code, is_other_epoch, is_past_number, is_receiving, is_to, is_wrong_kind, wanted_receiving}
+use Rattle.sx_stub.specs.Stub.{input_code, input_found, key_found, key_place, search_code, refuse_if, refuse_kind, refuse_unless, cases, find_any, take_receiving, take_event, taken_code}
+use Rattle.sx_stub.specs.Stub.{handled_by, has_number_above, is_open_code, is_other_epoch, is_past_number, is_receiving, is_to, wanted_receiving}
 use Rattle.sx_stub.specs.Invokes.{ShowsCall, Ready, Invokes, HandlersDo}
 use Rattle.sx_stub.proofs.Mem.{AllBytes, word_lt, word_same, word-put_same, word-put_other, get-put_other, AllBytes-put_word}
 use Rattle.sx_stub.proofs.Mem.{AllBytes-put_bytes, get-put_bytes_in, bytes_from_same, AllBytes-bytes_from}
@@ -45,7 +45,7 @@ use Rattle.sx_stub.proofs.Chain.{found_by, case_test, chain_does}
 use Rattle.sx_stub.proofs.Receive.{receive_does, copied_shows}
 use Rattle.sx_stub.proofs.Attest.{with_mark, progress_mark, shows_mark}
 use Rattle.sx_stub.proofs.Packets.{Holds, holds_copied, holds_put, holds_word, holds_part, upper, lower, upper_eq, IsOpened, opened_body}
-use Rattle.sx_stub.proofs.Ends.{FewLinks, any_same, found_in, index_found, index_words, slot_pure}
+use Rattle.sx_stub.proofs.Ends.{FewLinks, any_same, found_in, index_found, slot_pure}
 use Rattle.sx_stub.proofs.Search.{shows_kept_word, some_place, some_none, search_does, found_at, both_at}
 use Rattle.sx_stub.proofs.SetKey.{shows_slot}
 use Rattle.sx_stub.proofs.Handling.{handles}
@@ -298,8 +298,8 @@ module _ (s : Setup) (call : Call) (handle : ℕ → Conf → OperationResult) (
       (if second == 65535 then Returns past_number p else rest) p (at_front code (q + 23) (refuse_if (q + 23) (is_past_number n) 6) r3 a2) number refl shows3 none (omega arith) (omega arith)
       (λ x3. unless_does s call handle given code (second == 65535) has_number_above 6 above c3 (q + 33) (q + 41) (cost + 1100) (cost + 1000) [] rest p
       (at_front code (q + 33) (refuse_unless (q + 33) has_number_above 6) r4 a3) final (sub_zero second 65535 small (omega arith)) shows3 none (omega arith) (omega arith)
-      (λ x4. chain_does s call handle given code rest (take_receiving s.tree) (12 * j) c3 index3 (omega (arith, few, lt)) refl s.ends 0 (q + 41) (q + 41 + length r4) (cost + 1000) (cost + 200)
-      (index_words (take_receiving s.tree) s.ends 0 (λ i d. refl) (omega (arith, few))) a4 refl (omega (arith, few))
+      (λ x4. chain_does s call handle given code rest (take_receiving s.tree) (12 * j) c3 index3 refl s.ends 0 (q + 41) (q + 41 + length r4) (cost + 1000) (cost + 200)
+      a4 refl (omega (arith, few))
       (λ j2 e2 place found2 a5.
       let again = sym found2 ∙ index_found t (take_receiving s.tree) s.ends 0 j e links (λ i d. refl) receives found in
       let a6 = subst (λ (x : ℕ). At code place (take_event s.tree place x e2)) (some_place j2 j e2 e again) a5 in
@@ -326,22 +326,22 @@ module _ (s : Setup) (call : Call) (handle : ℕ → Conf → OperationResult) (
 
   -- with the packet copied, and of its kind
   searches : (place : ℕ) (packet : List ℕ) → length packet ≡ 24 → AllBytes packet
-      → At code (place + 8) (wanted_receiving ++ ir.Store 72 ∷ ir.Jump search ∷ [])
-      → Invokes s call handle given code (input s call packet p) (cost + 2300) (with_priv c (put_bytes c.priv 16 packet) (place + 8) [])
+      → At code (place + 5) (wanted_receiving ++ ir.Store 72 ∷ ir.Jump search ∷ [])
+      → Invokes s call handle given code (input s call packet p) (cost + 2300) (with_priv c (put_bytes c.priv 16 packet) (place + 5) [])
   searches place packet len h a =
       let field = field_in packet in
       let link = link_of field in
       let v = link + 256 * 1 in
-      let found = search + 7 * length s.ends + 3 in
+      let found = search + 4 * length s.ends + 3 in
       let r = input s call packet p in
-      let c1 = with_priv c (put_bytes c.priv 16 packet) (place + 8) [] in
-      let shows1 = copied_shows s call handle given code p c shows none bytes room512 window packet (place + 8) (omega (arith, len)) in
+      let c1 = with_priv c (put_bytes c.priv 16 packet) (place + 5) [] in
+      let shows1 = copied_shows s call handle given code p c shows none bytes room512 window packet (place + 5) (omega (arith, len)) in
       let holds1 = holds_copied c.priv packet h (omega (arith, len, room512)) in
       let f18 : word c1.priv 18 ≡ field = holds_word c1.priv packet 2 refl (omega (arith, len)) holds1 in
       let value : pure s c1.priv wanted_receiving [] ≡ Some (v ∷ []) = ap (λ (x : ℕ). Some ((bit_and x 255 + 256) % 65536 ∷ [])) f18 ∙ ap (λ (x : ℕ). Some ((x + 256) % 65536 ∷ [])) (lower field)
       ∙ ap (λ (x : ℕ). Some (x ∷ [])) (omega arith) in
       let tail = ir.Store 72 ∷ ir.Jump search ∷ [] in
-      let a2 = at_back code (place + 8) (place + 13) wanted_receiving tail (omega arith) a in
+      let a2 = at_back code (place + 5) (place + 10) wanted_receiving tail (omega arith) a in
       let c2 = with_priv c1 (put_word c1.priv 72 v) search [] in
       let size = shows1.size in
       let shows2 = shows_kept_word s call p c1 72 v search [] shows1 refl (omega arith) (omega arith) (omega arith) in
@@ -349,11 +349,11 @@ module _ (s : Setup) (call : Call) (handle : ℕ → Conf → OperationResult) (
       let here : word c2.priv 72 ≡ v = word-put_same c1.priv 72 v refl (omega (arith, size)) in
       let t = case_test (find_any found) v in
       let same : found_by t 0 s.ends ≡ end_found link To 0 s.ends = any_same found link To s.ends links (omega arith) in
-      runs_on s call handle given code r wanted_receiving c1 (place + 8) (place + 13) [] (v ∷ []) (cost + 2300) (cost + 2250) (at_front code (place + 8) wanted_receiving tail a) value (omega arith)
+      runs_on s call handle given code r wanted_receiving c1 (place + 5) (place + 10) [] (v ∷ []) (cost + 2300) (cost + 2250) (at_front code (place + 5) wanted_receiving tail a) value (omega arith)
       (omega arith)
-      (goes_on s call handle given code r (ir.Store 72) (at c1 (place + 13) (v ∷ [])) (at c2 (place + 13 + 1) []) (cost + 2250) (cost + 2240) a2.0 refl refl (omega arith)
-      (goes_on s call handle given code r (ir.Jump search) (at c2 (place + 13 + 1) []) (at c2 search []) (cost + 2240) (cost + 2230) a2.1.0 refl refl (omega arith)
-      (search_does s call handle given code p none few links r v c2 shows2 here (omega arith) search (cost + 2230) (cost + 1430) at_search (omega arith)
+      (goes_on s call handle given code r (ir.Store 72) (at c1 (place + 10) (v ∷ [])) (at c2 (place + 10 + 1) []) (cost + 2250) (cost + 2240) a2.0 refl refl (omega arith)
+      (goes_on s call handle given code r (ir.Jump search) (at c2 (place + 10 + 1) []) (at c2 search []) (cost + 2240) (cost + 2230) a2.1.0 refl refl (omega arith)
+      (search_does s call handle given code p none few links r v c2 shows2 here search (cost + 2230) (cost + 1430) at_search (omega arith)
       (λ j e hit lt c3 shows3 same_back index3 held.
       subst (λ (o : Option (ℕ × End)). Invokes s call handle given code (input_at s call packet o p) (cost + 1430) (at c3 (found + 1) [])) (sym hit ∙ same)
       (let r2 = input_at s call packet (Some (j, e)) p in
@@ -373,7 +373,7 @@ module _ (s : Setup) (call : Call) (handle : ℕ → Conf → OperationResult) (
       → Invokes s call handle given code (with_received s call event_size event_kind p (λ packet. input s call packet p)) k (at c place [])
   input_does place k a le =
       let rest = wanted_receiving ++ ir.Store 72 ∷ ir.Jump search ∷ [] in
-      let tests = refuse_if (place + 1) (is_wrong_kind event_kind) 4 in
+      let tests = refuse_kind (place + 1) event_kind in
       receive_does s call handle given code p c shows none bytes room512 window place 24 3 k (cost + 2300) (λ packet. input s call packet p) a.0 (at_front code (place + 1) tests rest a.1) refl
       (omega arith) (omega arith) (omega arith) (omega (arith, le))
-      (λ packet len h. searches place packet len h (at_back code (place + 1) (place + 8) tests rest (omega arith) a.1))
+      (λ packet len h. searches place packet len h (at_back code (place + 1) (place + 5) tests rest (omega arith) a.1))

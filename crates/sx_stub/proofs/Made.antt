@@ -11,7 +11,6 @@ use Rattle.sx_mean.specs.declared.events.SourceEvent.TheVariants as event
 use Rattle.sx_ir.specs.declared.ir.Code.{Code}
 use Rattle.sx_ir.specs.declared.ir.Ir.{Ir}
 use Rattle.sx_ir.specs.declared.ir.Ir.TheVariants as ir
-use Rattle.sx_ir.specs.declared.ir.IrOp.TheVariants as op
 use Rattle.sx_mean.specs.Handlers.{number_of}
 use Rattle.sx_stub.specs.Stub.{Cases, case_of, cases, find_any, handled_by, input_found, key_found, key_place, found_code, open_any, returns, sample_code}
 use Rattle.sx_stub.specs.Stub.{set_key_code, attest_code, input_code, search_code, stub_code, stub_ops, take_receiving}
@@ -24,7 +23,7 @@ use Rattle.sx_stub.proofs.StubFits.{stub_fits}
 use Rattle.sx_stub.proofs.StubSound.{stub_sound}
 
 -- this many operations at most for each end
-cases_within : (cs : Cases) (n : ℕ) → ((place k : ℕ) (e : End) → length (cs.body place k e) ≤ n) → (place k : ℕ) (es : List End) → length (cases cs place k es) ≤ (5 + n) * length es
+cases_within : (cs : Cases) (n : ℕ) → ((place k : ℕ) (e : End) → length (cs.body place k e) ≤ n) → (place k : ℕ) (es : List End) → length (cases cs place k es) ≤ (2 + n) * length es
 cases_within cs n f place k [] = omega arith
 cases_within cs n f place k (e ∷ es) =
     let first = case_of cs place k e in
@@ -33,9 +32,9 @@ cases_within cs n f place k (e ∷ es) =
     let c = cases_within cs n f (place + length first) (k + 1) es in
     omega (arith, a, b, c)
   where
-    one : (b : Bool) → length (if b then ir.Load cs.offset ∷ ir.Push (cs.number k e) ∷ ir.Op op.Sub ∷ ir.JumpZero (place + 5) ∷ ir.Jump (place + 5 + length (cs.body (place + 5) k e)) ∷ cs.body
-        (place + 5) k e else []) ≤ 5 + n
-    one true = let h = f (place + 5) k e in omega (arith, h)
+    one : (b : Bool) → length (if b then ir.JumpEqual cs.offset (cs.number k e) (place + 2) ∷ ir.Jump (place + 2 + length (cs.body (place + 2) k e)) ∷ cs.body (place + 2) k e else [])
+        ≤ 2 + n
+    one true = let h = f (place + 2) k e in omega (arith, h)
     one false = omega arith
 
 handled_within : (n : Option ℕ) → length (handled_by n) ≤ 4
@@ -45,16 +44,16 @@ handled_within (Some h) = omega arith
 stub_short : (tree : ModuleTree) (ends : List End) → length ends ≤ 16 → length (stub_ops tree ends) ≤ 1024
 unfolding stub_code
 stub_short tree ends few =
-    let q_key = 30 + length (sample_code tree 30) in
-    let q_attest = q_key + 24 in
-    let q_input = q_attest + 14 in
-    let q_search = q_input + 15 in
-    let found = q_search + 7 * length ends + 3 in
+    let q_key = 21 + length (sample_code tree 21) in
+    let q_attest = q_key + 21 in
+    let q_input = q_attest + 11 in
+    let q_search = q_input + 12 in
+    let found = q_search + 4 * length ends + 3 in
     let key = key_place tree ends found in
     let find = cases (find_any found) q_search 0 ends in
     let l5 = set_key_code q_search q_key ++ (attest_code q_attest ++ (input_code q_search q_input ++ search_code tree ends q_search)) in
     let h = handled_within (number_of tree (event.Sample 0)) in
-    let a0 = length-append (sample_code tree 30) l5 in
+    let a0 = length-append (sample_code tree 21) l5 in
     let a1 = length-append find (returns 5 ++ found_code tree ends found) in
     let a2 = length-append (input_found tree ends (found + 3)) (key_found ends key) in
     let b1 = length-find found q_search 0 ends in

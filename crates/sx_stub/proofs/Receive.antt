@@ -24,12 +24,12 @@ use Rattle.sx_ir.specs.Meaning.{OperationResult, do_at, do_op, copied_in, when, 
 use Rattle.sx_ir.proofs.Shown.{low_spared}
 use Rattle.sx_ir.specs.declared.ir.Ir.{Ir}
 use Rattle.sx_ir.specs.declared.ir.Ir.TheVariants as ir
-use Rattle.sx_stub.specs.Stub.{refuse_if, is_wrong_kind}
+use Rattle.sx_stub.specs.Stub.{refuse_kind}
 use Rattle.sx_stub.specs.Invokes.{ShowsCall, Invokes}
-use Rattle.sx_stub.proofs.Mem.{AllBytes, byte_at, word_lt, word_even, get-put_bytes_in, AllBytes-put_bytes}
-use Rattle.sx_stub.proofs.Straight.{At, at, pure}
+use Rattle.sx_stub.proofs.Mem.{AllBytes, byte_at, word_even, get-put_bytes_in, AllBytes-put_bytes}
+use Rattle.sx_stub.proofs.Straight.{At, at}
 use Rattle.sx_stub.proofs.Slots.{IsKept, with_priv, shows_priv}
-use Rattle.sx_stub.proofs.Refuse.{refuse_zero, sub_zero, not_twice, goes_on, breaks}
+use Rattle.sx_stub.proofs.Refuse.{kind_does, not_twice, goes_on, breaks}
 use Rattle.sx_lists.specs.Truth.{truth}
 
 -- what was read is this many bytes
@@ -128,19 +128,16 @@ module _ (s : Setup) (call : Call) (handle : ℕ → Conf → OperationResult) (
       ∙ ap (λ (x : ℕ). get_or packet o 0 + 256 * get_or (put_bytes c.priv 16 packet) x 0) (omega arith)
       ∙ ap (λ (x : ℕ). get_or packet o 0 + 256 * x) hi ∙ sym (word_even packet o e)
 
-  wrong_kind : (packet : List ℕ) (kind : ℕ) → AllBytes packet → 2 ≤ length packet → length packet ≤ 40
-      → pure s (put_bytes c.priv 16 packet) (is_wrong_kind kind) [] ≡ Some ((word packet 0 + (65536 - kind)) % 65536 ∷ [])
-  wrong_kind packet kind h lo le = ap (λ (x : ℕ). Some ((x + (65536 - kind)) % 65536 ∷ [])) (packet_word packet 0 h refl (omega (arith, lo)) le)
-
-  zero_kind : (packet : List ℕ) (kind : ℕ) → AllBytes packet → kind < 256 → ((word packet 0 + (65536 - kind)) % 65536 == 0) ≡ not (not (is_kind kind packet))
-  zero_kind packet kind h lt =
-      sub_zero (word packet 0) kind (word_lt packet 0 h) (omega (arith, lt))
-      ∙ ap (λ (x : ℕ). x == kind) (word_even packet 0 refl) ∙ kind_word (slice_index packet 0) (slice_index packet 1) kind lt ∙ not_twice (is_kind kind packet)
+  kind_is : (packet : List ℕ) (kind : ℕ) → AllBytes packet → 2 ≤ length packet → length packet ≤ 40 → kind < 256
+      → (word (put_bytes c.priv 16 packet) 16 == kind) ≡ not (not (is_kind kind packet))
+  kind_is packet kind h lo le lt =
+      ap (λ (x : ℕ). x == kind) (packet_word packet 0 h refl (omega (arith, lo)) le ∙ word_even packet 0 refl)
+      ∙ kind_word (slice_index packet 0) (slice_index packet 1) kind lt ∙ not_twice (is_kind kind packet)
 
   pub receive_does : (place n kind k m : ℕ) (rest : List ℕ → Invoked) → slice_get code place ≡ Some (ir.CopyIn n 16)
-      → At code (place + 1) (refuse_if (place + 1) (is_wrong_kind kind) 4) → nat_le n 40 ≡ true → 2 ≤ n → n ≤ 40
+      → At code (place + 1) (refuse_kind (place + 1) kind) → nat_le n 40 ≡ true → 2 ≤ n → n ≤ 40
       → kind < 256 → 100 + 8 * n + m ≤ k
-      → ((packet : List ℕ) → length packet ≡ n → AllBytes packet → Invokes s call handle given code (rest packet) m (with_priv c (put_bytes c.priv 16 packet) (place + 8) []))
+      → ((packet : List ℕ) → length packet ≡ n → AllBytes packet → Invokes s call handle given code (rest packet) m (with_priv c (put_bytes c.priv 16 packet) (place + 5) []))
       → Invokes s call handle given code (received (read_bytes s p.devices p.mem call.input n) kind rest p) k (at c place [])
   receive_does place n kind k m rest copy test small lo hi lt le rest_does =
       go (read_bytes s p.devices p.mem call.input n) (bytes_read s p.devices p.mem call.input n bytes) (copies place n small)
@@ -155,8 +152,6 @@ module _ (s : Setup) (call : Call) (handle : ℕ → Conf → OperationResult) (
           let c2 = with_priv c (put_bytes c.priv 16 packet) (place + 1) [] in
           goes_on s call handle given code result (ir.CopyIn n 16) (at c place []) c2 k (84 + m) copy e refl (omega (arith, le))
           (subst (λ (x : Invoked). Invokes s call handle given code x (84 + m) c2) (sym (if_not (is_kind kind packet) (rest packet) (Returns other_kind p)))
-          (refuse_zero s call handle given code (not (is_kind kind packet)) (is_wrong_kind kind) 4 ((word packet 0 + (65536 - kind)) % 65536) c2 (place + 1) (place + 8) (84 + m) m []
-          (rest packet) p test
-          (wrong_kind packet kind q.1 (omega (arith, lo, q.0)) (omega (arith, hi, q.0))) (zero_kind packet kind q.1 lt) (copied_shows packet (place + 1) (omega (arith, hi, q.0))) none (omega arith)
-          (omega arith)
+          (kind_does s call handle given code (not (is_kind kind packet)) kind c2 (place + 1) (place + 5) (84 + m) m (rest packet) p test
+          (kind_is packet kind q.1 (omega (arith, lo, q.0)) (omega (arith, hi, q.0)) lt) (copied_shows packet (place + 1) (omega (arith, hi, q.0))) none (omega arith) (omega arith)
           (λ x. rest_does packet q.0 q.1)))

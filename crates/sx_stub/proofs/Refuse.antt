@@ -1,19 +1,21 @@
 -- A return with a status, and a test that leads to one.
-use Rattle.std.proofs.Common.{◌≡◌, ℕ, zero, suc, ◌+◌, ◌-◌, ◌%◌, ◌<◌, ◌≤◌, ◌≢◌, ◌⊎◌, inl, inr, Bool, true, false, not, ◌||◌, ◌==◌, List, [], ◌∷◌, length, Some, refl, sym, ap, ◌∙◌, subst, arith}
+use Rattle.std.proofs.Common.{◌≡◌, ℕ, zero, suc, ◌+◌, ◌-◌, ◌%◌, ◌<◌, ◌≤◌, ◌≢◌, ◌⊎◌, inl, inr, Bool, true, false, not, ◌&&◌, ◌||◌, ◌==◌, List, [], ◌∷◌, length, Some, refl, sym, ap, ◌∙◌, subst, arith}
 use Rattle.std.specs.Prelude.{slice_get, if◌then◌else◌}
 use Rattle.std.proofs.lemmas.Bool.{true≢false, eqb-true}
 use Rattle.std.proofs.lemmas.Bool.Decides.{eqb_tells}
 use Rattle.sx_rules.specs.declared.access.Violation.{Violation}
 use Rattle.sx_reach.specs.Reach.{Goes, Stops, Here}
 use Rattle.sx_invoke.specs.Marks.{Mark}
+use Rattle.sx_invoke.specs.Protocol.{other_kind}
+use Rattle.sx_machine.specs.Memory.{word}
 use Rattle.sx_invoke.specs.Setup.{Setup, Call}
 use Rattle.sx_invoke.specs.Progress.{Progress, Invoked, Returns}
 use Rattle.sx_ir.specs.Conf.{Conf, Violates}
 use Rattle.sx_ir.specs.Counts.{count_of}
-use Rattle.sx_ir.specs.Meaning.{OperationResult, do_at, handler_count}
+use Rattle.sx_ir.specs.Meaning.{OperationResult, do_at, do_op, handler_count, is_shown, when}
 use Rattle.sx_ir.specs.declared.ir.Ir.{Ir}
 use Rattle.sx_ir.specs.declared.ir.Ir.TheVariants as ir
-use Rattle.sx_stub.specs.Stub.{refuse_if, refuse_unless, returns}
+use Rattle.sx_stub.specs.Stub.{refuse_if, refuse_kind, refuse_unless, returns}
 use Rattle.sx_stub.specs.Invokes.{ShowsCall, EndsSo, LeavesSo, Invokes}
 use Rattle.sx_stub.proofs.Straight.{At, at, at_front, at_back, pure, counts, goes, halts, runs, wider}
 use Rattle.sx_stub.proofs.Slots.{shows_at}
@@ -85,6 +87,22 @@ module _ (s : Setup) (call : Call) (handle : ℕ → Conf → OperationResult) (
       go false zero t back r =
           goes_on result (ir.JumpZero (p + length test + 4)) (at c (p + length test) (0 ∷ [])) (at c (p + length test + 4) []) (24 + m) m back.0 refl refl (omega arith)
           (subst (λ (x : ℕ). Goal result m (at c x [])) (sym f) (r refl))
+
+  -- a word that holds no key is compared
+  pub compares : (r : Invoked) (b : Bool) (o w q : ℕ) (c : Conf) (p n m : ℕ) → slice_get code p ≡ Some (ir.JumpEqual o w q) → is_shown (length s.ends) o 2 ≡ true
+      → (word c.priv o == w) ≡ b → 8 + m ≤ n → Goal r m (at c (if b then q else p + 1) []) → Goal r n (at c p [])
+  compares r b o w q c p n m here shown e le rest =
+      goes_on r (ir.JumpEqual o w q) (at c p []) (at c (if b then q else p + 1) []) n m here
+      (ap (λ (x : Bool). when (true && x) (do_op s handle (ir.JumpEqual o w q) (at c p []))) shown ∙ ap (λ (x : Bool). Goes (at c (if x then q else p + 1) [])) e) refl le rest
+
+  -- a packet's kind is tried
+  pub kind_does : (b : Bool) (kind : ℕ) (c : Conf) (p q n m : ℕ) (result : Invoked) (progress : Progress) → At code p (refuse_kind p kind)
+      → (word c.priv 16 == kind) ≡ not b → ShowsCall s call progress c → progress.pieces ≡ [] → p + 4 ≡ q → 24 + m ≤ n
+      → (b ≡ false → Goal result m (at c q [])) → Goal (if b then Returns other_kind progress else result) n (at c p [])
+  kind_does true kind c p q n m result progress a e h none f le r =
+      compares (Returns other_kind progress) false 16 kind (p + 4) c p n 16 a.0 refl e (omega (arith, le)) (returns_does other_kind progress c (p + 1) 16 a.1 h none (omega arith))
+  kind_does false kind c p q n m result progress a e h none f le r =
+      compares result true 16 kind (p + 4) c p n m a.0 refl e (omega (arith, le)) (subst (λ (x : ℕ). Goal result m (at c x [])) (sym f) (r refl))
 
   -- a test that leaves 0 where it holds, and what is done where it holds not
   pub unless_does : (b : Bool) (test : List Ir) (status v : ℕ) (c : Conf) (p q n m : ℕ) (stack : List ℕ) (result : Invoked) (progress : Progress)

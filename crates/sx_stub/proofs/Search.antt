@@ -19,7 +19,7 @@ use Rattle.sx_stub.proofs.Slots.{IsKept, with_priv, shows_priv}
 use Rattle.sx_stub.proofs.Refuse.{returns_does, goes_on, runs_on, within}
 use Rattle.sx_stub.proofs.Chain.{found_by, case_test, chain_does}
 use Rattle.sx_stub.proofs.Packets.{Holds, holds_put}
-use Rattle.sx_stub.proofs.Ends.{FewLinks, found_in, named_words}
+use Rattle.sx_stub.proofs.Ends.{FewLinks, found_in}
 use Rattle.sx_machine.proofs.Lengths.{length-put_word}
 
 pub some_place : (a b : ℕ) (x y : End) → ◌≡◌ {A = Option (ℕ × End)} (Some (a, x)) (Some (b, y)) → a ≡ b
@@ -46,46 +46,46 @@ shows_kept_word s call p c a v q stack h e lo hi small =
 
 -- where the found end's code stands
 pub found_at : (tree : ModuleTree) (ends : List End) (code : List Ir) (q : ℕ) → At code q (search_code tree ends q)
-    → At code (q + 7 * length ends + 3) (found_code tree ends (q + 7 * length ends + 3))
+    → At code (q + 4 * length ends + 3) (found_code tree ends (q + 4 * length ends + 3))
 found_at tree ends code q a =
-    let found = q + 7 * length ends + 3 in
+    let found = q + 4 * length ends + 3 in
     let search = cases (find_any found) q 0 ends in
     let l = length-find found q 0 ends in
     at_back code (q + length search) found (returns 5) (found_code tree ends found) (omega (arith, l)) (at_back code q (q + length search) search (returns 5 ++ found_code tree ends found) refl a)
 
 pub both_at : (tree : ModuleTree) (ends : List End) (code : List Ir) (q : ℕ) → At code q (search_code tree ends q)
-    → At code (q + 7 * length ends + 3 + 3) (input_found tree ends (q + 7 * length ends + 3 + 3) ++ key_found ends (key_place tree ends (q + 7 * length ends + 3)))
+    → At code (q + 4 * length ends + 3 + 3) (input_found tree ends (q + 4 * length ends + 3 + 3) ++ key_found ends (key_place tree ends (q + 4 * length ends + 3)))
 both_at tree ends code q a =
-    let found = q + 7 * length ends + 3 in
+    let found = q + 4 * length ends + 3 in
     let all = input_found tree ends (found + 3) ++ key_found ends (key_place tree ends found) in
     subst (λ (x : ℕ). At code x all) (omega arith) (found_at tree ends code q a).1.1.1
 
 pub key_at : (tree : ModuleTree) (ends : List End) (code : List Ir) (q : ℕ) → At code q (search_code tree ends q)
-    → At code (key_place tree ends (q + 7 * length ends + 3)) (key_found ends (key_place tree ends (q + 7 * length ends + 3)))
+    → At code (key_place tree ends (q + 4 * length ends + 3)) (key_found ends (key_place tree ends (q + 4 * length ends + 3)))
 key_at tree ends code q a =
-    let found = q + 7 * length ends + 3 in
+    let found = q + 4 * length ends + 3 in
     at_back code (found + 3) (key_place tree ends found) (input_found tree ends (found + 3)) (key_found ends (key_place tree ends found)) refl (both_at tree ends code q a)
 
 module _ (s : Setup) (call : Call) (handle : ℕ → Conf → OperationResult) (given : ℕ
     → ℕ) (code : List Ir) (p : Progress) (none : p.pieces ≡ []) (few : length s.ends ≤ 16) (links : FewLinks s.ends) where
   -- the end that is looked for is found, and its index kept; or it is refused
-  pub search_does : (r : Invoked) (v : ℕ) (c : Conf) → ShowsCall s call p c → word c.priv 72 ≡ v → v < 65536 → (q n m : ℕ)
+  pub search_does : (r : Invoked) (v : ℕ) (c : Conf) → ShowsCall s call p c → word c.priv 72 ≡ v → (q n m : ℕ)
       → At code q (search_code s.tree s.ends q) → 700 + m ≤ n
-      → ((j : ℕ) (e : End) → found_by (case_test (find_any (q + 7 * length s.ends + 3)) v) 0 s.ends ≡ Some (j, e) → j < length s.ends → (c3 : Conf) → ShowsCall s call p c3 → c3.back ≡ c.back
+      → ((j : ℕ) (e : End) → found_by (case_test (find_any (q + 4 * length s.ends + 3)) v) 0 s.ends ≡ Some (j, e) → j < length s.ends → (c3 : Conf) → ShowsCall s call p c3 → c3.back ≡ c.back
       → word c3.priv 74 ≡ 12 * j
       → ((packet : List ℕ) → 16 + length packet ≤ 74 → Holds c.priv packet → Holds c3.priv packet)
-      → Invokes s call handle given code r m (at c3 (q + 7 * length s.ends + 3 + 1) []))
-      → (found_by (case_test (find_any (q + 7 * length s.ends + 3)) v) 0 s.ends ≡ None → r ≡ Returns no_end p)
+      → Invokes s call handle given code r m (at c3 (q + 4 * length s.ends + 3 + 1) []))
+      → (found_by (case_test (find_any (q + 4 * length s.ends + 3)) v) 0 s.ends ≡ None → r ≡ Returns no_end p)
       → Invokes s call handle given code r n (at c q [])
-  search_does r v c shows here small q n m a le hit miss =
-      let found = q + 7 * length s.ends + 3 in
+  search_does r v c shows here q n m a le hit miss =
+      let found = q + 4 * length s.ends + 3 in
       let search = cases (find_any found) q 0 s.ends in
       let rest = returns 5 ++ found_code s.tree s.ends found in
       let a1 = at_back code q (q + length search) search rest refl a in
       let a2 = found_at s.tree s.ends code q a in
       let size = shows.size in
       within s call handle given code r n (700 + m) (at c q []) le
-      (chain_does s call handle given code r (find_any found) v c here small refl s.ends 0 q (q + length search) (700 + m) (40 + m) (named_words found s.ends 0 links) (at_front code q search rest a) refl
+      (chain_does s call handle given code r (find_any found) v c here refl s.ends 0 q (q + length search) (700 + m) (40 + m) (at_front code q search rest a) refl
       (omega (arith, few))
       (λ j e place f a3.
       let inside = found_in (case_test (find_any found) v) s.ends 0 j e f in

@@ -28,7 +28,7 @@ use Rattle.sx_ir.specs.Meaning as meaning
 use Rattle.sx_ir.specs.declared.ir.IrOp.TheVariants as op
 use Rattle.sx_ir.specs.declared.ir.Ir.{Ir}
 use Rattle.sx_ir.specs.declared.ir.Ir.TheVariants as ir
-use Rattle.sx_stub.specs.Stub.{set_key_code, key_found, key_place, search_code, refuse_if, refuse_unless, cases, find_any, open_any, open_end, is_wrong_kind, is_no_side}
+use Rattle.sx_stub.specs.Stub.{set_key_code, key_found, key_place, search_code, refuse_if, refuse_kind, refuse_unless, cases, find_any, open_any, open_end, is_no_side}
 use Rattle.sx_stub.specs.Stub.{wanted_end, is_keyed_code, is_to, slot_word}
 use Rattle.sx_stub.specs.Invokes.{ShowsCall, Invokes}
 use Rattle.sx_stub.proofs.Mem.{AllBytes, word_lt, word_same, word-put_same, word-put_other, get-put_other, AllBytes-put_word}
@@ -40,7 +40,7 @@ use Rattle.sx_stub.proofs.Chain.{found_by, case_test, chain_does}
 use Rattle.sx_stub.proofs.Receive.{receive_does, copied_shows, truth_not}
 use Rattle.sx_stub.proofs.Attest.{with_mark, progress_mark, shows_mark}
 use Rattle.sx_stub.proofs.Packets.{Holds, holds_copied, holds_put, holds_word, holds_part, upper, lower, upper_lt, IsOpened, opened_body}
-use Rattle.sx_stub.proofs.Ends.{FewLinks, any_same, found_in, index_found, index_words, slot_pure, and_truth}
+use Rattle.sx_stub.proofs.Ends.{FewLinks, any_same, found_in, index_found, slot_pure, and_truth}
 use Rattle.sx_stub.proofs.Search.{shows_kept_word, some_place, some_none, search_does, found_at, key_at}
 use Rattle.sx_machine.proofs.Lengths.{length-put_word, length-put_bytes}
 use Rattle.sx_lists.specs.Truth.{truth}
@@ -261,8 +261,8 @@ module _ (s : Setup) (call : Call) (handle : ℕ → Conf → OperationResult) (
               (subst (λ (x : ℕ). Invokes s call handle given code r 860 (at c4 x (1 ∷ []))) (omega arith)
               (unless_does s call handle given code false [] other_tag 1 c4 (q + 24) (q + 29) 860 780 (1 ∷ []) r p1
               (at_front code (q + 24) (refuse_unless (q + 24) [] other_tag) (cases open_any (q + 29) 0 s.ends) all) refl refl shows4 none (omega arith) (omega arith)
-              (λ x. chain_does s call handle given code r open_any (12 * j) c4 index4 (omega (arith, few, lt)) refl s.ends 0 (q + 29) (q + 29 + length (cases open_any (q + 29) 0 s.ends)) 780 60
-              (index_words open_any s.ends 0 (λ i d. refl) (omega (arith, few))) (at_back code (q + 24) (q + 29) (refuse_unless (q + 24) [] other_tag) (cases open_any (q + 29) 0 s.ends)
+              (λ x. chain_does s call handle given code r open_any (12 * j) c4 index4 refl s.ends 0 (q + 29) (q + 29 + length (cases open_any (q + 29) 0 s.ends)) 780 60
+              (at_back code (q + 24) (q + 29) (refuse_unless (q + 24) [] other_tag) (cases open_any (q + 29) 0 s.ends)
               (omega arith) all) refl (omega (arith, few))
               (λ j2 e2 place found2 a2.
               let same : j2 ≡ j = some_place j2 j e2 e (sym found2 ∙ index_found t open_any s.ends 0 j e links (λ i d. refl) (λ i d lt x. refl) found) in
@@ -301,36 +301,36 @@ module _ (s : Setup) (call : Call) (handle : ℕ → Conf → OperationResult) (
 
   -- with the packet copied, and of its kind
   searches : (place : ℕ) (packet : List ℕ) → length packet ≡ 38 → AllBytes packet
-      → At code (place + 8) (refuse_if (place + 8) is_no_side 5 ++ (wanted_end ++ ir.Store 72 ∷ ir.Jump search ∷ []))
-      → Invokes s call handle given code (set_key s packet p) 2300 (with_priv c (put_bytes c.priv 16 packet) (place + 8) [])
+      → At code (place + 5) (refuse_if (place + 5) is_no_side 5 ++ (wanted_end ++ ir.Store 72 ∷ ir.Jump search ∷ []))
+      → Invokes s call handle given code (set_key s packet p) 2300 (with_priv c (put_bytes c.priv 16 packet) (place + 5) [])
   searches place packet len h a =
       let field = field_in packet in
       let second = second_in packet in
-      let c1 = with_priv c (put_bytes c.priv 16 packet) (place + 8) [] in
-      let shows1 = copied_shows s call handle given code p c shows none bytes room512 window packet (place + 8) (omega (arith, len)) in
+      let c1 = with_priv c (put_bytes c.priv 16 packet) (place + 5) [] in
+      let shows1 = copied_shows s call handle given code p c shows none bytes room512 window packet (place + 5) (omega (arith, len)) in
       let holds1 = holds_copied c.priv packet h (omega (arith, len, room512)) in
       let f18 : word c1.priv 18 ≡ field = holds_word c1.priv packet 2 refl (omega (arith, len)) holds1 in
       let s20 : word c1.priv 20 ≡ second = holds_word c1.priv packet 4 refl (omega (arith, len)) holds1 in
       let test : pure s c1.priv is_no_side [] ≡ Some (truth (nat_lt 1 second) ∷ []) = ap (λ (x : ℕ). Some (truth (nat_lt 1 x) ∷ [])) s20 in
       let rest = wanted_end ++ ir.Store 72 ∷ ir.Jump search ∷ [] in
-      let a1 = at_back code (place + 8) (place + 15) (refuse_if (place + 8) is_no_side 5) rest (omega arith) a in
+      let a1 = at_back code (place + 5) (place + 12) (refuse_if (place + 5) is_no_side 5) rest (omega arith) a in
       subst (λ (x : Invoked). Invokes s call handle given code x 2300 c1)
       (if_same (nat_lt 1 second) (Returns no_end p) (set_key s packet p) (λ x. ap (λ (o : Option Side). set_key_at s packet (end_on (link_of field) s.ends o) p) (no_side second x)))
-      (refuse_does s call handle given code (nat_lt 1 second) is_no_side 5 (truth (nat_lt 1 second)) c1 (place + 8) (place + 15) 2300 2240 [] (set_key s packet p) p
-      (at_front code (place + 8) (refuse_if (place + 8) is_no_side 5) rest a) test refl shows1 none (omega arith) (omega arith)
+      (refuse_does s call handle given code (nat_lt 1 second) is_no_side 5 (truth (nat_lt 1 second)) c1 (place + 5) (place + 12) 2300 2240 [] (set_key s packet p) p
+      (at_front code (place + 5) (refuse_if (place + 5) is_no_side 5) rest a) test refl shows1 none (omega arith) (omega arith)
       (λ x. wanted (some_side second x) c1 shows1 holds1 f18 s20 a1))
     where
       wanted : (side_of (second_in packet) ≡ Some (side_at (second_in packet))) × (second_in packet ≡ truth (is_to (side_at (second_in packet))))
           → (c1 : Conf) → ShowsCall s call p c1 → Holds c1.priv packet → word c1.priv 18 ≡ field_in packet
-          → word c1.priv 20 ≡ second_in packet → At code (place + 15) (wanted_end ++ ir.Store 72 ∷ ir.Jump search ∷ [])
-          → Invokes s call handle given code (set_key s packet p) 2240 (at c1 (place + 15) [])
+          → word c1.priv 20 ≡ second_in packet → At code (place + 12) (wanted_end ++ ir.Store 72 ∷ ir.Jump search ∷ [])
+          → Invokes s call handle given code (set_key s packet p) 2240 (at c1 (place + 12) [])
       wanted side c1 shows1 holds1 f18 s20 a1 =
           let field = field_in packet in
           let second = second_in packet in
           let link = link_of field in
           let sd = side_at second in
           let v = link + 256 * truth (is_to sd) in
-          let found = search + 7 * length s.ends + 3 in
+          let found = search + 4 * length s.ends + 3 in
           let r = set_key s packet p in
           let b : bit_and field 255 ≡ link = lower field in
           let small : truth (is_to sd) ≤ 1 = truth_small (is_to sd) in
@@ -339,7 +339,7 @@ module _ (s : Setup) (call : Call) (handle : ℕ → Conf → OperationResult) (
           ∙ ap (λ (x : ℕ). Some ((bit_and field 255 + (x * 256) % 65536) % 65536 ∷ [])) s20
           ∙ ap (λ (x : ℕ). Some ((x + (second * 256) % 65536) % 65536 ∷ [])) b
           ∙ ap (λ (x : ℕ). Some (x ∷ [])) (let e = side.1 in omega (arith, e, small)) in
-          let a2 = at_back code (place + 15) (place + 22) wanted_end (ir.Store 72 ∷ ir.Jump search ∷ []) (omega arith) a1 in
+          let a2 = at_back code (place + 12) (place + 19) wanted_end (ir.Store 72 ∷ ir.Jump search ∷ []) (omega arith) a1 in
           let c2 = with_priv c1 (put_word c1.priv 72 v) search [] in
           let room = shows1.size in
           let shows2 = shows_kept_word s call p c1 72 v search [] shows1 refl (omega arith) (omega arith) (omega (arith, small)) in
@@ -347,11 +347,11 @@ module _ (s : Setup) (call : Call) (handle : ℕ → Conf → OperationResult) (
           let here : word c2.priv 72 ≡ v = word-put_same c1.priv 72 v refl (omega (arith, room)) in
           let same : found_by (case_test (find_any found) v) 0 s.ends ≡ end_on link s.ends (side_of second) = any_same found link sd s.ends links (omega arith)
           ∙ sym (ap (λ (o : Option Side). end_on link s.ends o) side.0) in
-          runs_on s call handle given code r wanted_end c1 (place + 15) (place + 22) [] (v ∷ []) 2240 2030 (at_front code (place + 15) wanted_end (ir.Store 72 ∷ ir.Jump search ∷ []) a1) value
+          runs_on s call handle given code r wanted_end c1 (place + 12) (place + 19) [] (v ∷ []) 2240 2030 (at_front code (place + 12) wanted_end (ir.Store 72 ∷ ir.Jump search ∷ []) a1) value
           (omega arith) (omega arith)
-          (goes_on s call handle given code r (ir.Store 72) (at c1 (place + 22) (v ∷ [])) (at c2 (place + 22 + 1) []) 2030 2020 a2.0 refl refl (omega arith)
-          (goes_on s call handle given code r (ir.Jump search) (at c2 (place + 22 + 1) []) (at c2 search []) 2020 2010 a2.1.0 refl refl (omega arith)
-          (search_does s call handle given code p none few links r v c2 shows2 here (omega (arith, small)) search 2010 1200 at_search (omega arith)
+          (goes_on s call handle given code r (ir.Store 72) (at c1 (place + 19) (v ∷ [])) (at c2 (place + 19 + 1) []) 2030 2020 a2.0 refl refl (omega arith)
+          (goes_on s call handle given code r (ir.Jump search) (at c2 (place + 19 + 1) []) (at c2 search []) 2020 2010 a2.1.0 refl refl (omega arith)
+          (search_does s call handle given code p none few links r v c2 shows2 here search 2010 1200 at_search (omega arith)
           (λ j e hit lt c3 shows3 same_back index3 held.
           subst (λ (o : Option (ℕ × End)). Invokes s call handle given code (set_key_at s packet o p) 1200 (at c3 (found + 1) [])) (sym hit ∙ same)
           (let r2 = set_key_at s packet (Some (j, e)) p in
@@ -367,8 +367,8 @@ module _ (s : Setup) (call : Call) (handle : ℕ → Conf → OperationResult) (
   pub set_key_does : (place k : ℕ) → At code place (set_key_code search place) → 2800 ≤ k
       → Invokes s call handle given code (with_received s call set_key_size set_key_kind p (λ packet. set_key s packet p)) k (at c place [])
   set_key_does place k a le =
-      let rest = refuse_if (place + 8) is_no_side 5 ++ (wanted_end ++ ir.Store 72 ∷ ir.Jump search ∷ []) in
-      let tests = refuse_if (place + 1) (is_wrong_kind set_key_kind) 4 in
+      let rest = refuse_if (place + 5) is_no_side 5 ++ (wanted_end ++ ir.Store 72 ∷ ir.Jump search ∷ []) in
+      let tests = refuse_kind (place + 1) set_key_kind in
       receive_does s call handle given code p c shows none bytes room512 window place 38 1 k 2300 (λ packet. set_key s packet p) a.0 (at_front code (place + 1) tests rest a.1) refl (omega arith)
       (omega arith) (omega arith) (omega (arith, le))
-      (λ packet len h. searches place packet len h (at_back code (place + 1) (place + 8) tests rest (omega arith) a.1))
+      (λ packet len h. searches place packet len h (at_back code (place + 1) (place + 5) tests rest (omega arith) a.1))

@@ -7,7 +7,6 @@ use Rattle.sx_lang.specs.Tree.{ModuleTree}
 use Rattle.sx_mean.specs.declared.events.End.{End}
 use Rattle.sx_ir.specs.declared.ir.Ir.{Ir}
 use Rattle.sx_ir.specs.declared.ir.Ir.TheVariants as ir
-use Rattle.sx_ir.specs.declared.ir.IrOp.TheVariants as op
 use Rattle.sx_stub.specs.Stub.{Cases, case_of, cases, is_receiving, take_event, take_receiving}
 
 pub grown : (x y a : List Ir) → y ≡ x ++ a → length y ≡ length x + length a
@@ -33,11 +32,11 @@ cases_turn cs ends i k d x y whole l put inv =
 
 module _ (tree : ModuleTree) where
   -- the choice of an end and what is done then are its case
-  pub taken : {E : Type 0} (r : Result (Unit {0}) E) (x y z : List Ir) (k next : ℕ) (e : End) → is_receiving e ≡ true → next ≡ length x + 5 + length (take_event tree 0 0 e)
-      → y ≡ x ++ ir.Load 74 ∷ ir.Push (12 * k) ∷ ir.Op op.Sub ∷ ir.JumpZero (length x + 5) ∷ ir.Jump next ∷ [] → OnOk r (z ≡ y ++ take_event tree (length y) k e)
+  pub taken : {E : Type 0} (r : Result (Unit {0}) E) (x y z : List Ir) (k next : ℕ) (e : End) → is_receiving e ≡ true → next ≡ length x + 2 + length (take_event tree 0 0 e)
+      → y ≡ x ++ ir.JumpEqual 74 (12 * k) (length x + 2) ∷ ir.Jump next ∷ [] → OnOk r (z ≡ y ++ take_event tree (length y) k e)
       → OnOk r (z ≡ x ++ case_of (take_receiving tree) (length x) k e)
   taken r x y z k next e has to put h =
-      let chosen = ir.Load 74 ∷ ir.Push (12 * k) ∷ ir.Op op.Sub ∷ ir.JumpZero (length x + 5) ∷ ir.Jump (length x + 5 + length (take_event tree (length x + 5) k e)) ∷ [] in
-      let put2 : y ≡ x ++ chosen = put ∙ ap (λ n. x ++ ir.Load 74 ∷ ir.Push (12 * k) ∷ ir.Op op.Sub ∷ ir.JumpZero (length x + 5) ∷ ir.Jump n ∷ []) to in
-      on_ok_weaker r (λ h. h ∙ ap (λ b. x ++ (if b then chosen ++ take_event tree (length x + 5) k e else [])) (sym has))
-      (behind r x y z chosen (λ p. take_event tree p k e) (length x + 5) put2 refl h)
+      let chosen = ir.JumpEqual 74 (12 * k) (length x + 2) ∷ ir.Jump (length x + 2 + length (take_event tree (length x + 2) k e)) ∷ [] in
+      let put2 : y ≡ x ++ chosen = put ∙ ap (λ n. x ++ ir.JumpEqual 74 (12 * k) (length x + 2) ∷ ir.Jump n ∷ []) to in
+      on_ok_weaker r (λ h. h ∙ ap (λ b. x ++ (if b then chosen ++ take_event tree (length x + 2) k e else [])) (sym has))
+      (behind r x y z chosen (λ p. take_event tree p k e) (length x + 2) put2 refl h)

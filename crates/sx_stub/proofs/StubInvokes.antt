@@ -1,5 +1,5 @@
 -- The whole stub: the tests of the entry and the windows, and the four entries.
-use Rattle.std.proofs.Common.{◌≡◌, ℕ, zero, suc, ◌+◌, ◌-◌, ◌%◌, ◌<◌, ◌≤◌, Bool, true, false, ◌&&◌, ◌||◌, not, ◌==◌, List, [], ◌∷◌, ◌++◌, length, Option, Some}
+use Rattle.std.proofs.Common.{◌≡◌, ℕ, suc, ◌+◌, ◌-◌, ◌<◌, ◌≤◌, Bool, true, false, ◌&&◌, ◌||◌, not, ◌==◌, List, [], ◌∷◌, ◌++◌, length, Option, Some}
 use Rattle.std.proofs.Common.{None, refl, sym, ap, ◌∙◌, subst, arith, ⊎_elim, inl, inr}
 use Rattle.std.specs.Prelude.{slice_get, if◌then◌else◌, nat_lt}
 use Rattle.std.proofs.lemmas.Bool.{false≢true, true≢false, eqb-false, eqb-true, eq-eqb, ne_eqb, lt-ltb, le-ltb, cases_eq, cases_lt, or_parts}
@@ -11,7 +11,7 @@ use Rattle.sx_rules.specs.Access.{in_public}
 use Rattle.sx_bus.specs.declared.devices.Kind.TheVariants as kind
 use Rattle.sx_isa.specs.Memory.{even}
 use Rattle.sx_reach.specs.Reach.{Goes, Stops}
-use Rattle.sx_invoke.specs.Protocol.{entry_register, input_register, output_register, no_entry, bad_window, set_key_kind, ask_kind, event_kind, set_key_size, ask_size, event_size}
+use Rattle.sx_invoke.specs.Protocol.{input_register, output_register, no_entry, bad_window, set_key_kind, ask_kind, event_kind, set_key_size, ask_size, event_size}
 use Rattle.sx_invoke.specs.Windows.{in_window_size, out_window_size}
 use Rattle.sx_invoke.specs.Setup.{Setup, Call}
 use Rattle.sx_invoke.specs.Windows.{is_bad_window}
@@ -24,12 +24,10 @@ use Rattle.sx_ir.specs.Conf as conf
 use Rattle.sx_ir.specs.Meaning.{OperationResult, do_op}
 use Rattle.sx_ir.specs.declared.ir.Ir.{Ir}
 use Rattle.sx_ir.specs.declared.ir.Ir.TheVariants as ir
-use Rattle.sx_ir.specs.declared.ir.IrOp.TheVariants as op
 use Rattle.sx_stub.specs.Stub.{stub_code, tests, entries, refuse_if, jump_on, is_above_last, last_entry, sample_code, set_key_code, attest_code, input_code, search_code}
 use Rattle.sx_stub.specs.Invokes.{CallBegun, StubInvokes, Invokes, HandlersDo}
 use Rattle.sx_stub.proofs.Straight.{At, at, at_front, at_back, pure}
-use Rattle.sx_stub.proofs.Refuse.{refuse_does, or_if, sub_zero, goes_on, breaks, runs_on}
-use Rattle.sx_stub.proofs.Mem.{word_lt}
+use Rattle.sx_stub.proofs.Refuse.{compares, refuse_does, or_if, goes_on, breaks}
 use Rattle.sx_stub.proofs.Attest.{attest_does}
 use Rattle.sx_stub.proofs.SetKey.{set_key_does}
 use Rattle.sx_stub.proofs.Input.{input_does}
@@ -91,27 +89,13 @@ module _ (s : Setup) (call : Call) (p : Progress) (handle : ℕ → Conf → Ope
   Goal result n place = Invokes s call handle given code result n (at c place [])
 
   -- on to an entry's code
-  jumps : (t : Bool) (entry place q n m : ℕ) (x y : Invoked) → entry < 65536 → (call.entry == entry) ≡ t
-      → At code place (jump_on entry q) → 40 + m ≤ n → (t ≡ true → Goal x m q) → (t ≡ false → Goal y m (place + 4))
+  jumps : (t : Bool) (entry place q n m : ℕ) (x y : Invoked) → (call.entry == entry) ≡ t
+      → At code place (jump_on entry q) → 8 + m ≤ n → (t ≡ true → Goal x m q) → (t ≡ false → Goal y m (place + 1))
       → Goal (if t then x else y) n place
-  jumps t entry place q n m x y small e a le hit miss =
-      let r = if t then x else y in
-      let d = (call.entry + (65536 - entry)) % 65536 in
-      let test : pure s c.priv (ir.Saved entry_register ∷ ir.Push entry ∷ ir.Op op.Sub ∷ []) [] ≡ Some (d ∷ []) = ap (λ (v : ℕ). Some ((v + (65536 - entry)) % 65536 ∷ [])) b.shows.entry in
-      let is_word : call.entry < 65536 = subst (λ (v : ℕ). v < 65536) b.shows.entry (word_lt c.priv 6 b.shows.bytes) in
-      runs_on s call handle given code r (ir.Saved entry_register ∷ ir.Push entry ∷ ir.Op op.Sub ∷ []) c place (place + 3) [] (d ∷ []) n (8 + m)
-      (at_front code place (ir.Saved entry_register ∷ ir.Push entry ∷ ir.Op op.Sub ∷ []) (ir.JumpZero q ∷ []) a) test (omega arith) (omega (arith, le))
-      (go t d (sub_zero call.entry entry is_word small ∙ e) (ap (slice_get code) (omega arith) ∙ a.1.1.1.0) hit miss)
-    where
-      go : (t : Bool) (d : ℕ) → (d == 0) ≡ t → slice_get code (place + 3) ≡ Some (ir.JumpZero q)
-          → (t ≡ true → Goal x m q) → (t ≡ false → Goal y m (place + 4))
-          → Invokes s call handle given code (if t then x else y) (8 + m) (at c (place + 3) (d ∷ []))
-      go true zero z j hit miss = goes_on s call handle given code x (ir.JumpZero q) (at c (place + 3) (0 ∷ [])) (at c q []) (8 + m) m j refl refl (omega arith) (hit refl)
-      go true (suc d) z j hit miss = let e = eqb-true (suc d) 0 z in absurd (omega (arith, e))
-      go false zero z j hit miss = absurd (true≢false z)
-      go false (suc d) z j hit miss =
-          goes_on s call handle given code y (ir.JumpZero q) (at c (place + 3) (suc d ∷ [])) (at c (place + 3 + 1) []) (8 + m) m j refl refl (omega arith)
-          (subst (λ (z : ℕ). Goal y m z) (omega arith) (miss refl))
+  jumps true entry place q n m x y e a le hit miss =
+      compares s call handle given code x true 6 entry q c place n m a.0 refl (ap (λ (v : ℕ). v == entry) b.shows.entry ∙ e) le (hit refl)
+  jumps false entry place q n m x y e a le hit miss =
+      compares s call handle given code y false 6 entry q c place n m a.0 refl (ap (λ (v : ℕ). v == entry) b.shows.entry ∙ e) le (miss refl)
 
   -- the four entries
   enters : At code 18 (entries s.tree s.ends) → is_no_entry s call ≡ false → is_bad_window s call.input in_window_size ≡ false
@@ -119,21 +103,21 @@ module _ (s : Setup) (call : Call) (p : Progress) (handle : ℕ → Conf → Ope
   unfolding entered
   enters a known window outside =
       let size = b.shows.size in
-      let n_sample = length (sample_code s.tree 30) in
-      let q_key = 30 + n_sample in
-      let q_attest = q_key + 24 in
-      let q_input = q_attest + 14 in
-      let q_search = q_input + 15 in
+      let n_sample = length (sample_code s.tree 21) in
+      let q_key = 21 + n_sample in
+      let q_attest = q_key + 21 in
+      let q_input = q_attest + 11 in
+      let q_search = q_input + 12 in
       let l7 = input_code q_search q_input ++ search_code s.tree s.ends q_search in
       let l6 = attest_code q_attest ++ l7 in
       let l5 = set_key_code q_search q_key ++ l6 in
-      let l4 = sample_code s.tree 30 ++ l5 in
+      let l4 = sample_code s.tree 21 ++ l5 in
       let l3 = jump_on 1 q_attest ++ l4 in
       let l2 = jump_on 0 q_key ++ l3 in
-      let a2 = at_back code 18 22 (jump_on 2 q_input) l2 refl a in
-      let a3 = at_back code 22 26 (jump_on 0 q_key) l3 refl a2 in
-      let a4 = at_back code 26 30 (jump_on 1 q_attest) l4 refl a3 in
-      let a5 = at_back code 30 q_key (sample_code s.tree 30) l5 refl a4 in
+      let a2 = at_back code 18 19 (jump_on 2 q_input) l2 refl a in
+      let a3 = at_back code 19 20 (jump_on 0 q_key) l3 refl a2 in
+      let a4 = at_back code 20 21 (jump_on 1 q_attest) l4 refl a3 in
+      let a5 = at_back code 21 q_key (sample_code s.tree 21) l5 refl a4 in
       let a6 = at_back code q_key q_attest (set_key_code q_search q_key) l6 refl a5 in
       let a7 = at_back code q_attest q_input (attest_code q_attest) l7 refl a6 in
       let a8 = at_back code q_input q_search (input_code q_search q_input) (search_code s.tree s.ends q_search) refl a7 in
@@ -144,16 +128,16 @@ module _ (s : Setup) (call : Call) (p : Progress) (handle : ℕ → Conf → Ope
       let r2 = if call.entry == 1 then on_ask else r3 in
       let r1 = if call.entry == 0 then on_key else r2 in
       subst (λ (r : Invoked). Goal r (cost + 2900) 18) (input_first call.entry on_key on_ask on_event r3)
-      (jumps (call.entry == 2) 2 18 q_input (cost + 2900) (cost + 2860) on_event r1 (omega arith) refl
+      (jumps (call.entry == 2) 2 18 q_input (cost + 2900) (cost + 2860) on_event r1 refl
       (at_front code 18 (jump_on 2 q_input) l2 a) (omega arith)
       (λ x. input_does s call handle given code p c b.shows b.pieces b.mem b.back window outside b.tag b.few b.links b.devices cost does b.unmarked (eqb-true call.entry 2 x) q_search a8 q_input (cost + 2860)
       (at_front code q_input (input_code q_search q_input) (search_code s.tree s.ends q_search) a7) (omega arith))
-      (λ n2. jumps (call.entry == 0) 0 22 q_key (cost + 2860) (cost + 2820) on_key r2 (omega arith) refl
-      (at_front code 22 (jump_on 0 q_key) l3 a2) (omega arith)
+      (λ n2. jumps (call.entry == 0) 0 19 q_key (cost + 2860) (cost + 2820) on_key r2 refl
+      (at_front code 19 (jump_on 0 q_key) l3 a2) (omega arith)
       (λ x. set_key_does s call handle given code p c b.shows b.pieces b.mem window b.tag b.few b.links (eqb-true call.entry 0 x) q_search a8 q_key (cost + 2820)
       (at_front code q_key (set_key_code q_search q_key) l6 a5) (omega arith))
-      (λ n0. jumps (call.entry == 1) 1 26 q_attest (cost + 2820) (cost + 2780) on_ask r3 (omega arith) refl
-      (at_front code 26 (jump_on 1 q_attest) l4 a3) (omega arith)
+      (λ n0. jumps (call.entry == 1) 1 20 q_attest (cost + 2820) (cost + 2780) on_ask r3 refl
+      (at_front code 20 (jump_on 1 q_attest) l4 a3) (omega arith)
       (λ x. attest_does s call handle given code p c b.shows b.pieces b.mem (omega (arith, size)) window outside b.tag q_attest (cost + 2780) (at_front code q_attest (attest_code q_attest) l7 a6)
       (omega arith))
       (λ n1.
@@ -161,7 +145,7 @@ module _ (s : Setup) (call : Call) (p : Progress) (handle : ℕ → Conf → Ope
       let three : call.entry ≡ 3 = three_left call.entry (below_four call.entry parts.0) (eqb-false call.entry 0 n0) (eqb-false call.entry 1 n1) (eqb-false call.entry 2 n2) in
       let sensor = sensor_kind (declared_kind s.tree.decls) (and_not (call.entry == 3) (is_sensor_driver (declared_kind s.tree.decls)) parts.1 (eq-eqb call.entry 3 three)) in
       let drives : Drives p.devices kind.Sensor s.section.layout = subst (λ (x : Option DeviceKind). HasDevices p.devices x s.section.layout) sensor b.devices in
-      sample_does s call handle given code p c b.shows b.pieces b.back outside sensor drives b.samples cost does b.unmarked 30 (cost + 2780) (at_front code 30 (sample_code s.tree 30) l5 a4) (omega arith)))))
+      sample_does s call handle given code p c b.shows b.pieces b.back outside sensor drives b.samples cost does b.unmarked 21 (cost + 2780) (at_front code 21 (sample_code s.tree 21) l5 a4) (omega arith)))))
     where
       three_left : (n : ℕ) → n ≤ 3 → (n ≡ 0 → ⊥) → (n ≡ 1 → ⊥) → (n ≡ 2 → ⊥) → n ≡ 3
       three_left n le a b c = omega (arith, le, a, b, c)

@@ -3,7 +3,6 @@ use Rattle.std.specs.Prelude.{◌≡◌, ℕ, ◌+◌, List, [], ◌∷◌, ◌+
 use Rattle.sx_lang.specs.Tree.{ModuleTree}
 use Rattle.sx_mean.specs.declared.events.End.{End}
 use Rattle.sx_invoke.specs.Protocol.{entry_register}
-use Rattle.sx_ir.specs.declared.ir.IrOp.TheVariants as op
 use Rattle.sx_ir.specs.declared.ir.Ir.{Ir}
 use Rattle.sx_ir.specs.declared.ir.Ir.TheVariants as ir
 use Rattle.sx_stub.specs.Stub.{Cases, case_of, cases, index_at, refuse_if, refuse_unless}
@@ -36,8 +35,8 @@ PutsCases cs ends = PutsAt (λ p. cases cs p 0 ends)
 -- a choice: the code goes on after it where the word at an offset is the number, and else at the
 -- place
 abbrev pub choice : ℕ → ℕ → ℕ → ℕ → List Ir
-choice offset number otherwise place = ir.Load offset ∷ ir.Push number ∷ ir.Op op.Sub
-    ∷ ir.JumpZero (place + 5) ∷ ir.Jump otherwise ∷ []
+choice offset number otherwise place =
+    ir.JumpEqual offset number (place + 2) ∷ ir.Jump otherwise ∷ []
 
 -- what is searched for is kept, and searched for
 abbrev pub searched : ℕ → List Ir

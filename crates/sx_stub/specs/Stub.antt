@@ -68,10 +68,13 @@ refuse_unless place test status =
     test ++ ir.JumpZero (place + length test + 2) ∷ ir.Jump (place + length test + 5)
     ∷ returns status
 
+-- such a return, with status 4, where a packet begins with another kind
+abbrev pub refuse_kind : ℕ → ℕ → List Ir
+refuse_kind place kind = ir.JumpEqual kind_at kind (place + 4) ∷ returns other_kind
+
 -- goes on at a place where the caller's entry is this one
 abbrev pub jump_on : ℕ → ℕ → List Ir
-jump_on entry place =
-    ir.Saved entry_register ∷ ir.Push entry ∷ ir.Op op.Sub ∷ ir.JumpZero place ∷ []
+jump_on entry place = ir.JumpEqual (working.saved_at entry_register) entry place ∷ []
 
 -- One case for each end that has it: where the word at an offset is the case's number, its body,
 -- else the next case. The number depends on the end and its place among the ends, the body also on
@@ -85,9 +88,9 @@ pub record Cases : Type 0 where
 -- the case of the k-th end
 abbrev pub case_of : Cases → ℕ → ℕ → End → List Ir
 case_of cs place k e =
-    let body = cs.body (place + 5) k e in
-    if cs.has e then ir.Load cs.offset ∷ ir.Push (cs.number k e) ∷ ir.Op op.Sub
-    ∷ ir.JumpZero (place + 5) ∷ ir.Jump (place + 5 + length body) ∷ body
+    let body = cs.body (place + 2) k e in
+    if cs.has e then ir.JumpEqual cs.offset (cs.number k e) (place + 2)
+    ∷ ir.Jump (place + 2 + length body) ∷ body
     else []
 
 -- the cases of ends, from the k-th on
@@ -130,10 +133,6 @@ slot_word ends n =
 -- the epoch of the field on top of the stack, times 256
 abbrev pub epoch : List Ir
 epoch = ir.Push 0xFF00 ∷ ir.Op op.And ∷ []
-
--- a packet begins with another kind
-abbrev pub is_wrong_kind : ℕ → List Ir
-is_wrong_kind kind = ir.Load kind_at ∷ ir.Push kind ∷ ir.Op op.Sub ∷ []
 
 -- Set-key, and the cases in it.
 
@@ -179,8 +178,8 @@ key_found ends place =
 abbrev pub set_key_code : ℕ → ℕ → List Ir
 set_key_code search place =
     ir.CopyIn set_key_size working.packet_at
-    ∷ (refuse_if (place + 1) (is_wrong_kind set_key_kind) other_kind
-    ++ (refuse_if (place + 8) is_no_side no_end
+    ∷ (refuse_kind (place + 1) set_key_kind
+    ++ (refuse_if (place + 5) is_no_side no_end
     ++ (wanted_end ++ ir.Store wanted_at ∷ ir.Jump search ∷ [])))
 
 -- Attest.
@@ -199,7 +198,7 @@ answer_code =
 abbrev pub attest_code : ℕ → List Ir
 attest_code place =
     ir.CopyIn ask_size working.packet_at
-    ∷ (refuse_if (place + 1) (is_wrong_kind ask_kind) other_kind ++ answer_code)
+    ∷ (refuse_kind (place + 1) ask_kind ++ answer_code)
 
 -- A handler, where there is one, and the return.
 abbrev pub handled_by : Option ℕ → List Ir
@@ -261,7 +260,7 @@ input_found tree ends place =
 abbrev pub input_code : ℕ → ℕ → List Ir
 input_code search place =
     ir.CopyIn event_size working.packet_at
-    ∷ (refuse_if (place + 1) (is_wrong_kind event_kind) other_kind
+    ∷ (refuse_kind (place + 1) event_kind
     ++ (wanted_receiving ++ ir.Store wanted_at ∷ ir.Jump search ∷ []))
 
 -- The search for the end, which set-key and input share, and what follows it.
@@ -279,7 +278,7 @@ found_code tree ends place =
 -- the end that the packet is for is searched for; without one the status is 5
 abbrev pub search_code : ModuleTree → List End → ℕ → List Ir
 search_code tree ends place =
-    let found = place + 7 * length ends + 3 in
+    let found = place + 4 * length ends + 3 in
     cases (find_any found) place 0 ends ++ (returns no_end ++ found_code tree ends found)
 
 -- Sample: the value is what the sensor's word reads, without its bit 15.
@@ -323,19 +322,19 @@ entries_place = 18
 
 -- where the entry of sample begins, behind the ways to the three others
 abbrev pub sample_place : ℕ
-sample_place = 30
+sample_place = 21
 
 -- the operations of the entry of set-key
 abbrev pub set_key_length : ℕ
-set_key_length = 24
+set_key_length = 21
 
 -- those of attest
 abbrev pub attest_length : ℕ
-attest_length = 14
+attest_length = 11
 
 -- those of input
 abbrev pub input_length : ℕ
-input_length = 15
+input_length = 12
 
 -- The four entries' code begins at these places, and the search after them. Input is looked for
 -- first, since it is called most.

@@ -4,14 +4,14 @@ ghost use Rattle.std.specs.Prelude.{◌<◌, OnOk, length};
 ghost use Rattle.sx_stub.specs.Puts.{Puts, PutsAt};
 ghost use Rattle.sx_stub.specs.Stub.{answer_code, attest_code};
 
-use crate::pieces::{KIND, put, put_all, put_refuse};
+use crate::pieces::{put, put_all, put_refuse_kind};
 use std::alloc::AllocError;
-use sx_invoke::protocol::{ALL_DONE, ASK_HEADER_SIZE, ASK_KIND, ASK_SIZE, OTHER_KIND, TAG_SIZE};
-use sx_ir::{Ir, IrOp};
+use sx_invoke::protocol::{ALL_DONE, ASK_HEADER_SIZE, ASK_KIND, ASK_SIZE, TAG_SIZE};
+use sx_ir::Ir;
 use sx_mean::offsets::{PACKET, PLAIN};
 
 /// The number of operations of the entry of attest.
-pub const ATTEST_LENGTH: u16 = 14;
+pub const ATTEST_LENGTH: u16 = 11;
 
 /// The offset of the tag after an ask.
 const TAG: u16 = 34;
@@ -36,10 +36,6 @@ pub fn put_attest(code: &mut Vec<Ir>) -> Result<(), AllocError>
     ensures { OnOk result (PutsAt attest_code code.old.items code.new.items) }
 {
     put(code, Ir::CopyIn(ASK_SIZE, PACKET))?;
-    put_refuse(
-        code,
-        &[Ir::Load(KIND), Ir::Push(ASK_KIND), Ir::Op(IrOp::Sub)],
-        OTHER_KIND,
-    )?;
+    put_refuse_kind(code, ASK_KIND)?;
     put_answer(code)
 }

@@ -29,7 +29,7 @@ fn put_find_case(code: &mut Vec<Ir>, k: u8, e: &End, found: u16) -> Result<(), A
     requires few { k < 16 }
     ensures { OnOk result (PutsCase (find_any found) k e.now code.old.items code.new.items) }
 {
-    let next = (code.len() + 7) as u16;
+    let next = (code.len() + 4) as u16;
     put_choice(code, WANTED, named_end(e), next)?;
     put_all(code, &[Ir::Push(12 * u16::from(k)), Ir::Jump(found)])
 }
@@ -83,7 +83,7 @@ pub fn put_search(code: &mut Vec<Ir>, tree: &Module, ends: &[End]) -> Result<(),
     ensures { OnOk result
         (PutsAt (search_code (module_of tree.now) ends.now) code.old.items code.new.items) }
 {
-    let found = code.len() as u16 + 7 * ends.len() as u16 + 3;
+    let found = code.len() as u16 + 4 * ends.len() as u16 + 3;
     put_find_cases(code, ends, found)?;
     put_returns(code, NO_END)?;
     put_found(code, tree, ends)

@@ -11,13 +11,12 @@ ghost use Rattle.sx_stub.specs.Puts.{behind_cases, searched};
 
 use crate::handled::{handled_len, input_handler, put_handled};
 use crate::pieces::{
-    FIELD, INDEX, KIND, SECOND, SLOTS, WANTED, put, put_all, put_choice, put_refuse,
+    FIELD, INDEX, SECOND, SLOTS, WANTED, put, put_all, put_choice, put_refuse, put_refuse_kind,
     put_refuse_unless,
 };
 use std::alloc::AllocError;
 use sx_invoke::protocol::{
-    EVENT_KIND, EVENT_SIZE, HEADER_SIZE, LAST_NUMBER, NO_END, OTHER_KIND, OTHER_TAG, PAST_NUMBER,
-    VALUE_SIZE,
+    EVENT_KIND, EVENT_SIZE, HEADER_SIZE, LAST_NUMBER, NO_END, OTHER_TAG, PAST_NUMBER, VALUE_SIZE,
 };
 use sx_ir::{Ir, IrOp};
 use sx_lang::sides::Side;
@@ -26,7 +25,7 @@ use sx_mean::events::End;
 use sx_mean::offsets::{EVENT, PACKET, end_key_at, end_number_at};
 
 /// The number of operations of the entry of input.
-pub const INPUT_LENGTH: u16 = 15;
+pub const INPUT_LENGTH: u16 = 12;
 
 fn put_wanted_receiving(code: &mut Vec<Ir>, search: u16) -> Result<(), AllocError>
     ensures { OnOk result (Puts (wanted_receiving ++ searched search) code.old.items
@@ -51,11 +50,7 @@ pub fn put_input(code: &mut Vec<Ir>, search: u16) -> Result<(), AllocError>
     ensures { OnOk result (PutsAt (input_code search) code.old.items code.new.items) }
 {
     put(code, Ir::CopyIn(EVENT_SIZE, PACKET))?;
-    put_refuse(
-        code,
-        &[Ir::Load(KIND), Ir::Push(EVENT_KIND), Ir::Op(IrOp::Sub)],
-        OTHER_KIND,
-    )?;
+    put_refuse_kind(code, EVENT_KIND)?;
     put_wanted_receiving(code, search)
 }
 
@@ -108,10 +103,10 @@ fn take_len(tree: &Module, e: &End) -> u16
 fn case_len(tree: &Module, e: &End) -> u16
     requires few { length tree.now.handlers.items ≤ 256 }
     ensures len { result ≡ length (case_of (take_receiving (module_of tree.now)) 0 0 e.now) }
-    ensures small { result ≤ 21 }
+    ensures small { result ≤ 18 }
 {
     if is_receiving(e) {
-        5 + take_len(tree, e)
+        2 + take_len(tree, e)
     } else {
         0
     }
@@ -123,10 +118,10 @@ fn put_take_case(code: &mut Vec<Ir>, tree: &Module, k: u8, e: &End) -> Result<()
     requires ends { k < 16 }
     ensures code { OnOk result
         (PutsCase (take_receiving (module_of tree.now)) k e.now code.old.items code.new.items) }
-    ensures small { OnOk result (length code.new.items ≤ length code.old.items + 21) }
+    ensures small { OnOk result (length code.new.items ≤ length code.old.items + 18) }
 {
     if is_receiving(e) {
-        let next = code.len() as u16 + 5 + take_len(tree, e);
+        let next = code.len() as u16 + 2 + take_len(tree, e);
         put_choice(code, INDEX, 12 * u16::from(k), next)?;
         put_take(code, tree, k, e)
     } else {
@@ -155,7 +150,7 @@ fn behind_takes(tree: &Module, ends: &[End], place: u16) -> u16
     requires few { length tree.now.handlers.items ≤ 256 }
     requires ends { length ends.now ≤ 16 }
     ensures place { result ≡ behind_cases (module_of tree.now) ends.now place }
-    ensures small { result ≤ place + 336 }
+    ensures small { result ≤ place + 288 }
 {
     let mut at = place;
     for e in ends {
@@ -170,7 +165,7 @@ pub fn behind_input_found(tree: &Module, ends: &[End], place: u16) -> u16
     requires few { length tree.now.handlers.items ≤ 256 }
     requires ends { length ends.now ≤ 16 }
     ensures place { result ≡ place + length (input_found (module_of tree.now) ends.now place) }
-    ensures small { result ≤ place + 377 }
+    ensures small { result ≤ place + 329 }
 {
     behind_takes(tree, ends, place + 41)
 }

@@ -5,19 +5,19 @@ ghost use Rattle.sx_stub.specs.Puts.{Puts, PutsAt, PutsCase, PutsCases, RefusesW
 ghost use Rattle.sx_stub.specs.Stub.{is_keyed_code, key_found, open_any, set_key_code, wanted_end};
 
 use crate::pieces::{
-    FIELD, INDEX, KIND, SECOND, SLOTS, WANTED, put, put_all, put_choice, put_refuse,
+    FIELD, INDEX, SECOND, SLOTS, WANTED, put, put_all, put_choice, put_refuse, put_refuse_kind,
     put_refuse_unless,
 };
 use std::alloc::AllocError;
 use sx_invoke::protocol::{
-    ALL_DONE, HEADER_SIZE, KEY_SIZE, NO_END, OTHER_KIND, OTHER_TAG, SET_KEY_KIND, SET_KEY_SIZE,
+    ALL_DONE, HEADER_SIZE, KEY_SIZE, NO_END, OTHER_TAG, SET_KEY_KIND, SET_KEY_SIZE,
 };
 use sx_ir::{Ir, IrOp};
 use sx_mean::events::End;
 use sx_mean::offsets::{PACKET, PLAIN};
 
 /// The number of operations of the entry of set-key.
-pub const SET_KEY_LENGTH: u16 = 24;
+pub const SET_KEY_LENGTH: u16 = 21;
 
 fn put_wanted_end(code: &mut Vec<Ir>, search: u16) -> Result<(), AllocError>
     ensures { OnOk result (Puts (wanted_end ++ searched search) code.old.items code.new.items) }
@@ -43,11 +43,7 @@ pub fn put_set_key(code: &mut Vec<Ir>, search: u16) -> Result<(), AllocError>
     ensures { OnOk result (PutsAt (set_key_code search) code.old.items code.new.items) }
 {
     put(code, Ir::CopyIn(SET_KEY_SIZE, PACKET))?;
-    put_refuse(
-        code,
-        &[Ir::Load(KIND), Ir::Push(SET_KEY_KIND), Ir::Op(IrOp::Sub)],
-        OTHER_KIND,
-    )?;
+    put_refuse_kind(code, SET_KEY_KIND)?;
     put_refuse(
         code,
         &[Ir::Push(1), Ir::Load(SECOND), Ir::Op(IrOp::Lt)],
@@ -91,7 +87,7 @@ fn put_open_case(code: &mut Vec<Ir>, k: u8, e: &End) -> Result<(), AllocError>
     requires few { k < 16 }
     ensures { OnOk result (PutsCase open_any k e.now code.old.items code.new.items) }
 {
-    let next = (code.len() + 9) as u16;
+    let next = (code.len() + 6) as u16;
     put_choice(code, INDEX, 12 * u16::from(k), next)?;
     put_all(
         code,

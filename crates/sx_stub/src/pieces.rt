@@ -2,11 +2,12 @@
 
 ghost use Rattle.std.specs.Prelude.{◌+◌, ◌<◌, ◌∷◌, [], OnOk, length};
 ghost use Rattle.sx_stub.specs.Puts.{Puts, PutsAt, RefusesUnless, RefusesWith, choice};
-ghost use Rattle.sx_stub.specs.Stub.{jump_on, returns};
+ghost use Rattle.sx_stub.specs.Stub.{jump_on, refuse_kind, returns};
 
 use std::alloc::AllocError;
-use sx_invoke::protocol::ENTRY_REGISTER;
-use sx_ir::{Ir, IrOp};
+use sx_invoke::protocol::{ENTRY_REGISTER, OTHER_KIND};
+use sx_ir::Ir;
+use sx_mean::offsets::saved_at;
 
 /// The word by which an end is searched for.
 pub const WANTED: u16 = 72;
@@ -15,7 +16,7 @@ pub const WANTED: u16 = 72;
 pub const INDEX: u16 = 74;
 
 /// The word of a copied packet's kind.
-pub const KIND: u16 = 16;
+const KIND: u16 = 16;
 
 /// The word of a copied packet's connection field.
 pub const FIELD: u16 = 18;
@@ -75,18 +76,24 @@ pub fn put_refuse_unless(code: &mut Vec<Ir>, test: &[Ir], status: u16) -> Result
     put_returns(code, status)
 }
 
+/// Appends a return with status 4 where a packet begins with another kind. The error says that
+/// memory ran out.
+pub fn put_refuse_kind(code: &mut Vec<Ir>, kind: u16) -> Result<(), AllocError>
+    requires short { length code.old.items < 65000 }
+    ensures { OnOk result (PutsAt (λ p. refuse_kind p kind) code.old.items code.new.items) }
+{
+    let next = (code.len() + 4) as u16;
+    put(code, Ir::JumpEqual(KIND, kind, next))?;
+    put_returns(code, OTHER_KIND)
+}
+
 /// Appends a jump to a place where the caller's entry is this one. The error says that memory ran
 /// out.
 pub fn put_jump_on(code: &mut Vec<Ir>, entry: u16, place: u16) -> Result<(), AllocError>
     ensures { OnOk result (Puts (jump_on entry place) code.old.items code.new.items) }
 {
-    let ops = [
-        Ir::Saved(ENTRY_REGISTER),
-        Ir::Push(entry),
-        Ir::Op(IrOp::Sub),
-        Ir::JumpZero(place),
-    ];
-    put_all(code, &ops)
+    let at = saved_at(ENTRY_REGISTER);
+    put(code, Ir::JumpEqual(at, entry, place))
 }
 
 /// Appends a choice: the code goes on after these operations where the word at an offset is the
@@ -100,13 +107,7 @@ pub fn put_choice(
     requires short { length code.old.items < 65000 }
     ensures { OnOk result (PutsAt (choice offset number otherwise) code.old.items code.new.items) }
 {
-    let body = (code.len() + 5) as u16;
-    let ops = [
-        Ir::Load(offset),
-        Ir::Push(number),
-        Ir::Op(IrOp::Sub),
-        Ir::JumpZero(body),
-        Ir::Jump(otherwise),
-    ];
+    let body = (code.len() + 2) as u16;
+    let ops = [Ir::JumpEqual(offset, number, body), Ir::Jump(otherwise)];
     put_all(code, &ops)
 }

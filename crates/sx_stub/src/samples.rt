@@ -14,7 +14,7 @@ use sx_lang::tree::Module;
 use sx_mean::offsets::EVENT;
 
 /// The place where the entry of a sample begins, behind the tests and the ways to the others.
-pub const SAMPLE_PLACE: u16 = 30;
+pub const SAMPLE_PLACE: u16 = 21;
 
 /// The number of operations of the entry of a sample.
 pub fn sample_len(tree: &Module) -> u16

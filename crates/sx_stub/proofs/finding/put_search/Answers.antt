@@ -10,7 +10,7 @@ pub put_found-requires-clause-short : goal.put_found-requires-clause-short
 put_found-requires-clause-short c =
     let x = c.args.code.now.items in
     let y = c.put_find_cases.new.code.items in
-    let found = c.len.result + 7 * length c.args.ends.now + 3 in
+    let found = c.len.result + 4 * length c.args.ends.now + 3 in
     let one = grown x y (cases (find_any found) (length x) 0 c.args.ends.now) c.in_ok-put_find_cases.ensures in
     let two = grown y c.put_returns.new.code.items (stub.returns 5) c.in_ok-put_returns.ensures in
     omega (arith, one, two, length-find found (length x) 0 c.args.ends.now, c.requires.short, c.requires.ends)
@@ -24,8 +24,8 @@ returns c =
     let y = c.put_find_cases.new.code.items in
     let w = c.put_returns.new.code.items in
     let z = c.put_found.new.code.items in
-    let found = length x + 7 * length ends + 3 in
-    let found_is : c.len.result + 7 * length c.args.ends.now + 3 ≡ found = omega (arith, c.len.ensures) in
+    let found = length x + 4 * length ends + 3 in
+    let found_is : c.len.result + 4 * length c.args.ends.now + 3 ≡ found = omega (arith, c.len.ensures) in
     let find = cases (find_any found) (length x) 0 ends in
     let first : y ≡ x ++ find = c.in_ok-put_find_cases.ensures ∙ ap (λ f. x ++ cases (find_any f) (length x) 0 ends) found_is in
     let one = grown x y find first in
