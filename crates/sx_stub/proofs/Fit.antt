@@ -231,11 +231,10 @@ module _ (tree : ModuleTree) (ends : List End) (ops : ℕ) (few : length ends �
   attest_fit : (place : ℕ) → place + 11 < ops → Fits (attest_code place)
   attest_fit place short = join (refuse_kind (place + 1) ask_kind) answer_code (kinds (place + 1) ask_kind refl (omega (arith, short))) refl
 
-  asked_fit : (search place : ℕ) → search < ops → place + 12 < ops → Fits (input_code search place)
-  asked_fit search place lt short =
-      let last = ir.Load 18 ∷ ir.Push 255 ∷ ir.Op op.And ∷ ir.Push 256 ∷ ir.Op op.Add ∷ ir.Store 72 ∷ ir.Jump search ∷ [] in
-      join (refuse_kind (place + 1) event_kind) last (kinds (place + 1) event_kind refl (omega (arith, short)))
-      (one (length ends) ops (length tree.handlers) few (ir.Jump search) (lt-ltb search ops lt))
+  asked_fit : (place : ℕ) → place + 11 < ops → Fits (input_code place)
+  asked_fit place short =
+      let last = ir.Load 18 ∷ ir.Push 255 ∷ ir.Op op.And ∷ ir.Push 256 ∷ ir.Op op.Add ∷ ir.Store 72 ∷ [] in
+      join (refuse_kind (place + 1) event_kind) last (kinds (place + 1) event_kind refl (omega (arith, short))) refl
 
   above_fit : Fits (is_above_last tree)
   above_fit = go (is_sensor_driver (declared_kind tree.decls))
@@ -257,9 +256,9 @@ module _ (tree : ModuleTree) (ends : List End) (ops : ℕ) (few : length ends �
       let set_key = 21 + length (sample_code tree 21) in
       let attest = set_key + 21 in
       let input = attest + 11 in
-      let search = input + 12 in
+      let search = input + 11 in
       let l8 = search_code tree ends search in
-      let l7 = input_code search input ++ l8 in
+      let l7 = input_code input ++ l8 in
       let l6 = attest_code attest ++ l7 in
       let l5 = set_key_code search set_key ++ l6 in
       let l4 = sample_code tree 21 ++ l5 in
@@ -271,7 +270,7 @@ module _ (tree : ModuleTree) (ends : List End) (ops : ℕ) (few : length ends �
       (join (sample_code tree 21) l5 (sample_fit 21 (omega (arith, short, long)))
       (join (set_key_code search set_key) l6 (set_key_fit search set_key (omega (arith, short, long)) (omega (arith, short, long)))
       (join (attest_code attest) l7 (attest_fit attest (omega (arith, short, long)))
-      (join (input_code search input) l8 (asked_fit search input (omega (arith, short, long)) (omega (arith, short, long)))
+      (join (input_code input) l8 (asked_fit input (omega (arith, short, long)))
       (search_fit search (omega (arith, short, long)))))))))
 
   -- the whole stub

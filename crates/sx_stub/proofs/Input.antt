@@ -326,9 +326,9 @@ module _ (s : Setup) (call : Call) (handle : ℕ → Conf → OperationResult) (
 
   -- with the packet copied, and of its kind
   searches : (place : ℕ) (packet : List ℕ) → length packet ≡ 24 → AllBytes packet
-      → At code (place + 5) (wanted_receiving ++ ir.Store 72 ∷ ir.Jump search ∷ [])
+      → place + 11 ≡ search → At code (place + 5) (wanted_receiving ++ ir.Store 72 ∷ [])
       → Invokes s call handle given code (input s call packet p) (cost + 2300) (with_priv c (put_bytes c.priv 16 packet) (place + 5) [])
-  searches place packet len h a =
+  searches place packet len h next a =
       let field = field_in packet in
       let link = link_of field in
       let v = link + 256 * 1 in
@@ -340,7 +340,7 @@ module _ (s : Setup) (call : Call) (handle : ℕ → Conf → OperationResult) (
       let f18 : word c1.priv 18 ≡ field = holds_word c1.priv packet 2 refl (omega (arith, len)) holds1 in
       let value : pure s c1.priv wanted_receiving [] ≡ Some (v ∷ []) = ap (λ (x : ℕ). Some ((bit_and x 255 + 256) % 65536 ∷ [])) f18 ∙ ap (λ (x : ℕ). Some ((x + 256) % 65536 ∷ [])) (lower field)
       ∙ ap (λ (x : ℕ). Some (x ∷ [])) (omega arith) in
-      let tail = ir.Store 72 ∷ ir.Jump search ∷ [] in
+      let tail = ir.Store 72 ∷ [] in
       let a2 = at_back code (place + 5) (place + 10) wanted_receiving tail (omega arith) a in
       let c2 = with_priv c1 (put_word c1.priv 72 v) search [] in
       let size = shows1.size in
@@ -352,8 +352,8 @@ module _ (s : Setup) (call : Call) (handle : ℕ → Conf → OperationResult) (
       runs_on s call handle given code r wanted_receiving c1 (place + 5) (place + 10) [] (v ∷ []) (cost + 2300) (cost + 2250) (at_front code (place + 5) wanted_receiving tail a) value (omega arith)
       (omega arith)
       (goes_on s call handle given code r (ir.Store 72) (at c1 (place + 10) (v ∷ [])) (at c2 (place + 10 + 1) []) (cost + 2250) (cost + 2240) a2.0 refl refl (omega arith)
-      (goes_on s call handle given code r (ir.Jump search) (at c2 (place + 10 + 1) []) (at c2 search []) (cost + 2240) (cost + 2230) a2.1.0 refl refl (omega arith)
-      (search_does s call handle given code p none few links r v c2 shows2 here search (cost + 2230) (cost + 1430) at_search (omega arith)
+      (subst (λ (x : ℕ). Invokes s call handle given code r (cost + 2240) (at c2 x [])) (omega (arith, next))
+      (search_does s call handle given code p none few links r v c2 shows2 here search (cost + 2240) (cost + 1430) at_search (omega arith)
       (λ j e hit lt c3 shows3 same_back index3 held.
       subst (λ (o : Option (ℕ × End)). Invokes s call handle given code (input_at s call packet o p) (cost + 1430) (at c3 (found + 1) [])) (sym hit ∙ same)
       (let r2 = input_at s call packet (Some (j, e)) p in
@@ -369,11 +369,11 @@ module _ (s : Setup) (call : Call) (handle : ℕ → Conf → OperationResult) (
       (at_front code (found + 3) (input_found s.tree s.ends (found + 3)) (key_found s.ends key) a6)))))
       (λ miss. ap (λ (o : Option (ℕ × End)). input_at s call packet o p) (sym same ∙ miss)))))
 
-  pub input_does : (place k : ℕ) → At code place (input_code search place) → cost + 2700 ≤ k
+  pub input_does : (place k : ℕ) → At code place (input_code place) → place + 11 ≡ search → cost + 2700 ≤ k
       → Invokes s call handle given code (with_received s call event_size event_kind p (λ packet. input s call packet p)) k (at c place [])
-  input_does place k a le =
-      let rest = wanted_receiving ++ ir.Store 72 ∷ ir.Jump search ∷ [] in
+  input_does place k a next le =
+      let rest = wanted_receiving ++ ir.Store 72 ∷ [] in
       let tests = refuse_kind (place + 1) event_kind in
       receive_does s call handle given code p c shows none bytes room512 window place 24 3 k (cost + 2300) (λ packet. input s call packet p) a.0 (at_front code (place + 1) tests rest a.1) refl
       (omega arith) (omega arith) (omega arith) (omega (arith, le))
-      (λ packet len h. searches place packet len h (at_back code (place + 1) (place + 5) tests rest (omega arith) a.1))
+      (λ packet len h. searches place packet len h next (at_back code (place + 1) (place + 5) tests rest (omega arith) a.1))

@@ -107,8 +107,8 @@ module _ (s : Setup) (call : Call) (p : Progress) (handle : ℕ → Conf → Ope
       let q_key = 21 + n_sample in
       let q_attest = q_key + 21 in
       let q_input = q_attest + 11 in
-      let q_search = q_input + 12 in
-      let l7 = input_code q_search q_input ++ search_code s.tree s.ends q_search in
+      let q_search = q_input + 11 in
+      let l7 = input_code q_input ++ search_code s.tree s.ends q_search in
       let l6 = attest_code q_attest ++ l7 in
       let l5 = set_key_code q_search q_key ++ l6 in
       let l4 = sample_code s.tree 21 ++ l5 in
@@ -120,7 +120,7 @@ module _ (s : Setup) (call : Call) (p : Progress) (handle : ℕ → Conf → Ope
       let a5 = at_back code 21 q_key (sample_code s.tree 21) l5 refl a4 in
       let a6 = at_back code q_key q_attest (set_key_code q_search q_key) l6 refl a5 in
       let a7 = at_back code q_attest q_input (attest_code q_attest) l7 refl a6 in
-      let a8 = at_back code q_input q_search (input_code q_search q_input) (search_code s.tree s.ends q_search) refl a7 in
+      let a8 = at_back code q_input q_search (input_code q_input) (search_code s.tree s.ends q_search) refl a7 in
       let r3 = sample s call p in
       let on_key = with_received s call set_key_size set_key_kind p (λ packet. set_key s packet p) in
       let on_ask = with_received s call ask_size ask_kind p (λ packet. attest s call packet p) in
@@ -131,7 +131,7 @@ module _ (s : Setup) (call : Call) (p : Progress) (handle : ℕ → Conf → Ope
       (jumps (call.entry == 2) 2 18 q_input (cost + 2900) (cost + 2860) on_event r1 refl
       (at_front code 18 (jump_on 2 q_input) l2 a) (omega arith)
       (λ x. input_does s call handle given code p c b.shows b.pieces b.mem b.back window outside b.tag b.few b.links b.devices cost does b.unmarked (eqb-true call.entry 2 x) q_search a8 q_input (cost + 2860)
-      (at_front code q_input (input_code q_search q_input) (search_code s.tree s.ends q_search) a7) (omega arith))
+      (at_front code q_input (input_code q_input) (search_code s.tree s.ends q_search) a7) refl (omega arith))
       (λ n2. jumps (call.entry == 0) 0 19 q_key (cost + 2860) (cost + 2820) on_key r2 refl
       (at_front code 19 (jump_on 0 q_key) l3 a2) (omega arith)
       (λ x. set_key_does s call handle given code p c b.shows b.pieces b.mem window b.tag b.few b.links (eqb-true call.entry 0 x) q_search a8 q_key (cost + 2820)

@@ -38,7 +38,11 @@ abbrev pub choice : ℕ → ℕ → ℕ → ℕ → List Ir
 choice offset number otherwise place =
     ir.JumpEqual offset number (place + 2) ∷ ir.Jump otherwise ∷ []
 
--- what is searched for is kept, and searched for
+-- what is searched for is kept
+abbrev pub kept : List Ir
+kept = ir.Store wanted_at ∷ []
+
+-- it is kept, and searched for
 abbrev pub searched : ℕ → List Ir
 searched search = ir.Store wanted_at ∷ ir.Jump search ∷ []
 

@@ -256,12 +256,12 @@ input_found tree ends place =
     ++ (refuse_unless (place + 33) has_number_above past_number
     ++ cases (take_receiving tree) (place + 41) 0 ends)))
 
--- the packet is copied and tested, and its end is searched for
-abbrev pub input_code : ℕ → ℕ → List Ir
-input_code search place =
+-- the packet is copied and tested, and what follows searches for its end
+abbrev pub input_code : ℕ → List Ir
+input_code place =
     ir.CopyIn event_size working.packet_at
     ∷ (refuse_kind (place + 1) event_kind
-    ++ (wanted_receiving ++ ir.Store wanted_at ∷ ir.Jump search ∷ []))
+    ++ (wanted_receiving ++ ir.Store wanted_at ∷ []))
 
 -- The search for the end, which set-key and input share, and what follows it.
 
@@ -334,10 +334,10 @@ attest_length = 11
 
 -- those of input
 abbrev pub input_length : ℕ
-input_length = 12
+input_length = 11
 
--- The four entries' code begins at these places, and the search after them. Input is looked for
--- first, since it is called most.
+-- The four entries' code begins at these places, and the search after them, with which input goes
+-- on. Input is looked for first, since it is called most.
 abbrev pub entries : ModuleTree → List End → List Ir
 entries tree ends =
     let set_key = sample_place + length (sample_code tree sample_place) in
@@ -346,7 +346,7 @@ entries tree ends =
     let search = input + input_length in
     jump_on input_entry input ++ (jump_on set_key_entry set_key ++ (jump_on attest_entry attest
     ++ (sample_code tree sample_place ++ (set_key_code search set_key ++ (attest_code attest
-    ++ (input_code search input ++ search_code tree ends search))))))
+    ++ (input_code input ++ search_code tree ends search))))))
 
 -- the stub, which begins at place 0
 unfoldable pub stub_code : ModuleTree → List End → List Ir

@@ -7,7 +7,7 @@ ghost use Rattle.sx_stub.specs.Stub.{is_open_code, is_other_epoch, is_past_numbe
 ghost use Rattle.sx_stub.specs.Stub.{take_event, take_receiving, taken_code};
 ghost use Rattle.sx_stub.specs.Stub.{wanted_receiving};
 ghost use Rattle.sx_stub.specs.Puts.{Puts, PutsAt, PutsCase, PutsCases, RefusesUnless, RefusesWith};
-ghost use Rattle.sx_stub.specs.Puts.{behind_cases, searched};
+ghost use Rattle.sx_stub.specs.Puts.{behind_cases, kept};
 
 use crate::handled::{handled_len, input_handler, put_handled};
 use crate::pieces::{
@@ -25,11 +25,10 @@ use sx_mean::events::End;
 use sx_mean::offsets::{EVENT, PACKET, end_key_at, end_number_at};
 
 /// The number of operations of the entry of input.
-pub const INPUT_LENGTH: u16 = 12;
+pub const INPUT_LENGTH: u16 = 11;
 
-fn put_wanted_receiving(code: &mut Vec<Ir>, search: u16) -> Result<(), AllocError>
-    ensures { OnOk result (Puts (wanted_receiving ++ searched search) code.old.items
-        code.new.items) }
+fn put_wanted_receiving(code: &mut Vec<Ir>) -> Result<(), AllocError>
+    ensures { OnOk result (Puts (wanted_receiving ++ kept) code.old.items code.new.items) }
 {
     let ops = [
         Ir::Load(FIELD),
@@ -38,20 +37,19 @@ fn put_wanted_receiving(code: &mut Vec<Ir>, search: u16) -> Result<(), AllocErro
         Ir::Push(256),
         Ir::Op(IrOp::Add),
         Ir::Store(WANTED),
-        Ir::Jump(search),
     ];
     put_all(code, &ops)
 }
 
-/// Appends the entry of input, which goes on at the search for the end. The error says that memory
-/// ran out.
-pub fn put_input(code: &mut Vec<Ir>, search: u16) -> Result<(), AllocError>
+/// Appends the entry of input, which goes on with the search for the end behind it. The error says
+/// that memory ran out.
+pub fn put_input(code: &mut Vec<Ir>) -> Result<(), AllocError>
     requires short { length code.old.items < 60000 }
-    ensures { OnOk result (PutsAt (input_code search) code.old.items code.new.items) }
+    ensures { OnOk result (PutsAt input_code code.old.items code.new.items) }
 {
     put(code, Ir::CopyIn(EVENT_SIZE, PACKET))?;
     put_refuse_kind(code, EVENT_KIND)?;
-    put_wanted_receiving(code, search)
+    put_wanted_receiving(code)
 }
 
 fn is_receiving(e: &End) -> bool

@@ -84,7 +84,7 @@ fn put_entries(code: &mut Vec<Ir>, tree: &Module, ends: &[End]) -> Result<(), Al
     put_sample(code, tree)?;
     put_set_key(code, search)?;
     put_attest(code)?;
-    put_input(code, search)?;
+    put_input(code)?;
     put_search(code, tree, ends)
 }
 

@@ -30,28 +30,28 @@ fn protocol(alloc: Global, text: &str, ends: &[End]) -> Result<Code, Fail>
 }
 
 /// How many operations the protocol of the logic has, and some at their places: 21 before the
-/// entries, 15 + 21 + 11 + 12 in them, 2 * 4 + 3 for the search, 3 after it, 41 + 16 for the
+/// entries, 15 + 21 + 11 + 11 in them, 2 * 4 + 3 for the search, 3 after it, 41 + 16 for the
 /// packet, 29 + 2 * 6 for the key, and 3.
 const OF_LOGIC: (usize, &[(usize, Ir)]) = (
-    195,
+    194,
     &[
         (18, Ir::JumpEqual(6, 2, 68)),
         (20, Ir::JumpEqual(6, 1, 57)),
-        (80, Ir::JumpEqual(72, 256, 82)),
-        (84, Ir::JumpEqual(72, 1, 86)),
-        (137, Ir::Open(520, 16, 6, 2, 2)),
-        (147, Ir::Handler(0)),
+        (79, Ir::JumpEqual(72, 256, 81)),
+        (83, Ir::JumpEqual(72, 1, 85)),
+        (136, Ir::Open(520, 16, 6, 2, 2)),
+        (146, Ir::Handler(0)),
     ],
 );
 
 /// As above, with 16 operations of a sample, 4 + 3 for the search, 41 for the packet and 29 + 6 for
 /// the key.
 const OF_EYE: (usize, &[(usize, Ir)]) = (
-    170,
+    169,
     &[(1, Ir::Push(3)), (21, Ir::Sense), (33, Ir::Handler(0))],
 );
 
-const OF_EMPTY: (usize, &[(usize, Ir)]) = (159, &[(1, Ir::Push(2))]);
+const OF_EMPTY: (usize, &[(usize, Ir)]) = (158, &[(1, Ir::Push(2))]);
 
 /// Whether so many operations are there, with these at these places.
 fn has_operations(code: &Code, want: &(usize, &[(usize, Ir)])) -> bool {

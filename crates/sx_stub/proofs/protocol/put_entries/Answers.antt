@@ -30,7 +30,6 @@ returns c =
     let e3 : y3 ≡ y2 ++ jump_on attest_entry attest = c.in_ok-put_jump_on-3.ensures ∙ ap (λ n. y2 ++ jump_on attest_entry (sample_place + n + set_key_length)) len in
     let e5 : y5 ≡ y4 ++ set_key_code search (length y4) = c.in_ok-put_set_key.ensures
     ∙ ap (λ n. y4 ++ set_key_code (sample_place + n + set_key_length + attest_length + input_length) (length y4)) len in
-    let e7 : y7 ≡ y6 ++ input_code search (length y6) = c.in_ok-put_input.ensures ∙ ap (λ n. y6 ++ input_code (sample_place + n + set_key_length + attest_length + input_length) (length y6)) len in
     let l1 = grown x y1 (jump_on input_entry input) e1 in
     let l2 = grown y1 y2 (jump_on set_key_entry set_key) e2 in
     let l3 = grown y2 y3 (jump_on attest_entry attest) e3 in
@@ -39,7 +38,7 @@ returns c =
     let l6 = grown y5 y6 (attest_code (length y5)) c.in_ok-put_attest.ensures in
     let here = c.requires.here in
     let t7 = search_code tree ends search in
-    let t6 = input_code search input ++ t7 in
+    let t6 = input_code input ++ t7 in
     let t5 = attest_code attest ++ t6 in
     let t4 = set_key_code search set_key ++ t5 in
     let t3 = sample_code tree sample_place ++ t4 in
@@ -49,5 +48,5 @@ returns c =
     (behind r y2 y3 z (jump_on attest_entry attest) (λ p. sample_code tree p ++ t4) sample_place e3 (omega (arith, here, l1, l2))
     (behind r y3 y4 z (sample_code tree (length y3)) (λ p. set_key_code search p ++ t5) set_key c.in_ok-put_sample.ensures (omega (arith, here, l1, l2, l3))
     (behind r y4 y5 z (set_key_code search (length y4)) (λ p. attest_code p ++ t6) attest e5 (omega (arith, here, l1, l2, l3, l4))
-    (behind r y5 y6 z (attest_code (length y5)) (λ p. input_code search p ++ t7) input c.in_ok-put_attest.ensures (omega (arith, here, l1, l2, l3, l4, l5))
-    (behind r y6 y7 z (input_code search (length y6)) (λ p. search_code tree ends p) search e7 (omega (arith, here, l1, l2, l3, l4, l5, l6)) c.put_search.ensures))))))
+    (behind r y5 y6 z (attest_code (length y5)) (λ p. input_code p ++ t7) input c.in_ok-put_attest.ensures (omega (arith, here, l1, l2, l3, l4, l5))
+    (behind r y6 y7 z (input_code (length y6)) (λ p. search_code tree ends p) search c.in_ok-put_input.ensures (omega (arith, here, l1, l2, l3, l4, l5, l6)) c.put_search.ensures))))))
