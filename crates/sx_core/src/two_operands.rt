@@ -1,6 +1,7 @@
 //! Instructions with two operands.
 
-ghost use Rattle.std.specs.Prelude.{◌≡◌, ◌<◌, IsTrue};
+ghost use Rattle.std.specs.Prelude.{◌≡◌, ◌<◌, ℕ, Bool, IsTrue, IfSome, MatchOption};
+ghost use Rattle.sx_alu.specs.declared.flags.Flags.{Flags};
 ghost use Rattle.sx_alu.specs.Table.{limit, row};
 ghost use Rattle.sx_alu.specs.Widths.{has_width};
 ghost use Rattle.sx_machine.specs.Rows.{computed, reads, writes, two};
@@ -32,6 +33,28 @@ pub fn calculated(
     calc_status(kind, wide, src, dst, flags)
 }
 
+/// The calculation that an operation makes; MOV makes none.
+#[inline(always)]
+fn calculation_of(op: Op2) -> Option<Calc>
+    ensures row { MatchOption result
+        ((wide : Bool) → (s d : ℕ) → (f : Flags) → computed op wide s d f ≡ (s, f))
+        (λ kind. (wide : Bool) → (s d : ℕ) → (f : Flags)
+        → computed op wide s d f ≡ row kind wide s d f) }
+    ensures width { IfSome result (λ kind. (wide : Bool) → IsTrue (has_width kind wide)) }
+{
+    match op {
+        Op2::Mov => None,
+        Op2::Add => Some(Calc::Add),
+        Op2::Addc => Some(Calc::AddCarry),
+        Op2::Subc => Some(Calc::SubCarry),
+        Op2::Sub | Op2::Cmp => Some(Calc::Sub),
+        Op2::Bit | Op2::And => Some(Calc::And),
+        Op2::Bic => Some(Calc::AndNot),
+        Op2::Bis => Some(Calc::Or),
+        Op2::Xor => Some(Calc::Xor),
+    }
+}
+
 /// What an operation gives. The compiler makes code of its own for words and for bytes.
 #[inline(always)]
 pub fn computed_as<const WIDE: bool>(
@@ -44,16 +67,9 @@ pub fn computed_as<const WIDE: bool>(
     requires dst { dst < limit WIDE }
     ensures { result ≡ computed op WIDE src dst flags }
 {
-    match op {
-        Op2::Mov => (src, flags),
-        Op2::Add => calculated(Calc::Add, WIDE, src, dst, flags),
-        Op2::Addc => calculated(Calc::AddCarry, WIDE, src, dst, flags),
-        Op2::Subc => calculated(Calc::SubCarry, WIDE, src, dst, flags),
-        Op2::Sub | Op2::Cmp => calculated(Calc::Sub, WIDE, src, dst, flags),
-        Op2::Bit | Op2::And => calculated(Calc::And, WIDE, src, dst, flags),
-        Op2::Bic => calculated(Calc::AndNot, WIDE, src, dst, flags),
-        Op2::Bis => calculated(Calc::Or, WIDE, src, dst, flags),
-        Op2::Xor => calculated(Calc::Xor, WIDE, src, dst, flags),
+    match calculation_of(op) {
+        None => (src, flags),
+        Some(kind) => calculated(kind, WIDE, src, dst, flags),
     }
 }
 
