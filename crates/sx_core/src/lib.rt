@@ -10,6 +10,7 @@
 pub use quick::{Stepped, step_quick};
 pub use step::{interrupt, step_long, step_plain};
 
+mod at_hand;
 mod forms;
 mod jump;
 mod one_operand;

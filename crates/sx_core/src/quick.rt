@@ -17,9 +17,14 @@ ghost use Rattle.sx_machine.specs.Rows.{into_register};
 ghost use Rattle.sx_machine.specs.Run.{may_at, device_of};
 ghost use Rattle.sx_machine.specs.Answers.{followed};
 ghost use Rattle.sx_executor.specs.Machine.{ran, RunsPlan};
-ghost use Rattle.sx_executor.specs.Shortcuts.{instruction_of, words_of, is_general, double_of};
+ghost use Rattle.sx_executor.specs.Shortcuts.{instruction_of, words_of, is_general};
+ghost use Rattle.sx_executor.specs.Shortcuts.{single_of, double_of};
 ghost use Rattle.sx_core.specs.Quickly.{RunsQuietly, EndsStep};
 
+use crate::at_hand::{
+    call_immediate, increment_onto_indexed, load_absolute, load_indexed, move_byte, move_immediate,
+    on_register, pop, push_absolute, push_constant, store_absolute, store_indexed,
+};
 use crate::forms::{step_double, step_single};
 use crate::jump::jump_quietly;
 use crate::step::step_long;
@@ -27,8 +32,8 @@ use crate::two_operands::{computed_as, on_memory, reads, writes};
 use sx_alu::StatusBits;
 use sx_bus::Bus;
 use sx_executor::registers::{PC, cut};
-use sx_executor::{Double, Executor, Form, Shortcut};
-use sx_isa::Op2;
+use sx_executor::{Double, Executor, Form, Shortcut, Single};
+use sx_isa::{Op1, Op2};
 use sx_rules::Violation;
 
 /// How a step ended.
@@ -149,7 +154,7 @@ fn on_word_at_hand<B: Bus>(executor: &mut Executor<B>, op: Op2, at: u16, src: u1
 
 /// An operation on a word of memory.
 #[inline(always)]
-fn on_word<B: Bus>(executor: &mut Executor<B>, op: Op2, at: u16, src: u16) -> Stepped
+pub fn on_word<B: Bus>(executor: &mut Executor<B>, op: Op2, at: u16, src: u16) -> Stepped
     requires { src < limit true }
     ensures { EndsStep (on_memory op true at src executor.old.regs) executor.old result
         executor.new }
@@ -260,7 +265,28 @@ fn onto_indexed<B: Bus>(
     on_word(executor, op, at, value)
 }
 
-/// An instruction of another form with the extension word `x`, at `pc`.
+/// An instruction of another form without an extension word; `next` is the address after it.
+#[inline(always)]
+fn without_extension<B: Bus>(executor: &mut Executor<B>, form: Single, next: u16) -> Stepped
+    ensures { EndsStep (row (single_of form) (at_pc executor.old.regs next) next) executor.old
+        result executor.new }
+{
+    match form {
+        Single::FromIncrement {
+            op: Op2::Mov,
+            src,
+            dst,
+        } => pop(executor, src, dst, next),
+        Single::OnRegister { op, arg } => on_register(executor, op, arg, next),
+        Single::OnConstant {
+            op: Op1::Push,
+            value,
+        } => push_constant(executor, value, next),
+        _ => Stepped::Answered(step_single(executor, form, next)),
+    }
+}
+
+/// One with the extension word `x`, at `pc`.
 #[inline(always)]
 fn with_extension<B: Bus>(executor: &mut Executor<B>, form: Double, x: u16, pc: u16) -> Stepped
     ensures { EndsStep (row (extended (double_of form) x 0)
@@ -268,14 +294,41 @@ fn with_extension<B: Bus>(executor: &mut Executor<B>, form: Double, x: u16, pc: 
 {
     let after = pc.wrapping_add(2);
     let next = pc.wrapping_add(4);
-    Stepped::Answered(step_double(executor, form, x, after, next))
+    match form {
+        Double::FromImmediate { op: Op2::Mov, dst } => {
+            move_immediate(executor, x, dst, after, next)
+        }
+        Double::FromAbsolute { op: Op2::Mov, dst } => load_absolute(executor, x, dst, after, next),
+        Double::FromIndexed {
+            op: Op2::Mov,
+            base,
+            dst,
+        } => load_indexed(executor, base, x, dst, after, next),
+        Double::RegisterOntoAbsolute { op: Op2::Mov, src } => {
+            store_absolute(executor, src, x, after, next)
+        }
+        Double::RegisterOntoIndexed {
+            op: Op2::Mov,
+            src,
+            base,
+        } => store_indexed(executor, src, base, x, after, next),
+        Double::BytesOntoIndexed {
+            op: Op2::Mov,
+            src,
+            base,
+        } => move_byte(executor, src, base, x, after, next),
+        Double::OnImmediate { op: Op1::Call } => call_immediate(executor, x, after, next),
+        Double::OnAbsolute { op: Op1::Push } => push_absolute(executor, x, after, next),
+        _ => Stepped::Answered(step_double(executor, form, x, after, next)),
+    }
 }
 
 /// Executes the instruction at PC with this first word as `step_plain` does, and says where it
-/// knows that no device was touched.
-#[inline(always)]
+/// knows that no device was touched. Each caller has a number, and so code of its own, which the
+/// compiler puts into it.
+#[inline]
 #[tactic(auto, unfolding(sx_machine::specs::Rows::program, sx_isa::specs::Reading::length_of))]
-pub fn step_quick<B: Bus>(executor: &mut Executor<B>, first: u16) -> Stepped
+pub fn step_quick<B: Bus, const CALLER: u8>(executor: &mut Executor<B>, first: u16) -> Stepped
     ensures { EndsStep (program first executor.old.regs) executor.old result executor.new }
 {
     let pc = executor.register(PC);
@@ -307,9 +360,14 @@ pub fn step_quick<B: Bus>(executor: &mut Executor<B>, first: u16) -> Stepped
             Ok(at) => onto_absolute(executor, op, value, at, pc),
             Err(violation) => Stepped::Answered(Err(violation)),
         },
-        Form::Single(form) => Stepped::Answered(step_single(executor, form, next)),
+        Form::Single(form) => without_extension(executor, form, next),
         Form::Double(form) => match fetch_second(executor, shortcut, pc) {
-            Ok(x) => with_extension(executor, form, x, pc),
+            Ok(x) => match form {
+                Double::IncrementOntoIndexed { op, src, base } => {
+                    increment_onto_indexed(executor, op, src, base, x, pc)
+                }
+                _ => with_extension(executor, form, x, pc),
+            },
             Err(violation) => Stepped::Answered(Err(violation)),
         },
     }

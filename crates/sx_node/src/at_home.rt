@@ -77,7 +77,7 @@ impl<B: Bus, T: Tag> Node<B, T> {
             result seen.new self.new }
     {
         self.executor.turn(own);
-        match step_quick(&mut self.executor, first) {
+        match step_quick::<B, 2>(&mut self.executor, first) {
             Stepped::Quiet => {
                 self.executor.turn(0);
                 self.ends_inside(own, seen)

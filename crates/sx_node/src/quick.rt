@@ -141,7 +141,7 @@ impl<B: Bus, T: Tag> Node<B, T> {
             (exec self.old.sections 0 (program first self.old.regs) (start self.old))
             result seen.new self.new }
     {
-        match step_quick(&mut self.executor, first) {
+        match step_quick::<B, 1>(&mut self.executor, first) {
             Stepped::Quiet => {
                 self.stays_idle();
                 false
