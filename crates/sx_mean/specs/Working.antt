@@ -17,7 +17,7 @@ saved_at r = 2 * r - 18
 abbrev pub packet_at : ℕ
 packet_at = 16
 
--- the plain body of a copied packet: a key or a value
+-- the plain body of a copied set-key packet, which is a key
 abbrev pub plain_at : ℕ
 plain_at = 56
 

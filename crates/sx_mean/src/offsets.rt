@@ -13,7 +13,7 @@ pub const PIECES: u16 = 4;
 /// The copied packet, 40 bytes.
 pub const PACKET: u16 = 16;
 
-/// The plain body of a copied packet, 16 bytes: a key or a value.
+/// The plain body of a copied set-key packet: the connection's key, 16 bytes.
 pub const PLAIN: u16 = 56;
 
 /// What only templates use, up to the stack.

@@ -58,10 +58,6 @@ state_is : (priv : List ℕ) (j : ℕ)
     → end_state priv j ≡ end_with (word priv (end_at j + 4)) (word priv (end_at j)) (word priv (end_at j + 2)) (bytes_from priv (end_at j + 8) 16)
 state_is priv j = end_state_is priv j (word priv (end_at j + 4)) (word priv (end_at j)) (word priv (end_at j + 2)) (bytes_from priv (end_at j + 8) 16) refl refl refl refl
 
-not_not : (b : Bool) → not b ≡ false → b ≡ true
-not_not true h = refl
-not_not false h = absurd (true≢false h)
-
 open_word : (s : Setup) (priv : List ℕ) (ends j : ℕ) → ends ≤ 16 → j < ends → word priv 74 ≡ 12 * j
     → pure s priv (is_open_code ends) [] ≡ Some (word priv (end_at j + 4) ∷ [])
 open_word s priv ends j few lt index = slot_pure s priv ends j 2 [] [] few lt (omega arith) index refl refl
