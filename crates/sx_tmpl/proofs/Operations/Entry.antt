@@ -1,7 +1,7 @@
 -- The entry: from any registers to the first configuration.
 use Rattle.sx_isa.specs.Instructions.{first_word}
 use Rattle.sx_isa.specs.Assembly.{##◌, &◌, mov, r12, r13, r14, r15, sp}
-use Rattle.sx_tmpl.proofs.Running.Instructions.{reads_of, step}
+use Rattle.sx_tmpl.proofs.Running.Instructions.{goes, reads_of}
 use Rattle.sx_tmpl.specs.Template.{entry_words}
 use Rattle.std.proofs.Common.{◌≡◌, ◌≢◌, ℕ, suc, ◌+◌, ◌-◌, ◌*◌, ◌%◌, ◌<◌, ◌≤◌, inl, inr, true, false, cond, List, [], length, None, refl, sym, ◌∙◌, ap, arith, slice_index}
 use Rattle.sx_reach.specs.Reach.{Here, Next, Ends, Goes}
@@ -10,7 +10,6 @@ use Rattle.sx_isa.specs.declared.instruction.Op2.TheVariants as op2
 use Rattle.sx_isa.specs.declared.instruction.Instr.TheVariants.{Two}
 use Rattle.sx_rules.specs.declared.access.Violation.{Violation}
 use Rattle.sx_machine.specs.declared.kinds.Event.{Event}
-use Rattle.sx_machine.specs.declared.kinds.Event.TheVariants as event
 use Rattle.sx_bus.specs.Devices.{device_at}
 use Rattle.sx_rules.specs.declared.access.Violation.TheVariants as bad
 use Rattle.sx_rules.specs.Access.{in_private, holder, in_order}
@@ -225,86 +224,29 @@ module _ (f : Fixed) (st : Stands f) (all : List Mark) (B : Watched → Violatio
           rw (stay, next) refl,
           inside t 2 (omega arith),
           λ s0.
-              step f st all B (Q0 priv outside r d) t 2 (mov r12 (& (b + 6))) refl (omega arith) refl refl event.Quiet r0
-              (record d { mem = m0 }) 4 refl s0 (
-                b + 6,
-                refl,
-                p6,
-                r.r12,
-                omega arith,
-                l12,
-                λ k1. (
-                  r1,
-                  rw stay refl,
-                  inside t 4 (omega arith),
-                  λ s1.
-                      step f st all B (Q0 priv outside r d) t 4 (mov r13 (& (b + 8))) refl (omega arith) refl refl event.Quiet r1
-                      (record d { mem = m1 }) 3 refl s1 (
-                        b + 8,
-                        refl,
-                        p8,
-                        r.r13,
-                        omega arith,
-                        l13,
-                        λ k2. (
-                          r2,
-                          rw stay refl,
-                          inside t 6 (omega arith),
-                          λ s2.
-                              step f st all B (Q0 priv outside r d) t 6 (mov r14 (& (b + 10))) refl (omega arith) refl refl event.Quiet r2
-                              (record d { mem = m2 }) 2 refl s2 (
-                                b + 10,
-                                refl,
-                                p10,
-                                r.r14,
-                                omega arith,
-                                l14,
-                                λ k3. (
-                                  r3,
-                                  rw stay refl,
-                                  inside t 8 (omega arith),
-                                  λ s3.
-                                      step f st all B (Q0 priv outside r d) t 8 (mov r15 (& (b + 12))) refl (omega arith) refl refl event.Quiet r3
-                                      (record d { mem = m3 }) 1 refl s3 (
-                                        b + 12,
-                                        refl,
-                                        p12,
-                                        r.r15,
-                                        omega arith,
-                                        l15,
-                                        λ k4. (
-                                          r4,
-                                          rw stay refl,
-                                          inside t 10 (omega arith),
-                                          λ s4.
-                                              step f st all B (Q0 priv outside r d) t 10 (mov (## (b + 512)) sp) refl (omega arith) refl refl event.Quiet r4 (record d { mem = m4 }) 0 refl s4
-                                              (λ k5. (
-                                                r5,
-                                                rw (stay, sp2) refl,
-                                                inside t 12 (omega arith),
-                                                λ s5.
-                                                    Here (record {
-                                                      regs = r5;
-                                                      rest = record d { mem = m4 };
-                                                      state = refl;
-                                                      safe = s5;
-                                                      shows = record {
-                                                        pc = sym at0;
-                                                        holds = store 12 r.r15 q3 outside m3 (omega arith) (omega arith) refl k3
-                                                            (store 10 r.r14 q2 outside m2 (omega arith) (omega arith) refl k2
-                                                            (store 8 r.r13 q1 outside m1 (omega arith) (omega arith) refl k1 (store 6 r.r12 priv outside m0 (omega arith) (omega arith) refl k0 h0)));
-                                                        devices = refl;
-                                                        marks = refl;
-                                                      };
-                                                    }),
-                                              )),
-                                        ),
-                                      ),
-                                ),
-                              ),
-                        ),
-                      ),
-                ),
-              ),
+              goes f st all B (Q0 priv outside r d) t 2 (mov r12 (& (b + 6))) refl (omega arith) refl refl r0 (record d { mem = m0 }) 4 refl s0
+              r1 m1 (inside t 4 (omega arith)) (b + 6, refl, p6, r.r12, omega arith, l12, (rw stay refl, refl)) (λ s1.
+              goes f st all B (Q0 priv outside r d) t 4 (mov r13 (& (b + 8))) refl (omega arith) refl refl r1 (record d { mem = m1 }) 3 refl s1
+              r2 m2 (inside t 6 (omega arith)) (b + 8, refl, p8, r.r13, omega arith, l13, (rw stay refl, refl)) (λ s2.
+              goes f st all B (Q0 priv outside r d) t 6 (mov r14 (& (b + 10))) refl (omega arith) refl refl r2 (record d { mem = m2 }) 2 refl s2
+              r3 m3 (inside t 8 (omega arith)) (b + 10, refl, p10, r.r14, omega arith, l14, (rw stay refl, refl)) (λ s3.
+              goes f st all B (Q0 priv outside r d) t 8 (mov r15 (& (b + 12))) refl (omega arith) refl refl r3 (record d { mem = m3 }) 1 refl s3
+              r4 m4 (inside t 10 (omega arith)) (b + 12, refl, p12, r.r15, omega arith, l15, (rw stay refl, refl)) (λ s4.
+              goes f st all B (Q0 priv outside r d) t 10 (mov (## (b + 512)) sp) refl (omega arith) refl refl r4 (record d { mem = m4 }) 0 refl s4
+              r5 m4 (inside t 12 (omega arith)) (rw (stay, sp2) refl, refl) (λ s5.
+              Here (record {
+                regs = r5;
+                rest = record d { mem = m4 };
+                state = refl;
+                safe = s5;
+                shows = record {
+                  pc = sym at0;
+                  holds = store 12 r.r15 q3 outside m3 (omega arith) (omega arith) refl s3.memory
+                      (store 10 r.r14 q2 outside m2 (omega arith) (omega arith) refl s2.memory
+                      (store 8 r.r13 q1 outside m1 (omega arith) (omega arith) refl s1.memory (store 6 r.r12 priv outside m0 (omega arith) (omega arith) refl k0 h0)));
+                  devices = refl;
+                  marks = refl;
+                };
+              })))))),
         ),
       )

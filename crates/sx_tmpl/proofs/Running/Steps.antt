@@ -232,13 +232,12 @@ module _ (f : Fixed) (st : Stands f) (all : List Mark) (B : Watched → Violatio
       (owes_shown f st (Then j d) NoTell (B (running_after e f r d)) (p (P + 2 * (k + 1))) x safe.devices safe.memory owed))) in
       from_met j e r d _ safe shown (record { from = here; to = omega arith }) at (owes_met f st (Then j d) NoTell (B (running_after e f r d)) _ x safe.devices safe.memory owed)
 
-  -- the same with an extension word
-  pub two_met : {P n : ℕ} {ws : List ℕ} (t : Text f P n ws) (k w u : ℕ) (i : ℕ → ℕ → Instr) → slice_get ws k ≡ Some w → slice_get ws (k + 1) ≡ Some u → k + 2 ≤ n → Reads w 2 i
-      → (e : Event) (r : Regs) (d : Data) (j : ℕ) → r.pc ≡ P + 2 * k → Safe f all (running_after e f r d)
-      → Meets j e r d (exec_own (row (i u 0) (at_pc (regs16 f r) (P + 2 * (k + 1))) (P + 2 * (k + 2))) (start (running_after e f r d).node))
-      → PlanShowsNone f.setup (row (i u 0) (at_pc (regs16 f r) (P + 2 * (k + 1))) (P + 2 * (k + 2))) (start (running_after e f r d).node)
-      → R (suc j) (running_after e f r d)
-  two_met {P = P} {n = n} t k w u i has has1 fits reads e r d j pc safe met none =
+  -- what an instruction with an extension word does, and that it shows no key if its plan shows none
+  pub two_does : {P n : ℕ} {ws : List ℕ} (t : Text f P n ws) (k w u : ℕ) (i : ℕ → ℕ → Instr) → slice_get ws k ≡ Some w → slice_get ws (k + 1) ≡ Some u → k + 2 ≤ n → Reads w 2 i
+      → (e : Event) (r : Regs) (d : Data) → r.pc ≡ P + 2 * k → Safe f all (running_after e f r d)
+      → (let x = start (running_after e f r d).node in let p = row (i u 0) (at_pc (regs16 f r) (P + 2 * (k + 1))) (P + 2 * (k + 2)) in
+      (attempt f.setup.mac (running_after e f r d).node ≡ exec_own p x) × (PlanShowsNone f.setup p x → StepShowsNone f.setup f.entered (running_after e f r d)))
+  two_does {P = P} {n = n} t k w u i has has1 fits reads e r d pc safe =
       let low = t.from in
       let high = t.to in
       let even = t.is_even in
@@ -252,12 +251,22 @@ module _ (f : Fixed) (st : Stands f) (all : List Mark) (B : Watched → Violatio
       let is : cell d.mem r.pc ≡ w = text_word d.mem r.pc w safe.memory here ends (ap (cell f.entered) pc ∙ t.word k w has) in
       let is1 : cell d.mem (P + 2 * (k + 1)) ≡ u = text_word d.mem (P + 2 * (k + 1)) u safe.memory (omega arith) (omega arith) (t.word (k + 1) u has1) in
       let got = fetched (onward r.pc 2) (P + 2 * (k + 1)) u x next (omega arith) (omega arith) (omega arith) safe.devices is1 in
-      let at = tests_passed e r d safe here ends ev ∙ plain_instruction e r d w here ends ev is reads.plain ∙ program_two w u i (regs16 f r) x reads got
-      ∙ ap (λ b. exec_own (row (i u 0) (at_pc (regs16 f r) b) (onward r.pc 4)) x) next ∙ ap (λ b. exec_own (row (i u 0) (at_pc (regs16 f r) (P + 2 * (k + 1))) b) x) next2 in
-      let p : ℕ → ℕ → Plan = λ b c. row (i u 0) (at_pc (regs16 f r) b) c in
-      let shown = step_shown (running_after e f r d) w ev is reads.plain (shown_two w u i (regs16 f r) x reads got (subst (λ b. PlanShowsNone f.setup (p b (onward r.pc 4)) x) (sym next)
-      (subst (λ c. PlanShowsNone f.setup (p (P + 2 * (k + 1)) c) x) (sym next2) none))) in
-      from_met j e r d _ safe shown (record { from = here; to = omega arith }) at met
+      let p : ℕ → ℕ → Plan = λ b c. row (i u 0) (at_pc (regs16 f r) b) c in (
+        tests_passed e r d safe here ends ev ∙ plain_instruction e r d w here ends ev is reads.plain ∙ program_two w u i (regs16 f r) x reads got
+            ∙ ap (λ b. exec_own (p b (onward r.pc 4)) x) next ∙ ap (λ b. exec_own (p (P + 2 * (k + 1)) b) x) next2,
+        λ none. step_shown (running_after e f r d) w ev is reads.plain (shown_two w u i (regs16 f r) x reads got
+            (subst (λ b. PlanShowsNone f.setup (p b (onward r.pc 4)) x) (sym next) (subst (λ c. PlanShowsNone f.setup (p (P + 2 * (k + 1)) c) x) (sym next2) none))),
+      )
+
+  -- and what is to follow it
+  pub two_met : {P n : ℕ} {ws : List ℕ} (t : Text f P n ws) (k w u : ℕ) (i : ℕ → ℕ → Instr) → slice_get ws k ≡ Some w → slice_get ws (k + 1) ≡ Some u → k + 2 ≤ n → Reads w 2 i
+      → (e : Event) (r : Regs) (d : Data) (j : ℕ) → r.pc ≡ P + 2 * k → Safe f all (running_after e f r d)
+      → Meets j e r d (exec_own (row (i u 0) (at_pc (regs16 f r) (P + 2 * (k + 1))) (P + 2 * (k + 2))) (start (running_after e f r d).node))
+      → PlanShowsNone f.setup (row (i u 0) (at_pc (regs16 f r) (P + 2 * (k + 1))) (P + 2 * (k + 2))) (start (running_after e f r d).node)
+      → R (suc j) (running_after e f r d)
+  two_met t k w u i has has1 fits reads e r d j pc safe met none =
+      let does = two_does t k w u i has has1 fits reads e r d pc safe in
+      from_met j e r d _ safe (does.1 none) (record { from = omega (arith, t.from, pc); to = omega (arith, t.to, pc, fits) }) does.0 met
 
   -- by what it owes
   pub two : {P n : ℕ} {ws : List ℕ} (t : Text f P n ws) (k w u : ℕ) (i : ℕ → ℕ → Instr) → slice_get ws k ≡ Some w → slice_get ws (k + 1) ≡ Some u → k + 2 ≤ n → Reads w 2 i
