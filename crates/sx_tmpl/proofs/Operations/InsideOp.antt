@@ -113,8 +113,7 @@ module _ (f : Fixed) (st : Stands f) (all : List Mark) (B : Watched → Violatio
                   let yes2 = no_borrow (l.pub_to % 65536) (x % 65536) sr1 (omega arith) (omega arith) in
                   goes f st all B Q t 7 (jc (ahead 1)) refl (omega arith) refl refl r4 d 1 refl s4
                   (record r4 { pc = at c.place + 18 }) d.mem (inside t 9 (omega arith)) (rw (yes2, to2) refl, refl) (λ s5.
-                  Here
-                  (done out (record r4 { pc = at c.place + 18 }) refl refl s5))
+                  Here (done out (record r4 { pc = at c.place + 18 }) refl refl s5))
             ]))
       ]))
 

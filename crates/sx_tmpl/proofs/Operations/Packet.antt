@@ -88,8 +88,7 @@ module _ (f : Fixed) (st : Stands f) (all : List Mark) (B : Watched → Violatio
             let no_ : is_ready e ≡ false = ready false (sym (ap (λ (x : EndState). x.is_open) is) ∙ ap not (eq-eqb open_ 0 z)) in
             goes f st all B Q t 2 (jz (ahead 66)) refl (omega arith) refl refl r1 d _ refl s1
             (record r { pc = A + 138; sr = sr1 }) d.mem (inside t 69 (omega arith)) (rw (equal 0 open_ r.sr (omega arith) z, to) refl, refl) (λ s2.
-            later f all B Q j (suc (suc j)) _ (omega arith)
-            (skip no_ sr1 s2))
+            later f all B Q j (suc (suc j)) _ (omega arith) (skip no_ sr1 s2))
         | inr nz ↦
             let is_open : e.is_open ≡ true = sym (ap (λ (x : EndState). x.is_open) is) ∙ ap not (ne_eqb open_ 0 nz) in
             goes f st all B Q t 2 (jz (ahead 66)) refl (omega arith) refl refl r1 d _ refl s1 r2 d.mem (inside t 3 (omega arith))
@@ -102,14 +101,12 @@ module _ (f : Fixed) (st : Stands f) (all : List Mark) (B : Watched → Violatio
                   let no_ : is_ready e ≡ false = ready true is_open ∙ le-ltb e.number 65535 (omega (arith, ap (λ (x : EndState). x.number) is)) in
                   goes f st all B Q t 5 (jz (ahead 63)) refl (omega arith) refl refl r3 d _ refl s3
                   (record r { pc = A + 138; sr = sr3 }) d.mem (inside t 69 (omega arith))
-                  (rw (equal 65535 number sr1 (omega arith) z, to) refl, refl) (λ s4.
-                  skip no_ sr3 s4)
+                  (rw (equal 65535 number sr1 (omega arith) z, to) refl, refl) (skip no_ sr3)
               | inr nz2 ↦
                   let yes_ : is_ready e ≡ true = ready true is_open ∙ lt-ltb e.number 65535 (omega (arith, ap (λ (x : EndState). x.number) is)) in
                   goes f st all B Q t 5 (jz (ahead 63)) refl (omega arith) refl refl r3 d _ refl s3
                   (record r { pc = A + 12; sr = sr3 }) d.mem (inside t 6 (omega arith))
-                  (rw (unequal 65535 number sr1 (omega arith) ln nz2) refl, refl) (λ s4.
-                  go_on yes_ sr3 s4)
+                  (rw (unequal 65535 number sr1 (omega arith) ln nz2) refl, refl) (go_on yes_ sr3)
             ]))
       ])
 
@@ -165,15 +162,17 @@ module _ (f : Fixed) (st : Stands f) (all : List Mark) (B : Watched → Violatio
       let r4 = record r { pc = A + 36 } in
       goes f st all B Q t 6 (mov (## 3) (& (b + 106))) refl (omega arith) refl refl r d _ pc safe r1 m1 (inside t 9 (omega arith))
       (b + 106, refl, p106, 3, refl, omega arith, (rw stay refl, refl)) (λ s1.
+      let small = word_below f st (b + offsets.end_at k) isf s1.memory in
       goes f st all B Q t 9 (mov (& (b + offsets.end_at k)) (& (b + 108))) refl (omega arith) refl refl r1 (record d { mem = m1 }) _ refl s1
       r2 m2 (inside t 12 (omega arith))
-      (b + offsets.end_at k, refl, pf, field, isf, (b + 108, refl, p108, field, refl, word_below f st (b + offsets.end_at k) isf s1.memory, (rw stay refl, refl))) (λ s2.
+      (b + offsets.end_at k, refl, pf, field, isf, (b + 108, refl, p108, field, refl, small, (rw stay refl, refl))) (λ s2.
+      let small = word_below f st (b + offsets.end_number_at k) sn.0 s2.memory in
       goes f st all B Q t 12 (mov (& (b + offsets.end_number_at k)) (& (b + 110))) refl (omega arith) refl refl r2 (record d { mem = m2 }) _ refl s2
       r3 m3 (inside t 15 (omega arith))
-      (b + offsets.end_number_at k, refl, sn.1, number, sn.0, (b + 110, refl, p110, number, refl, word_below f st (b + offsets.end_number_at k) sn.0 s2.memory, (rw stay refl, refl))) (λ s3.
+      (b + offsets.end_number_at k, refl, sn.1, number, sn.0, (b + 110, refl, p110, number, refl, small, (rw stay refl, refl))) (λ s3.
+      let small = word_below f st (r.sp + 2) h3.words.1.0 s3.memory in
       goes f st all B Q t 15 (mov (2 ⟨ sp ⟩) (& (b + 130))) refl (omega arith) refl refl r3 (record d { mem = m3 }) _ refl s3
-      r4 m4 (inside t 18 (omega arith))
-      (r.sp + 2, up, pv, v, h3.words.1.0, (b + 130, refl, p130, v, refl, word_below f st (r.sp + 2) h3.words.1.0 s3.memory, (rw stay refl, refl))) (after m4 h4
+      r4 m4 (inside t 18 (omega arith)) (r.sp + 2, up, pv, v, h3.words.1.0, (b + 130, refl, p130, v, refl, small, (rw stay refl, refl))) (after m4 h4
       (cell-put_other m3 (b + 130) v (b + 106) (omega arith) (omega arith) (omega arith)
       ∙ cell-put_other m2 (b + 110) number (b + 106) (omega arith) (omega arith) (omega arith)
       ∙ cell-put_other m1 (b + 108) field (b + 106) (omega arith) (omega arith) (omega arith) ∙ same_word f st d.mem (b + 106) 3 safe.memory (place_of p106))

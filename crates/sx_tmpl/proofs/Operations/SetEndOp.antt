@@ -128,9 +128,11 @@ module _ (f : Fixed) (st : Stands f) (all : List Mark) (B : Watched → Violatio
       let po = data_word f st o shown_o (omega arith) oe (omega arith) in
       let is = holds_word f st at back stack priv outside r.sp d.mem s h se (record { low = s1; beside = inl (omega arith) }) (let y = st.room in omega arith) ∙ ev in
       let lv = word_below f st (base_of f + s) is safe.memory in
+      let m2 = put_cell d.mem (base_of f + o) v in
+      let h2 = holds_store f st at back stack priv outside r.sp d.mem o v safe.memory h oe (record { low = omega arith; beside = inr o1 }) fits in
       goes f st all B Q t i (mov (& (base_of f + s)) (y ⟨ r12 ⟩)) has le refl refl (record r { pc = P + 2 * i }) d j refl safe
-      (record r { pc = P + 2 * (i + 3) }) (put_cell d.mem (base_of f + o) v) (inside t (i + 3) le)
-      (base_of f + s, refl, ps, v, is, (base_of f + o, place, po, v, refl, lv, (rw (flags_stay r.sr) refl, refl))) (after (put_cell d.mem (base_of f + o) v) (holds_store f st at back stack priv outside r.sp d.mem o v safe.memory h oe (record { low = omega arith; beside = inr o1 }) fits))
+      (record r { pc = P + 2 * (i + 3) }) m2 (inside t (i + 3) le)
+      (base_of f + s, refl, ps, v, is, (base_of f + o, place, po, v, refl, lv, (rw (flags_stay r.sr) refl, refl))) (after m2 h2)
 
   -- the same of a word of a key
   move_key : (i s o y : ℕ) → o ≡ offsets.end_at k + y → take 3 (drop i (slot_words (base_of f))) ≡ spelling (mov (& (base_of f + s)) (y ⟨ r12 ⟩)) → i + 3 ≤ 32
