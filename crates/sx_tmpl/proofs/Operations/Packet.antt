@@ -1,7 +1,7 @@
 -- The routine of an end's packet.
 use Rattle.sx_isa.specs.Assembly as asm
 use Rattle.sx_isa.specs.Assembly.{##◌, #◌, &◌, ◌⟨◌⟩, add, ahead, cmp, inc, jz, mov, pc, r10, r11, r12, r13, r14, r15, r9, rla, sp, tst}
-use Rattle.sx_tmpl.proofs.Running.Instructions.{goes, step}
+use Rattle.sx_tmpl.proofs.Running.Instructions.{goes, goes_after}
 use Rattle.sx_tmpl.proofs.Running.Loading.{loads}
 use Rattle.sx_tmpl.specs.Template.{routine_words}
 use Rattle.std.proofs.Common.{◌≡◌, ℕ, suc, ◌+◌, ◌-◌, ◌*◌, ◌%◌, ◌<◌, ◌≤◌, inl, inr, Bool, true, false, not, ◌&&◌, List, [], ◌∷◌, ◌++◌, length, Option, refl, sym, ◌∙◌, ap, subst, arith}
@@ -279,37 +279,26 @@ module _ (f : Fixed) (st : Stands f) (all : List Mark) (B : Watched → Violatio
       let rp = data_read 4 stack outside r.sp d.mem (omega arith) (omega arith) refl h in
       let ro = data_read 10 stack outside r.sp d.mem (omega arith) (omega arith) refl h in
       let r1 = record r { pc = A + 68; r12 = p } in
-      step f st all B Q t 32 (mov (& (b + 4)) r12) refl (omega arith) refl refl e r d _ pc safe (
-        b + 4,
-        refl,
-        rp.1,
-        p,
-        rp.0 ∙ is,
-        λ kept. (
-          r1,
-          rw (flags_stay r.sr) refl,
-          inside t 34 (omega arith),
-          λ s1.
-              double_run 34 refl (omega arith) r1 d p _ (omega arith) s1 (λ sr2 s2.
-              double_run 35 refl (omega arith) (record r { sr = sr2 }) d (2 * p) _ (omega arith) s2 (λ sr3 s3.
-              double_run 36 refl (omega arith) (record r { sr = sr3 }) d (2 * (2 * p)) _ (omega arith) s3 (λ sr4 s4.
-              let x = 2 * (2 * (2 * p)) in
-              let cutx : x % 65536 ≡ x = omega arith in
-              let r4 = record r { pc = A + 74; sr = sr4; r12 = x } in
-              let r5 = record r { pc = A + 76; sr = sr4; r12 = x; r14 = x } in
-              goes f st all B Q t 37 (mov r12 r14) refl (omega arith) refl refl r4 d _ refl s4 r5 d.mem (inside t 38 (omega arith))
-              (rw (flags_stay sr4, cutx) refl, refl) (λ s5.
-              double_run 38 refl (omega arith) (record r { sr = sr4; r14 = x }) d x _ (omega arith) s5 (λ sr6 s6.
-              let y = 2 * x in
-              let z : (y % 65536 + x % 65536 + 0) % 65536 ≡ 24 * p = omega arith in
-              let sr7 = flags_after op2.Add (x % 65536) (y % 65536) sr6 in
-              let r6 = record r { pc = A + 78; sr = sr6; r12 = y; r14 = x } in
-              let r7 = record r { pc = A + 80; sr = sr7; r12 = 24 * p; r14 = x } in
-              goes f st all B Q t 39 (add r14 r12) refl (omega arith) refl refl r6 d _ refl s6 r7 d.mem (inside t 40 (omega arith))
-              (rw z refl, refl) (λ s7.
-              last sr7 x s7 ro)))))),
-        ),
-      )
+      goes_after f st all B Q e t 32 (mov (& (b + 4)) r12) refl (omega arith) refl refl r d _ pc safe r1 d.mem (inside t 34 (omega arith))
+      (b + 4, refl, rp.1, p, rp.0 ∙ is, (rw (flags_stay r.sr) refl, refl)) (λ s1.
+      double_run 34 refl (omega arith) r1 d p _ (omega arith) s1 (λ sr2 s2.
+      double_run 35 refl (omega arith) (record r { sr = sr2 }) d (2 * p) _ (omega arith) s2 (λ sr3 s3.
+      double_run 36 refl (omega arith) (record r { sr = sr3 }) d (2 * (2 * p)) _ (omega arith) s3 (λ sr4 s4.
+      let x = 2 * (2 * (2 * p)) in
+      let cutx : x % 65536 ≡ x = omega arith in
+      let r4 = record r { pc = A + 74; sr = sr4; r12 = x } in
+      let r5 = record r { pc = A + 76; sr = sr4; r12 = x; r14 = x } in
+      goes f st all B Q t 37 (mov r12 r14) refl (omega arith) refl refl r4 d _ refl s4 r5 d.mem (inside t 38 (omega arith))
+      (rw (flags_stay sr4, cutx) refl, refl) (λ s5.
+      double_run 38 refl (omega arith) (record r { sr = sr4; r14 = x }) d x _ (omega arith) s5 (λ sr6 s6.
+      let y = 2 * x in
+      let z : (y % 65536 + x % 65536 + 0) % 65536 ≡ 24 * p = omega arith in
+      let sr7 = flags_after op2.Add (x % 65536) (y % 65536) sr6 in
+      let r6 = record r { pc = A + 78; sr = sr6; r12 = y; r14 = x } in
+      let r7 = record r { pc = A + 80; sr = sr7; r12 = 24 * p; r14 = x } in
+      goes f st all B Q t 39 (add r14 r12) refl (omega arith) refl refl r6 d _ refl s6 r7 d.mem (inside t 40 (omega arith))
+      (rw z refl, refl) (λ s7.
+      last sr7 x s7 ro)))))))
     where
       last : (sr r14 : ℕ) → Safe f all (running f (record r { pc = A + 80; sr = sr; r12 = 24 * p; r14 = r14 }) d) → (cell d.mem (base_of f + 10) ≡ word priv 10) × PrivateWord f (base_of f + 10)
           → R (suc (suc (suc j))) (running f (record r { pc = A + 80; sr = sr; r12 = 24 * p; r14 = r14 }) d)

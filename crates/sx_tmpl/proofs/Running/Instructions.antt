@@ -104,7 +104,7 @@ module _ (f : Fixed) (st : Stands f) (all : List Mark) (B : Watched → Violatio
           absurd (omega (arith, l, spelling_short i))
 
   -- a plan that comes to them meets what a step owes
-  given : (X : Violation → Type 0) (d : Data) (j : ℕ) (r2 : Regs) (m2 : List ℕ) → InText f r2.pc
+  pub given : (X : Violation → Type 0) (d : Data) (j : ℕ) (r2 : Regs) (m2 : List ℕ) → InText f r2.pc
       → (Safe f all (running f r2 (record d { mem = m2 })) → Runs f all B Q j (running f r2 (record d { mem = m2 })))
       → (p : Plan) (m : List ℕ) → Gives f r2 m2 p m → Owes f (Then f st all B Q j d) (NoTell f st all B Q) X p m
   given X d j r2 m2 to after (Done regs) m h = λ kept. (
@@ -125,12 +125,20 @@ module _ (f : Fixed) (st : Stands f) (all : List Mark) (B : Watched → Violatio
   given X d j r2 m2 to after (Bytes at n k) m h = absurd h
   given X d j r2 m2 to after (Put at bs k) m h = absurd h
 
-  -- an instruction that nothing refuses: the registers and the memory that it leaves, what it owes, and what is to follow
+  -- an instruction that nothing refuses, after this event: the registers and the memory that it leaves, what it owes, and what is to follow
+  pub goes_after : (e : Event) {P n : ℕ} {ws : List ℕ} (t : Text f P n ws) (k : ℕ) (i : Instr) → take (length (spelling i)) (drop k ws) ≡ spelling i → k + length (spelling i) ≤ n
+      → is_shaped i ≡ true → is_module_word (first_word i) ≡ false
+      → (r : Regs) (d : Data) (j : ℕ) → r.pc ≡ P + 2 * k → Safe f all (running_after e f r d) → (r2 : Regs) (m2 : List ℕ) → InText f r2.pc
+      → Gives f r2 m2 (row i (at_pc (regs16 f r) (P + 2 * (k + 1))) (P + 2 * (k + length (spelling i)))) d.mem
+      → (Safe f all (running f r2 (record d { mem = m2 })) → Runs f all B Q j (running f r2 (record d { mem = m2 }))) → Runs f all B Q (suc j) (running_after e f r d)
+  goes_after e {P = P} t k i stands fits shaped plain r d j pc safe r2 m2 to gives after =
+      step t k i stands fits shaped plain e r d j pc safe
+      (given (B (running_after e f r d)) d j r2 m2 to after (row i (at_pc (regs16 f r) (P + 2 * (k + 1))) (P + 2 * (k + length (spelling i)))) d.mem gives)
+
+  -- the same after a step that told nothing
   pub goes : {P n : ℕ} {ws : List ℕ} (t : Text f P n ws) (k : ℕ) (i : Instr) → take (length (spelling i)) (drop k ws) ≡ spelling i → k + length (spelling i) ≤ n
       → is_shaped i ≡ true → is_module_word (first_word i) ≡ false
       → (r : Regs) (d : Data) (j : ℕ) → r.pc ≡ P + 2 * k → Safe f all (running f r d) → (r2 : Regs) (m2 : List ℕ) → InText f r2.pc
       → Gives f r2 m2 (row i (at_pc (regs16 f r) (P + 2 * (k + 1))) (P + 2 * (k + length (spelling i)))) d.mem
       → (Safe f all (running f r2 (record d { mem = m2 })) → Runs f all B Q j (running f r2 (record d { mem = m2 }))) → Runs f all B Q (suc j) (running f r d)
-  goes {P = P} t k i stands fits shaped plain r d j pc safe r2 m2 to gives after =
-      step t k i stands fits shaped plain event.Quiet r d j pc safe
-      (given (B (running f r d)) d j r2 m2 to after (row i (at_pc (regs16 f r) (P + 2 * (k + 1))) (P + 2 * (k + length (spelling i)))) d.mem gives)
+  goes t k i stands fits shaped plain r d j pc safe r2 m2 to gives after = goes_after event.Quiet t k i stands fits shaped plain r d j pc safe r2 m2 to gives after
