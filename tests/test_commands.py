@@ -54,9 +54,10 @@ class Help(unittest.TestCase):
         script = f"""source {TOP}/share/bash-completion/sancus
         COMP_WORDS=(sancus dr); COMP_CWORD=1; _sancus; echo "${{COMPREPLY[@]}}"
         COMP_WORDS=(sancus drive --sch); COMP_CWORD=2; _sancus; echo "${{COMPREPLY[@]}}"
-        COMP_WORDS=(sancus help ex); COMP_CWORD=2; _sancus; echo "${{COMPREPLY[@]}}" """
+        COMP_WORDS=(sancus help ex); COMP_CWORD=2; _sancus; echo "${{COMPREPLY[@]}}"
+        COMP_WORDS=(sancus hex image x --format ""); COMP_CWORD=5; _sancus; echo "${{COMPREPLY[@]}}" """
         ran = subprocess.run(["bash", "-c", script], capture_output=True, text=True)
-        self.assertEqual(ran.stdout.split("\n")[:3], ["drive", "--schedule", "explain"], ran.stderr)
+        self.assertEqual(ran.stdout.split("\n")[:4], ["drive", "--schedule", "explain", "ti hex"], ran.stderr)
 
 
 class NoCommand(Room):
