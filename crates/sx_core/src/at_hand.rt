@@ -13,7 +13,7 @@ ghost use Rattle.sx_isa.specs.declared.instruction.Operand.TheVariants.{Immediat
 ghost use Rattle.sx_alu.specs.Table.{limit};
 ghost use Rattle.sx_alu.specs.Widths.{has_width};
 ghost use Rattle.sx_machine.specs.Plan.{Done, Store};
-ghost use Rattle.sx_machine.specs.Registers.{at_pc, onward};
+ghost use Rattle.sx_machine.specs.Registers.{at_pc};
 ghost use Rattle.sx_machine.specs.Rows.{two, one, onto, on_memory, into_register, in_place, pushed};
 ghost use Rattle.sx_executor.specs.Machine.{RunsPlan, Loads};
 ghost use Rattle.sx_core.specs.Quickly.{RunsQuietly, EndsStep};
@@ -267,7 +267,7 @@ pub fn move_byte<B: Bus>(
 }
 
 /// An operation on words from memory at a register, which goes on, onto memory at a register plus
-/// `x`, of the instruction at `pc`.
+/// `x`.
 #[inline(always)]
 pub fn increment_onto_indexed<B: Bus>(
     executor: &mut Executor<B>,
@@ -275,13 +275,14 @@ pub fn increment_onto_indexed<B: Bus>(
     src: u8,
     base: u8,
     x: u16,
-    pc: u16,
+    after: u16,
+    next: u16,
 ) -> Stepped
-    ensures { EndsStep (two op true (Increment src) (Indexed base x)
-        (at_pc executor.old.regs (onward pc 2)) (onward pc 4)) executor.old result executor.new }
+    ensures { EndsStep
+        (two op true (Increment src) (Indexed base x) (at_pc executor.old.regs after) next)
+        executor.old result executor.new }
 {
-    let next = pc.wrapping_add(4);
-    executor.set_pc(pc.wrapping_add(2));
+    executor.set_pc(after);
     let from = executor.register(src);
     let Some(value) = load_at_hand(executor, true, from) else {
         let (from, to) = (Operand::Increment(src), Operand::Indexed(base, x));

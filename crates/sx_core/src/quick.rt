@@ -287,8 +287,13 @@ fn without_extension<B: Bus>(executor: &mut Executor<B>, form: Single, next: u16
 }
 
 /// One with the extension word `x`, at `pc`.
-#[inline(always)]
-fn with_extension<B: Bus>(executor: &mut Executor<B>, form: Double, x: u16, pc: u16) -> Stepped
+#[inline]
+fn with_extension<B: Bus, const CALLER: u8>(
+    executor: &mut Executor<B>,
+    form: Double,
+    x: u16,
+    pc: u16,
+) -> Stepped
     ensures { EndsStep (row (extended (double_of form) x 0)
         (at_pc executor.old.regs (onward pc 2)) (onward pc 4)) executor.old result executor.new }
 {
@@ -317,6 +322,9 @@ fn with_extension<B: Bus>(executor: &mut Executor<B>, form: Double, x: u16, pc: 
             src,
             base,
         } => move_byte(executor, src, base, x, after, next),
+        Double::IncrementOntoIndexed { op, src, base } => {
+            increment_onto_indexed(executor, op, src, base, x, after, next)
+        }
         Double::OnImmediate { op: Op1::Call } => call_immediate(executor, x, after, next),
         Double::OnAbsolute { op: Op1::Push } => push_absolute(executor, x, after, next),
         _ => Stepped::Answered(step_double(executor, form, x, after, next)),
@@ -362,12 +370,7 @@ pub fn step_quick<B: Bus, const CALLER: u8>(executor: &mut Executor<B>, first: u
         },
         Form::Single(form) => without_extension(executor, form, next),
         Form::Double(form) => match fetch_second(executor, shortcut, pc) {
-            Ok(x) => match form {
-                Double::IncrementOntoIndexed { op, src, base } => {
-                    increment_onto_indexed(executor, op, src, base, x, pc)
-                }
-                _ => with_extension(executor, form, x, pc),
-            },
+            Ok(x) => with_extension::<B, CALLER>(executor, form, x, pc),
             Err(violation) => Stepped::Answered(Err(violation)),
         },
     }
