@@ -10,6 +10,7 @@
 
 mod access;
 mod attest;
+mod cached_tag;
 mod event;
 mod identity;
 mod inputs;
@@ -18,5 +19,6 @@ mod step;
 mod text;
 mod wrapping;
 
+pub use cached_tag::CachedTag;
 pub use event::SancusEvent;
 pub use step::step_sancus;

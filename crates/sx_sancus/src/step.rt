@@ -6,6 +6,7 @@ ghost use Rattle.sx_machine.specs.Modules.{is_code, module_instruction};
 ghost use Rattle.sx_sancus.specs.Told.{given_by, ran_of, Concludes};
 
 use crate::attest::attest;
+use crate::cached_tag::CachedTag;
 use crate::event::SancusEvent;
 use crate::protect::{protect, unprotect};
 use crate::wrapping::{unwrap, wrap};
@@ -21,7 +22,7 @@ fn run_plan<B: Bus, T: Tag>(
     executor: &mut Executor<B>,
     code: u8,
     caller: u16,
-    tag: &T,
+    tag: &mut CachedTag<T>,
     exchange: &mut Exchange,
 ) -> Result<SancusEvent, Violation>
     ensures { (base : List ℕ)
@@ -56,7 +57,7 @@ pub fn step_sancus<B: Bus, T: Tag>(
     executor: &mut Executor<B>,
     code: u8,
     caller: u16,
-    tag: &T,
+    tag: &mut CachedTag<T>,
     base: &[u8; 16],
     exchange: &mut Exchange,
 ) -> Result<SancusEvent, Violation>
