@@ -82,10 +82,11 @@ def read_lines(files: List[str], context: Context) -> Lines:
     parts = joined(files, context.voice) if len(files) > 1 else [file_part(files[0])]
     kept, data = gathered(parts)
     if not data.has_mark:
+        name, file = ("the input", "DEPLOYMENT") if files[0] == "-" else (files[0], files[0])
         raise Ended(
             BAD_TEXT,
-            f"{files[0]} has no line %%, so there are no lines: `sancus schedule {files[0]} LINES` takes them from a "
-            "file of their own",
+            f"{name} has no line %%, so there are no lines: `sancus schedule {file} LINES` takes them from a file of "
+            "their own",
         )
     return lines_of(kept, data)
 
