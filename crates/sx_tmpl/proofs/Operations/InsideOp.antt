@@ -2,7 +2,7 @@
 use Rattle.sx_tmpl.specs.Template as templates
 use Rattle.sx_isa.specs.Assembly.{##◌, &◌, ahead, cmp, jc, jnc, mov, r12}
 use Rattle.sx_tmpl.proofs.Running.Instructions.{goes}
-use Rattle.std.proofs.Common.{◌≡◌, ℕ, suc, ◌+◌, ◌*◌, ◌%◌, ◌<◌, ◌≤◌, inl, inr, Bool, true, false, cond, nat_le, cond, nat_le, List, Some, refl, sym, ◌∙◌, ap, subst, arith}
+use Rattle.std.proofs.Common.{◌≡◌, ℕ, suc, ◌+◌, ◌*◌, ◌%◌, ◌<◌, ◌≤◌, inl, inr, Bool, true, false, cond, nat_le, cond, nat_le, List, Some, refl, sym, ◌∙◌, subst, arith}
 use Rattle.sx_reach.specs.Reach.{Here, Goes, Stops, Ends}
 use Rattle.sx_isa.specs.declared.instruction.Op2.TheVariants as op2
 use Rattle.sx_rules.specs.declared.access.Violation.{Violation}
@@ -18,8 +18,8 @@ use Rattle.sx_machine.specs.Rows.{program}
 use Rattle.sx_machine.specs.Step.{start, attempt}
 use Rattle.sx_isa.specs.Reading.{length_of, instruction_at}
 use Rattle.sx_image.specs.Watched.{watch, Watched}
-use Rattle.sx_tmpl.specs.Running.{sections_of, Regs, regs16, Fixed, Data, running, Safe, cell}
-use Rattle.sx_tmpl.proofs.Running.Steps.{text_word, tests_passed, plain_instruction, step_shown, Text}
+use Rattle.sx_tmpl.specs.Running.{sections_of, Regs, regs16, Fixed, Data, running, Safe}
+use Rattle.sx_tmpl.proofs.Running.Steps.{Text, plain_instruction, reached, step_shown, tests_passed}
 use Rattle.sx_tmpl.specs.Unseen.{PlanShowsNone}
 use Rattle.sx_ir.specs.Conf.{Violates, Conf}
 use Rattle.sx_ir.specs.Meaning.{saved, next}
@@ -44,17 +44,11 @@ module _ (f : Fixed) (st : Stands f) (all : List Mark) (B : Watched → Violatio
   pub illegal_step : {P n : ℕ} {ws : List ℕ} (t : Text f P n ws) (k : ℕ) → slice_get ws k ≡ Some 0 → k + 1 ≤ n → (r : Regs) (d : Data) (j : ℕ) → r.pc ≡ P + 2 * k → Safe f all (running f r d)
       → B (running f r d) bad.Illegal → Runs f all B Q (suc j) (running f r d)
   unfolding watch
-  illegal_step {P = P} t k has le r d j pc safe b =
-      let low = t.from in
-      let high = t.to in
-      let ev_ = t.is_even in
-      let here : f.setup.section.layout.pub_from ≤ r.pc = omega arith in
-      let ends : r.pc + 1 < f.setup.section.layout.pub_to = omega arith in
-      let ev : r.pc % 2 ≡ 0 = omega arith in
-      let i0 : cell d.mem r.pc ≡ 0 = text_word f st all B Q d.mem r.pc 0 safe.memory here ends (ap (cell f.entered) pc ∙ t.word k 0 has) in
-      let at_ : attempt f.setup.mac (running f r d).node ≡ Violated bad.Illegal = tests_passed f st all B Q event.Quiet r d safe here ends ev
-      ∙ plain_instruction f st all B Q event.Quiet r d 0 here ends ev i0 refl ∙ illegal_program (regs16 f r) (start (running f r d).node) in
-      Ends (safe, step_shown f st all B Q (running f r d) 0 ev i0 refl (illegal_shown (regs16 f r) (start (running f r d).node))) (rw at_ refl) (omega arith) b
+  illegal_step t k has le r d j pc safe b =
+      let x = reached f st all B Q t k 0 has le r d.mem pc safe.memory in
+      let at_ : attempt f.setup.mac (running f r d).node ≡ Violated bad.Illegal = tests_passed f st all B Q event.Quiet r d safe x.here x.ends x.is_even
+      ∙ plain_instruction f st all B Q event.Quiet r d 0 x.here x.ends x.is_even x.is refl ∙ illegal_program (regs16 f r) (start (running f r d).node) in
+      Ends (safe, step_shown f st all B Q (running f r d) 0 x.is_even x.is refl (illegal_shown (regs16 f r) (start (running f r d).node))) (rw at_ refl) (omega arith) b
 
 abbrev pub inside_words : Fixed → List ℕ
 inside_words f = templates.inside_words (base_of f + 12) f.setup.section.layout.pub_from f.setup.section.layout.pub_to

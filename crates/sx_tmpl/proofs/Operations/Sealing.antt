@@ -31,7 +31,7 @@ use Rattle.sx_machine.specs.State.{State}
 use Rattle.sx_invoke.specs.Marks as mark
 use Rattle.sx_invoke.specs.Marks.{Mark, HasPrefix}
 use Rattle.sx_image.specs.Watched.{Watched, watch, violation_of, marks_of_event}
-use Rattle.sx_tmpl.specs.Running.{Regs, regs16, Fixed, Data, sections_of, running_after, Safe, cell}
+use Rattle.sx_tmpl.specs.Running.{Regs, regs16, Fixed, Data, sections_of, running_after, Safe}
 use Rattle.sx_tmpl.proofs.Running.MidRun.{Stands, Runs, PrivateRange}
 use Rattle.sx_tmpl.proofs.Running.Owned.{own_found, run_holder, in_private_yes}
 use Rattle.sx_tmpl.proofs.Running.Owes.{OwesSeal, Met, seal_met}
@@ -40,7 +40,7 @@ use Rattle.sx_tmpl.specs.Unseen.{AreShown, StepShowsNone, WasOpen, WordShowsNone
 use Rattle.sx_mean.specs.Offsets.{end_key_at}
 use Rattle.sx_mean.specs.Working.{plain_at}
 use Rattle.sx_tmpl.proofs.Running.Mem.{word_is}
-use Rattle.sx_tmpl.proofs.Running.Steps.{Text, InText, text_word, tests_passed, by_outcome}
+use Rattle.sx_tmpl.proofs.Running.Steps.{InText, Text, by_outcome, reached, tests_passed}
 use Rattle.sx_machine.proofs.Lengths.{length-bytes_from}
 
 -- no device's word meets bytes that lie on none
@@ -215,17 +215,11 @@ module _ (f : Fixed) (st : Stands f) (all : List Mark) (B : Watched → Violatio
       → ((a : State) → at_word f st all B Q w a ≡ exec a.sections (own_of a) (module_row f.setup.mac code (given_at_pc f.setup.mac a)) (start a))
       → attempt f.setup.mac (running_after e f r d).node ≡ exec (sections_of f) f.setup.section.id (module_row f.setup.mac code (given_own f st all B Q e r d)) (start (running_after e f r d).node)
   module_fetched {P = P} {n = n} t k w code has fits e r d pc safe row =
-      let low = t.from in
-      let high = t.to in
-      let even = t.is_even in
-      let here : f.setup.section.layout.pub_from ≤ r.pc = omega arith in
-      let ends : r.pc + 1 < f.setup.section.layout.pub_to = omega arith in
-      let ev : r.pc % 2 ≡ 0 = omega arith in
+      let x = reached f st all B Q t k w has fits r d.mem pc safe.memory in
       let a = (running_after e f r d).node in
-      let is : cell d.mem r.pc ≡ w = text_word f st all B Q d.mem r.pc w safe.memory here ends (ap (cell f.entered) pc ∙ t.word k w has) in
-      let e1 : word d.mem r.pc ≡ w = word_is d.mem r.pc ev ∙ is in
-      let own : own_of a ≡ f.setup.section.id = run_holder f st r.pc here (omega arith) in
-      tests_passed f st all B Q e r d safe here ends ev ∙ ap (λ w. at_word f st all B Q w a) e1 ∙ row a
+      let e1 : word d.mem r.pc ≡ w = word_is d.mem r.pc x.is_even ∙ x.is in
+      let own : own_of a ≡ f.setup.section.id = run_holder f st r.pc x.here (omega (arith, x.ends)) in
+      tests_passed f st all B Q e r d safe x.here x.ends x.is_even ∙ ap (λ w. at_word f st all B Q w a) e1 ∙ row a
       ∙ ap (λ o. exec (sections_of f) o (module_row f.setup.mac code (record (given_at_pc f.setup.mac a) { own = o })) (start a)) own
 
   -- what it shows
@@ -233,15 +227,9 @@ module _ (f : Fixed) (st : Stands f) (all : List Mark) (B : Watched → Violatio
       → Safe f all (running_after e f r d) → is_module_word w ≡ true → (w ≡ 0x1384) ⊎ (w ≡ 0x1385) → Buffers f r → KeyAt f r d key → (w ≡ 0x1384 → r.r9 ≡ 0 → r.r13 ≡ 0) → (w ≡ 0x1385 → AreShown f.setup r.r15 16) → (w ≡ 0x1385 → r.r9 ≡ 0 → (r.r14 ≡ base_of f + plain_at) × (r.r13 ≤ 16))
       → StepShowsNone f.setup f.entered (running_after e f r d)
   seal_shown t k w has fits e r d key pc safe module_ seals bs key_at bodiless_ tag opened_ =
-      let low = t.from in
-      let high = t.to in
-      let even = t.is_even in
-      let here : f.setup.section.layout.pub_from ≤ r.pc = omega arith in
-      let ends : r.pc + 1 < f.setup.section.layout.pub_to = omega arith in
-      let ev : r.pc % 2 ≡ 0 = omega arith in
+      let x = reached f st all B Q t k w has fits r d.mem pc safe.memory in
       let a = running_after e f r d in
-      let is : cell d.mem r.pc ≡ w = text_word f st all B Q d.mem r.pc w safe.memory here ends (ap (cell f.entered) pc ∙ t.word k w has) in
-      let e1 : word d.mem r.pc ≡ w = word_is d.mem r.pc ev ∙ is in
+      let e1 : word d.mem r.pc ≡ w = word_is d.mem r.pc x.is_even ∙ x.is in
       subst (λ (z : ℕ). WordShowsNone f.setup f.entered a z (is_module_word z)) (sym e1) (subst (λ b. WordShowsNone f.setup f.entered a w b) (sym module_)
       (record { seals = seals; key = key_in key_at; header = bs.header_shown; text = bs.text_shown; bodiless = bodiless_; tag = tag; opened = opened_ }))
     where
