@@ -42,7 +42,7 @@ impl<B: Copied, T: Tag + Copy> Node<B, T> {
             boot: self.boot,
             key: self.key,
             exchange: self.exchange,
-            tag: self.tag.copied(),
+            tag: self.tag,
         })
     }
 }

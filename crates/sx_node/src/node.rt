@@ -11,7 +11,6 @@ use sx_bus::{Bus, Windows};
 use sx_executor::Executor;
 use sx_machine::Exchange;
 use sx_rules::Section;
-use sx_sancus::CachedTag;
 use sx_tag::Tag;
 
 /// A node over any memory and any tag.
@@ -24,7 +23,7 @@ pub struct Node<B: Bus, T: Tag> {
     pub(crate) boot: u32,
     pub(crate) key: [u8; 16],
     pub(crate) exchange: Exchange,
-    pub(crate) tag: CachedTag<T>,
+    pub(crate) tag: T,
 }
 
 impl<B: Bus, T: Tag> Model for Node<B, T> {
@@ -82,7 +81,7 @@ impl<B: Bus, T: Tag> Node<B, T> {
             boot: 0,
             key,
             exchange: no_exchange(),
-            tag: CachedTag::new(tag, &key),
+            tag,
         }
     }
 

@@ -26,7 +26,7 @@ use sx_executor::Executor;
 use sx_executor::registers::PC;
 use sx_machine::{Event, Exchange, Seen, Touch};
 use sx_rules::Violation;
-use sx_sancus::{CachedTag, SancusEvent, step_sancus};
+use sx_sancus::{SancusEvent, step_sancus};
 use sx_tag::{Tag, boot_key};
 
 /// The module instructions are the eight words from here on, but one.
@@ -92,7 +92,7 @@ fn execute<B: Bus, T: Tag>(
     executor: &mut Executor<B>,
     code: u8,
     caller: u16,
-    tag: &mut CachedTag<T>,
+    tag: &T,
     key: &[u8; 16],
     boot: u32,
     exchange: &mut Exchange,
@@ -186,7 +186,7 @@ impl<B: Bus, T: Tag> Node<B, T> {
             &mut self.executor,
             code,
             caller,
-            &mut self.tag,
+            &self.tag,
             &self.key,
             self.boot,
             &mut self.exchange,

@@ -10,7 +10,6 @@
 
 mod access;
 mod attest;
-mod cached_tag;
 mod event;
 mod identity;
 mod inputs;
@@ -19,6 +18,5 @@ mod step;
 mod text;
 mod wrapping;
 
-pub use cached_tag::CachedTag;
 pub use event::SancusEvent;
 pub use step::step_sancus;

@@ -6,7 +6,6 @@ ghost use Rattle.sx_machine.specs.Modules.{is_code, module_instruction};
 ghost use Rattle.sx_sancus.specs.Told.{given_by, ran_of, Concludes};
 
 use crate::attest::attest;
-use crate::cached_tag::CachedTag;
 use crate::event::SancusEvent;
 use crate::protect::{protect, unprotect};
 use crate::wrapping::{unwrap, wrap};
@@ -22,7 +21,7 @@ fn run_plan<B: Bus, T: Tag>(
     executor: &mut Executor<B>,
     code: u8,
     caller: u16,
-    tag: &mut CachedTag<T>,
+    tag: &T,
     exchange: &mut Exchange,
 ) -> Result<SancusEvent, Violation>
     ensures { (base : List ℕ)
@@ -57,7 +56,7 @@ pub fn step_sancus<B: Bus, T: Tag>(
     executor: &mut Executor<B>,
     code: u8,
     caller: u16,
-    tag: &mut CachedTag<T>,
+    tag: &T,
     base: &[u8; 16],
     exchange: &mut Exchange,
 ) -> Result<SancusEvent, Violation>

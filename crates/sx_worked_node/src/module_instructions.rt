@@ -10,7 +10,7 @@ use sx_bus::{FlatBus, Kind, Windows};
 use sx_executor::Executor;
 use sx_machine::Exchange;
 use sx_rules::{Layout, Violation};
-use sx_sancus::{CachedTag, SancusEvent, step_sancus};
+use sx_sancus::{SancusEvent, step_sancus};
 use sx_tag::Weak;
 
 const OWN: Layout = Layout {
@@ -88,7 +88,7 @@ impl Parts {
             &mut self.executor,
             code,
             CALLER,
-            &mut CachedTag::new(Weak, &[0; 16]),
+            &Weak,
             &[0; 16],
             &mut self.exchange,
         )
