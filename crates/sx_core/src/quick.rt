@@ -28,7 +28,7 @@ use crate::at_hand::{
 use crate::forms::{step_double, step_single};
 use crate::jump::jump_quietly;
 use crate::step::step_long;
-use crate::two_operands::{computed_as, on_memory, reads, writes};
+use crate::two_operands::{calculated, calculation_of, computed_as, on_memory, writes};
 use sx_alu::StatusBits;
 use sx_bus::Bus;
 use sx_executor::registers::{PC, cut};
@@ -136,20 +136,17 @@ fn on_word_at_hand<B: Bus>(executor: &mut Executor<B>, op: Op2, at: u16, src: u1
     ensures { RunsQuietly (on_memory op true at src executor.old.regs) executor.old executor.new }
 {
     let flags = executor.flags();
-    if reads(op) {
-        let dst = executor.read(true, at);
-        let value = computed_as::<true>(op, src, dst, flags);
-        if writes(op) {
-            executor.write(true, at, value.0);
-        }
-        executor.set_flags(value.1);
-    } else {
-        let value = computed_as::<true>(op, src, 0, flags);
-        if writes(op) {
-            executor.write(true, at, value.0);
-        }
-        executor.set_flags(value.1);
+    let Some(kind) = calculation_of(op) else {
+        executor.write(true, at, src);
+        executor.set_flags(flags);
+        return;
+    };
+    let dst = executor.read(true, at);
+    let value = calculated(kind, true, src, dst, flags);
+    if writes(op) {
+        executor.write(true, at, value.0);
     }
+    executor.set_flags(value.1);
 }
 
 /// An operation on a word of memory.

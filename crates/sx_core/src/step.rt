@@ -115,7 +115,8 @@ fn step_anew<B: Bus>(executor: &mut Executor<B>, first: u16) -> Result<(), Viola
 }
 
 /// Executes the instruction at PC with this first word, where no shortcut of it is kept for PC. Its
-/// code stays out of the way of what most steps do.
+/// code stays out of the way of what most steps do, and the compiler takes those for likely.
+#[cold]
 #[inline(never)]
 pub fn step_long<B: Bus>(executor: &mut Executor<B>, first: u16) -> Result<(), Violation>
     ensures { RunsPlan (program first executor.old.regs) executor.old result executor.new }

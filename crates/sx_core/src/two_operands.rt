@@ -1,6 +1,6 @@
 //! Instructions with two operands.
 
-ghost use Rattle.std.specs.Prelude.{◌≡◌, ◌<◌, ℕ, Bool, IsTrue, IfSome, MatchOption};
+ghost use Rattle.std.specs.Prelude.{◌≡◌, ◌<◌, ℕ, Bool, true, false, IsTrue, IfSome, MatchOption};
 ghost use Rattle.sx_alu.specs.declared.flags.Flags.{Flags};
 ghost use Rattle.sx_alu.specs.Table.{limit, row};
 ghost use Rattle.sx_alu.specs.Widths.{has_width};
@@ -35,12 +35,14 @@ pub fn calculated(
 
 /// The calculation that an operation makes; MOV makes none.
 #[inline(always)]
-fn calculation_of(op: Op2) -> Option<Calc>
+pub fn calculation_of(op: Op2) -> Option<Calc>
     ensures row { MatchOption result
         ((wide : Bool) → (s d : ℕ) → (f : Flags) → computed op wide s d f ≡ (s, f))
         (λ kind. (wide : Bool) → (s d : ℕ) → (f : Flags)
         → computed op wide s d f ≡ row kind wide s d f) }
     ensures width { IfSome result (λ kind. (wide : Bool) → IsTrue (has_width kind wide)) }
+    ensures reads { MatchOption result ((reads op ≡ false) × (writes op ≡ true))
+        (λ kind. reads op ≡ true) }
 {
     match op {
         Op2::Mov => None,
