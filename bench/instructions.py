@@ -1,20 +1,25 @@
 #!/usr/bin/env python3
-"""The processor's instructions of `sancus check` and `run` on the largest deployment and of two runs, and their allocations.
+"""The processor's instructions of whole commands, and their allocations.
 
 Clocks differ from machine to machine and from run to run; these counts don't, so work that nobody needs shows as a
 few lines of difference. valgrind counts: callgrind the instructions, and memcheck's summary the allocations.
 
     bench/instructions.py            counts, and compares with the figures in bench/instructions.json
     bench/instructions.py --store    counts, and writes these figures
-    bench/instructions.py --print check|images|steps|events    writes the input alone
+    bench/instructions.py --long     the same for long inputs, instructions alone; takes some ten minutes
+    bench/instructions.py --print CASE    writes the input of a case alone
 
-Ends with status 1 where a count differs by more than one part in a hundred from its figure, or has none. The program
+The cases: `check` and `images` of the largest deployment, `steps` of code outside modules, `events` that are carried from
+the sensor to the bulb, `gen` of 1,000 samples, `lighting`, which is examples/lighting.txt, and `explain` of a trace of
+80,033 items; the long ones: `long`, a run of 64,026 lines, and `snap`, 64 queries about its lines.
+
+Ends with status 1 if a count differs by more than one part in a hundred from its figure, or has none. The program
 must be built (`./sancus build`). Not a part of the gate.
 """
 import json, os, re, subprocess, sys, tempfile
 
 HERE = os.path.dirname(os.path.abspath(__file__))
-PROGRAM = os.path.join(HERE, "..", "crates", "sancus_run", "out", "sancus_run")
+PROGRAM = os.environ.get("PROGRAM") or os.path.join(HERE, "..", "crates", "sancus_run", "out", "sancus_run")
 FIGURES = os.path.join(HERE, "instructions.json")
 TOLERANCE = 0.01
 
@@ -75,31 +80,56 @@ def steps():
     return schedule
 
 
-def events():
-    """The lighting application with its keys set, and 500 samples that are carried to the bulb."""
+def lighting():
+    """The lines of the lighting application."""
     with open(os.path.join(HERE, "..", "examples", "lighting.txt"), encoding="utf-8") as file:
-        lines = [line for line in file.read().split("\n") if not line.startswith("#")]
+        return [line for line in file.read().split("\n") if line and not line.startswith("#")]
+
+
+def events(samples):
+    """The lighting application with its keys set, and so many samples that are carried to the bulb."""
+    lines = lighting()
     lines = lines[:lines.index("sense light 120")]
-    for k in range(500):
+    for k in range(samples):
         lines += [f"sense light {k}", "call eye 3 0x300 0x400", "take a 0x400 24", f"give {10 + 2 * k} a 0x300",
                   "call logic 2 0x300 0x400", "take a 0x400 24", f"give {11 + 2 * k} b 0x300", "call lamp 2 0x300 0x400"]
     return lines
 
 
+def traced(schedule):
+    """What `explain` reads: a deployment, and the trace of this schedule's run."""
+    ran = subprocess.run([PROGRAM, "run"], input=joined(schedule), stdout=subprocess.PIPE, check=True).stdout.decode()
+    lines = ran.splitlines()
+    return schedule[:schedule.index("%%") + 1] + lines[lines.index("trace"):]
+
+
 def inputs():
-    """The command of each case, and its input. `images` compiles the largest deployment and runs nothing."""
+    """The words of each case's command, and its input. `images` compiles the largest deployment and runs nothing."""
     largest = deployment() + ["%%"]
-    return {"check": ("check", largest), "images": ("run", largest), "steps": ("run", steps()), "events": ("run", events())}
+    return {"check": (["check"], largest), "images": (["run"], largest), "steps": (["run"], steps()), "events": (["run"], events(500)),
+            "gen": (["gen", "1000"], []), "lighting": (["run"], lighting()), "explain": (["explain"], traced(events(8000)))}
 
 
-def valgrind(tool, command, text):
+def long_inputs():
+    """The same of what takes long under valgrind."""
+    schedule = events(8000)
+    length = len(schedule) - schedule.index("%%") - 1
+    queries = [f"regs a {length - 100 * k}" for k in range(64)]
+    return {"long": (["run"], schedule), "snap": (["snap"], schedule + ["%%"] + queries)}
+
+
+def joined(lines):
+    return "".join(line + "\n" for line in lines).encode()
+
+
+def valgrind(tool, words, lines):
     """What valgrind says of a call of the program, which must end with status 0."""
     with tempfile.TemporaryDirectory() as folder:
         log = os.path.join(folder, "log")
-        call = ["valgrind", f"--log-file={log}", *tool, PROGRAM, command]
-        ended = subprocess.run(call, input=text, stdout=subprocess.PIPE, cwd=folder)
+        call = ["valgrind", f"--log-file={log}", *tool, PROGRAM, *words]
+        ended = subprocess.run(call, input=joined(lines), stdout=subprocess.PIPE, cwd=folder)
         if ended.returncode != 0:
-            sys.exit(f"{command}: status {ended.returncode}, {ended.stdout[-200:]!r}")
+            sys.exit(f"{words[0]}: status {ended.returncode}, {ended.stdout[-200:]!r}")
         with open(log, encoding="utf-8") as file:
             return file.read()
 
@@ -108,11 +138,13 @@ def counted(pattern, log):
     return int(re.search(pattern, log).group(1).replace(",", ""))
 
 
-def counts(command, lines):
-    text = ("\n".join(lines) + "\n").encode()
-    ran = valgrind(["--tool=callgrind", "--callgrind-out-file=/dev/null"], command, text)
-    heap = valgrind(["--tool=memcheck", "--leak-check=no"], command, text)
-    return {"instructions": counted(r"Collected : ([0-9]+)", ran),
+def instructions(words, lines):
+    return counted(r"Collected : ([0-9]+)", valgrind(["--tool=callgrind", "--callgrind-out-file=/dev/null"], words, lines))
+
+
+def counts(words, lines):
+    heap = valgrind(["--tool=memcheck", "--leak-check=no"], words, lines)
+    return {"instructions": instructions(words, lines),
             "allocations": counted(r"total heap usage: ([0-9,]+) allocs", heap),
             "bytes allocated": counted(r"frees, ([0-9,]+) bytes allocated", heap)}
 
@@ -125,26 +157,32 @@ def compared(found, stored):
             figure = stored.get(case, {}).get(what)
             change = "no figure" if figure is None else f"{(count - figure) / figure:+.2%}"
             near = near and figure is not None and abs(count - figure) <= TOLERANCE * figure
-            print(f"{case:6} {what:16} {count:15,}   {change}")
+            print(f"{case:8} {what:16} {count:15,}   {change}")
     return near
 
 
 def main():
     words = sys.argv[1:]
-    if len(words) == 2 and words[0] == "--print" and words[1] in inputs():
-        print("\n".join(inputs()[words[1]][1]))
-        return
-    if words not in ([], ["--store"]):
+    if len(words) == 2 and words[0] == "--print":
+        cases = inputs() | long_inputs()
+        if words[1] in cases:
+            sys.stdout.write(joined(cases[words[1]][1]).decode())
+            return
+    if words not in ([], ["--store"], ["--long"]):
         sys.exit(__doc__)
-    found = {case: counts(*given) for case, given in inputs().items()}
-    if words:
-        with open(FIGURES, "w", encoding="utf-8") as file:
-            json.dump(found, file, indent=2)
-            file.write("\n")
     stored = {}
     if os.path.exists(FIGURES):
         with open(FIGURES, encoding="utf-8") as file:
             stored = json.load(file)
+    if words == ["--long"]:
+        found = {case: {"instructions": instructions(*given)} for case, given in long_inputs().items()}
+    else:
+        found = {case: counts(*given) for case, given in inputs().items()}
+    if words == ["--store"]:
+        stored |= found
+        with open(FIGURES, "w", encoding="utf-8") as file:
+            json.dump(stored, file, indent=2)
+            file.write("\n")
     if not compared(found, stored):
         sys.exit(1)
 

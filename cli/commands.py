@@ -3,6 +3,7 @@
 from __future__ import annotations
 
 import argparse
+import re
 from dataclasses import dataclass, field
 from typing import Dict, List, NoReturn, Optional, Sequence, Tuple
 
@@ -382,6 +383,9 @@ def options_first(words: Sequence[str], options: Sequence[Option]) -> List[str]:
             if not left:
                 raise Usage(f"{name} takes {by_name[name].value}")
             found.append(left.pop(0))
+        choices, value = by_name[name].choices, found[-1].partition("=")[2] or found[-1]
+        if choices and value not in choices:
+            raise Usage(f"{name} takes {' or '.join(choices)}, and not `{value}`")
     return [*found, "--", *rest] if rest else found
 
 
@@ -395,7 +399,7 @@ def parse(command: Command, words: Sequence[str]) -> Given:
         return Given(command, vars(made.parse_args(ordered)))
     except Usage as error:
         what = error.what.replace("the following arguments are required", "missing")
-        raise Usage(what.replace("unrecognized arguments", "too many arguments"), command) from None
+        raise Usage(re.sub("unrecognized arguments: (-- )?", "too many arguments: ", what), command) from None
 
 
 # --- Help -------------------------------------------------------------------------------------------------------------

@@ -374,9 +374,12 @@ class Teller:
     def trace(self, rule: str, number: int) -> Lines:
         lines = [f"{rule}: {table_words()['trace'][rule]}"]
         line = (self.mark if rule == "E1" else self.trace_start()) + number
-        lines += self.shown(line)
+        text = self.kept.line(line) or b""
+        lines += self.shown(line) if text else []
         if rule == "E1":
-            lines += guesses.of_trace(self.kept.line(line) or b"", bytes(self.kept.first[:4096]))
+            lines += guesses.of_trace(text, bytes(self.kept.first[:4096]))
+        if rule == "E2":
+            lines += guesses.of_item(text, self.plan)
         return lines
 
     def illegal(self, number: int) -> Lines:

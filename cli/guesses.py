@@ -7,6 +7,7 @@ from typing import List, Optional
 
 from cli.acts import ACTS, QUERIES
 from cli.deployment import Plan
+from cli.items import ITEMS
 from cli.language import COMPARED, END, MULTIPLIED, NAMED, NUMBER, SUMMED, UNARY, NotInGrammar
 from cli.say import text_of
 from cli.table import words
@@ -14,10 +15,6 @@ from cli.table import words
 OPERATORS = {*COMPARED, *SUMMED, *MULTIPLIED}
 STATEMENT = {"let", "send", "emit", "if", "repeat", NAMED}
 PEOPLE = ("deploy", "sample", "carry", "windows", "packets", "boots")
-ITEMS = frozenset(
-    "protect reset ask vouch attested denied open take sense read drain out raw done packet forged busy skip "
-    "budget".split()
-)
 
 
 def expected(error: NotInGrammar) -> List[str]:
@@ -131,7 +128,22 @@ def of_act(act: str, line: bytes, command: str, plan: Optional[Plan]) -> List[st
         return [
             "this looks like a reading: `sancus drive` takes those, and `sense DEVICE VALUE` is the line of a schedule"
         ]
-    return [f"the acts: {' '.join(ACTS)}{near(act, list(ACTS))}"]
+    acts = f"the acts: {' '.join(ACTS)}"
+    if command == "schedule":
+        return [f"lines for people: {' '.join(PEOPLE)}; {acts}{near(act, [*PEOPLE, *ACTS])}"]
+    return [f"{acts}{near(act, list(ACTS))}"]
+
+
+def of_item(line: bytes, plan: Optional[Plan]) -> List[str]:
+    """Why a line is no item: its first word, or a name that the deployment doesn't have."""
+    words = text_of(line).split(" ")
+    if words[0] not in ITEMS:
+        return [f"the items: {' '.join(ITEMS)}"]
+    for kind, name in zip(ITEMS[words[0]], words[1:]):
+        is_name = kind in ("node", "device", "module", "connection") and name not in ("-", "deployer")
+        if is_name and plan and not plan.named(kind, name):
+            return [f"the deployment has no {kind} `{name}`: is this the trace of another deployment?"]
+    return []
 
 
 def of_trace(line: bytes, first: bytes) -> List[str]:

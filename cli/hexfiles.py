@@ -132,6 +132,8 @@ def joined(pieces: List[Piece]) -> List[Piece]:
 def read(name: str) -> Code:
     """The code of a file, whose format its content tells."""
     data = read_all(name, 1 << 26)
+    if not data:
+        raise Bad("the file is empty")
     if data[:4] == b"\x7fELF":
         made = elf(data)
     else:
@@ -231,6 +233,8 @@ def image(context: Context, given: Given, name: str) -> None:
     data = Input(read_all(name))
     bounds = {it[1]: int(it[2], 16) for it in MODULE.finditer(asked(context, "check", data.head))}
     images = {it[1]: bytes.fromhex(it[2]) for it in IMAGE.finditer(asked(context, "run", data.head))}
+    if not bounds:
+        raise Bad("the deployment has no module, so there is no image")
     plan = plan_of(data.head)
     form, ending = FORMATS[given.text("format") or "ti"]
     folder = Path(given.text("to") or ".")

@@ -200,9 +200,12 @@ def taken_apart(call: Sequence[str]) -> Given:
     if "--help" in options or "-h" in options:
         return Given(BY_NAME["help"])
     if not left:
-        known = [it.name for it in EVERYWHERE] + ["--version"]
-        unknown = f"there is no option {options[0]}{commands.did_you_mean(options[0], known)}" if options else ""
-        raise Usage(unknown or "a command is missing")
+        known = [name for it in EVERYWHERE for name in (it.name, it.short) if name] + ["--version", "-V"]
+        named = [it for at, it in enumerate(options) if at == 0 or options[at - 1] != "--program"]
+        unknown = next((it for it in named if it.partition("=")[0] not in known), None)
+        if unknown:
+            raise Usage(f"there is no option {unknown}{commands.did_you_mean(unknown, known)}")
+        raise Usage("a command is missing")
     return commands.parse(known_command(left[0]), [*options, *left[1:]])
 
 

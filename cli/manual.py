@@ -92,12 +92,14 @@ def options_of(command: Command) -> str:
 
 
 def completion() -> str:
-    """Commands first, then options after a dash, names of commands for `help`, and else files."""
+    """Commands first, then options after a dash, what an option takes, names of commands for `help`, and else files."""
     cases = "\n".join(f"    {command.name}) options='{options_of(command)}' ;;" for command in COMMANDS)
+    taken = {option.name: " ".join(option.choices) for it in COMMANDS for option in it.options if option.choices}
+    choices = "\n".join(f"    {name}) choices='{words}' ;;" for name, words in taken.items())
     names = " ".join(it.name for it in COMMANDS)
     return f"""# Completion for bash: source this file. Made by `sancus help --completion`.
 _sancus() {{
-  local word options current=${{COMP_WORDS[COMP_CWORD]}}
+  local word options choices='' current=${{COMP_WORDS[COMP_CWORD]}}
   local names='{names}'
   word=${{COMP_WORDS[1]}}
   if [[ $COMP_CWORD -eq 1 ]]; then
@@ -108,7 +110,12 @@ _sancus() {{
 {cases}
     *) options='' ;;
   esac
-  if [[ $current == -* ]]; then
+  case ${{COMP_WORDS[COMP_CWORD - 1]}} in
+{choices}
+  esac
+  if [[ $choices ]]; then
+    mapfile -t COMPREPLY < <(compgen -W "$choices" -- "$current")
+  elif [[ $current == -* ]]; then
     mapfile -t COMPREPLY < <(compgen -W "$options" -- "$current")
   elif [[ $word == help ]]; then
     mapfile -t COMPREPLY < <(compgen -W "$names" -- "$current")

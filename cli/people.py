@@ -9,13 +9,14 @@ from cli.acts import is_act
 from cli.context import Context
 from cli.deployment import plan_of
 from cli.faults import Teller
+from cli.guesses import PEOPLE
 from cli.joining import joined
 from cli.marks import CannotMark, marked_lines, marked_run
 from cli.output import print_lines, write
 from cli.program import Program
 from cli.running import gathered, parts_of
 from cli.say import text_of
-from cli.schedule import PEOPLE, Mistake, Writer
+from cli.schedule import Mistake, Writer
 from cli.session import Stopped, start
 from cli.status import BAD_TEXT, Ended
 from cli.texts import Input, Kept, file_part, kept_of
@@ -81,10 +82,11 @@ def read_lines(files: List[str], context: Context) -> Lines:
     parts = joined(files, context.voice) if len(files) > 1 else [file_part(files[0])]
     kept, data = gathered(parts)
     if not data.has_mark:
+        name, file = ("the input", "DEPLOYMENT") if files[0] == "-" else (files[0], files[0])
         raise Ended(
             BAD_TEXT,
-            f"{files[0]} has no line %%, so there are no lines: `sancus schedule {files[0]} LINES` takes them from a "
-            "file of their own",
+            f"{name} has no line %%, so there are no lines: `sancus schedule {file} LINES` takes them from a file of "
+            "their own",
         )
     return lines_of(kept, data)
 
@@ -95,7 +97,7 @@ def refused(error: Stopped, made: Lines, at: str, text: str, command: Program) -
     lines = [f"{at}: {text}"]
     if fault[:2] == ["fault", "schedule"]:
         whole = kept_of(made.head + b"%%\n" + text.encode(errors="surrogateescape"), "")
-        told = Teller(whole, "run", command.ask).told(f"fault schedule {fault[2]} 1")
+        told = Teller(whole, "schedule", command.ask).told(f"fault schedule {fault[2]} 1")
         lines += [told[0], *(it for it in told[1:] if not it.startswith((":", "line ")) and it.strip(" ^"))]
     else:
         lines.append(error.fault)
@@ -147,6 +149,14 @@ def answer(context: Context, given: Given) -> int:
     return 0
 
 
+def why_unmarked(kept: Kept, data: Input, context: Context) -> List[str]:
+    """The fault of a deployment that has one, and what it means."""
+    answer = context.program.ask(["check"], data.head + b"%%\n") if data.has_mark else b"fault deployment D2 -"
+    fault = text_of(answer.strip().split(b"\n")[-1])
+    told = Teller(kept, "run", context.program.ask).told(fault)
+    return [fault, *told] if told else []
+
+
 def print_marked(context: Context, given: Given) -> int:
     """Prints a run with the line of the schedule before the items that it gave."""
     files = [*given.texts("DEPLOYMENT"), *given.texts("SCHEDULE")] or ["-"]
@@ -154,7 +164,7 @@ def print_marked(context: Context, given: Given) -> int:
     try:
         made = marked_run(data, context.program)
     except CannotMark as error:
-        raise Ended(BAD_TEXT, f"no marked run: {error}") from None
+        raise Ended(BAD_TEXT, f"no marked run: {error}", *why_unmarked(kept, data, context)) from None
     if not made.has_trace:
         last = text_of(made.last or b"")
         print_lines(last)

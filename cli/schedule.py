@@ -18,7 +18,6 @@ from cli.table import words as table_words
 EVENT, ANSWER = 24, 16
 SET_KEY, ATTEST, EVENT_IN, SAMPLE = 0, 1, 2, 3
 EVENT_KIND = 3
-PEOPLE = ("deploy", "sample", "carry", "windows", "packets", "boots")
 
 
 class Mistake(Exception):

@@ -57,15 +57,16 @@ def of_run(context: Context, data: Input) -> Drawn:
     ran = context.program.ran_of(["run"], text, sink)
     output = sink.data()
     plain = output
+    # (a run that ended in a fault of its schedule has a trace too)
+    has_trace = b"\ntrace\n" in b"\n" + plain
     try:
         lines = b"".join(it + b"\n" for it in marked_lines(data, marked_run(data, context.program)))
         found = find_mark(lines)
         if found and without_lines(lines) == plain:
             output = lines[found[1] :]
     except CannotMark as error:
-        context.voice.say(f"no marked run, so the page matches items and lines: {error}")
-    # (a run that ended in a fault of its schedule has a trace too)
-    has_trace = b"\ntrace\n" in b"\n" + plain
+        if has_trace:
+            context.voice.say(f"no marked run, so the page matches items and lines: {error}")
     causes = causes_of(context, data.head, plain) if has_trace else b""
     return Drawn({"input": text, "output": output, "causes": causes}, ran.last, ran.status)
 

@@ -54,9 +54,10 @@ class Help(unittest.TestCase):
         script = f"""source {TOP}/share/bash-completion/sancus
         COMP_WORDS=(sancus dr); COMP_CWORD=1; _sancus; echo "${{COMPREPLY[@]}}"
         COMP_WORDS=(sancus drive --sch); COMP_CWORD=2; _sancus; echo "${{COMPREPLY[@]}}"
-        COMP_WORDS=(sancus help ex); COMP_CWORD=2; _sancus; echo "${{COMPREPLY[@]}}" """
+        COMP_WORDS=(sancus help ex); COMP_CWORD=2; _sancus; echo "${{COMPREPLY[@]}}"
+        COMP_WORDS=(sancus hex image x --format ""); COMP_CWORD=5; _sancus; echo "${{COMPREPLY[@]}}" """
         ran = subprocess.run(["bash", "-c", script], capture_output=True, text=True)
-        self.assertEqual(ran.stdout.split("\n")[:3], ["drive", "--schedule", "explain"], ran.stderr)
+        self.assertEqual(ran.stdout.split("\n")[:4], ["drive", "--schedule", "explain", "ti hex"], ran.stderr)
 
 
 class NoCommand(Room):
@@ -67,6 +68,10 @@ class NoCommand(Room):
             self.says(ran, f"did you mean `{meant}`?")
         self.says(sancus(str(TOP / "README.md")), "a command comes first: `sancus run ")
         self.says(sancus("drive", "--scedule"), "there is no option --scedule: did you mean `--schedule`?")
+        self.says(sancus("--program", "/bin/cat"), "a command is missing")
+        self.says(sancus("--program", "/bin/cat", "--nope"), "there is no option --nope")
+        self.says(sancus("build", "3"), "too many arguments: 3")
+        self.says(sancus("hex", "convert", "x", "--format", "elf"), "--format takes ti or hex, and not `elf`")
 
     def test_words_that_are_no_command(self):
         for words in (

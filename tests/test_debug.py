@@ -117,6 +117,10 @@ class Marks(Room):
         text = LIGHTING.replace(b"call eye 3 0x300 0x400", b"call eye 3")
         self.assertEqual(sancus("marks", text=text).lines[-1], program("run", text=text).lines[-1])
 
+    def test_a_deployment_with_a_fault(self):
+        self.says(sancus("marks", text=b"x = 1\n"), "D2: there is no line %%", "no marked run")
+        self.says(sancus("marks", text=b"secret\n%%\n"), "D3: the deployment isn't TOML")
+
     def test_too_many_lines(self):
         text = b"%%\n" + b"reset n\n" * 65537
         self.says(sancus("marks", text=text), "no marked run: the schedule has more lines than a run takes")

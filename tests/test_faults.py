@@ -262,7 +262,11 @@ class Cases(unittest.TestCase):
     def test_traces(self):
         text = b"%%\nimage eye 00\ntrace\nout eye 1\nnone 2\n"
         self.assertIn("x.txt:5: none 2", told(text, "fault trace E2 2", "explain"))
+        self.assertIn("the items: protect reset", told(text, "fault trace E2 2", "explain"))
         self.assertIn("x.txt:4: out eye 1", told(text, "illegal 1", "explain"))
+        for item, missing in (("take eye up 0 1", "module `eye`"), ("open m up to 1", "connection `up`")):
+            other = HEAD.replace(b'"eye', b'"m').replace(b'"up"', b'"u"') + f"%%\ntrace\n{item}\n".encode()
+            self.assertIn(f"the deployment has no {missing}", told(other, "fault trace E2 1", "explain"))
         self.assertIn("this is a schedule, and no trace", told(b"%%\nload eye\n", "fault trace E1 1", "explain"))
         for text, said in (
             (
@@ -277,7 +281,9 @@ class Cases(unittest.TestCase):
             self.assertIn(said, told(text, "fault deployment D2 -", "run"))
         for text, rule in ((b"deploy all\n", "Q4"), (b"sample eye 3\n", "Q3")):
             self.assertIn("is a line for people", told(HEAD + b"%%\n" + text, f"fault reading {rule} 1", "drive"))
-        self.assertIn("the trace is empty", told(b"%%\n", "fault trace E1 1", "explain"))
+        empty = told(b"%%\n", "fault trace E1 1", "explain")
+        self.assertIn("the trace is empty", empty)
+        self.assertNotIn("x.txt:2:", empty)
         self.assertIn(
             "this is a fault, and no trace", told(b"%%\nfault deployment D2 -\n", "fault trace E1 1", "explain")
         )

@@ -165,6 +165,8 @@ class Schedule(Room):
         ),
         ("load ear", "S4: a field is no name"),
         ("fly", "S3: its first word is no act"),
+        ("cary eye agg", "lines for people: deploy sample carry"),
+        ("cary eye agg", "did you mean `carry`?"),
         ("windows 1", "windows IN OUT"),
     )
 

@@ -18,8 +18,6 @@ from pathlib import Path
 HERE = Path(__file__).resolve().parent
 TOP = HERE.parent.parent
 PAGE = TOP / "playground.html"
-FAULTS = TOP / "cli" / "faults.json"
-VIEWERS = (TOP / "cli" / "viewer", TOP / "tools" / "viewer")
 SCRIPTS = ("link", "editor", "faults", "marks", "runner", "job", "desk")
 POLICY = (
     "default-src 'none'; script-src 'unsafe-inline' 'wasm-unsafe-eval'; style-src 'unsafe-inline'; img-src data:; "
@@ -40,20 +38,7 @@ def loaded(name, path):
 
 def viewer():
     """The viewer's page, without a run."""
-    folder = next(it for it in VIEWERS if (it / "join.py").is_file())
-    return loaded("join", folder / "join.py").joined()
-
-
-def words():
-    """The rules in words, as the viewer's page has them where cli/faults.json is there."""
-    if FAULTS.is_file():
-        return ""
-    sys.path.insert(0, str(TOP / "tools"))
-    table = loaded("faults", TOP / "tools" / "faults.py")
-    kinds = {"deployment": table.DEPLOYMENT, "language": table.LANGUAGE, "schedule": table.SCHEDULE}
-    kinds |= {"reading": table.READINGS, "trace": table.TRACES, "query": table.QUERIES}
-    others = {"drive": {"long": "; ".join(table.LONG)}, "illegal": table.illegal(table.Input(b""), 0)[0]}
-    return f"const WORDS = {json.dumps(kinds | others, ensure_ascii=False)};\n"
+    return loaded("join", TOP / "cli" / "viewer" / "join.py").joined()
 
 
 def examples():
@@ -86,7 +71,7 @@ def packed(data):
 def made():
     program = (TOP / "release" / "sancus.wasm").read_bytes()
     work = '<div id="work">\n' + desk() + '<div id="seen"></div>\n</div>\n'
-    scripts = words() + "\n".join(part(f"{it}.js") for it in SCRIPTS)
+    scripts = "\n".join(part(f"{it}.js") for it in SCRIPTS)
     texts = [
         held("program", packed(program)),
         held("examples", packed(json.dumps(examples()).encode())),

@@ -1,3 +1,4 @@
+-- Known: what texts mean is a function. Given: the lines behind the head that a command was given,
+-- by its parts.
 pub mod Given
--- One file: what texts mean is a function.
 pub mod Known

@@ -1,5 +1,7 @@
--- Begin with Snaps: what the command promises. Snap has what it writes, Answers what is written of
--- a query, Queries what a text says as a query. Kept is for contracts of functions.
+-- Begin with Snaps: what the command promises. Snap has what it writes, over Reading, from lines to
+-- a schedule and what follows it, Queries, what a text says as a query, and Answers, what is written
+-- of one. Statuses has the exit status, Wants at which lines memory may run out. Kept and Asked are
+-- for contracts of functions.
 pub mod Answers
 pub mod Kept
 pub mod Queries

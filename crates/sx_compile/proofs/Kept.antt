@@ -19,6 +19,7 @@ use Rattle.sx_bus.specs.Devices.{cleared, HaveSamples}
 use Rattle.sx_bus.proofs.Changed.{HaveSamples-cleared}
 use Rattle.sx_tag.specs.Wrap.{unwrapped, wrapped}
 use Rattle.sx_machine.specs.Memory.{even, word, put_word, put_bytes, bytes_from}
+use Rattle.sx_machine.proofs.PublicKept.{put_other}
 use Rattle.sx_reach.specs.Reach.{Goes, Stops}
 use Rattle.sx_invoke.specs.Marks.{Mark, HasPrefix}
 use Rattle.sx_invoke.specs.Marks as mark
@@ -34,7 +35,7 @@ use Rattle.sx_ir.specs.Conf.{Conf, Violates, Stuck}
 use Rattle.sx_ir.specs.Meaning as m
 use Rattle.sx_ir.specs.Meaning.{OperationResult, saved, do_at, do_op, keeps_slots, names_no_key, next, when, on_top, pushed, pieces}
 use Rattle.sx_ir.specs.Sound.{are_sealed, is_even, is_free, is_sound_op, may_change}
-use Rattle.sx_stub.proofs.Mem.{word_same, get-put_bytes_other}
+use Rattle.sx_stub.proofs.Mem.{word_same}
 use Rattle.sx_lists.specs.Truth.{truth}
 use Rattle.sx_tmpl.proofs.Running.Outcomes.{ok_same}
 
@@ -82,8 +83,8 @@ word_kept priv o x far = word_same priv (put_word priv o x) 10 10 refl refl (oth
         ∙ get_or-set_other priv (even o) k (x % 256) 0 (λ e. ne far k lo hi 0 (omega arith) (omega (arith, e)))
 
 bytes_kept : (priv : List ℕ) (o : ℕ) (bs : List ℕ) → Beside o (length bs) → word (put_bytes priv o bs) 10 ≡ word priv 10
-bytes_kept priv o bs far = word_same priv (put_bytes priv o bs) 10 10 refl refl (get-put_bytes_other priv o bs 10 (off far 10 (omega arith) (omega arith)))
-    (get-put_bytes_other priv o bs 11 (off far 11 (omega arith) (omega arith)))
+bytes_kept priv o bs far = word_same priv (put_bytes priv o bs) 10 10 refl refl (put_other bs priv o 10 (off far 10 (omega arith) (omega arith)))
+    (put_other bs priv o 11 (off far 11 (omega arith) (omega arith)))
   where
     off : Beside o (length bs) → (k : ℕ) → 10 ≤ k → k < 14 → (k < o) ⊎ (o + length bs ≤ k)
     off (inl p) k lo hi = inr (omega (arith, p, lo))

@@ -14,6 +14,7 @@ use Rattle.sx_bus.specs.Devices.{cleared}
 use Rattle.sx_tag.specs.Wrap.{unwrapped, wrapped}
 use Rattle.sx_machine.specs.Memory.{even, word, put_word, put_bytes, bytes_from}
 use Rattle.sx_machine.proofs.Lengths.{length-bytes_from}
+use Rattle.sx_machine.proofs.PublicKept.{put_other}
 use Rattle.sx_reach.specs.Reach.{Goes, Stops}
 use Rattle.sx_invoke.specs.Marks as mark
 use Rattle.sx_invoke.specs.Marks.{Mark}
@@ -30,7 +31,7 @@ use Rattle.sx_ir.specs.Meaning as m
 use Rattle.sx_ir.specs.Meaning.{OperationResult, saved, do_at, do_op, is_key_mark, has_key_mark, keeps_slots, names_no_key, next, when, on_top, pushed, pieces, spares_slots}
 use Rattle.sx_ir.specs.Sound.{is_even, is_sound_op, may_change}
 use Rattle.sx_ir.proofs.Shown.{number_spared}
-use Rattle.sx_stub.proofs.Mem.{get-put_other, get-put_bytes_other}
+use Rattle.sx_stub.proofs.Mem.{get-put_other}
 use Rattle.sx_lists.specs.Truth.{truth}
 use Rattle.sx_tmpl.specs.Unseen.{SameSlots}
 use Rattle.sx_tag.proofs.TagBytes.{tag_short}
@@ -87,7 +88,7 @@ word_spared ends priv o x even_ e k d one small beside =
 
 -- bytes of a range that spares them
 bytes_spared : (ends : ℕ) (priv : List ℕ) (o n p : ℕ) (bs : List ℕ) → spares_slots ends o n ≡ true → o ≤ p → p + length bs ≤ o + n → SameSlots ends priv (put_bytes priv p bs)
-bytes_spared ends priv o n p bs e from to k d one small beside = get-put_bytes_other priv p bs (512 + 24 * k + d) (apart (spared_byte ends o n k d e (one, small, beside)))
+bytes_spared ends priv o n p bs e from to k d one small beside = put_other bs priv p (512 + 24 * k + d) (apart (spared_byte ends o n k d e (one, small, beside)))
   where
     apart : (512 + 24 * k + d < o) ⊎ (o + n ≤ 512 + 24 * k + d) → (512 + 24 * k + d < p) ⊎ (p + length bs ≤ 512 + 24 * k + d)
     apart (inl lt) = inl (omega (arith, lt, from))

@@ -5,9 +5,9 @@
 //!
 //! `inputs` has the lighting with a sample of light, and does a row; `lighting` are runs after the
 //! first lines of that sample, `attacks` what an attacker tries, `listings` those of `asm` and
-//! `dis`, `traces` those of `explain`, `snaps` those of `snap`, `drives` those of `drive`, `commands`
-//! all other inputs, `streams` those whose reads and writes fail, and `workloads` those of `gen`.
-//! Inputs are rows of constant tables: a row costs no proof of its own.
+//! `dis`, `traces` those of `explain`, `snaps` those of `snap`, `drives` those of `drive`,
+//! `commands` all other inputs, `streams` those whose reads and writes fail, and `workloads` those
+//! of `gen`. Inputs are rows of constant tables: a row costs no proof of its own.
 #![tactic(auto)]
 
 #[cfg(test)]

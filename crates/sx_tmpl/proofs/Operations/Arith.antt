@@ -5,7 +5,7 @@ use Rattle.sx_ir.specs.declared.ir.IrOp.TheVariants as op
 use Rattle.sx_isa.specs.Spelling.{spelling}
 use Rattle.sx_machine.specs.Step.{is_module_word}
 use Rattle.sx_isa.specs.Assembly.{#◌, ◌⟨◌⟩, and, bis, clr, incd, increment, indirect, mov, r12, sp, sub, tst, xor}
-use Rattle.sx_tmpl.proofs.Running.Instructions.{step}
+use Rattle.sx_tmpl.proofs.Running.Instructions.{goes, step}
 use Rattle.std.proofs.Common.{◌≡◌, ℕ, ◌+◌, ◌-◌, ◌%◌, ◌<◌, inl, inr, false, not, List, [], ◌∷◌, length, refl, sym, ◌∙◌, ap, subst, arith}
 use Rattle.sx_isa.specs.declared.instruction.Operand.TheVariants.{Indexed, Increment}
 use Rattle.sx_isa.specs.declared.instruction.Op2.{Op2}
@@ -37,7 +37,7 @@ use Rattle.sx_tmpl.proofs.Running.Flags.{flags_stay, flags_after, equal, unequal
 use Rattle.std.specs.Prelude.{◌*◌, ◌==◌, drop, take, true}
 use Rattle.std.proofs.lemmas.Bool.{cases_eq, eq-eqb, ne_eqb}
 use Rattle.sx_tmpl.proofs.Operations.Plain.{inside, Leads, stood}
-use Rattle.sx_tmpl.proofs.Running.Holding.{stack_word, holds_pop, holds_replace, cell_below}
+use Rattle.sx_tmpl.proofs.Running.Holding.{stack_word, holds_pop, holds_replace, word_below}
 use Rattle.std.specs.Int.Bits.{and_lt, or_lt, xor_lt}
 use Rattle.sx_tmpl.proofs.Operations.Branch.{compare_end}
 use Rattle.sx_lists.specs.Truth.{truth}
@@ -55,8 +55,8 @@ module _ (f : Fixed) (st : Stands f) (all : List Mark) (B : Watched → Violatio
   binary_leads op b plain plan c x y rest value r d t on sh safe =
       let h = sh.holds in
       let top = h.top in
-      let ly : y < 65536 = subst (λ (n : ℕ). n < 65536) h.words.0 (cell_below f st d.mem r.sp safe.memory) in
-      let lx : x < 65536 = subst (λ (n : ℕ). n < 65536) h.words.1.0 (cell_below f st d.mem (r.sp + 2) safe.memory) in
+      let ly : y < 65536 = word_below f st r.sp h.words.0 safe.memory in
+      let lx : x < 65536 = word_below f st (r.sp + 2) h.words.1.0 safe.memory in
       let p1 = stack_word f st r.sp (length (y ∷ x ∷ rest)) top (omega arith) (omega (arith, h.room)) in
       let p2 = stack_word f st (r.sp + 2) (length (x ∷ rest)) (omega arith) (omega arith) (omega (arith, h.room)) in
       let up : (r.sp + 2) % 65536 ≡ r.sp + 2 = omega (arith, st.beneath, st.room) in
@@ -117,7 +117,7 @@ module _ (f : Fixed) (st : Stands f) (all : List Mark) (B : Watched → Violatio
       → Runs f all B (Stood f all at (next c (z ∷ rest))) 2 (running f (record r { pc = at c.place + 2; r12 = n }) d)
   subtracts n c x z rest r d t i1 i2 value lz ln on sh s1 =
       let h = sh.holds in
-      let lx : x < 65536 = subst (λ (n : ℕ). n < 65536) h.words.0 (cell_below f st d.mem r.sp s1.memory) in
+      let lx : x < 65536 = word_below f st r.sp h.words.0 s1.memory in
       let p1 = stack_word f st r.sp (length (x ∷ rest)) h.top (omega arith) (omega (arith, h.room)) in
       let up0 : (r.sp + 0) % 65536 ≡ r.sp = omega (arith, p1.high, st.beneath) in
       let cut : (n % 65536 + (65535 - x) + 1) % 65536 ≡ z = omega arith in
@@ -125,54 +125,31 @@ module _ (f : Fixed) (st : Stands f) (all : List Mark) (B : Watched → Violatio
       let r1 = record r { pc = at c.place + 2; r12 = n } in
       let r2 = record r { pc = at c.place + 4; sr = sr1; r12 = z } in
       let r3 = record r2 { pc = at c.place + 8 } in
-      step f st all B _ t 1 (sub (indirect sp) r12) i1 (omega arith) refl refl event.Quiet r1 d 1 refl s1 (
-        r.sp,
-        refl,
-        p1,
-        x,
-        h.words.0,
-        λ kept. (
-          r2,
-          rw cut refl,
-          inside t 2 (omega arith),
-          λ s2.
-              step f st all B _ t 2 (mov r12 (0 ⟨ sp ⟩)) i2 (omega arith) refl refl event.Quiet r2 d 0 refl s2 (
-                r.sp,
-                up0,
-                p1,
-                z,
-                omega arith,
-                lz,
-                λ kept3. (
-                  r3,
-                  rw (flags_stay sr1) refl,
-                  inside t 4 (omega arith),
-                  λ s3.
-                      stood f st all B at (next c (z ∷ rest)) r3 (put_cell d.mem r.sp z) d 0 s3 (omega (arith, on))
-                      (holds_replace f st at c.back x z rest c.priv c.mem r.sp d.mem s1.memory h) sh.devices sh.marks,
-                ),
-              ),
-        ),
-      )
+      goes f st all B _ t 1 (sub (indirect sp) r12) i1 (omega arith) refl refl r1 d 1 refl s1 r2 d.mem (inside t 2 (omega arith))
+      (r.sp, refl, p1, x, h.words.0, (rw cut refl, refl)) (λ s2.
+      goes f st all B _ t 2 (mov r12 (0 ⟨ sp ⟩)) i2 (omega arith) refl refl r2 d 0 refl s2 r3 (put_cell d.mem r.sp z) (inside t 4 (omega arith))
+      (r.sp, up0, p1, z, omega arith, lz, (rw (flags_stay sr1) refl, refl)) (λ s3.
+      stood f st all B at (next c (z ∷ rest)) r3 (put_cell d.mem r.sp z) d 0 s3 (omega (arith, on))
+      (holds_replace f st at c.back x z rest c.priv c.mem r.sp d.mem s1.memory h) sh.devices sh.marks))
 
   pub neg_leads : (c : Conf) (x : ℕ) (rest : List ℕ) → L 4 (words_of (subtraction (# 0))) 3 (record c { stack = x ∷ rest }) (next c (apply unary.Neg x ∷ rest))
   neg_leads c x rest r d t on sh safe =
       let h = sh.holds in
-      let lx : x < 65536 = subst (λ (n : ℕ). n < 65536) h.words.0 (cell_below f st d.mem r.sp safe.memory) in
+      let lx : x < 65536 = word_below f st r.sp h.words.0 safe.memory in
       loads f st all B _ t 0 ((# 0, 12) ∷ []) refl (omega arith) refl (omega arith, tt) r d 2 r.pc (omega (arith, sh.pc)) safe
       (subtracts 0 c x (apply unary.Neg x) rest r d t refl refl (omega arith) (omega arith) (omega arith) on (record { pc = refl; holds = h; devices = sh.devices; marks = sh.marks }))
 
   pub inv_leads : (c : Conf) (x : ℕ) (rest : List ℕ) → L 4 (words_of (subtraction (# 65535))) 3 (record c { stack = x ∷ rest }) (next c (apply unary.Inv x ∷ rest))
   inv_leads c x rest r d t on sh safe =
       let h = sh.holds in
-      let lx : x < 65536 = subst (λ (n : ℕ). n < 65536) h.words.0 (cell_below f st d.mem r.sp safe.memory) in
+      let lx : x < 65536 = word_below f st r.sp h.words.0 safe.memory in
       loads f st all B _ t 0 ((# 65535, 12) ∷ []) refl (omega arith) refl (omega arith, tt) r d 2 r.pc (omega (arith, sh.pc)) safe
       (subtracts 65535 c x (apply unary.Inv x) rest r d t refl refl (omega arith) (omega arith) (omega arith) on (record { pc = refl; holds = h; devices = sh.devices; marks = sh.marks }))
 
   pub not_leads : (c : Conf) (x : ℕ) (rest : List ℕ) → L 7 (operator_words op.Not) 4 (record c { stack = x ∷ rest }) (next c (apply unary.Not x ∷ rest))
   not_leads c x rest r d t on sh safe =
       let h = sh.holds in
-      let lx : x < 65536 = subst (λ (n : ℕ). n < 65536) h.words.0 (cell_below f st d.mem r.sp safe.memory) in
+      let lx : x < 65536 = word_below f st r.sp h.words.0 safe.memory in
       let p1 = stack_word f st r.sp (length (x ∷ rest)) h.top (omega arith) (omega (arith, h.room)) in
       let up0 : (r.sp + 0) % 65536 ≡ r.sp = omega (arith, p1.high, st.beneath) in
       let h2 = holds_replace f st at c.back x 0 rest c.priv c.mem r.sp d.mem safe.memory h in
@@ -183,35 +160,12 @@ module _ (f : Fixed) (st : Stands f) (all : List Mark) (B : Watched → Violatio
         | inl e ↦ equal 0 x r.sr (omega arith) e ∙ sym (eq-eqb x 0 e)
         | inr ne ↦ unequal 0 x r.sr (omega arith) lx ne ∙ sym (ne_eqb x 0 ne)
       ] in
-      step f st all B _ t 0 (tst (0 ⟨ sp ⟩)) refl (omega arith) refl refl event.Quiet r d 3 (omega (arith, sh.pc)) safe (
-        r.sp,
-        up0,
-        p1,
-        x,
-        h.words.0,
-        λ kept. (
-          r1,
-          refl,
-          inside t 2 (omega arith),
-          λ s1.
-              step f st all B _ t 2 (clr (0 ⟨ sp ⟩)) refl (omega arith) refl refl event.Quiet r1 d 2 refl s1 (
-                r.sp,
-                up0,
-                p1,
-                0,
-                refl,
-                omega arith,
-                λ kept2. (
-                  r2,
-                  rw (flags_stay sr1) refl,
-                  inside t 4 (omega arith),
-                  λ s2.
-                      compare_end f st all B at t 4 (next c (truth (x == 0) ∷ rest)) rest 0 (x == 0) r2 (record d { mem = put_cell d.mem r.sp 0 }) refl refl (omega arith) refl refl
-                      (ap not z) refl on refl h2 sh.devices sh.marks s2,
-                ),
-              ),
-        ),
-      )
+      goes f st all B _ t 0 (tst (0 ⟨ sp ⟩)) refl (omega arith) refl refl r d 3 (omega (arith, sh.pc)) safe r1 d.mem (inside t 2 (omega arith))
+      (r.sp, up0, p1, x, h.words.0, (refl, refl)) (λ s1.
+      goes f st all B _ t 2 (clr (0 ⟨ sp ⟩)) refl (omega arith) refl refl r1 d 2 refl s1 r2 (put_cell d.mem r.sp 0) (inside t 4 (omega arith))
+      (r.sp, up0, p1, 0, refl, omega arith, (rw (flags_stay sr1) refl, refl)) (λ s2.
+      compare_end f st all B at t 4 (next c (truth (x == 0) ∷ rest)) rest 0 (x == 0) r2 (record d { mem = put_cell d.mem r.sp 0 }) refl refl (omega arith) refl refl
+      (ap not z) refl on refl h2 sh.devices sh.marks s2))
 
   pub drop_leads : (c : Conf) (x : ℕ) (rest : List ℕ) → L 1 (words_of (incd sp ∷ [])) 1 (record c { stack = x ∷ rest }) (next c rest)
   drop_leads c x rest r d t on sh safe =
@@ -219,11 +173,6 @@ module _ (f : Fixed) (st : Stands f) (all : List Mark) (B : Watched → Violatio
       let p1 = stack_word f st r.sp (length (x ∷ rest)) h.top (omega arith) (omega (arith, h.room)) in
       let up : (r.sp % 65536 + 2 + 0) % 65536 - (r.sp % 65536 + 2 + 0) % 65536 % 2 ≡ r.sp + 2 = omega (arith, p1.high, p1.is_even, st.beneath) in
       let r2 = record r { pc = at c.place + 2; sp = r.sp + 2; sr = flags_after op2.Add 2 (r.sp % 65536) r.sr } in
-      step f st all B _ t 0 (incd sp) refl (omega arith) refl refl event.Quiet r d 0 (omega (arith, sh.pc)) safe
-      (λ kept. (
-        r2,
-        rw up refl,
-        inside t 1 (omega arith),
-        λ s2.
-            stood f st all B at (next c rest) r2 d.mem d 0 s2 (omega (arith, on)) (holds_pop f st at c.back x rest c.priv c.mem r.sp d.mem h) sh.devices sh.marks,
-      ))
+      goes f st all B _ t 0 (incd sp) refl (omega arith) refl refl r d 0 (omega (arith, sh.pc)) safe r2 d.mem (inside t 1 (omega arith))
+      (rw up refl, refl) (λ s2.
+      stood f st all B at (next c rest) r2 d.mem d 0 s2 (omega (arith, on)) (holds_pop f st at c.back x rest c.priv c.mem r.sp d.mem h) sh.devices sh.marks)

@@ -7,7 +7,7 @@ use Rattle.sx_isa.specs.Instructions.{first_word}
 use Rattle.sx_isa.specs.Standing.{words_of}
 use Rattle.sx_isa.specs.Assembly as asm
 use Rattle.sx_isa.specs.Assembly.{##◌, #◌, &◌, ◌⟨◌⟩, ahead, br, clr, cmp, increment, jc, jnz, mov, sp}
-use Rattle.sx_tmpl.proofs.Running.Instructions.{reads_of, step}
+use Rattle.sx_tmpl.proofs.Running.Instructions.{goes, reads_of}
 use Rattle.std.proofs.Common.{◌≡◌, ℕ, suc, ◌+◌, ◌-◌, ◌*◌, ◌%◌, ◌<◌, ◌≤◌, inl, inr, Bool, true, false, not, List, [], ◌∷◌, length, refl, sym, ◌∙◌, ap, subst, arith}
 use Rattle.sx_isa.specs.declared.instruction.Op2.TheVariants as op2
 use Rattle.sx_alu.specs.Status.{flags_of}
@@ -33,7 +33,7 @@ use Rattle.sx_tmpl.proofs.Running.Flags.{flags_after, no_borrow, borrow, equal, 
 use Rattle.std.specs.Prelude.{drop, take, nat_lt, ◌==◌, if◌then◌else◌}
 use Rattle.std.proofs.lemmas.Bool.{cases_lt, cases_eq, lt-ltb, le-ltb, eq-eqb, ne_eqb}
 use Rattle.sx_tmpl.proofs.Operations.Plain.{inside, Leads, stood}
-use Rattle.sx_tmpl.proofs.Running.Holding.{stack_word, data_word, holds_pop, holds_replace, holds_word, cell_below}
+use Rattle.sx_tmpl.proofs.Running.Holding.{stack_word, data_word, holds_pop, holds_replace, holds_word, word_below}
 use Rattle.sx_lists.specs.Truth.{truth}
 
 module _ (f : Fixed) (st : Stands f) (all : List Mark) (B : Watched → Violation → Type 0) (at : ℕ → ℕ) where
@@ -44,8 +44,8 @@ module _ (f : Fixed) (st : Stands f) (all : List Mark) (B : Watched → Violatio
   jump_leads c q to ev r d t on sh safe =
       let e : at q % 65536 - at q % 65536 % 2 ≡ at q = omega (arith, to.to, st.below) in
       let r2 = record r { pc = at q; sr = flags_after op2.Mov 0 0 r.sr } in
-      step f st all B _ t 0 (br (## (at q))) refl (omega arith) refl refl event.Quiet r d 0 (omega (arith, sh.pc)) safe
-      (λ kept. (r2, rw e refl, to, λ safe2. stood f st all B at (record c { place = q }) r2 d.mem d 0 safe2 refl sh.holds sh.devices sh.marks))
+      goes f st all B _ t 0 (br (## (at q))) refl (omega arith) refl refl r d 0 (omega (arith, sh.pc)) safe r2 d.mem to (rw e refl, refl) (λ safe2.
+      stood f st all B at (record c { place = q }) r2 d.mem d 0 safe2 refl sh.holds sh.devices sh.marks)
 
   abbrev branch_words : ℕ → ℕ → List ℕ
   branch_words z to = words_of (cmp (increment sp) (& z) ∷ jnz (ahead 2) ∷ br (## to) ∷ [])
@@ -80,39 +80,24 @@ module _ (f : Fixed) (st : Stands f) (all : List Mark) (B : Watched → Violatio
       let r2 = record r { pc = at c.place + 4; sp = r.sp + 2; sr = flags_after op2.Cmp 0 0 r.sr } in
       let r3 = record r2 { pc = at c.place + 6 } in
       let r4 = record r3 { pc = at q; sr = flags_after op2.Mov 0 0 r3.sr } in
-      step f st all B _ t 2 (jnz (ahead 2)) refl (omega arith) refl refl event.Quiet r2 d 1 refl s2
-      (λ kept. (
-        r3,
-        rw is refl,
-        inside t 3 (omega arith),
-        λ s3.
-            step f st all B _ t 3 (br (## (at q))) refl (omega arith) refl refl event.Quiet r3 d 0 refl s3
-            (λ kept. (
-              r4,
-              rw e refl,
-              to,
-              λ s4. stood f st all B at (record c { place = q; stack = rest }) r4 d.mem d 0 s4 refl
-                  (holds_pop f st at c.back 0 rest c.priv c.mem r.sp d.mem h) sh.devices sh.marks,
-            )),
-      )))
+      goes f st all B _ t 2 (jnz (ahead 2)) refl (omega arith) refl refl r2 d 1 refl s2 r3 d.mem (inside t 3 (omega arith)) (rw is refl, refl) (λ s3.
+      goes f st all B _ t 3 (br (## (at q))) refl (omega arith) refl refl r3 d 0 refl s3 r4 d.mem to (rw e refl, refl) (λ s4.
+      stood f st all B at (record c { place = q; stack = rest }) r4 d.mem d 0 s4 refl
+      (holds_pop f st at c.back 0 rest c.priv c.mem r.sp d.mem h) sh.devices sh.marks)))
 
   pub jump_not_leads : (c : Conf) (q z v : ℕ) (rest : List ℕ) → Text f z 1 (0 ∷ []) → L 5 (branch_words z (at q)) 3 (record c { stack = suc v ∷ rest }) (next c rest)
   jump_not_leads c q z v rest zeros r d t on sh safe =
       let h = sh.holds in
-      let lt : suc v < 65536 = subst (λ (n : ℕ). n < 65536) h.words.0 (cell_below f st d.mem r.sp safe.memory) in
+      let lt : suc v < 65536 = word_below f st r.sp h.words.0 safe.memory in
       let is = unequal (suc v) 0 r.sr lt (omega arith) (omega arith) in
       let to : (at c.place + 6 + 4) % 65536 ≡ at c.place + 10 = omega (arith, t.to, st.below) in
       tested _ c (suc v) z (at q) rest 2 r d zeros t sh safe (λ s2.
       let r2 = record r { pc = at c.place + 4; sp = r.sp + 2; sr = flags_after op2.Cmp (suc v) 0 r.sr } in
       let r3 = record r2 { pc = at c.place + 10 } in
-      step f st all B _ t 2 (jnz (ahead 2)) refl (omega arith) refl refl event.Quiet r2 d 1 refl s2
-      (λ kept. (
-        r3,
-        rw (is, to) refl,
-        inside t 5 (omega arith),
-        λ s3. stood f st all B at (next c rest) r3 d.mem d 1 s3 (omega (arith, on))
-            (holds_pop f st at c.back (suc v) rest c.priv c.mem r.sp d.mem h) sh.devices sh.marks,
-      )))
+      goes f st all B _ t 2 (jnz (ahead 2)) refl (omega arith) refl refl r2 d 1 refl s2 r3 d.mem (inside t 5 (omega arith))
+      (rw (is, to) refl, refl) (λ s3.
+      stood f st all B at (next c rest) r3 d.mem d 1 s3 (omega (arith, on))
+      (holds_pop f st at c.back (suc v) rest c.priv c.mem r.sp d.mem h) sh.devices sh.marks))
 
   -- a word of the data is compared
   pub jump_equal_leads : (c : Conf) (o n q : ℕ) → o % 2 ≡ 0 → IsData o → HoldsNoKey (length f.setup.ends) o 2 → o + 2 ≤ length c.priv → n < 65536 → InText f (at q) → at q % 2 ≡ 0
@@ -123,45 +108,32 @@ module _ (f : Fixed) (st : Stands f) (all : List Mark) (B : Watched → Violatio
       let c2 = record c { place = if x == n then q else c.place + 1 } in
       let po = data_word f st o shown i.low ev (omega (arith, h.size)) in
       let is = holds_word f st at c.back c.stack c.priv c.mem r.sp d.mem o h ev i fits in
-      let lx = subst (λ (v : ℕ). v < 65536) is (cell_below f st d.mem (base_of f + o) safe.memory) in
+      let lx = word_below f st (base_of f + o) is safe.memory in
       let over : (at c.place + 8 + 4) % 65536 ≡ at c.place + 12 = omega (arith, t.to, st.below) in
       let e : at q % 65536 - at q % 65536 % 2 ≡ at q = omega (arith, to.to, st.below) in
       let imm : n % 65536 ≡ n = omega (arith, small) in
       let sr = flags_after op2.Cmp n x r.sr in
       let r1 = record r { pc = at c.place + 6; sr = sr } in
-      step f st all B _ t 0 (cmp (## n) (& (base_of f + o))) refl (omega arith) refl refl event.Quiet r d 2 (omega (arith, sh.pc)) safe (
-        base_of f + o,
-        refl,
-        po,
-        x,
-        is,
-        λ kept. (
-          r1,
-          rw imm refl,
-          inside t 3 (omega arith),
-          λ s1. elim (cases_eq x n) [
-            | inl same ↦
-                let jumps = equal n x r.sr small same in
-                let there : (if x == n then q else c.place + 1) ≡ q = ap (λ (b : Bool). if b then q else c.place + 1) (eq-eqb x n same) in
-                let r2 = record r1 { pc = at c.place + 8 } in
-                let r3 = record r2 { pc = at q; sr = flags_after op2.Mov 0 0 r2.sr } in
-                step f st all B _ t 3 (jnz (ahead 2)) refl (omega arith) refl refl event.Quiet r1 d 1 refl s1 (λ kept2. (
-                  r2,
-                  rw jumps refl,
-                  inside t 4 (omega arith),
-                  λ s2.
-                      step f st all B _ t 4 (br (## (at q))) refl (omega arith) refl refl event.Quiet r2 d 0 refl s2
-                      (λ kept3. (r3, rw e refl, to, λ s3. stood f st all B at c2 r3 d.mem d 0 s3 (sym (ap at there)) h sh.devices sh.marks)),
-                ))
-            | inr other ↦
-                let stays = unequal n x r.sr small lx other in
-                let there : (if x == n then q else c.place + 1) ≡ c.place + 1 = ap (λ (b : Bool). if b then q else c.place + 1) (ne_eqb x n other) in
-                let r2 = record r1 { pc = at c.place + 12 } in
-                step f st all B _ t 3 (jnz (ahead 2)) refl (omega arith) refl refl event.Quiet r1 d 1 refl s1
-                (λ kept2. (r2, rw (stays, over) refl, inside t 6 (omega arith), λ s2. stood f st all B at c2 r2 d.mem d 1 s2 (sym on ∙ sym (ap at there)) h sh.devices sh.marks))
-          ],
-        ),
-      )
+      goes f st all B _ t 0 (cmp (## n) (& (base_of f + o))) refl (omega arith) refl refl r d 2 (omega (arith, sh.pc)) safe
+      r1 d.mem (inside t 3 (omega arith)) (base_of f + o, refl, po, x, is, (rw imm refl, refl)) (λ s1.
+      elim (cases_eq x n) [
+        | inl same ↦
+            let jumps = equal n x r.sr small same in
+            let there : (if x == n then q else c.place + 1) ≡ q = ap (λ (b : Bool). if b then q else c.place + 1) (eq-eqb x n same) in
+            let r2 = record r1 { pc = at c.place + 8 } in
+            let r3 = record r2 { pc = at q; sr = flags_after op2.Mov 0 0 r2.sr } in
+            goes f st all B _ t 3 (jnz (ahead 2)) refl (omega arith) refl refl r1 d 1 refl s1 r2 d.mem (inside t 4 (omega arith))
+            (rw jumps refl, refl) (λ s2.
+            goes f st all B _ t 4 (br (## (at q))) refl (omega arith) refl refl r2 d 0 refl s2 r3 d.mem to (rw e refl, refl) (λ s3.
+            stood f st all B at c2 r3 d.mem d 0 s3 (sym (ap at there)) h sh.devices sh.marks))
+        | inr other ↦
+            let stays = unequal n x r.sr small lx other in
+            let there : (if x == n then q else c.place + 1) ≡ c.place + 1 = ap (λ (b : Bool). if b then q else c.place + 1) (ne_eqb x n other) in
+            let r2 = record r1 { pc = at c.place + 12 } in
+            goes f st all B _ t 3 (jnz (ahead 2)) refl (omega arith) refl refl r1 d 1 refl s1 r2 d.mem (inside t 6 (omega arith))
+            (rw (stays, over) refl, refl) (λ s2.
+            stood f st all B at c2 r2 d.mem d 1 s2 (sym on ∙ sym (ap at there)) h sh.devices sh.marks)
+      ])
 
   -- the end of a comparison: a jump over the next instruction, which makes the top word 1, is taken where it doesn't hold
   pub compare_end : {P n : ℕ} {ws : List ℕ} (t : Text f P n ws) (k : ℕ) (c2 : Conf) (rest : List ℕ) (cond : ℕ) (b : Bool) (r : Regs) (d : Data)
@@ -175,40 +147,18 @@ module _ (f : Fixed) (st : Stands f) (all : List Mark) (B : Watched → Violatio
       let up0 : (r.sp + 0) % 65536 ≡ r.sp = omega (arith, p2.high, st.beneath) in
       let r4 = record r { pc = P + 2 * (k + 1) } in
       let r5 = record r4 { pc = P + 2 * (k + 1 + 2); sr = flags_after op2.Mov 0 0 r.sr } in
-      step f st all B _ t k (Jump cond (ahead 2)) i0 (omega arith) shaped plain event.Quiet r d 1 pc safe
-      (λ kept. (
-        r4,
-        rw tk refl,
-        inside t (k + 1) (omega arith),
-        λ s4.
-            step f st all B _ t (k + 1) (mov (# 1) (0 ⟨ asm.sp ⟩)) i1 le refl refl event.Quiet r4 d 0 refl s4 (
-              r.sp,
-              up0,
-              p2,
-              1,
-              refl,
-              omega arith,
-              λ kept5. (
-                r5,
-                refl,
-                inside t (k + 1 + 2) le,
-                λ s5.
-                    stood f st all B at c2 r5 (put_cell d.mem r.sp 1) d 0 s5 (sym on) (subst (λ l. MemoryHolds f at c2.back l c2.priv c2.mem r.sp (put_cell d.mem r.sp 1)) (sym stack)
-                    (holds_replace f st at c2.back 0 1 rest c2.priv c2.mem r.sp d.mem safe.memory h)) dev marks,
-              ),
-            ),
-      ))
+      goes f st all B _ t k (Jump cond (ahead 2)) i0 (omega arith) shaped plain r d 1 pc safe r4 d.mem (inside t (k + 1) (omega arith))
+      (rw tk refl, refl) (λ s4.
+      goes f st all B _ t (k + 1) (mov (# 1) (0 ⟨ asm.sp ⟩)) i1 le refl refl r4 d 0 refl s4 r5 (put_cell d.mem r.sp 1) (inside t (k + 1 + 2) le)
+      (r.sp, up0, p2, 1, refl, omega arith, (refl, refl)) (λ s5.
+      stood f st all B at c2 r5 (put_cell d.mem r.sp 1) d 0 s5 (sym on) (subst (λ l. MemoryHolds f at c2.back l c2.priv c2.mem r.sp (put_cell d.mem r.sp 1)) (sym stack)
+      (holds_replace f st at c2.back 0 1 rest c2.priv c2.mem r.sp d.mem safe.memory h)) dev marks))
   compare_end {P = P} t k c2 rest cond false r d i0 i1 le shaped plain tk pc on stack h dev marks safe =
       let to : (P + 2 * (k + 1) + 4) % 65536 ≡ P + 2 * (k + 1 + 2) = omega (arith, t.to, st.below) in
       let r4 = record r { pc = P + 2 * (k + 1 + 2) } in
-      step f st all B _ t k (Jump cond (ahead 2)) i0 (omega arith) shaped plain event.Quiet r d 1 pc safe
-      (λ kept. (
-        r4,
-        rw (tk, to) refl,
-        inside t (k + 1 + 2) le,
-        λ s4.
-            stood f st all B at c2 r4 d.mem d 1 s4 (sym on) (subst (λ l. MemoryHolds f at c2.back l c2.priv c2.mem r.sp d.mem) (sym stack) h) dev marks,
-      ))
+      goes f st all B _ t k (Jump cond (ahead 2)) i0 (omega arith) shaped plain r d 1 pc safe r4 d.mem (inside t (k + 1 + 2) le)
+      (rw (tk, to) refl, refl) (λ s4.
+      stood f st all B at c2 r4 d.mem d 1 s4 (sym on) (subst (λ l. MemoryHolds f at c2.back l c2.priv c2.mem r.sp d.mem) (sym stack) h) dev marks)
 
   -- A comparison of the two upper words: the first is popped and compared, and 0 takes the place of the other.
   compare_leads : (c : Conf) (x y : ℕ) (rest : List ℕ) (cond : ℕ) (b : Bool) → is_shaped (Jump cond (ahead 2)) ≡ true → is_module_word (first_word (Jump cond (ahead 2))) ≡ false
@@ -218,8 +168,8 @@ module _ (f : Fixed) (st : Stands f) (all : List Mark) (B : Watched → Violatio
       let h = sh.holds in
       let top = h.top in
       let sp = r.sp + 2 in
-      let ly : y < 65536 = subst (λ (n : ℕ). n < 65536) h.words.0 (cell_below f st d.mem r.sp safe.memory) in
-      let lx : x < 65536 = subst (λ (n : ℕ). n < 65536) h.words.1.0 (cell_below f st d.mem sp safe.memory) in
+      let ly : y < 65536 = word_below f st r.sp h.words.0 safe.memory in
+      let lx : x < 65536 = word_below f st sp h.words.1.0 safe.memory in
       let p1 = stack_word f st r.sp (length (y ∷ x ∷ rest)) top (omega arith) (omega (arith, h.room)) in
       let p2 = stack_word f st sp (length (x ∷ rest)) (omega arith) (omega arith) (omega (arith, h.room)) in
       let up : (r.sp + 2) % 65536 ≡ sp = omega (arith, p1.high, st.beneath) in
@@ -229,42 +179,12 @@ module _ (f : Fixed) (st : Stands f) (all : List Mark) (B : Watched → Violatio
       let h2 = holds_replace f st at c.back x 0 rest c.priv c.mem sp d.mem safe.memory h1 in
       let r1 = record r { pc = at c.place + 4; sp = sp; sr = flags_after op2.Cmp y x r.sr } in
       let r2 = record r1 { pc = at c.place + 8; sr = flags_after op2.Mov 0 0 r1.sr } in
-      step f st all B _ t 0 (cmp (increment asm.sp) (0 ⟨ asm.sp ⟩)) refl (omega arith) refl refl event.Quiet r d 3 (omega (arith, sh.pc)) safe (
-        r.sp,
-        refl,
-        p1,
-        y,
-        h.words.0,
-        (
-          sp,
-          up0,
-          p2,
-          x,
-          h.words.1.0,
-          λ kept. (
-            r1,
-            rw up refl,
-            inside t 2 (omega arith),
-            λ s1.
-                step f st all B _ t 2 (clr (0 ⟨ asm.sp ⟩)) refl (omega arith) refl refl event.Quiet r1 d 2 refl s1 (
-                  sp,
-                  same,
-                  p2,
-                  0,
-                  refl,
-                  omega arith,
-                  λ kept2. (
-                    r2,
-                    refl,
-                    inside t 4 (omega arith),
-                    λ s2.
-                        compare_end t 4 (next c (truth b ∷ rest)) rest cond b r2 (record d { mem = put_cell d.mem sp 0 }) refl refl (omega arith) shaped plain
-                        (jumps r.sr ly lx) refl on refl h2 sh.devices sh.marks s2,
-                  ),
-                ),
-          ),
-        ),
-      )
+      goes f st all B _ t 0 (cmp (increment asm.sp) (0 ⟨ asm.sp ⟩)) refl (omega arith) refl refl r d 3 (omega (arith, sh.pc)) safe
+      r1 d.mem (inside t 2 (omega arith)) (r.sp, refl, p1, y, h.words.0, (sp, up0, p2, x, h.words.1.0, (rw up refl, refl))) (λ s1.
+      goes f st all B _ t 2 (clr (0 ⟨ asm.sp ⟩)) refl (omega arith) refl refl r1 d 2 refl s1 r2 (put_cell d.mem sp 0) (inside t 4 (omega arith))
+      (sp, same, p2, 0, refl, omega arith, (refl, refl)) (λ s2.
+      compare_end t 4 (next c (truth b ∷ rest)) rest cond b r2 (record d { mem = put_cell d.mem sp 0 }) refl refl (omega arith) shaped plain
+      (jumps r.sr ly lx) refl on refl h2 sh.devices sh.marks s2))
 
   pub lt_leads : (c : Conf) (x y : ℕ) (rest : List ℕ) → L 7 (words_of (comparison jc)) 4 (record c { stack = y ∷ x ∷ rest }) (next c (combine binary.Lt x y ∷ rest))
   lt_leads c x y rest = compare_leads c x y rest 3 (nat_lt x y) refl refl (λ sr ly lx.

@@ -1,6 +1,6 @@
 -- A copy from a window outside into the private section, which the first refused byte ends.
 use Rattle.sx_isa.specs.Assembly.{##◌, &◌, increment, mov, mov_b, r12, r13, r15, ◌⟨◌⟩}
-use Rattle.sx_tmpl.proofs.Running.Instructions.{step}
+use Rattle.sx_tmpl.proofs.Running.Instructions.{goes, step}
 use Rattle.sx_tmpl.proofs.Running.Loading.{loads}
 use Rattle.sx_tmpl.proofs.Operations.CopyLoop.{Byte, Turns, all_bytes, all_steps, size, turns_run}
 use Rattle.sx_tmpl.specs.Template.{turns}
@@ -159,24 +159,13 @@ module _ (f : Fixed) (st : Stands f) (all : List Mark) (B : Watched → Violatio
       let cut_to : (base_of f + from_) % 65536 ≡ base_of f + from_ = omega arith in
       let loaded_to : ℕ → ℕ → Watched = λ a s. running f (record r { pc = P + 12; r12 = a; r13 = s; r15 = suc u }) d in
       let Ended : List ℕ → Type 0 = λ m2. (bs : List ℕ) × (read_bytes f.setup ds outside src count ≡ Ok bs) × MemoryHolds f at back stack (put_bytes priv from_ bs) outside r.sp m2 in
-      step f st all B Q t 0 (mov (& (base_of f + 8)) r13) refl (omega arith) refl refl event.Quiet r d _ pc safe (
-        base_of f + 8,
-        refl,
-        p8,
-        src,
-        is,
-        λ kept. (
-          r1,
-          rw stay refl,
-          inside t 2 (omega arith),
-          λ s1.
-              loads f st all B Q t 2 ((## (base_of f + from_), 12) ∷ (## (suc u), 15) ∷ []) refl (omega arith) refl (omega arith, (omega arith, tt)) r1 d _ r1.pc refl s1
-              (subst (λ a. Safe f all (loaded_to a src) → Runs f all B Q (all_steps b (suc u) j) (loaded_to a src)) cut_to
-              (subst (λ a. Safe f all (loaded_to ((base_of f + from_) % 65536) a) → Runs f all B Q (all_steps b (suc u) j) (loaded_to ((base_of f + from_) % 65536) a)) cut (λ s2.
-              turns_run f st all B Q t r d (InLeft Q t ds same back stack outside r d Ended) (one_byte Q t ds same back stack outside r d Ended) b 6 turns_ (omega arith) u r.sr (base_of f + from_) src j d.mem lt
-              (subst (λ n. InLeft Q t ds same back stack outside r d Ended n src (base_of f + from_) d.mem) (sym ec)
-              (record { o = from_; priv = priv; there = refl; short = le; free = free; range = rg; holds = h; stop = stop; done = λ bs e m2 h2. (bs, e, h2) })) s2 (λ pc2 sr2 dst2 src2 m2 ep x s3.
-              let e : Ended m2 = x.done [] (nothing Q t ds same back stack outside r d Ended src2) m2 x.holds in
-              done e.0 e.1 (record r { pc = pc2; sr = sr2; r12 = dst2 % 65536; r13 = src2 % 65536; r15 = 0 }) m2 (ep ∙ omega arith) refl e.2 s3)))),
-        ),
-      )
+      goes f st all B Q t 0 (mov (& (base_of f + 8)) r13) refl (omega arith) refl refl r d _ pc safe r1 d.mem (inside t 2 (omega arith))
+      (base_of f + 8, refl, p8, src, is, (rw stay refl, refl)) (λ s1.
+      loads f st all B Q t 2 ((## (base_of f + from_), 12) ∷ (## (suc u), 15) ∷ []) refl (omega arith) refl (omega arith, (omega arith, tt)) r1 d _ r1.pc refl s1
+      (subst (λ a. Safe f all (loaded_to a src) → Runs f all B Q (all_steps b (suc u) j) (loaded_to a src)) cut_to
+      (subst (λ a. Safe f all (loaded_to ((base_of f + from_) % 65536) a) → Runs f all B Q (all_steps b (suc u) j) (loaded_to ((base_of f + from_) % 65536) a)) cut (λ s2.
+      turns_run f st all B Q t r d (InLeft Q t ds same back stack outside r d Ended) (one_byte Q t ds same back stack outside r d Ended) b 6 turns_ (omega arith) u r.sr (base_of f + from_) src j d.mem lt
+      (subst (λ n. InLeft Q t ds same back stack outside r d Ended n src (base_of f + from_) d.mem) (sym ec)
+      (record { o = from_; priv = priv; there = refl; short = le; free = free; range = rg; holds = h; stop = stop; done = λ bs e m2 h2. (bs, e, h2) })) s2 (λ pc2 sr2 dst2 src2 m2 ep x s3.
+      let e : Ended m2 = x.done [] (nothing Q t ds same back stack outside r d Ended src2) m2 x.holds in
+      done e.0 e.1 (record r { pc = pc2; sr = sr2; r12 = dst2 % 65536; r13 = src2 % 65536; r15 = 0 }) m2 (ep ∙ omega arith) refl e.2 s3)))))

@@ -6,14 +6,13 @@ use Rattle.sx_isa.specs.Spelling.{spelling}
 use Rattle.sx_isa.specs.declared.instruction.Op2.TheVariants as op2
 use Rattle.sx_alu.specs.Status.{flags_of}
 use Rattle.sx_rules.specs.declared.access.Violation.{Violation}
-use Rattle.sx_machine.specs.declared.kinds.Event.TheVariants as event
 use Rattle.sx_invoke.specs.Marks.{Mark}
 use Rattle.sx_image.specs.Watched.{Watched}
 use Rattle.sx_isa.specs.Assembly.{#◌, ◌⟨◌⟩, add, back, dec, increment, jnz, mov_b, r12, r13, r15}
 use Rattle.sx_tmpl.specs.Running.{Regs, Fixed, Data, running, Safe}
 use Rattle.sx_tmpl.proofs.Running.MidRun.{Stands, Runs}
 use Rattle.sx_tmpl.proofs.Running.Steps.{Text}
-use Rattle.sx_tmpl.proofs.Running.Instructions.{step}
+use Rattle.sx_tmpl.proofs.Running.Instructions.{goes}
 use Rattle.sx_tmpl.proofs.Running.Flags.{flags_after, equal, unequal}
 use Rattle.sx_tmpl.proofs.Operations.Plain.{inside}
 
@@ -90,13 +89,15 @@ module _ (f : Fixed) (st : Stands f) (all : List Mark) (B : Watched → Violatio
   added true k is le pc sr dst src left j m e safe after =
       let sum : (dst % 65536 % 65536 + 8 + 0) % 65536 ≡ (dst + 8) % 65536 = omega arith in
       let sr2 = flags_after op2.Add 8 (dst % 65536 % 65536) sr in
-      step f st all B Q t k (add (# 8) r12) is le refl refl event.Quiet (record r { pc = pc; sr = sr; r12 = dst % 65536; r13 = src % 65536; r15 = left }) (record d { mem = m }) j e safe
-      (λ kept. (record r { pc = P + 2 * (k + 1); sr = sr2; r12 = (dst + 8) % 65536; r13 = src % 65536; r15 = left }, rw sum refl, inside t (k + 1) le, after sr2))
+      goes f st all B Q t k (add (# 8) r12) is le refl refl (record r { pc = pc; sr = sr; r12 = dst % 65536; r13 = src % 65536; r15 = left }) (record d { mem = m }) j e safe
+      (record r { pc = P + 2 * (k + 1); sr = sr2; r12 = (dst + 8) % 65536; r13 = src % 65536; r15 = left }) m (inside t (k + 1) le)
+      (rw sum refl, refl) (after sr2)
   added false k is le pc sr dst src left j m e safe after =
       let sum : (dst % 65536 % 65536 + 1 + 0) % 65536 ≡ (dst + 1) % 65536 = omega arith in
       let sr2 = flags_after op2.Add 1 (dst % 65536 % 65536) sr in
-      step f st all B Q t k (add (# 1) r12) is le refl refl event.Quiet (record r { pc = pc; sr = sr; r12 = dst % 65536; r13 = src % 65536; r15 = left }) (record d { mem = m }) j e safe
-      (λ kept. (record r { pc = P + 2 * (k + 1); sr = sr2; r12 = (dst + 1) % 65536; r13 = src % 65536; r15 = left }, rw sum refl, inside t (k + 1) le, after sr2))
+      goes f st all B Q t k (add (# 1) r12) is le refl refl (record r { pc = pc; sr = sr; r12 = dst % 65536; r13 = src % 65536; r15 = left }) (record d { mem = m }) j e safe
+      (record r { pc = P + 2 * (k + 1); sr = sr2; r12 = (dst + 1) % 65536; r13 = src % 65536; r15 = left }) m (inside t (k + 1) le)
+      (rw sum refl, refl) (after sr2)
 
   -- where the jump leads that stands at this word
   abbrev goal : Bool → ℕ → ℕ → ℕ
@@ -107,22 +108,22 @@ module _ (f : Fixed) (st : Stands f) (all : List Mark) (B : Watched → Violatio
       → (Safe f all (At (goal z k e) sr dst src left m) → Runs f all B Q j (At (goal z k e) sr dst src left m)) → Runs f all B Q (suc j) (At (P + 2 * e) sr dst src left m)
   jumped true true k e at is le sr dst src left j m z safe after =
       let r1 = record r { pc = P + 2 * e; sr = sr; r12 = dst % 65536; r13 = src % 65536; r15 = left } in
-      step f st all B Q t e (jnz (back 19)) is le refl refl event.Quiet r1 (record d { mem = m }) j refl safe
-      (λ kept. (record r1 { pc = P + 2 * (e + 1) }, rw z refl, inside t (e + 1) le, after))
+      goes f st all B Q t e (jnz (back 19)) is le refl refl r1 (record d { mem = m }) j refl safe
+      (record r1 { pc = P + 2 * (e + 1) }) m (inside t (e + 1) le) (rw z refl, refl) after
   jumped true false k e at is le sr dst src left j m z safe after =
       let r1 = record r { pc = P + 2 * e; sr = sr; r12 = dst % 65536; r13 = src % 65536; r15 = left } in
       let to : (P + 2 * (e + 1) + 65498) % 65536 ≡ P + 2 * k = omega (arith, at, le, t.to, st.below) in
-      step f st all B Q t e (jnz (back 19)) is le refl refl event.Quiet r1 (record d { mem = m }) j refl safe
-      (λ kept. (record r1 { pc = P + 2 * k }, rw (z, to) refl, inside t k (omega (arith, at, le)), after))
+      goes f st all B Q t e (jnz (back 19)) is le refl refl r1 (record d { mem = m }) j refl safe
+      (record r1 { pc = P + 2 * k }) m (inside t k (omega (arith, at, le))) (rw (z, to) refl, refl) after
   jumped false true k e at is le sr dst src left j m z safe after =
       let r1 = record r { pc = P + 2 * e; sr = sr; r12 = dst % 65536; r13 = src % 65536; r15 = left } in
-      step f st all B Q t e (jnz (back 5)) is le refl refl event.Quiet r1 (record d { mem = m }) j refl safe
-      (λ kept. (record r1 { pc = P + 2 * (e + 1) }, rw z refl, inside t (e + 1) le, after))
+      goes f st all B Q t e (jnz (back 5)) is le refl refl r1 (record d { mem = m }) j refl safe
+      (record r1 { pc = P + 2 * (e + 1) }) m (inside t (e + 1) le) (rw z refl, refl) after
   jumped false false k e at is le sr dst src left j m z safe after =
       let r1 = record r { pc = P + 2 * e; sr = sr; r12 = dst % 65536; r13 = src % 65536; r15 = left } in
       let to : (P + 2 * (e + 1) + 65526) % 65536 ≡ P + 2 * k = omega (arith, at, le, t.to, st.below) in
-      step f st all B Q t e (jnz (back 5)) is le refl refl event.Quiet r1 (record d { mem = m }) j refl safe
-      (λ kept. (record r1 { pc = P + 2 * k }, rw (z, to) refl, inside t k (omega (arith, at, le)), after))
+      goes f st all B Q t e (jnz (back 5)) is le refl refl r1 (record d { mem = m }) j refl safe
+      (record r1 { pc = P + 2 * k }) m (inside t k (omega (arith, at, le))) (rw (z, to) refl, refl) after
 
   -- What is left of a copy is said by whoever copies: how many bytes, where the next comes from and goes to, and memory. Of one byte it must follow that what is then left holds.
   abbrev pub Byte : (ℕ → ℕ → ℕ → List ℕ → Type 0) → Type 0
@@ -160,14 +161,9 @@ module _ (f : Fixed) (st : Stands f) (all : List Mark) (B : Watched → Violatio
           let e = k + 2 * size b + 1 in
           let r3 = record r { pc = P + 2 * e; sr = sr3; r12 = (dst + size b) % 65536; r13 = src2 % 65536; r15 = suc left } in
           let sr4 = flags_after op2.Cmp 1 (suc left % 65536) sr3 in
-          step f st all B Q t e (dec r15) turns.dec_is (omega (arith, le)) refl refl event.Quiet r3 (record d { mem = m2 }) (suc j) refl s3
-          (λ kept. (
-            record r3 { pc = P + 2 * (e + 1); sr = sr4; r15 = left },
-            rw less refl,
-            inside t (e + 1) (omega (arith, le)),
-            λ s4.
-                ends (e + 1) (omega arith) sr4 (flags sr3) src2 m2 (subst (λ a. Left v src2 a m2) ea x2) s4,
-          ))))
+          goes f st all B Q t e (dec r15) turns.dec_is (omega (arith, le)) refl refl r3 (record d { mem = m2 }) (suc j) refl s3
+          (record r3 { pc = P + 2 * (e + 1); sr = sr4; r15 = left }) m2 (inside t (e + 1) (omega (arith, le))) (rw less refl, refl) (λ s4.
+          ends (e + 1) (omega arith) sr4 (flags sr3) src2 m2 (subst (λ a. Left v src2 a m2) ea x2) s4)))
         where
           ends : (e : ℕ) → k + 2 * size b + 2 ≡ e → (sr4 : ℕ) → (flags_of sr4).z ≡ z → (src2 : ℕ) (m2 : List ℕ) → Left v src2 (dst + size b) m2
               → Safe f all (At (P + 2 * e) sr4 (dst + size b) src2 left m2) → Runs f all B Q (suc j) (At (P + 2 * e) sr4 (dst + size b) src2 left m2)

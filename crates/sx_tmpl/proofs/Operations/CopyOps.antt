@@ -2,7 +2,7 @@
 use Rattle.sx_isa.specs.Standing.{words_of}
 use Rattle.sx_isa.specs.Assembly.{##◌, &◌, add, mov, pop, r12, r13, r15}
 use Rattle.sx_tmpl.specs.Template.{turns}
-use Rattle.sx_tmpl.proofs.Running.Instructions.{step}
+use Rattle.sx_tmpl.proofs.Running.Instructions.{goes}
 use Rattle.sx_tmpl.proofs.Running.Loading.{loads}
 use Rattle.sx_tmpl.specs.Template as templates
 use Rattle.std.proofs.Common.{◌≡◌, ◌==◌, ℕ, suc, ◌+◌, ◌*◌, ◌/◌, ◌%◌, ◌<◌, ◌≤◌, inl, inr, Bool, true, false, not, ◌&&◌, cond, nat_le, nat_lt, List}
@@ -10,7 +10,6 @@ use Rattle.std.proofs.Common.{[], ◌∷◌, length, refl, sym, ◌∙◌, ap, s
 use Rattle.sx_reach.specs.Reach.{Here, Goes, Stops}
 use Rattle.sx_isa.specs.declared.instruction.Op2.TheVariants as op2
 use Rattle.sx_rules.specs.declared.access.Violation.{Violation}
-use Rattle.sx_machine.specs.declared.kinds.Event.TheVariants as event
 use Rattle.std.specs.Prelude.{Result, Ok, Err}
 use Rattle.std.proofs.lemmas.Bool.{cases_Bool, true≢false, or_right, and_from, or_left, leb-true, ltb-true, and_parts, cases_lt, lt-ltb}
 use Rattle.sx_rules.specs.Access.{in_private}
@@ -200,47 +199,25 @@ module _ (f : Fixed) (st : Stands f) (all : List Mark) (B : Watched → Violatio
         let r2 = record r1 { pc = at c.place + 6; sr = sr2; r12 = saved c 14 + v } in
         let Ended : List ℕ → Type 0 = λ m2. (mem : List ℕ) × (OutWritten ≡ Ok mem) × MemoryHolds f at c.back rest c.priv mem (r.sp + 2) m2 in
         later f all B Q (suc (suc (suc (suc (all_steps b (suc u) 0))))) (8 + 4 * suc n) (running f r d) (omega (arith, few, full))
-        (step f st all B Q t 0 (pop r12) refl (omega arith) refl refl event.Quiet r d _ (omega (arith, sh.pc)) safe (
-          r.sp,
-          refl,
-          p1,
-          v,
-          h.words.0,
-          λ kept. (
-            r1,
-            rw (up, stay) refl,
-            inside t 1 (omega arith),
-            λ s1.
-                step f st all B Q t 1 (add (& (base_of f + 10)) r12) refl (omega arith) refl refl event.Quiet r1 d _ refl s1 (
-                  base_of f + 10,
-                  refl,
-                  p10,
-                  saved c 14,
-                  is,
-                  λ kept. (
-                    r2,
-                    rw sum refl,
-                    inside t 3 (omega arith),
-                    λ s2.
-                        loads f st all B Q t 3 ((## (base_of f + o), 13) ∷ (## (suc u), 15) ∷ []) refl (omega arith) refl (omega arith, (omega (arith, turns_few b u, full), tt)) r2 d _ r2.pc refl s2 (λ s4.
-                        copy_runs f st all B at Q t d.devices safe.devices c.back rest c.priv r1 d Ended b 7 stands (omega arith) u out_bytes sr2 (saved c 14 + v) (base_of f + o) 0 c.mem
-                        (omega (arith, turns_few b u, full)) (full ∙ sym len) (omega arith) w1 (omega (arith, len)) (record { low = omega arith; high = omega (arith, len) }) (o, refl, subst (λ (k : ℕ). HoldsNoKey (length f.setup.ends) o k) (sym len) shown)
-                        (subst (λ l. BytesAt d.mem (base_of f + o) l) same (stand_from d.mem (base_of f + o) (suc n))) h1 s4
-                        (λ x e r3 m3. stop x (ap (λ ds. write_bytes f.setup ds c.mem (saved c 14 + v) out_bytes) (sym sh.devices) ∙ e) (running f r3 (record d { mem = m3 })) sh.marks)
-                        (λ mem e m3 h3. (mem, ap (λ ds. write_bytes f.setup ds c.mem (saved c 14 + v) out_bytes) (sym sh.devices) ∙ e, h3))
-                        (λ m3 e pc3 sr3 a3 s3 ep safe3.
-                        let r3 = record r1 { pc = pc3; sr = sr3; r12 = a3; r13 = s3; r15 = 0 } in
-                        Here (done e.0 e.1 (running f r3 (record d { mem = m3 })) (record {
-                          regs = r3;
-                          rest = record d { mem = m3 };
-                          state = refl;
-                          safe = safe3;
-                          shows = record { pc = ep ∙ omega (arith, on); holds = e.2; devices = sh.devices; marks = sh.marks };
-                        })))),
-                  ),
-                ),
-          ),
-        ))
+        (goes f st all B Q t 0 (pop r12) refl (omega arith) refl refl r d _ (omega (arith, sh.pc)) safe r1 d.mem (inside t 1 (omega arith))
+        (r.sp, refl, p1, v, h.words.0, (rw (up, stay) refl, refl)) (λ s1.
+        goes f st all B Q t 1 (add (& (base_of f + 10)) r12) refl (omega arith) refl refl r1 d _ refl s1 r2 d.mem (inside t 3 (omega arith))
+        (base_of f + 10, refl, p10, saved c 14, is, (rw sum refl, refl)) (λ s2.
+        loads f st all B Q t 3 ((## (base_of f + o), 13) ∷ (## (suc u), 15) ∷ []) refl (omega arith) refl (omega arith, (omega (arith, turns_few b u, full), tt)) r2 d _ r2.pc refl s2 (λ s4.
+        copy_runs f st all B at Q t d.devices safe.devices c.back rest c.priv r1 d Ended b 7 stands (omega arith) u out_bytes sr2 (saved c 14 + v) (base_of f + o) 0 c.mem
+        (omega (arith, turns_few b u, full)) (full ∙ sym len) (omega arith) w1 (omega (arith, len)) (record { low = omega arith; high = omega (arith, len) }) (o, refl, subst (λ (k : ℕ). HoldsNoKey (length f.setup.ends) o k) (sym len) shown)
+        (subst (λ l. BytesAt d.mem (base_of f + o) l) same (stand_from d.mem (base_of f + o) (suc n))) h1 s4
+        (λ x e r3 m3. stop x (ap (λ ds. write_bytes f.setup ds c.mem (saved c 14 + v) out_bytes) (sym sh.devices) ∙ e) (running f r3 (record d { mem = m3 })) sh.marks)
+        (λ mem e m3 h3. (mem, ap (λ ds. write_bytes f.setup ds c.mem (saved c 14 + v) out_bytes) (sym sh.devices) ∙ e, h3))
+        (λ m3 e pc3 sr3 a3 s3 ep safe3.
+        let r3 = record r1 { pc = pc3; sr = sr3; r12 = a3; r13 = s3; r15 = 0 } in
+        Here (done e.0 e.1 (running f r3 (record d { mem = m3 })) (record {
+          regs = r3;
+          rest = record d { mem = m3 };
+          state = refl;
+          safe = safe3;
+          shows = record { pc = ep ∙ omega (arith, on); holds = e.2; devices = sh.devices; marks = sh.marks };
+        })))))))
 
     out_write : (w : Result (List ℕ) Violation) → OutWritten ≡ w → (has_out_window f.setup c && has_copy_room c v (suc n)) ≡ true → Ending (copied_out w begun copied) OutGoes OutBreaks
     out_write (Ok mem) ew ok = Goes_to (copied mem) refl (λ r d t on sh safe. out_core (Stood f all at (copied mem)) ok r d t on sh safe

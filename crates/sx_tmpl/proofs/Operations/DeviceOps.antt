@@ -2,7 +2,7 @@
 use Rattle.sx_isa.specs.Instructions.{first_word}
 use Rattle.sx_isa.specs.Standing.{words_of}
 use Rattle.sx_isa.specs.Assembly.{&◌, pop, push}
-use Rattle.std.proofs.Common.{◌≡◌, ℕ, zero, suc, ◌+◌, ◌-◌, ◌*◌, ◌%◌, ◌<◌, ◌≤◌, true, false, cond, inr, List, [], ◌∷◌, ◌++◌, length, Some, refl, sym, ◌∙◌, ap, subst, arith}
+use Rattle.std.proofs.Common.{◌≡◌, ℕ, zero, suc, ◌+◌, ◌-◌, ◌%◌, ◌<◌, ◌≤◌, true, false, cond, inr, List, [], ◌∷◌, ◌++◌, length, Some, refl, sym, ◌∙◌, ap, subst, arith}
 use Rattle.sx_reach.specs.Reach.{Here, Next, Goes}
 use Rattle.sx_isa.specs.declared.instruction.Operand.TheVariants.{Increment, Absolute}
 use Rattle.sx_isa.specs.declared.instruction.Op2.TheVariants as op2
@@ -10,14 +10,13 @@ use Rattle.sx_isa.specs.declared.instruction.Op1.TheVariants as op1
 use Rattle.sx_isa.specs.declared.instruction.Instr.TheVariants.{Two, One}
 use Rattle.sx_rules.specs.declared.access.Violation.{Violation}
 use Rattle.sx_machine.specs.declared.kinds.Event.TheVariants as event
-use Rattle.std.specs.Prelude.{slice_set, Ok, slice_get, ◌==◌}
+use Rattle.std.specs.Prelude.{slice_set, Ok, ◌==◌}
 use Rattle.sx_bus.specs.declared.devices.Window.{Window}
 use Rattle.sx_bus.specs.Devices.{device_at, on_word, with_changed, stale, cleared}
 use Rattle.sx_invoke.specs.Marks as mark
 use Rattle.sx_invoke.specs.Marks.{HasPrefix, Mark}
-use Rattle.sx_tmpl.proofs.Running.Steps.{text_word, tests_passed, plain_instruction, fetched, program_two, shown_two, step_shown, exec_own, by_outcome, Text, InText, Reads}
+use Rattle.sx_tmpl.proofs.Running.Steps.{InText, by_outcome, two_does}
 use Rattle.std.proofs.lemmas.List.{append-nil}
-use Rattle.sx_isa.specs.declared.instruction.Instr.{Instr}
 use Rattle.sx_rules.specs.Access.{holder}
 use Rattle.sx_machine.specs.declared.kinds.Touch.{Touch}
 use Rattle.sx_machine.specs.declared.kinds.Touch.TheVariants.{DeviceRead, DeviceWrite}
@@ -27,7 +26,7 @@ use Rattle.sx_machine.specs.Run.{Moment, Finished, untouched, with_touch, device
 use Rattle.sx_image.specs.Watched.{marks_of_touches, watch, Watched}
 use Rattle.sx_tmpl.proofs.Running.Owned.{may_read, may_write, own_above, run_holder}
 use Rattle.sx_tmpl.proofs.Running.Owes.{load_word, store_word, kept_word}
-use Rattle.sx_tmpl.specs.Unseen.{IsWordShown, PlanShowsNone, StepShowsNone}
+use Rattle.sx_tmpl.specs.Unseen.{IsWordShown, StepShowsNone}
 use Rattle.sx_machine.specs.Step.{own_of, start, attempt}
 use Rattle.sx_tmpl.proofs.Running.Flags.{flags_stay, flags_after}
 use Rattle.sx_ir.specs.Conf.{Conf}
@@ -35,7 +34,6 @@ use Rattle.sx_ir.specs.Meaning.{next}
 use Rattle.sx_tmpl.specs.Running.{Regs, regs16, Fixed, Data, running, Safe, cell, OutsideKept}
 use Rattle.sx_tmpl.proofs.Running.MidRun.{Stands, Runs, place_of, put_cell, word_shown}
 use Rattle.sx_tmpl.specs.Shows.{base_of, Stood}
-use Rattle.sx_machine.specs.Rows.{row}
 use Rattle.sx_machine.specs.Registers.{at_pc}
 use Rattle.std.proofs.lemmas.Bool.{eq-eqb, ne_eqb}
 use Rattle.sx_isa.proofs.StandingLemmas.{even_same}
@@ -50,48 +48,6 @@ at_cleared (w ∷ ds) zero n a = refl
 at_cleared (w ∷ ds) (suc i) n a = ap (λ o. cond (on_word a w) (Some n) o) (at_cleared ds i (n + 1) a)
 
 module _ (f : Fixed) (st : Stands f) (all : List Mark) (B : Watched → Violation → Type 0) (Q : Watched → Type 0) where
-  -- an instruction of two words is fetched
-  two_attempt : {P n : ℕ} {ws : List ℕ} (t : Text f P n ws) (k w u : ℕ) (i : ℕ → ℕ → Instr) → slice_get ws k ≡ Some w → slice_get ws (k + 1) ≡ Some u → k + 2 ≤ n → Reads w 2 i
-      → (r : Regs) (d : Data) → r.pc ≡ P + 2 * k → Safe f all (running f r d)
-      → attempt f.setup.mac (running f r d).node ≡ exec_own f st all B Q (row (i u 0) (at_pc (regs16 f r) (P + 2 * (k + 1))) (P + 2 * (k + 2))) (start (running f r d).node)
-  two_attempt {P = P} {n = n} t k w u i has has1 fits reads r d pc safe =
-      let low = t.from in
-      let high = t.to in
-      let ev_ = t.is_even in
-      let lim = st.below in
-      let here : f.setup.section.layout.pub_from ≤ r.pc = omega arith in
-      let ends : r.pc + 1 < f.setup.section.layout.pub_to = omega arith in
-      let ev : r.pc % 2 ≡ 0 = omega arith in
-      let next : (r.pc + 2) % 65536 ≡ P + 2 * (k + 1) = omega arith in
-      let next2 : (r.pc + 4) % 65536 ≡ P + 2 * (k + 2) = omega arith in
-      let x = start (running f r d).node in
-      let i0 : cell d.mem r.pc ≡ w = text_word f st all B Q d.mem r.pc w safe.memory here ends (ap (cell f.entered) pc ∙ t.word k w has) in
-      let i1 : cell d.mem (P + 2 * (k + 1)) ≡ u = text_word f st all B Q d.mem (P + 2 * (k + 1)) u safe.memory (omega arith) (omega arith) (t.word (k + 1) u has1) in
-      let got = fetched f st all B Q ((r.pc + 2) % 65536) (P + 2 * (k + 1)) u x next (omega arith) (omega arith) (omega arith) safe.devices i1 in
-      tests_passed f st all B Q event.Quiet r d safe here ends ev ∙ plain_instruction f st all B Q event.Quiet r d w here ends ev i0 reads.plain
-      ∙ program_two f st all B Q w u i (regs16 f r) x reads got
-      ∙ ap (λ b. exec_own f st all B Q (row (i u 0) (at_pc (regs16 f r) b) ((r.pc + 4) % 65536)) x) next
-      ∙ ap (λ b. exec_own f st all B Q (row (i u 0) (at_pc (regs16 f r) (P + 2 * (k + 1))) b) x) next2
-
-  -- and shows no key, if its plan doesn't
-  two_step : {P n : ℕ} {ws : List ℕ} (t : Text f P n ws) (k w u : ℕ) (i : ℕ → ℕ → Instr) → slice_get ws k ≡ Some w → slice_get ws (k + 1) ≡ Some u → k + 2 ≤ n → Reads w 2 i
-      → (r : Regs) (d : Data) → r.pc ≡ P + 2 * k → Safe f all (running f r d)
-      → PlanShowsNone f.setup (row (i u 0) (at_pc (regs16 f r) ((r.pc + 2) % 65536)) ((r.pc + 4) % 65536)) (start (running f r d).node) → StepShowsNone f.setup f.entered (running f r d)
-  two_step {P = P} {n = n} t k w u i has has1 fits reads r d pc safe shown =
-      let low = t.from in
-      let high = t.to in
-      let ev_ = t.is_even in
-      let lim = st.below in
-      let here : f.setup.section.layout.pub_from ≤ r.pc = omega arith in
-      let ends : r.pc + 1 < f.setup.section.layout.pub_to = omega arith in
-      let ev : r.pc % 2 ≡ 0 = omega arith in
-      let next : (r.pc + 2) % 65536 ≡ P + 2 * (k + 1) = omega arith in
-      let x = start (running f r d).node in
-      let i0 : cell d.mem r.pc ≡ w = text_word f st all B Q d.mem r.pc w safe.memory here ends (ap (cell f.entered) pc ∙ t.word k w has) in
-      let i1 : cell d.mem (P + 2 * (k + 1)) ≡ u = text_word f st all B Q d.mem (P + 2 * (k + 1)) u safe.memory (omega arith) (omega arith) (t.word (k + 1) u has1) in
-      let got = fetched f st all B Q ((r.pc + 2) % 65536) (P + 2 * (k + 1)) u x next (omega arith) (omega arith) (omega arith) safe.devices i1 in
-      step_shown f st all B Q (running f r d) w ev i0 reads.plain (shown_two f st all B Q w u i (regs16 f r) x reads got shown)
-
   -- a step that touches a device
   from_touched : (n : ℕ) (r r2 : Regs) (d : Data) (m : List ℕ) (ds : List Window) (ts : List Touch) (new : List Mark) → Safe f all (running f r d) → StepShowsNone f.setup f.entered (running f r d)
       → InText f r.pc → InText f r2.pc
@@ -163,10 +119,10 @@ module _ (f : Fixed) (st : Stands f) (all : List Mark) (B : Watched → Violatio
       ap (λ r. after_write r (λ y. Finished g y)) (store_actuator x (cell d.mem r.sp) i w here kind)
       ∙ ap (λ v. Finished g (record x { touches = with_touch untouched (DeviceWrite i v) })) is
       ∙ ap (λ g. Finished g (record x { touches = with_touch untouched (DeviceWrite i v) })) (rw (up, flags_stay r.sr) refl) in
-      let shown = two_step f st all B Q t 0 (first_word (pop (& 0))) (base_of f) (λ x y. Two op2.Mov false (Increment 1) (Absolute x)) refl refl (omega arith)
-      (reads_of (pop (& 0)) refl refl) r d (omega (arith, sh.pc)) safe (inr (subst (λ (a : ℕ). IsWordShown f.setup a) (sym (even_same r.sp p1.is_even)) (word_shown f.setup r.sp p1.shown), λ v y e z g. tt)) in
-      let at_ = two_attempt f st all B Q t 0 (first_word (pop (& 0))) (base_of f) (λ x y. Two op2.Mov false (Increment 1) (Absolute x)) refl refl (omega arith)
-      (reads_of (pop (& 0)) refl refl) r d (omega (arith, sh.pc)) safe
+      let does = two_does f st all B Q t 0 (first_word (pop (& 0))) (base_of f) (λ x y. Two op2.Mov false (Increment 1) (Absolute x)) refl refl (omega arith)
+      (reads_of (pop (& 0)) refl refl) event.Quiet r d (omega (arith, sh.pc)) safe in
+      let shown = does.1 (inr (subst (λ (a : ℕ). IsWordShown f.setup a) (sym (even_same r.sp p1.is_even)) (word_shown f.setup r.sp p1.shown), λ v y e z g. tt)) in
+      let at_ = does.0
       ∙ ap (λ r. after_read r (λ v y. after_write (store f.setup.live f.setup.section.id true (base_of f) v y) (λ y. Finished g y))) (load_word f st r.sp r.sp x refl (place_of p1) safe.devices) ∙ done in
       let mk : d.marks ++ mark.Actuated i v ∷ [] ≡ c.marks ++ mark.Actuated i v ∷ [] = ap (λ l. l ++ mark.Actuated i v ∷ []) sh.marks in
       from_touched f st all B Q 0 r r2 d d.mem d.devices (with_touch untouched (DeviceWrite i v)) (mark.Actuated i v ∷ []) safe shown (record { from = omega (arith, sh.pc); to = omega (arith, sh.pc) })
@@ -203,10 +159,10 @@ module _ (f : Fixed) (st : Stands f) (all : List Mark) (B : Watched → Violatio
       let g : List ℕ = at_pc (slice_set (at_pc (regs16 f r) (at c.place + 2)) 1 ((r.sp + 65534) % 65536)) (at c.place + 4) in
       let m2 = put_cell d.mem sp v in
       let zero_at : base_of f ≡ base_of f + 0 = omega arith in
-      let shown = two_step f st all B Q t 0 (first_word (push (& 0))) (base_of f) (λ x y. One op1.Push false (Absolute x)) refl refl (omega arith)
-      (reads_of (push (& 0)) refl refl) r d (omega (arith, sh.pc)) safe (inr (word_shown f.setup _ (0, even_same (base_of f) st.base_even ∙ zero_at, low_shown (length f.setup.ends) 0 2 (omega arith)), λ v y e z g. tt)) in
-      let at_ = two_attempt f st all B Q t 0 (first_word (push (& 0))) (base_of f) (λ x y. One op1.Push false (Absolute x)) refl refl (omega arith)
-      (reads_of (push (& 0)) refl refl) r d (omega (arith, sh.pc)) safe
+      let does = two_does f st all B Q t 0 (first_word (push (& 0))) (base_of f) (λ x y. One op1.Push false (Absolute x)) refl refl (omega arith)
+      (reads_of (push (& 0)) refl refl) event.Quiet r d (omega (arith, sh.pc)) safe in
+      let shown = does.1 (inr (word_shown f.setup _ (0, even_same (base_of f) st.base_even ∙ zero_at, low_shown (length f.setup.ends) 0 2 (omega arith)), λ v y e z g. tt)) in
+      let at_ = does.0
       ∙ ap (λ r_. after_read r_ (λ v y. after_write (store f.setup.live f.setup.section.id true ((r.sp + 65534) % 65536) v y) (λ y. Finished g y))) (load_fresh x i w here kind fresh)
       ∙ ap (λ o. after_write o (λ y. Finished g y)) (store_word f st ((r.sp + 65534) % 65536) sp v y down (place_of pr) same)
       ∙ ap (λ g. Finished g (record y { mem = m2 })) (rw down refl) in
@@ -244,10 +200,10 @@ module _ (f : Fixed) (st : Stands f) (all : List Mark) (B : Watched → Violatio
       let g : List ℕ = at_pc (slice_set (at_pc (regs16 f r) (at c.place + 2)) 1 ((r.sp + 65534) % 65536)) (at c.place + 4) in
       let m2 = put_cell d.mem sp 0 in
       let zero_at : base_of f ≡ base_of f + 0 = omega arith in
-      let shown = two_step f st all B Q t 0 (first_word (push (& 0))) (base_of f) (λ x y. One op1.Push false (Absolute x)) refl refl (omega arith)
-      (reads_of (push (& 0)) refl refl) r d (omega (arith, sh.pc)) safe (inr (word_shown f.setup _ (0, even_same (base_of f) st.base_even ∙ zero_at, low_shown (length f.setup.ends) 0 2 (omega arith)), λ v y e z g. tt)) in
-      let at_ = two_attempt f st all B Q t 0 (first_word (push (& 0))) (base_of f) (λ x y. One op1.Push false (Absolute x)) refl refl (omega arith)
-      (reads_of (push (& 0)) refl refl) r d (omega (arith, sh.pc)) safe
+      let does = two_does f st all B Q t 0 (first_word (push (& 0))) (base_of f) (λ x y. One op1.Push false (Absolute x)) refl refl (omega arith)
+      (reads_of (push (& 0)) refl refl) event.Quiet r d (omega (arith, sh.pc)) safe in
+      let shown = does.1 (inr (word_shown f.setup _ (0, even_same (base_of f) st.base_even ∙ zero_at, low_shown (length f.setup.ends) 0 2 (omega arith)), λ v y e z g. tt)) in
+      let at_ = does.0
       ∙ ap (λ r_. after_read r_ (λ v y. after_write (store f.setup.live f.setup.section.id true ((r.sp + 65534) % 65536) v y) (λ y. Finished g y))) (load_stale x i w here kind fresh)
       ∙ ap (λ o. after_write o (λ y. Finished g y)) (store_word f st ((r.sp + 65534) % 65536) sp 0 x down (place_of pr) safe.devices)
       ∙ ap (λ g. Finished g (record x { mem = m2 })) (rw down refl) in

@@ -1,7 +1,7 @@
 -- The entry: from any registers to the first configuration.
 use Rattle.sx_isa.specs.Instructions.{first_word}
 use Rattle.sx_isa.specs.Assembly.{##◌, &◌, mov, r12, r13, r14, r15, sp}
-use Rattle.sx_tmpl.proofs.Running.Instructions.{reads_of, step}
+use Rattle.sx_tmpl.proofs.Running.Instructions.{Gives, given, goes, reads_of}
 use Rattle.sx_tmpl.specs.Template.{entry_words}
 use Rattle.std.proofs.Common.{◌≡◌, ◌≢◌, ℕ, suc, ◌+◌, ◌-◌, ◌*◌, ◌%◌, ◌<◌, ◌≤◌, inl, inr, true, false, cond, List, [], length, None, refl, sym, ◌∙◌, ap, arith, slice_index}
 use Rattle.sx_reach.specs.Reach.{Here, Next, Ends, Goes}
@@ -10,7 +10,6 @@ use Rattle.sx_isa.specs.declared.instruction.Op2.TheVariants as op2
 use Rattle.sx_isa.specs.declared.instruction.Instr.TheVariants.{Two}
 use Rattle.sx_rules.specs.declared.access.Violation.{Violation}
 use Rattle.sx_machine.specs.declared.kinds.Event.{Event}
-use Rattle.sx_machine.specs.declared.kinds.Event.TheVariants as event
 use Rattle.sx_bus.specs.Devices.{device_at}
 use Rattle.sx_rules.specs.declared.access.Violation.TheVariants as bad
 use Rattle.sx_rules.specs.Access.{in_private, holder, in_order}
@@ -24,7 +23,7 @@ use Rattle.std.proofs.lemmas.Bool.{and_from, eq-eqb, ne_eqb}
 use Rattle.sx_image.specs.Watched.{watch, Watched}
 use Rattle.sx_tmpl.specs.Running.{sections_of, Regs, regs16, Fixed, Data, running, Safe, cell, OutsideKept}
 use Rattle.sx_tmpl.proofs.Running.Owned.{own_above, run_holder, run_outside, entry_in_order, in_public_yes}
-use Rattle.sx_tmpl.proofs.Running.Owes.{Met, owes_met, owes_shown, Owes}
+use Rattle.sx_tmpl.proofs.Running.Owes.{Met, owes_met, owes_shown}
 use Rattle.sx_tmpl.specs.Unseen.{StepShowsNone}
 use Rattle.sx_tmpl.proofs.Running.Flags.{flags_stay}
 use Rattle.sx_machine.specs.Memory.{word, put_word}
@@ -81,9 +80,10 @@ module _ (f : Fixed) (st : Stands f) (all : List Mark) (B : Watched → Violatio
   -- the first instruction
   first : (t : Text f f.setup.section.layout.pub_from 12 (entry_words (base_of f))) (r : Regs) (d : Data) (last caller : ℕ) (e : Event) (j : ℕ) → r.pc ≡ f.setup.section.layout.pub_from
       → Safe f all (entering f r d last caller e) → entered_from (entering f r d last caller e).node f.setup.section.id ≡ f.caller
-      → Owes f (Then f st all B Q j d) (NoTell f st all B Q) (B (entering f r d last caller e))
-      (row (Two op2.Mov false (Reg 1) (Absolute (base_of f + 148))) (at_pc (regs16 f r) ((r.pc + 2) % 65536)) ((r.pc + 4) % 65536)) d.mem → Runs f all B Q (suc j) (entering f r d last caller e)
-  first t r d last caller e j pc safe from owed =
+      → (r2 : Regs) (m2 : List ℕ) → InText f r2.pc
+      → Gives f r2 m2 (row (Two op2.Mov false (Reg 1) (Absolute (base_of f + 148))) (at_pc (regs16 f r) ((r.pc + 2) % 65536)) ((r.pc + 4) % 65536)) d.mem
+      → (Safe f all (running f r2 (record d { mem = m2 })) → Runs f all B Q j (running f r2 (record d { mem = m2 }))) → Runs f all B Q (suc j) (entering f r d last caller e)
+  first t r d last caller e j pc safe from r2 m2 to gives after =
       let P = f.setup.section.layout.pub_from in
       let low = t.from in
       let high = t.to in
@@ -116,11 +116,11 @@ module _ (f : Fixed) (st : Stands f) (all : List Mark) (B : Watched → Violatio
       ∙ rw (w0, own) refl
       ∙ program_two f st all B Q w (base_of f + 148) (λ x y. Two op2.Mov false (Reg 1) (Absolute x)) (regs16 f r) x reads got in
       let p = row (Two op2.Mov false (Reg 1) (Absolute (base_of f + 148))) (at_pc (regs16 f r) ((r.pc + 2) % 65536)) ((r.pc + 4) % 65536) in
+      let owed = given f st all B Q (B (entering f r d last caller e)) d j r2 m2 to after p d.mem gives in
       let shown = step_shown f st all B Q (entering f r d last caller e) w ev i0 plain (shown_two f st all B Q w (base_of f + 148) (λ x y. Two op2.Mov false (Reg 1) (Absolute x)) (regs16 f r) x reads got
       (owes_shown f st (Then f st all B Q j d) (NoTell f st all B Q) (B (entering f r d last caller e)) p x safe.devices safe.memory owed)) in
       from_entry j r d last caller e _ safe shown (record { from = here; to = omega arith }) from at_
-      (owes_met f st (Then f st all B Q j d) (NoTell f st all B Q) (B (entering f r d last caller e))
-      (row (Two op2.Mov false (Reg 1) (Absolute (base_of f + 148))) (at_pc (regs16 f r) ((r.pc + 2) % 65536)) ((r.pc + 4) % 65536)) x safe.devices safe.memory owed)
+      (owes_met f st (Then f st all B Q j d) (NoTell f st all B Q) (B (entering f r d last caller e)) p x safe.devices safe.memory owed)
 
 -- the private section with the caller's R12 to R15 in their places
 abbrev pub with_saved : List ℕ → Regs → List ℕ
@@ -213,98 +213,29 @@ module _ (f : Fixed) (st : Stands f) (all : List Mark) (B : Watched → Violatio
       let r3 = record r { pc = P + 16 } in
       let r4 = record r { pc = P + 20 } in
       let r5 = record r { pc = P + 24; sp = b + 512 } in
-      first f st all B at (Q0 priv outside r d) t r d last caller e 5 pc safe from (
-        b + 148,
-        refl,
-        p148,
-        f.sp,
-        v0,
-        ls,
-        λ k0. (
-          r0,
-          rw (stay, next) refl,
-          inside t 2 (omega arith),
-          λ s0.
-              step f st all B (Q0 priv outside r d) t 2 (mov r12 (& (b + 6))) refl (omega arith) refl refl event.Quiet r0
-              (record d { mem = m0 }) 4 refl s0 (
-                b + 6,
-                refl,
-                p6,
-                r.r12,
-                omega arith,
-                l12,
-                λ k1. (
-                  r1,
-                  rw stay refl,
-                  inside t 4 (omega arith),
-                  λ s1.
-                      step f st all B (Q0 priv outside r d) t 4 (mov r13 (& (b + 8))) refl (omega arith) refl refl event.Quiet r1
-                      (record d { mem = m1 }) 3 refl s1 (
-                        b + 8,
-                        refl,
-                        p8,
-                        r.r13,
-                        omega arith,
-                        l13,
-                        λ k2. (
-                          r2,
-                          rw stay refl,
-                          inside t 6 (omega arith),
-                          λ s2.
-                              step f st all B (Q0 priv outside r d) t 6 (mov r14 (& (b + 10))) refl (omega arith) refl refl event.Quiet r2
-                              (record d { mem = m2 }) 2 refl s2 (
-                                b + 10,
-                                refl,
-                                p10,
-                                r.r14,
-                                omega arith,
-                                l14,
-                                λ k3. (
-                                  r3,
-                                  rw stay refl,
-                                  inside t 8 (omega arith),
-                                  λ s3.
-                                      step f st all B (Q0 priv outside r d) t 8 (mov r15 (& (b + 12))) refl (omega arith) refl refl event.Quiet r3
-                                      (record d { mem = m3 }) 1 refl s3 (
-                                        b + 12,
-                                        refl,
-                                        p12,
-                                        r.r15,
-                                        omega arith,
-                                        l15,
-                                        λ k4. (
-                                          r4,
-                                          rw stay refl,
-                                          inside t 10 (omega arith),
-                                          λ s4.
-                                              step f st all B (Q0 priv outside r d) t 10 (mov (## (b + 512)) sp) refl (omega arith) refl refl event.Quiet r4 (record d { mem = m4 }) 0 refl s4
-                                              (λ k5. (
-                                                r5,
-                                                rw (stay, sp2) refl,
-                                                inside t 12 (omega arith),
-                                                λ s5.
-                                                    Here (record {
-                                                      regs = r5;
-                                                      rest = record d { mem = m4 };
-                                                      state = refl;
-                                                      safe = s5;
-                                                      shows = record {
-                                                        pc = sym at0;
-                                                        holds = store 12 r.r15 q3 outside m3 (omega arith) (omega arith) refl k3
-                                                            (store 10 r.r14 q2 outside m2 (omega arith) (omega arith) refl k2
-                                                            (store 8 r.r13 q1 outside m1 (omega arith) (omega arith) refl k1 (store 6 r.r12 priv outside m0 (omega arith) (omega arith) refl k0 h0)));
-                                                        devices = refl;
-                                                        marks = refl;
-                                                      };
-                                                    }),
-                                              )),
-                                        ),
-                                      ),
-                                ),
-                              ),
-                        ),
-                      ),
-                ),
-              ),
-        ),
-      )
+      first f st all B at (Q0 priv outside r d) t r d last caller e 5 pc safe from r0 m0 (inside t 2 (omega arith))
+      (b + 148, refl, p148, f.sp, v0, ls, (rw (stay, next) refl, refl)) (λ s0.
+      goes f st all B (Q0 priv outside r d) t 2 (mov r12 (& (b + 6))) refl (omega arith) refl refl r0 (record d { mem = m0 }) 4 refl s0
+      r1 m1 (inside t 4 (omega arith)) (b + 6, refl, p6, r.r12, omega arith, l12, (rw stay refl, refl)) (λ s1.
+      goes f st all B (Q0 priv outside r d) t 4 (mov r13 (& (b + 8))) refl (omega arith) refl refl r1 (record d { mem = m1 }) 3 refl s1
+      r2 m2 (inside t 6 (omega arith)) (b + 8, refl, p8, r.r13, omega arith, l13, (rw stay refl, refl)) (λ s2.
+      goes f st all B (Q0 priv outside r d) t 6 (mov r14 (& (b + 10))) refl (omega arith) refl refl r2 (record d { mem = m2 }) 2 refl s2
+      r3 m3 (inside t 8 (omega arith)) (b + 10, refl, p10, r.r14, omega arith, l14, (rw stay refl, refl)) (λ s3.
+      goes f st all B (Q0 priv outside r d) t 8 (mov r15 (& (b + 12))) refl (omega arith) refl refl r3 (record d { mem = m3 }) 1 refl s3
+      r4 m4 (inside t 10 (omega arith)) (b + 12, refl, p12, r.r15, omega arith, l15, (rw stay refl, refl)) (λ s4.
+      goes f st all B (Q0 priv outside r d) t 10 (mov (## (b + 512)) sp) refl (omega arith) refl refl r4 (record d { mem = m4 }) 0 refl s4
+      r5 m4 (inside t 12 (omega arith)) (rw (stay, sp2) refl, refl) (λ s5.
+      Here (record {
+        regs = r5;
+        rest = record d { mem = m4 };
+        state = refl;
+        safe = s5;
+        shows = record {
+          pc = sym at0;
+          holds = store 12 r.r15 q3 outside m3 (omega arith) (omega arith) refl s3.memory
+              (store 10 r.r14 q2 outside m2 (omega arith) (omega arith) refl s2.memory
+              (store 8 r.r13 q1 outside m1 (omega arith) (omega arith) refl s1.memory (store 6 r.r12 priv outside m0 (omega arith) (omega arith) refl s0.memory h0)));
+          devices = refl;
+          marks = refl;
+        };
+      })))))))

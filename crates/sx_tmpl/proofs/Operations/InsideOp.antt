@@ -1,8 +1,8 @@
 -- The test of the return address, whose violation is an illegal word.
 use Rattle.sx_tmpl.specs.Template as templates
 use Rattle.sx_isa.specs.Assembly.{##◌, &◌, ahead, cmp, jc, jnc, mov, r12}
-use Rattle.sx_tmpl.proofs.Running.Instructions.{step}
-use Rattle.std.proofs.Common.{◌≡◌, ℕ, suc, ◌+◌, ◌*◌, ◌%◌, ◌<◌, ◌≤◌, inl, inr, Bool, true, false, cond, nat_le, cond, nat_le, List, Some, refl, sym, ◌∙◌, ap, subst, arith}
+use Rattle.sx_tmpl.proofs.Running.Instructions.{goes}
+use Rattle.std.proofs.Common.{◌≡◌, ℕ, suc, ◌+◌, ◌*◌, ◌%◌, ◌<◌, ◌≤◌, inl, inr, Bool, true, false, cond, nat_le, cond, nat_le, List, Some, refl, sym, ◌∙◌, subst, arith}
 use Rattle.sx_reach.specs.Reach.{Here, Goes, Stops, Ends}
 use Rattle.sx_isa.specs.declared.instruction.Op2.TheVariants as op2
 use Rattle.sx_rules.specs.declared.access.Violation.{Violation}
@@ -18,8 +18,8 @@ use Rattle.sx_machine.specs.Rows.{program}
 use Rattle.sx_machine.specs.Step.{start, attempt}
 use Rattle.sx_isa.specs.Reading.{length_of, instruction_at}
 use Rattle.sx_image.specs.Watched.{watch, Watched}
-use Rattle.sx_tmpl.specs.Running.{sections_of, Regs, regs16, Fixed, Data, running, Safe, cell}
-use Rattle.sx_tmpl.proofs.Running.Steps.{text_word, tests_passed, plain_instruction, step_shown, Text}
+use Rattle.sx_tmpl.specs.Running.{sections_of, Regs, regs16, Fixed, Data, running, Safe}
+use Rattle.sx_tmpl.proofs.Running.Steps.{Text, plain_instruction, reached, step_shown, tests_passed}
 use Rattle.sx_tmpl.specs.Unseen.{PlanShowsNone}
 use Rattle.sx_ir.specs.Conf.{Violates, Conf}
 use Rattle.sx_ir.specs.Meaning.{saved, next}
@@ -29,7 +29,7 @@ use Rattle.sx_tmpl.proofs.Running.MidRun.{Stands, Runs}
 use Rattle.sx_tmpl.specs.Shows.{base_of, MemoryHolds, ShowsConfiguration, Stood}
 use Rattle.std.specs.Prelude.{slice_get}
 use Rattle.sx_tmpl.proofs.Operations.Plain.{inside, Leads}
-use Rattle.sx_tmpl.proofs.Running.Holding.{low_shown, data_word, holds_word, cell_below}
+use Rattle.sx_tmpl.proofs.Running.Holding.{low_shown, data_word, holds_word, word_below}
 
 module _ (f : Fixed) (st : Stands f) (all : List Mark) (B : Watched → Violation → Type 0) (Q : Watched → Type 0) where
   illegal_program : (regs : List ℕ) (x : Rattle.sx_machine.specs.Run.Moment) → exec (sections_of f) f.setup.section.id (program 0 regs) x ≡ Violated bad.Illegal
@@ -44,17 +44,11 @@ module _ (f : Fixed) (st : Stands f) (all : List Mark) (B : Watched → Violatio
   pub illegal_step : {P n : ℕ} {ws : List ℕ} (t : Text f P n ws) (k : ℕ) → slice_get ws k ≡ Some 0 → k + 1 ≤ n → (r : Regs) (d : Data) (j : ℕ) → r.pc ≡ P + 2 * k → Safe f all (running f r d)
       → B (running f r d) bad.Illegal → Runs f all B Q (suc j) (running f r d)
   unfolding watch
-  illegal_step {P = P} t k has le r d j pc safe b =
-      let low = t.from in
-      let high = t.to in
-      let ev_ = t.is_even in
-      let here : f.setup.section.layout.pub_from ≤ r.pc = omega arith in
-      let ends : r.pc + 1 < f.setup.section.layout.pub_to = omega arith in
-      let ev : r.pc % 2 ≡ 0 = omega arith in
-      let i0 : cell d.mem r.pc ≡ 0 = text_word f st all B Q d.mem r.pc 0 safe.memory here ends (ap (cell f.entered) pc ∙ t.word k 0 has) in
-      let at_ : attempt f.setup.mac (running f r d).node ≡ Violated bad.Illegal = tests_passed f st all B Q event.Quiet r d safe here ends ev
-      ∙ plain_instruction f st all B Q event.Quiet r d 0 here ends ev i0 refl ∙ illegal_program (regs16 f r) (start (running f r d).node) in
-      Ends (safe, step_shown f st all B Q (running f r d) 0 ev i0 refl (illegal_shown (regs16 f r) (start (running f r d).node))) (rw at_ refl) (omega arith) b
+  illegal_step t k has le r d j pc safe b =
+      let x = reached f st all B Q t k 0 has le r d.mem pc safe.memory in
+      let at_ : attempt f.setup.mac (running f r d).node ≡ Violated bad.Illegal = tests_passed f st all B Q event.Quiet r d safe x.here x.ends x.is_even
+      ∙ plain_instruction f st all B Q event.Quiet r d 0 x.here x.ends x.is_even x.is refl ∙ illegal_program (regs16 f r) (start (running f r d).node) in
+      Ends (safe, step_shown f st all B Q (running f r d) 0 x.is_even x.is refl (illegal_shown (regs16 f r) (start (running f r d).node))) (rw at_ refl) (omega arith) b
 
 abbrev pub inside_words : Fixed → List ℕ
 inside_words f = templates.inside_words (base_of f + 12) f.setup.section.layout.pub_from f.setup.section.layout.pub_to
@@ -73,7 +67,7 @@ module _ (f : Fixed) (st : Stands f) (all : List Mark) (B : Watched → Violatio
       let te = st.to_even in
       let p12 = data_word f st 12 (low_shown _ 12 2 (omega arith)) (omega arith) refl (omega (arith, st.room)) in
       let is = holds_word f st at c.back c.stack c.priv c.mem r.sp d.mem 12 h refl (record { low = omega arith; beside = inl (omega arith) }) (let z = h.size in let y = st.room in omega arith) in
-      let lx : x < 65536 = subst (λ (n : ℕ). n < 65536) is (cell_below f st d.mem (base_of f + 12) safe.memory) in
+      let lx : x < 65536 = word_below f st (base_of f + 12) is safe.memory in
       let lf : l.pub_from < 65536 = omega (arith, t.from, t.to) in
       let sr1 = flags_after op2.Cmp (l.pub_from % 65536) (x % 65536) r.sr in
       let sr2 = flags_after op2.Cmp (l.pub_to % 65536) (x % 65536) sr1 in
@@ -83,74 +77,39 @@ module _ (f : Fixed) (st : Stands f) (all : List Mark) (B : Watched → Violatio
       let r4 = record r3 { pc = at c.place + 14; sr = sr2 } in
       let to : (at c.place + 10 + 8) % 65536 ≡ at c.place + 18 = omega (arith, t.to) in
       let to2 : (at c.place + 16 + 2) % 65536 ≡ at c.place + 18 = omega (arith, t.to) in
-      step f st all B Q t 0 (mov (& (base_of f + 12)) r12) refl (omega arith) refl refl event.Quiet r d 5 (omega (arith, sh.pc)) safe (
-        base_of f + 12,
-        refl,
-        p12,
-        x,
-        is,
-        λ kept. (
-          r1,
-          rw (flags_stay r.sr) refl,
-          inside t 2 (omega arith),
-          λ s1.
-              step f st all B Q t 2 (cmp (## l.pub_from) r12) refl (omega arith) refl refl event.Quiet r1 d 4 refl s1
-              (λ kept. (
-                r2,
-                refl,
-                inside t 4 (omega arith),
-                λ s2.
-                    elim (cases_lt x l.pub_from) [
-                      | inl lo ↦
-                          let out : in_public f.setup.section (even x) ≡ false = and_left _ _ (lt-leb l.pub_from (even x) (omega arith)) in
-                          let no_ = borrow (l.pub_from % 65536) (x % 65536) r.sr (omega arith) (omega arith) in
-                          step f st all B Q t 4 (jnc (ahead 4)) refl (omega arith) refl refl event.Quiet r2 d 3 refl s2
-                          (λ kept. (record r2 { pc = at c.place + 18 }, rw (no_, to) refl, inside t 9 (omega arith), λ s3. Here (done out (record r2 { pc = at c.place + 18 }) refl refl s3)))
-                      | inr ge ↦
-                          let yes_ = no_borrow (l.pub_from % 65536) (x % 65536) r.sr (omega arith) (omega arith) in
-                          step f st all B Q t 4 (jnc (ahead 4)) refl (omega arith) refl refl event.Quiet r2 d 3 refl s2
-                          (λ kept. (
-                            r3,
-                            rw yes_ refl,
-                            inside t 5 (omega arith),
-                            λ s3.
-                                step f st all B Q t 5 (cmp (## l.pub_to) r12) refl (omega arith) refl refl event.Quiet r3 d 2 refl s3
-                                (λ kept. (
-                                  r4,
-                                  refl,
-                                  inside t 7 (omega arith),
-                                  λ s4.
-                                      elim (cases_lt x l.pub_to) [
-                                        | inl lt ↦
-                                            let in_ : in_public f.setup.section (even x) ≡ true = and_from _ _ (le-leb l.pub_from (even x) (omega arith)) (lt-ltb (even x) l.pub_to (omega arith)) in
-                                            let no_ = borrow (l.pub_to % 65536) (x % 65536) sr1 (omega arith) (omega arith) in
-                                            step f st all B Q t 7 (jc (ahead 1)) refl (omega arith) refl refl event.Quiet r4 d 1 refl s4
-                                            (λ kept. (
-                                              record r4 { pc = at c.place + 16 },
-                                              rw no_ refl,
-                                              inside t 8 (omega arith),
-                                              λ s5.
-                                                  illegal_step f st all B Q t 8 refl (omega arith) (record r4 { pc = at c.place + 16 }) d 0 refl s5
-                                                  (stop in_ (running f (record r4 { pc = at c.place + 16 }) d) sh.marks),
-                                            ))
-                                        | inr ge2 ↦
-                                            let out : in_public f.setup.section (even x) ≡ false = and_right (nat_le l.pub_from (even x)) _ (le-ltb (even x) l.pub_to (omega arith)) in
-                                            let yes2 = no_borrow (l.pub_to % 65536) (x % 65536) sr1 (omega arith) (omega arith) in
-                                            step f st all B Q t 7 (jc (ahead 1)) refl (omega arith) refl refl event.Quiet r4 d 1 refl s4
-                                            (λ kept. (
-                                              record r4 { pc = at c.place + 18 },
-                                              rw (yes2, to2) refl,
-                                              inside t 9 (omega arith),
-                                              λ s5. Here
-                                                  (done out (record r4 { pc = at c.place + 18 }) refl refl s5),
-                                            ))
-                                      ],
-                                )),
-                          ))
-                    ],
-              )),
-        ),
-      )
+      goes f st all B Q t 0 (mov (& (base_of f + 12)) r12) refl (omega arith) refl refl r d 5 (omega (arith, sh.pc)) safe
+      r1 d.mem (inside t 2 (omega arith)) (base_of f + 12, refl, p12, x, is, (rw (flags_stay r.sr) refl, refl)) (λ s1.
+      goes f st all B Q t 2 (cmp (## l.pub_from) r12) refl (omega arith) refl refl r1 d 4 refl s1 r2 d.mem (inside t 4 (omega arith))
+      (refl, refl) (λ s2.
+      elim (cases_lt x l.pub_from) [
+        | inl lo ↦
+            let out : in_public f.setup.section (even x) ≡ false = and_left _ _ (lt-leb l.pub_from (even x) (omega arith)) in
+            let no_ = borrow (l.pub_from % 65536) (x % 65536) r.sr (omega arith) (omega arith) in
+            goes f st all B Q t 4 (jnc (ahead 4)) refl (omega arith) refl refl r2 d 3 refl s2
+            (record r2 { pc = at c.place + 18 }) d.mem (inside t 9 (omega arith)) (rw (no_, to) refl, refl) (λ s3.
+            Here (done out (record r2 { pc = at c.place + 18 }) refl refl s3))
+        | inr ge ↦
+            let yes_ = no_borrow (l.pub_from % 65536) (x % 65536) r.sr (omega arith) (omega arith) in
+            goes f st all B Q t 4 (jnc (ahead 4)) refl (omega arith) refl refl r2 d 3 refl s2 r3 d.mem (inside t 5 (omega arith))
+            (rw yes_ refl, refl) (λ s3.
+            goes f st all B Q t 5 (cmp (## l.pub_to) r12) refl (omega arith) refl refl r3 d 2 refl s3 r4 d.mem (inside t 7 (omega arith))
+            (refl, refl) (λ s4.
+            elim (cases_lt x l.pub_to) [
+              | inl lt ↦
+                  let in_ : in_public f.setup.section (even x) ≡ true = and_from _ _ (le-leb l.pub_from (even x) (omega arith)) (lt-ltb (even x) l.pub_to (omega arith)) in
+                  let no_ = borrow (l.pub_to % 65536) (x % 65536) sr1 (omega arith) (omega arith) in
+                  goes f st all B Q t 7 (jc (ahead 1)) refl (omega arith) refl refl r4 d 1 refl s4
+                  (record r4 { pc = at c.place + 16 }) d.mem (inside t 8 (omega arith)) (rw no_ refl, refl) (λ s5.
+                  illegal_step f st all B Q t 8 refl (omega arith) (record r4 { pc = at c.place + 16 }) d 0 refl s5
+                  (stop in_ (running f (record r4 { pc = at c.place + 16 }) d) sh.marks))
+              | inr ge2 ↦
+                  let out : in_public f.setup.section (even x) ≡ false = and_right (nat_le l.pub_from (even x)) _ (le-ltb (even x) l.pub_to (omega arith)) in
+                  let yes2 = no_borrow (l.pub_to % 65536) (x % 65536) sr1 (omega arith) (omega arith) in
+                  goes f st all B Q t 7 (jc (ahead 1)) refl (omega arith) refl refl r4 d 1 refl s4
+                  (record r4 { pc = at c.place + 18 }) d.mem (inside t 9 (omega arith)) (rw (yes2, to2) refl, refl) (λ s5.
+                  Here (done out (record r4 { pc = at c.place + 18 }) refl refl s5))
+            ]))
+      ]))
 
   pub inside_ends : (c : Conf)
       → Ending (cond (in_public f.setup.section (even (saved c 15))) (Stops (Violates bad.Illegal c.marks)) (Goes (next c c.stack))) (λ t. Leads f st all B at 9 (inside_words f) 6 c t)

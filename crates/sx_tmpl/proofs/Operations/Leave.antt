@@ -1,7 +1,7 @@
 -- The return to the caller.
 use Rattle.sx_isa.specs.Instructions.{first_word}
 use Rattle.sx_isa.specs.Assembly.{#◌, &◌, br, clr, mov, pop, r12, r13, sp, sr}
-use Rattle.sx_tmpl.proofs.Running.Instructions.{reads_of, step}
+use Rattle.sx_tmpl.proofs.Running.Instructions.{goes, reads_of}
 use Rattle.sx_tmpl.proofs.Running.Loading.{loads}
 use Rattle.sx_tmpl.specs.Template.{leave_words}
 use Rattle.std.proofs.Common.{◌≡◌, ℕ, suc, ◌+◌, ◌-◌, ◌*◌, ◌%◌, ◌<◌, ◌≤◌, inl, inr, Bool, true, false, List, [], ◌∷◌, length, Some, refl, sym, ◌∙◌, ap, arith}
@@ -173,54 +173,15 @@ module _ (f : Fixed) (st : Stands f) (all : List Mark) (B : Watched → Violatio
       let z : 0 < 65536 = omega arith in
       let q11 = record q10 { pc = at c.place + 26; sr = 0 } in
       let q12 = record q11 { pc = at c.place + 30; sp = f.sp } in
-      step f st all B Q t 0 (pop r13) refl (omega arith) refl refl event.Quiet r d 14 (omega (arith, sh.pc)) safe (
-        r.sp,
-        refl,
-        p1,
-        count,
-        h.words.0,
-        λ kept. (
-          r1,
-          rw (up, stay) refl,
-          inside t 1 (omega arith),
-          λ s1.
-              step f st all B Q t 1 (pop r12) refl (omega arith) refl refl event.Quiet r1 d 13 refl s1 (
-                r.sp + 2,
-                refl,
-                p2,
-                status,
-                h.words.1.0,
-                λ kept. (
-                  q0,
-                  rw (up2, stay) refl,
-                  inside t 2 (omega arith),
-                  λ z0.
-                      loads f st all B Q t 2
-                      ((# 0, 4) ∷ (# 0, 5) ∷ (# 0, 6) ∷ (# 0, 7) ∷ (# 0, 8) ∷ (# 0, 9) ∷ (# 0, 10) ∷ (# 0, 11) ∷ (# 0, 14) ∷ (# 0, 15) ∷ []) refl (omega arith) refl
-                      (z, (z, (z, (z, (z, (z, (z, (z, (z, (z, tt)))))))))) q0 d 3 q0.pc refl z0 (λ z10.
-                      step f st all B Q t 12 (clr sr) refl (omega arith) refl refl event.Quiet q10 d 2 refl z10
-                      (λ kept. (
-                        q11,
-                        refl,
-                        inside t 13 (omega arith),
-                        λ z11.
-                            step f st all B Q t 13 (mov (& (base_of f + 148)) sp) refl (omega arith) refl refl event.Quiet q11 d 1 refl z11 (
-                              base_of f + 148,
-                              refl,
-                              p148,
-                              f.sp,
-                              h.entry_sp,
-                              λ kept. (
-                                q12,
-                                rw spe refl,
-                                inside t 15 (omega arith),
-                                λ z12.
-                                    return_out Q t 15 refl refl (omega arith) q12 d (saved c 15) refl z12 back out refl
-                                    (λ kept. record { rest = d; state = refl; kept = kept; sp = r.sp; holds = h; devices = sh.devices; marks = sh.marks }),
-                              ),
-                            ),
-                      ))),
-                ),
-              ),
-        ),
-      )
+      goes f st all B Q t 0 (pop r13) refl (omega arith) refl refl r d 14 (omega (arith, sh.pc)) safe r1 d.mem (inside t 1 (omega arith))
+      (r.sp, refl, p1, count, h.words.0, (rw (up, stay) refl, refl)) (λ s1.
+      goes f st all B Q t 1 (pop r12) refl (omega arith) refl refl r1 d 13 refl s1 q0 d.mem (inside t 2 (omega arith))
+      (r.sp + 2, refl, p2, status, h.words.1.0, (rw (up2, stay) refl, refl)) (λ z0.
+      loads f st all B Q t 2
+      ((# 0, 4) ∷ (# 0, 5) ∷ (# 0, 6) ∷ (# 0, 7) ∷ (# 0, 8) ∷ (# 0, 9) ∷ (# 0, 10) ∷ (# 0, 11) ∷ (# 0, 14) ∷ (# 0, 15) ∷ []) refl (omega arith) refl
+      (z, (z, (z, (z, (z, (z, (z, (z, (z, (z, tt)))))))))) q0 d 3 q0.pc refl z0 (λ z10.
+      goes f st all B Q t 12 (clr sr) refl (omega arith) refl refl q10 d 2 refl z10 q11 d.mem (inside t 13 (omega arith)) (refl, refl) (λ z11.
+      goes f st all B Q t 13 (mov (& (base_of f + 148)) sp) refl (omega arith) refl refl q11 d 1 refl z11 q12 d.mem (inside t 15 (omega arith))
+      (base_of f + 148, refl, p148, f.sp, h.entry_sp, (rw spe refl, refl)) (λ z12.
+      return_out Q t 15 refl refl (omega arith) q12 d (saved c 15) refl z12 back out refl
+      (λ kept. record { rest = d; state = refl; kept = kept; sp = r.sp; holds = h; devices = sh.devices; marks = sh.marks }))))))

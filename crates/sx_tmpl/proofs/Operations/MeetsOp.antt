@@ -1,11 +1,10 @@
 -- The test of a window.
 use Rattle.sx_tmpl.specs.Template as templates
 use Rattle.sx_isa.specs.Assembly.{##◌, #◌, &◌, ahead, cmp, jc, jmp, jnc, mov, push, r12}
-use Rattle.sx_tmpl.proofs.Running.Instructions.{step}
+use Rattle.sx_tmpl.proofs.Running.Instructions.{goes}
 use Rattle.std.proofs.Common.{◌≡◌, ℕ, suc, ◌+◌, ◌-◌, ◌%◌, ◌<◌, ◌≤◌, inl, inr, Bool, true, false, ◌&&◌, nat_lt, nat_lt, List, ◌∷◌, length, refl, sym, subst, arith}
 use Rattle.sx_isa.specs.declared.instruction.Op2.TheVariants as op2
 use Rattle.sx_rules.specs.declared.access.Violation.{Violation}
-use Rattle.sx_machine.specs.declared.kinds.Event.TheVariants as event
 use Rattle.std.proofs.lemmas.Bool.{or_right, and_from, or_left, cases_lt, lt-ltb, le-ltb, and_right}
 use Rattle.sx_ir.specs.Meaning.{saved, next}
 use Rattle.sx_machine.specs.Ranges.{passes_end}
@@ -20,7 +19,7 @@ use Rattle.sx_tmpl.proofs.Running.MidRun.{Stands, Runs, put_cell}
 use Rattle.sx_tmpl.specs.Shows.{base_of, MemoryHolds, Stood}
 use Rattle.std.specs.Prelude.{nat_lt}
 use Rattle.sx_tmpl.proofs.Operations.Plain.{inside, Leads, stood}
-use Rattle.sx_tmpl.proofs.Running.Holding.{low_shown, stack_word, data_word, holds_push, holds_word, cell_below}
+use Rattle.sx_tmpl.proofs.Running.Holding.{low_shown, stack_word, data_word, holds_push, holds_word, word_below}
 use Rattle.sx_lists.specs.Truth.{truth}
 
 abbrev pub meets_words : Fixed → ℕ → ℕ → List ℕ
@@ -60,7 +59,7 @@ module _ (f : Fixed) (st : Stands f) (all : List Mark) (B : Watched → Violatio
       let po = data_word f st o (low_shown _ o 2 (omega arith)) (omega arith) (omega arith) (omega (arith, st.room)) in
       let is = holds_word f st at c.back c.stack c.priv c.mem r.sp d.mem o h (omega arith) (record { low = omega arith; beside = inl (omega arith) }) (let z = h.size in let y = st.room in
       omega arith) in
-      let lx : x < 65536 = subst (λ (n : ℕ). n < 65536) is (cell_below f st d.mem (base_of f + o) safe.memory) in
+      let lx : x < 65536 = word_below f st (base_of f + o) is safe.memory in
       let k1 = 65537 - n in
       let k3 = l.priv_from + 1 - n in
       let lf : l.priv_from < 65536 = omega (arith, st.room) in
@@ -76,98 +75,45 @@ module _ (f : Fixed) (st : Stands f) (all : List Mark) (B : Watched → Violatio
       let t1 : (at c.place + 10 + 12) % 65536 ≡ at c.place + 22 = omega (arith, t.to) in
       let t2 : (at c.place + 16 + 10) % 65536 ≡ at c.place + 26 = omega (arith, t.to) in
       let t3 : (at c.place + 22 + 4) % 65536 ≡ at c.place + 26 = omega (arith, t.to) in
-      step f st all B _ t 0 (mov (& (base_of f + o)) r12) refl (omega arith) refl refl event.Quiet r d 8 (omega (arith, sh.pc)) safe (
-        base_of f + o,
-        refl,
-        po,
-        x,
-        is,
-        λ kept. (
-          r1,
-          rw (flags_stay r.sr) refl,
-          inside t 2 (omega arith),
-          λ s1.
-              step f st all B _ t 2 (cmp (## k1) r12) refl (omega arith) refl refl event.Quiet r1 d 7 refl s1
-              (λ kept. (
-                r2,
-                refl,
-                inside t 4 (omega arith),
-                λ s2.
-                    elim (cases_lt x k1) [
-                      | inr ge ↦
-                          step f st all B _ t 4 (jc (ahead 6)) refl (omega arith) refl refl event.Quiet r2 d 6 refl s2
-                          (λ kept. (
-                            record r2 { pc = at c.place + 22 },
-                            rw (no_borrow (k1 % 65536) (x % 65536) r.sr (omega arith) (omega arith), t1) refl,
-                            inside t 11
-                                (omega arith),
-                            λ s3. ending true (bad_end f x n ge small) (record r2 { pc = at c.place + 22 }) 4 refl refl s3,
-                          ))
-                      | inl lt1 ↦
-                          step f st all B _ t 4 (jc (ahead 6)) refl (omega arith) refl refl event.Quiet r2 d 6 refl s2
-                          (λ kept. (
-                            r3,
-                            rw (borrow (k1 % 65536) (x % 65536) r.sr (omega arith) (omega arith)) refl,
-                            inside t 5 (omega arith),
-                            λ s3.
-                                step f st all B _ t 5 (cmp (## l.priv_to) r12) refl (omega arith) refl refl event.Quiet r3 d 5 refl s3
-                                (λ kept. (
-                                  r4,
-                                  refl,
-                                  inside t 7 (omega arith),
-                                  λ s4.
-                                      elim (cases_lt x l.priv_to) [
-                                        | inr ge2 ↦
-                                            step f st all B _ t 7 (jc (ahead 5)) refl (omega arith) refl refl event.Quiet r4 d 4 refl s4
-                                            (λ kept. (
-                                              record r4 { pc = at c.place + 26 },
-                                              rw (no_borrow (l.priv_to % 65536) (x % 65536) sr1 (omega arith) (omega arith), t2) refl,
-                                              inside t 13
-                                                  (omega arith),
-                                              λ s5. ending false (good_above f x n lt1 small ge2) (record r4 { pc = at c.place + 26 }) 2 refl refl s5,
-                                            ))
-                                        | inl lt2 ↦
-                                            step f st all B _ t 7 (jc (ahead 5)) refl (omega arith) refl refl event.Quiet r4 d 4 refl s4
-                                            (λ kept. (
-                                              r5,
-                                              rw (borrow (l.priv_to % 65536) (x % 65536) sr1 (omega arith) (omega arith)) refl,
-                                              inside t 8 (omega arith),
-                                              λ s5.
-                                                  step f st all B _ t 8 (cmp (## k3) r12) refl (omega arith) refl refl event.Quiet r5 d 3 refl s5
-                                                  (λ kept. (
-                                                    r6,
-                                                    refl,
-                                                    inside t 10 (omega arith),
-                                                    λ s6.
-                                                        elim (cases_lt x k3) [
-                                                          | inl lt3 ↦
-                                                              step f st all B _ t 10 (jnc (ahead 2)) refl (omega arith) refl refl event.Quiet r6 d 2 refl s6
-                                                              (λ kept. (
-                                                                record r6 { pc = at c.place + 26 },
-                                                                rw (borrow (k3 % 65536) (x % 65536) sr2 (omega arith) (omega arith), t3) refl,
-                                                                inside t 13
-                                                                    (omega arith),
-                                                                λ s7. ending false (good_below f x n lt1 small lt3) (record r6 { pc = at c.place + 26 }) 0 refl refl s7,
-                                                              ))
-                                                          | inr ge3 ↦
-                                                              step f st all B _ t 10 (jnc (ahead 2)) refl (omega arith) refl refl event.Quiet r6 d 2 refl s6
-                                                              (λ kept. (
-                                                                record r6 { pc = at c.place + 22 },
-                                                                rw (no_borrow (k3 % 65536) (x % 65536) sr2 (omega arith) (omega arith)) refl,
-                                                                inside t 11
-                                                                    (omega arith),
-                                                                λ s7. ending true (bad_inside f x n (omega arith) lt2 ge3) (record r6 { pc = at c.place + 22 }) 0 refl refl s7,
-                                                              ))
-                                                        ],
-                                                  )),
-                                            ))
-                                      ],
-                                )),
-                          ))
-                    ],
-              )),
-        ),
-      )
+      goes f st all B _ t 0 (mov (& (base_of f + o)) r12) refl (omega arith) refl refl r d 8 (omega (arith, sh.pc)) safe
+      r1 d.mem (inside t 2 (omega arith)) (base_of f + o, refl, po, x, is, (rw (flags_stay r.sr) refl, refl)) (λ s1.
+      goes f st all B _ t 2 (cmp (## k1) r12) refl (omega arith) refl refl r1 d 7 refl s1 r2 d.mem (inside t 4 (omega arith)) (refl, refl) (λ s2.
+      elim (cases_lt x k1) [
+        | inr ge ↦
+            goes f st all B _ t 4 (jc (ahead 6)) refl (omega arith) refl refl r2 d 6 refl s2
+            (record r2 { pc = at c.place + 22 }) d.mem (inside t 11 (omega arith))
+            (rw (no_borrow (k1 % 65536) (x % 65536) r.sr (omega arith) (omega arith), t1) refl, refl) (λ s3.
+            ending true (bad_end f x n ge small) (record r2 { pc = at c.place + 22 }) 4 refl refl s3)
+        | inl lt1 ↦
+            goes f st all B _ t 4 (jc (ahead 6)) refl (omega arith) refl refl r2 d 6 refl s2 r3 d.mem (inside t 5 (omega arith))
+            (rw (borrow (k1 % 65536) (x % 65536) r.sr (omega arith) (omega arith)) refl, refl) (λ s3.
+            goes f st all B _ t 5 (cmp (## l.priv_to) r12) refl (omega arith) refl refl r3 d 5 refl s3 r4 d.mem (inside t 7 (omega arith))
+            (refl, refl) (λ s4.
+            elim (cases_lt x l.priv_to) [
+              | inr ge2 ↦
+                  goes f st all B _ t 7 (jc (ahead 5)) refl (omega arith) refl refl r4 d 4 refl s4
+                  (record r4 { pc = at c.place + 26 }) d.mem (inside t 13 (omega arith))
+                  (rw (no_borrow (l.priv_to % 65536) (x % 65536) sr1 (omega arith) (omega arith), t2) refl, refl) (λ s5.
+                  ending false (good_above f x n lt1 small ge2) (record r4 { pc = at c.place + 26 }) 2 refl refl s5)
+              | inl lt2 ↦
+                  goes f st all B _ t 7 (jc (ahead 5)) refl (omega arith) refl refl r4 d 4 refl s4 r5 d.mem (inside t 8 (omega arith))
+                  (rw (borrow (l.priv_to % 65536) (x % 65536) sr1 (omega arith) (omega arith)) refl, refl) (λ s5.
+                  goes f st all B _ t 8 (cmp (## k3) r12) refl (omega arith) refl refl r5 d 3 refl s5 r6 d.mem (inside t 10 (omega arith))
+                  (refl, refl) (λ s6.
+                  elim (cases_lt x k3) [
+                    | inl lt3 ↦
+                        goes f st all B _ t 10 (jnc (ahead 2)) refl (omega arith) refl refl r6 d 2 refl s6
+                        (record r6 { pc = at c.place + 26 }) d.mem (inside t 13 (omega arith))
+                        (rw (borrow (k3 % 65536) (x % 65536) sr2 (omega arith) (omega arith), t3) refl, refl) (λ s7.
+                        ending false (good_below f x n lt1 small lt3) (record r6 { pc = at c.place + 26 }) 0 refl refl s7)
+                    | inr ge3 ↦
+                        goes f st all B _ t 10 (jnc (ahead 2)) refl (omega arith) refl refl r6 d 2 refl s6
+                        (record r6 { pc = at c.place + 22 }) d.mem (inside t 11 (omega arith))
+                        (rw (no_borrow (k3 % 65536) (x % 65536) sr2 (omega arith) (omega arith)) refl, refl) (λ s7.
+                        ending true (bad_inside f x n (omega arith) lt2 ge3) (record r6 { pc = at c.place + 22 }) 0 refl refl s7)
+                  ]))
+            ]))
+      ]))
     where
       ending : (b : Bool) → is_bad_window f.setup (saved c q) n ≡ b → (r2 : Regs) (j : ℕ) → r2.pc ≡ elim b [ true ↦ at c.place + 22 | false ↦ at c.place + 26 ] → r2.sp ≡ r.sp
           → Safe f all (running f r2 d)
@@ -184,22 +130,11 @@ module _ (f : Fixed) (st : Stands f) (all : List Mark) (B : Watched → Violatio
           let hp = holds_push f st at c.back c.stack c.priv c.mem r2.sp d.mem sp 1 safe.memory (subst (λ s. MemoryHolds f at c.back c.stack c.priv c.mem s d.mem) (sym sp_) h) (omega arith)
           (omega arith) in
           subst (λ v. Runs f all B (Stood f all at (next c (truth v ∷ c.stack))) (suc (suc j)) (running f r2 d)) (sym e)
-          (step f st all B _ t 11 (push (# 1)) refl (omega arith) refl refl event.Quiet r2 d (suc j) pc safe2 (
-            sp,
-            down,
-            pr,
-            1,
-            refl,
-            omega arith,
-            λ kept. (
-              r3,
-              rw down refl,
-              inside t 12 (omega arith),
-              λ s3.
-                  step f st all B _ t 12 (jmp (ahead 1)) refl (omega arith) refl refl event.Quiet r3 (record d { mem = put_cell d.mem sp 1 }) j refl s3
-                  (λ kept2. (r4, rw to2_ refl, inside t 14 (omega arith), λ s4. stood f st all B at (next c (1 ∷ c.stack)) r4 (put_cell d.mem sp 1) d j s4 (omega (arith, on)) hp sh.devices sh.marks)),
-            ),
-          ))
+          (goes f st all B _ t 11 (push (# 1)) refl (omega arith) refl refl r2 d (suc j) pc safe2 r3 (put_cell d.mem sp 1) (inside t 12 (omega arith))
+          (sp, down, pr, 1, refl, omega arith, (rw down refl, refl)) (λ s3.
+          goes f st all B _ t 12 (jmp (ahead 1)) refl (omega arith) refl refl r3 (record d { mem = put_cell d.mem sp 1 }) j refl s3
+          r4 (put_cell d.mem sp 1) (inside t 14 (omega arith)) (rw to2_ refl, refl) (λ s4.
+          stood f st all B at (next c (1 ∷ c.stack)) r4 (put_cell d.mem sp 1) d j s4 (omega (arith, on)) hp sh.devices sh.marks)))
         where
           to2_ : (at c.place + 26 + 2) % 65536 ≡ at c.place + 28
           to2_ = omega (arith, t.to, st.below)
@@ -213,18 +148,6 @@ module _ (f : Fixed) (st : Stands f) (all : List Mark) (B : Watched → Violatio
           let hp = holds_push f st at c.back c.stack c.priv c.mem r2.sp d.mem sp 0 safe.memory (subst (λ s. MemoryHolds f at c.back c.stack c.priv c.mem s d.mem) (sym sp_) h) (omega arith)
           (omega arith) in
           subst (λ v. Runs f all B (Stood f all at (next c (truth v ∷ c.stack))) (suc (suc j)) (running f r2 d)) (sym e)
-          (step f st all B _ t 13 (push (# 0)) refl (omega arith) refl refl event.Quiet r2 d (suc j) pc safe2 (
-            sp,
-            down,
-            pr,
-            0,
-            refl,
-            omega arith,
-            λ kept. (
-              r3,
-              rw down refl,
-              inside t 14 (omega arith),
-              λ s3.
-                  stood f st all B at (next c (0 ∷ c.stack)) r3 (put_cell d.mem sp 0) d (suc j) s3 (omega (arith, on)) hp sh.devices sh.marks,
-            ),
-          ))
+          (goes f st all B _ t 13 (push (# 0)) refl (omega arith) refl refl r2 d (suc j) pc safe2 r3 (put_cell d.mem sp 0) (inside t 14 (omega arith))
+          (sp, down, pr, 0, refl, omega arith, (rw down refl, refl)) (λ s3.
+          stood f st all B at (next c (0 ∷ c.stack)) r3 (put_cell d.mem sp 0) d (suc j) s3 (omega (arith, on)) hp sh.devices sh.marks))

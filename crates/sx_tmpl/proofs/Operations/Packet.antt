@@ -1,7 +1,7 @@
 -- The routine of an end's packet.
 use Rattle.sx_isa.specs.Assembly as asm
 use Rattle.sx_isa.specs.Assembly.{##◌, #◌, &◌, ◌⟨◌⟩, add, ahead, cmp, inc, jz, mov, pc, r10, r11, r12, r13, r14, r15, r9, rla, sp, tst}
-use Rattle.sx_tmpl.proofs.Running.Instructions.{step}
+use Rattle.sx_tmpl.proofs.Running.Instructions.{goes, goes_after}
 use Rattle.sx_tmpl.proofs.Running.Loading.{loads}
 use Rattle.sx_tmpl.specs.Template.{routine_words}
 use Rattle.std.proofs.Common.{◌≡◌, ℕ, suc, ◌+◌, ◌-◌, ◌*◌, ◌%◌, ◌<◌, ◌≤◌, inl, inr, Bool, true, false, not, ◌&&◌, List, [], ◌∷◌, ◌++◌, length, Option, refl, sym, ◌∙◌, ap, subst, arith}
@@ -14,7 +14,7 @@ use Rattle.std.specs.Prelude.{Ok, Err, drop, take, nat_lt, ◌==◌}
 use Rattle.sx_invoke.specs.Windows.{write_bytes}
 use Rattle.sx_tmpl.proofs.Running.MidRun.{PrivateRange, PrivateWord, Stands, Runs, later, place_of, put_cell}
 use Rattle.sx_tmpl.proofs.Running.Mem.{cell-put_other, put_word_is, word_is, length-put}
-use Rattle.sx_tmpl.proofs.Running.Holding.{same_word, holds_under, holds_under_bytes, stack_word, low_shown, mid_shown, slot_shown, data_word, holds_pop, holds_store, holds_word, cell_below}
+use Rattle.sx_tmpl.proofs.Running.Holding.{same_word, holds_under, holds_under_bytes, stack_word, low_shown, mid_shown, slot_shown, data_word, holds_pop, holds_store, holds_word, word_below}
 use Rattle.sx_tag.specs.Mac.{IsTag}
 use Rattle.sx_tag.proofs.TagBytes.{cipher_bytes, cipher_length, tag_bytes, tag_length}
 use Rattle.sx_machine.proofs.Lengths.{length-put_bytes}
@@ -72,73 +72,43 @@ module _ (f : Fixed) (st : Stands f) (all : List Mark) (B : Watched → Violatio
       let number = word priv (offsets.end_number_at k) in
       let so = slot_word 4 stack outside r.sp d.mem refl (omega arith) h in
       let sn = slot_word 2 stack outside r.sp d.mem refl (omega arith) h in
-      let lo : open_ < 65536 = subst (λ (n : ℕ). n < 65536) so.0 (cell_below f st d.mem (base_of f + offsets.end_open_at k) safe.memory) in
-      let ln : number < 65536 = subst (λ (n : ℕ). n < 65536) sn.0 (cell_below f st d.mem (base_of f + offsets.end_number_at k) safe.memory) in
+      let lo : open_ < 65536 = word_below f st (base_of f + offsets.end_open_at k) so.0 safe.memory in
+      let ln : number < 65536 = word_below f st (base_of f + offsets.end_number_at k) sn.0 safe.memory in
       let sr1 = flags_after op2.Cmp 0 open_ r.sr in
       let sr3 = flags_after op2.Cmp 65535 number sr1 in
       let r1 = record r { pc = A + 4; sr = sr1 } in
       let r2 = record r { pc = A + 6; sr = sr1 } in
       let r3 = record r { pc = A + 10; sr = sr3 } in
       let ready : (b : Bool) → (e.is_open ≡ b) → is_ready e ≡ (b && nat_lt e.number 65535) = λ b x. ap (λ b. b && nat_lt e.number 65535) x in
-      step f st all B Q t 0 (tst (& (base_of f + offsets.end_open_at k))) refl (omega arith) refl refl event.Quiet r d _ pc safe (
-        base_of f + offsets.end_open_at k,
-        refl,
-        so.1,
-        open_,
-        so.0,
-        λ kept. (
-          r1,
-          refl,
-          inside t 2 (omega arith),
-          λ s1.
-              elim (cases_eq open_ 0) [
-                | inl z ↦
-                    let to : (A + 6 + 132) % 65536 ≡ A + 138 = omega (arith, t.to, st.below) in
-                    let no_ : is_ready e ≡ false = ready false (sym (ap (λ (x : EndState). x.is_open) is) ∙ ap not (eq-eqb open_ 0 z)) in
-                    step f st all B Q t 2 (jz (ahead 66)) refl (omega arith) refl refl event.Quiet r1 d _ refl s1
-                    (λ kept. (
-                      record r { pc = A + 138; sr = sr1 },
-                      rw (equal 0 open_ r.sr (omega arith) z, to) refl,
-                      inside t 69 (omega arith),
-                      λ s2. later f all B Q j (suc (suc j)) _ (omega arith)
-                          (skip no_ sr1 s2),
-                    ))
-                | inr nz ↦
-                    let is_open : e.is_open ≡ true = sym (ap (λ (x : EndState). x.is_open) is) ∙ ap not (ne_eqb open_ 0 nz) in
-                    step f st all B Q t 2 (jz (ahead 66)) refl (omega arith) refl refl event.Quiet r1 d _ refl s1
-                    (λ kept. (
-                      r2,
-                      rw (unequal 0 open_ r.sr (omega arith) lo nz) refl,
-                      inside t 3 (omega arith),
-                      λ s2.
-                          step f st all B Q t 3 (cmp (# 65535) (& (base_of f + offsets.end_number_at k))) refl (omega arith) refl refl event.Quiet r2 d _ refl s2 (
-                            base_of f + offsets.end_number_at k,
-                            refl,
-                            sn.1,
-                            number,
-                            sn.0,
-                            λ kept. (
-                              r3,
-                              refl,
-                              inside t 5 (omega arith),
-                              λ s3.
-                                  elim (cases_eq number 65535) [
-                                    | inl z ↦
-                                        let to : (A + 12 + 126) % 65536 ≡ A + 138 = omega (arith, t.to, st.below) in
-                                        let no_ : is_ready e ≡ false = ready true is_open ∙ le-ltb e.number 65535 (omega (arith, ap (λ (x : EndState). x.number) is)) in
-                                        step f st all B Q t 5 (jz (ahead 63)) refl (omega arith) refl refl event.Quiet r3 d _ refl s3
-                                        (λ kept. (record r { pc = A + 138; sr = sr3 }, rw (equal 65535 number sr1 (omega arith) z, to) refl, inside t 69 (omega arith), λ s4. skip no_ sr3 s4))
-                                    | inr nz2 ↦
-                                        let yes_ : is_ready e ≡ true = ready true is_open ∙ lt-ltb e.number 65535 (omega (arith, ap (λ (x : EndState). x.number) is)) in
-                                        step f st all B Q t 5 (jz (ahead 63)) refl (omega arith) refl refl event.Quiet r3 d _ refl s3
-                                        (λ kept. (record r { pc = A + 12; sr = sr3 }, rw (unequal 65535 number sr1 (omega arith) ln nz2) refl, inside t 6 (omega arith), λ s4. go_on yes_ sr3 s4))
-                                  ],
-                            ),
-                          ),
-                    ))
-              ],
-        ),
-      )
+      goes f st all B Q t 0 (tst (& (base_of f + offsets.end_open_at k))) refl (omega arith) refl refl r d _ pc safe
+      r1 d.mem (inside t 2 (omega arith)) (base_of f + offsets.end_open_at k, refl, so.1, open_, so.0, (refl, refl)) (λ s1.
+      elim (cases_eq open_ 0) [
+        | inl z ↦
+            let to : (A + 6 + 132) % 65536 ≡ A + 138 = omega (arith, t.to, st.below) in
+            let no_ : is_ready e ≡ false = ready false (sym (ap (λ (x : EndState). x.is_open) is) ∙ ap not (eq-eqb open_ 0 z)) in
+            goes f st all B Q t 2 (jz (ahead 66)) refl (omega arith) refl refl r1 d _ refl s1
+            (record r { pc = A + 138; sr = sr1 }) d.mem (inside t 69 (omega arith)) (rw (equal 0 open_ r.sr (omega arith) z, to) refl, refl) (λ s2.
+            later f all B Q j (suc (suc j)) _ (omega arith) (skip no_ sr1 s2))
+        | inr nz ↦
+            let is_open : e.is_open ≡ true = sym (ap (λ (x : EndState). x.is_open) is) ∙ ap not (ne_eqb open_ 0 nz) in
+            goes f st all B Q t 2 (jz (ahead 66)) refl (omega arith) refl refl r1 d _ refl s1 r2 d.mem (inside t 3 (omega arith))
+            (rw (unequal 0 open_ r.sr (omega arith) lo nz) refl, refl) (λ s2.
+            goes f st all B Q t 3 (cmp (# 65535) (& (base_of f + offsets.end_number_at k))) refl (omega arith) refl refl r2 d _ refl s2
+            r3 d.mem (inside t 5 (omega arith)) (base_of f + offsets.end_number_at k, refl, sn.1, number, sn.0, (refl, refl)) (λ s3.
+            elim (cases_eq number 65535) [
+              | inl z ↦
+                  let to : (A + 12 + 126) % 65536 ≡ A + 138 = omega (arith, t.to, st.below) in
+                  let no_ : is_ready e ≡ false = ready true is_open ∙ le-ltb e.number 65535 (omega (arith, ap (λ (x : EndState). x.number) is)) in
+                  goes f st all B Q t 5 (jz (ahead 63)) refl (omega arith) refl refl r3 d _ refl s3
+                  (record r { pc = A + 138; sr = sr3 }) d.mem (inside t 69 (omega arith))
+                  (rw (equal 65535 number sr1 (omega arith) z, to) refl, refl) (skip no_ sr3)
+              | inr nz2 ↦
+                  let yes_ : is_ready e ≡ true = ready true is_open ∙ lt-ltb e.number 65535 (omega (arith, ap (λ (x : EndState). x.number) is)) in
+                  goes f st all B Q t 5 (jz (ahead 63)) refl (omega arith) refl refl r3 d _ refl s3
+                  (record r { pc = A + 12; sr = sr3 }) d.mem (inside t 6 (omega arith))
+                  (rw (unequal 65535 number sr1 (omega arith) ln nz2) refl, refl) (go_on yes_ sr3)
+            ]))
+      ])
 
   -- a word that only templates use
   scratch : (o : ℕ) → 106 ≤ o → o % 2 ≡ 0 → o ≤ 146 → PrivateWord f (base_of f + o)
@@ -190,93 +160,27 @@ module _ (f : Fixed) (st : Stands f) (all : List Mark) (B : Watched → Violatio
       let r2 = record r { pc = A + 24 } in
       let r3 = record r { pc = A + 30 } in
       let r4 = record r { pc = A + 36 } in
-      step f st all B Q t 6 (mov (## 3) (& (b + 106))) refl (omega arith) refl refl event.Quiet r d _ pc safe (
-        b + 106,
-        refl,
-        p106,
-        3,
-        refl,
-        omega arith,
-        λ kept1. (
-          r1,
-          rw stay refl,
-          inside t 9 (omega arith),
-          λ s1.
-              step f st all B Q t 9 (mov (& (b + offsets.end_at k)) (& (b + 108))) refl (omega arith) refl refl event.Quiet r1
-              (record d { mem = m1 }) _ refl s1 (
-                b + offsets.end_at k,
-                refl,
-                pf,
-                field,
-                isf,
-                (
-                  b + 108,
-                  refl,
-                  p108,
-                  field,
-                  refl,
-                  subst (λ (n : ℕ). n < 65536) isf (cell_below f st m1 (b + offsets.end_at k) kept1),
-                  λ kept2. (
-                    r2,
-                    rw stay refl,
-                    inside t 12 (omega arith),
-                    λ s2.
-                        step f st all B Q t 12 (mov (& (b + offsets.end_number_at k)) (& (b + 110))) refl (omega arith) refl refl event.Quiet r2 (record d { mem = m2 }) _ refl s2 (
-                          b + offsets.end_number_at k,
-                          refl,
-                          sn.1,
-                          number,
-                          sn.0,
-                          (
-                            b + 110,
-                            refl,
-                            p110,
-                            number,
-                            refl,
-                            subst (λ (n : ℕ). n < 65536) sn.0 (cell_below f st m2 (b + offsets.end_number_at k) kept2),
-                            λ kept3. (
-                              r3,
-                              rw stay refl,
-                              inside t 15 (omega arith),
-                              λ s3.
-                                  step f st all B Q t 15 (mov (2 ⟨ sp ⟩) (& (b + 130))) refl (omega arith) refl refl event.Quiet r3
-                                  (record d { mem = m3 }) _ refl s3 (
-                                    r.sp + 2,
-                                    up,
-                                    pv,
-                                    v,
-                                    h3.words.1.0,
-                                    (
-                                      b + 130,
-                                      refl,
-                                      p130,
-                                      v,
-                                      refl,
-                                      subst (λ (n : ℕ). n < 65536) h3.words.1.0 (cell_below f st m3 (r.sp + 2) kept3),
-                                      λ kept4. (
-                                        r4,
-                                        rw stay refl,
-                                        inside t 18 (omega arith),
-                                        after m4 h4
-                                            (cell-put_other m3 (b + 130) v (b + 106) (omega arith) (omega arith) (omega arith)
-                                            ∙ cell-put_other m2 (b + 110) number (b + 106) (omega arith) (omega arith) (omega arith)
-                                            ∙ cell-put_other m1 (b + 108) field (b + 106) (omega arith) (omega arith) (omega arith) ∙ same_word f st d.mem (b + 106) 3 safe.memory (place_of p106))
-                                            (ap (cell m4) (omega arith) ∙ cell-put_other m3 (b + 130) v (b + 108) (omega arith) (omega arith) (omega arith)
-                                            ∙ cell-put_other m2 (b + 110) number (b + 108) (omega arith) (omega arith) (omega arith) ∙ same_word f st m1 (b + 108) field kept1 (place_of p108) ∙ ef)
-                                            (ap (cell m4) (omega arith) ∙ cell-put_other m3 (b + 130) v (b + 110) (omega arith) (omega arith) (omega arith)
-                                            ∙ same_word f st m2 (b + 110) number kept2 (place_of p110) ∙ en)
-                                            (same_word f st m3 (b + 130) v kept3 (place_of p130)),
-                                      ),
-                                    ),
-                                  ),
-                            ),
-                          ),
-                        ),
-                  ),
-                ),
-              ),
-        ),
-      )
+      goes f st all B Q t 6 (mov (## 3) (& (b + 106))) refl (omega arith) refl refl r d _ pc safe r1 m1 (inside t 9 (omega arith))
+      (b + 106, refl, p106, 3, refl, omega arith, (rw stay refl, refl)) (λ s1.
+      let small = word_below f st (b + offsets.end_at k) isf s1.memory in
+      goes f st all B Q t 9 (mov (& (b + offsets.end_at k)) (& (b + 108))) refl (omega arith) refl refl r1 (record d { mem = m1 }) _ refl s1
+      r2 m2 (inside t 12 (omega arith))
+      (b + offsets.end_at k, refl, pf, field, isf, (b + 108, refl, p108, field, refl, small, (rw stay refl, refl))) (λ s2.
+      let small = word_below f st (b + offsets.end_number_at k) sn.0 s2.memory in
+      goes f st all B Q t 12 (mov (& (b + offsets.end_number_at k)) (& (b + 110))) refl (omega arith) refl refl r2 (record d { mem = m2 }) _ refl s2
+      r3 m3 (inside t 15 (omega arith))
+      (b + offsets.end_number_at k, refl, sn.1, number, sn.0, (b + 110, refl, p110, number, refl, small, (rw stay refl, refl))) (λ s3.
+      let small = word_below f st (r.sp + 2) h3.words.1.0 s3.memory in
+      goes f st all B Q t 15 (mov (2 ⟨ sp ⟩) (& (b + 130))) refl (omega arith) refl refl r3 (record d { mem = m3 }) _ refl s3
+      r4 m4 (inside t 18 (omega arith)) (r.sp + 2, up, pv, v, h3.words.1.0, (b + 130, refl, p130, v, refl, small, (rw stay refl, refl))) (after m4 h4
+      (cell-put_other m3 (b + 130) v (b + 106) (omega arith) (omega arith) (omega arith)
+      ∙ cell-put_other m2 (b + 110) number (b + 106) (omega arith) (omega arith) (omega arith)
+      ∙ cell-put_other m1 (b + 108) field (b + 106) (omega arith) (omega arith) (omega arith) ∙ same_word f st d.mem (b + 106) 3 safe.memory (place_of p106))
+      (ap (cell m4) (omega arith) ∙ cell-put_other m3 (b + 130) v (b + 108) (omega arith) (omega arith) (omega arith)
+      ∙ cell-put_other m2 (b + 110) number (b + 108) (omega arith) (omega arith) (omega arith) ∙ same_word f st m1 (b + 108) field s1.memory (place_of p108) ∙ ef)
+      (ap (cell m4) (omega arith) ∙ cell-put_other m3 (b + 130) v (b + 110) (omega arith) (omega arith) (omega arith)
+      ∙ same_word f st m2 (b + 110) number s2.memory (place_of p110) ∙ en)
+      (same_word f st m3 (b + 130) v s3.memory (place_of p130))))))
 
   -- the registers are loaded, and the body is wrapped
   pub wrap_run : IsTag f.setup.mac → (e : EndState) → end_state priv k ≡ e → (r : Regs) (d : Data) (v : ℕ) (stack outside : List ℕ) (j : ℕ) → r.pc ≡ A + 2 * 18 → H stack outside r.sp d.mem
@@ -317,7 +221,7 @@ module _ (f : Fixed) (st : Stands f) (all : List Mark) (B : Watched → Violatio
       let W = wrapped f.setup.mac e.key (event_header e) (windows.two v) in
       let lc = cipher_length f.setup.mac tag e.key (event_header e) (windows.two v) (omega arith) in
       let lt = tag_length f.setup.mac tag e.key (event_header e) (windows.two v) in
-      let lv : v < 65536 = subst (λ (n : ℕ). n < 65536) cv (cell_below f st d.mem (b + 130) safe.memory) in
+      let lv : v < 65536 = word_below f st (b + 130) cv safe.memory in
       let mc = put_bytes d.mem (b + 112) W.cipher in
       let mt = put_bytes mc (b + 114) W.tag in
       let hc = holds_under_bytes f st at back W.cipher stack priv outside r.sp d.mem (b + 112) h (omega arith) (omega arith) in
@@ -352,8 +256,8 @@ module _ (f : Fixed) (st : Stands f) (all : List Mark) (B : Watched → Violatio
   double_run i has le r d x j lt safe after =
       let twice : (x % 65536 + x % 65536 + 0) % 65536 ≡ 2 * x = omega arith in
       let sr1 = flags_after op2.Add (x % 65536) (x % 65536) r.sr in
-      step f st all B Q t i (rla r12) has le refl refl event.Quiet (record r { pc = A + 2 * i; r12 = x }) d j refl safe
-      (λ kept. (record r { pc = A + 2 * (i + 1); sr = sr1; r12 = 2 * x }, rw twice refl, inside t (i + 1) le, after sr1))
+      goes f st all B Q t i (rla r12) has le refl refl (record r { pc = A + 2 * i; r12 = x }) d j refl safe
+      (record r { pc = A + 2 * (i + 1); sr = sr1; r12 = 2 * x }) d.mem (inside t (i + 1) le) (rw twice refl, refl) (after sr1)
 
   -- a word of the data is read
   data_read : (o : ℕ) (stack outside : List ℕ) (sp : ℕ) (m : List ℕ) → 2 ≤ o → o + 2 ≤ 56 → o % 2 ≡ 0 → H stack outside sp m → (cell m (base_of f + o) ≡ word priv o) × PrivateWord f (base_of f + o)
@@ -375,47 +279,26 @@ module _ (f : Fixed) (st : Stands f) (all : List Mark) (B : Watched → Violatio
       let rp = data_read 4 stack outside r.sp d.mem (omega arith) (omega arith) refl h in
       let ro = data_read 10 stack outside r.sp d.mem (omega arith) (omega arith) refl h in
       let r1 = record r { pc = A + 68; r12 = p } in
-      step f st all B Q t 32 (mov (& (b + 4)) r12) refl (omega arith) refl refl e r d _ pc safe (
-        b + 4,
-        refl,
-        rp.1,
-        p,
-        rp.0 ∙ is,
-        λ kept. (
-          r1,
-          rw (flags_stay r.sr) refl,
-          inside t 34 (omega arith),
-          λ s1.
-              double_run 34 refl (omega arith) r1 d p _ (omega arith) s1 (λ sr2 s2.
-              double_run 35 refl (omega arith) (record r { sr = sr2 }) d (2 * p) _ (omega arith) s2 (λ sr3 s3.
-              double_run 36 refl (omega arith) (record r { sr = sr3 }) d (2 * (2 * p)) _ (omega arith) s3 (λ sr4 s4.
-              let x = 2 * (2 * (2 * p)) in
-              let cutx : x % 65536 ≡ x = omega arith in
-              let r4 = record r { pc = A + 74; sr = sr4; r12 = x } in
-              let r5 = record r { pc = A + 76; sr = sr4; r12 = x; r14 = x } in
-              step f st all B Q t 37 (mov r12 r14) refl (omega arith) refl refl event.Quiet r4 d _ refl s4
-              (λ kept. (
-                r5,
-                rw (flags_stay sr4, cutx) refl,
-                inside t 38 (omega arith),
-                λ s5.
-                    double_run 38 refl (omega arith) (record r { sr = sr4; r14 = x }) d x _ (omega arith) s5 (λ sr6 s6.
-                    let y = 2 * x in
-                    let z : (y % 65536 + x % 65536 + 0) % 65536 ≡ 24 * p = omega arith in
-                    let sr7 = flags_after op2.Add (x % 65536) (y % 65536) sr6 in
-                    let r6 = record r { pc = A + 78; sr = sr6; r12 = y; r14 = x } in
-                    let r7 = record r { pc = A + 80; sr = sr7; r12 = 24 * p; r14 = x } in
-                    step f st all B Q t 39 (add r14 r12) refl (omega arith) refl refl event.Quiet r6 d _ refl s6
-                    (λ kept. (
-                      r7,
-                      rw z refl,
-                      inside t 40 (omega arith),
-                      λ s7.
-                          last sr7 x s7 ro,
-                    ))),
-              ))))),
-        ),
-      )
+      goes_after f st all B Q e t 32 (mov (& (b + 4)) r12) refl (omega arith) refl refl r d _ pc safe r1 d.mem (inside t 34 (omega arith))
+      (b + 4, refl, rp.1, p, rp.0 ∙ is, (rw (flags_stay r.sr) refl, refl)) (λ s1.
+      double_run 34 refl (omega arith) r1 d p _ (omega arith) s1 (λ sr2 s2.
+      double_run 35 refl (omega arith) (record r { sr = sr2 }) d (2 * p) _ (omega arith) s2 (λ sr3 s3.
+      double_run 36 refl (omega arith) (record r { sr = sr3 }) d (2 * (2 * p)) _ (omega arith) s3 (λ sr4 s4.
+      let x = 2 * (2 * (2 * p)) in
+      let cutx : x % 65536 ≡ x = omega arith in
+      let r4 = record r { pc = A + 74; sr = sr4; r12 = x } in
+      let r5 = record r { pc = A + 76; sr = sr4; r12 = x; r14 = x } in
+      goes f st all B Q t 37 (mov r12 r14) refl (omega arith) refl refl r4 d _ refl s4 r5 d.mem (inside t 38 (omega arith))
+      (rw (flags_stay sr4, cutx) refl, refl) (λ s5.
+      double_run 38 refl (omega arith) (record r { sr = sr4; r14 = x }) d x _ (omega arith) s5 (λ sr6 s6.
+      let y = 2 * x in
+      let z : (y % 65536 + x % 65536 + 0) % 65536 ≡ 24 * p = omega arith in
+      let sr7 = flags_after op2.Add (x % 65536) (y % 65536) sr6 in
+      let r6 = record r { pc = A + 78; sr = sr6; r12 = y; r14 = x } in
+      let r7 = record r { pc = A + 80; sr = sr7; r12 = 24 * p; r14 = x } in
+      goes f st all B Q t 39 (add r14 r12) refl (omega arith) refl refl r6 d _ refl s6 r7 d.mem (inside t 40 (omega arith))
+      (rw z refl, refl) (λ s7.
+      last sr7 x s7 ro)))))))
     where
       last : (sr r14 : ℕ) → Safe f all (running f (record r { pc = A + 80; sr = sr; r12 = 24 * p; r14 = r14 }) d) → (cell d.mem (base_of f + 10) ≡ word priv 10) × PrivateWord f (base_of f + 10)
           → R (suc (suc (suc j))) (running f (record r { pc = A + 80; sr = sr; r12 = 24 * p; r14 = r14 }) d)
@@ -427,20 +310,9 @@ module _ (f : Fixed) (st : Stands f) (all : List Mark) (B : Watched → Violatio
           let sr8 = flags_after op2.Add out (24 * p % 65536) sr in
           let r7 = record r { pc = A + 80; sr = sr; r12 = 24 * p; r14 = r14 } in
           let r8 = record r { pc = A + 84; sr = sr8; r12 = out + 24 * p; r14 = r14 } in
-          step f st all B Q t 40 (add (& (b + 10)) r12) refl (omega arith) refl refl event.Quiet r7 d _ refl s7 (
-            b + 10,
-            refl,
-            ro.1,
-            out,
-            ro.0 ∙ io,
-            λ kept. (
-              r8,
-              rw sum refl,
-              inside t 42 (omega arith),
-              λ s8.
-                  loads f st all B Q t 42 ((## (b + 106), 13) ∷ (## 3, 15) ∷ []) refl (omega arith) refl (omega arith, (omega arith, tt)) r8 d j r8.pc refl s8 (after sr8 r14),
-            ),
-          )
+          goes f st all B Q t 40 (add (& (b + 10)) r12) refl (omega arith) refl refl r7 d _ refl s7 r8 d.mem (inside t 42 (omega arith))
+          (b + 10, refl, ro.1, out, ro.0 ∙ io, (rw sum refl, refl)) (λ s8.
+          loads f st all B Q t 42 ((## (b + 106), 13) ∷ (## 3, 15) ∷ []) refl (omega arith) refl (omega arith, (omega arith, tt)) r8 d j r8.pc refl s8 (after sr8 r14))
 
   -- back to where the routine was called
   pub return_run : (r : Regs) (d : Data) (priv2 stack outside : List ℕ) (ret j : ℕ) → r.pc ≡ A + 2 * 69 → MemoryHolds f at back (ret ∷ stack) priv2 outside r.sp d.mem → InText f ret → ret % 2 ≡ 0
@@ -451,20 +323,9 @@ module _ (f : Fixed) (st : Stands f) (all : List Mark) (B : Watched → Violatio
       let p1 = stack_word f st r.sp (length (ret ∷ stack)) h.top (omega arith) (omega (arith, h.room)) in
       let up : (r.sp + 2) % 65536 ≡ r.sp + 2 = omega (arith, p1.high, st.beneath) in
       let kept_even : ret - ret % 2 ≡ ret = omega arith in
-      step f st all B Q t 69 asm.ret refl (omega arith) refl refl event.Quiet r d j pc safe (
-        r.sp,
-        refl,
-        p1,
-        ret,
-        h.words.0,
-        λ kept. (
-          record r { pc = ret; sp = r.sp + 2 },
-          rw (up, flags_stay r.sr, kept_even) refl,
-          to,
-          after
-              (holds_pop f st at back ret stack priv2 outside r.sp d.mem h),
-        ),
-      )
+      goes f st all B Q t 69 asm.ret refl (omega arith) refl refl r d j pc safe (record r { pc = ret; sp = r.sp + 2 }) d.mem to
+      (r.sp, refl, p1, ret, h.words.0, (rw (up, flags_stay r.sr, kept_even) refl, refl)) (after
+      (holds_pop f st at back ret stack priv2 outside r.sp d.mem h))
 
   -- number and count of pieces rise
   pub counts_run : (e : EndState) → end_state priv k ≡ e → (r : Regs) (d : Data) (stack outside : List ℕ) (ret p j : ℕ) → r.pc ≡ A + 2 * 65 → H (ret ∷ stack) outside r.sp d.mem → e.number < 65535
@@ -496,51 +357,13 @@ module _ (f : Fixed) (st : Stands f) (all : List Mark) (B : Watched → Violatio
       let sr2 = flags_after op2.Add 1 p sr1 in
       let r1 = record r { pc = A + 134; sr = sr1 } in
       let r2 = record r { pc = A + 138; sr = sr2 } in
-      step f st all B Q t 65 (inc (& (b + o))) refl (omega arith) refl refl event.Quiet r d _ pc safe (
-        b + o,
-        refl,
-        sn.1,
-        n,
-        sn.0 ∙ en,
-        (
-          b + o,
-          refl,
-          sn.1,
-          n + 1,
-          up_n,
-          omega arith,
-          λ kept1. (
-            r1,
-            refl,
-            inside t 67 (omega arith),
-            λ s1.
-                step f st all B Q t 67 (inc (& (b + 4))) refl (omega arith) refl refl event.Quiet r1 (record d { mem = m1 }) _ refl s1 (
-                  b + 4,
-                  refl,
-                  pp,
-                  p,
-                  cp,
-                  (
-                    b + 4,
-                    refl,
-                    pp,
-                    p + 1,
-                    up_p,
-                    omega arith,
-                    λ kept2. (
-                      r2,
-                      refl,
-                      inside t 69 (omega arith),
-                      λ s2.
-                          return_run r2 (record d { mem = m2 }) (put_word priv1 4 (p + 1)) stack outside ret _ refl
-                          (holds_store f st at back (ret ∷ stack) priv1 outside r.sp m1 4 (p + 1) kept1 h1 refl i_p (omega arith)) to ev s2
-                          (after sr2 m2),
-                    ),
-                  ),
-                ),
-          ),
-        ),
-      )
+      goes f st all B Q t 65 (inc (& (b + o))) refl (omega arith) refl refl r d _ pc safe r1 m1 (inside t 67 (omega arith))
+      (b + o, refl, sn.1, n, sn.0 ∙ en, (b + o, refl, sn.1, n + 1, up_n, omega arith, (refl, refl))) (λ s1.
+      goes f st all B Q t 67 (inc (& (b + 4))) refl (omega arith) refl refl r1 (record d { mem = m1 }) _ refl s1 r2 m2 (inside t 69 (omega arith))
+      (b + 4, refl, pp, p, cp, (b + 4, refl, pp, p + 1, up_p, omega arith, (refl, refl))) (λ s2.
+      return_run r2 (record d { mem = m2 }) (put_word priv1 4 (p + 1)) stack outside ret _ refl
+      (holds_store f st at back (ret ∷ stack) priv1 outside r.sp m1 4 (p + 1) s1.memory h1 refl i_p (omega arith)) to ev s2
+      (after sr2 m2)))
 
   -- where the end is ready: header and body, wrap, copy, counts
   pub send_run : IsTag f.setup.mac → (e : EndState) → end_state priv k ≡ e → (r : Regs) (d : Data) (ret v : ℕ) (rest outside : List ℕ) (p out j : ℕ) → r.pc ≡ A + 2 * 6

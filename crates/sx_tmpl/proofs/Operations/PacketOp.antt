@@ -1,12 +1,11 @@
 -- The operation that makes an end's packet: a call of its routine.
 use Rattle.sx_isa.specs.Standing.{words_of}
 use Rattle.sx_isa.specs.Assembly.{##◌, call}
-use Rattle.sx_tmpl.proofs.Running.Instructions.{step}
+use Rattle.sx_tmpl.proofs.Running.Instructions.{goes}
 use Rattle.sx_tmpl.specs.Template.{routine_words}
 use Rattle.std.proofs.Common.{◌≡◌, ℕ, suc, ◌+◌, ◌-◌, ◌*◌, ◌%◌, ◌<◌, ◌≤◌, inl, inr, Bool, true, false, not, cond, nat_le, nat_lt, List, [], ◌∷◌, ◌++◌, length, refl, sym, ◌∙◌, ap, subst, arith}
 use Rattle.sx_reach.specs.Reach.{Here, Goes, Stops}
 use Rattle.sx_rules.specs.declared.access.Violation.{Violation}
-use Rattle.sx_machine.specs.declared.kinds.Event.TheVariants as event
 use Rattle.std.specs.Prelude.{Result, Ok, Err, nat_lt}
 use Rattle.std.proofs.lemmas.Bool.{true≢false, or_left, leb-true, ltb-true, and_parts, cases_lt, lt-ltb}
 use Rattle.sx_invoke.specs.Windows.{write_bytes}
@@ -117,39 +116,27 @@ module _ (f : Fixed) (st : Stands f) (all : List Mark) (B : Watched → Violatio
       let ev : ret % 2 ≡ 0 = omega (arith, t.is_even) in
       let d1 : Data = record d { mem = m1 } in
       subst (λ n. Runs f all B Q n (running f r d)) (omega arith)
-      (step f st all B Q t 0 (call (## A)) refl (omega arith) refl refl event.Quiet r d (suc (suc (suc (suc (58 + j))))) (omega (arith, sh.pc)) safe (
-        sp,
-        down,
-        pr,
-        ret,
-        refl,
-        omega arith,
-        λ kept. (
-          r1,
-          rw (down, target) refl,
-          record { from = rt.from; to = omega (arith, rt.to) },
-          λ s1.
-              tests_run f st all B at Q k A rt c.back c.priv slot one e refl r1 d1 (ret ∷ stack) c.mem (58 + j) (omega arith) h1 s1
-              (λ nr sr s2. subst (λ n. Runs f all B Q n (running f (record r1 { pc = A + 138; sr = sr }) d1)) (omega arith)
-              (return_run f st all B at Q k A rt c.back c.priv slot one (record r1 { pc = A + 138; sr = sr }) d1 c.priv stack c.mem ret (57 + j) refl h1 to ev s2
-              (λ h3 s3. later f all B Q j (57 + j) _ (omega arith)
-              (idle nr (record r1 { pc = ret; sr = sr; sp = sp + 2 }) d1 (record { pc = sym on; holds = h3; devices = sh.devices; marks = sh.marks }) s3))))
-              (λ yr sr s2.
-              let ok = fine yr in
-              let ln : e.number < 65535 = ltb-true e.number 65535 (and_parts e.is_open (nat_lt e.number 65535) yr).1 in
-              let same_marks : d1.marks ++ mark.Wrapped (event_header e) (windows.two v) false ∷ [] ≡ marks = ap (λ l. l ++ mark.Wrapped (event_header e) (windows.two v) false ∷ []) sh.marks in
-              subst (λ ds. ((x : Violation) → write_bytes f.setup ds c.mem (saved c 14 + 24 * pieces c) (event_packet f.setup e v) ≡ Err x → (w : Watched) → w.marks ≡ marks → B w x)
-              → ((mem : List ℕ) → write_bytes f.setup ds c.mem (saved c 14 + 24 * pieces c) (event_packet f.setup e v) ≡ Ok mem → (r2 : Regs) (d2 : Data) → r2.pc ≡ ret
-              → MemoryHolds f at c.back (v ∷ rest) (put_word (put_word c.priv (offsets.end_number_at k) (e.number + 1)) working.pieces_at (pieces c + 1)) mem r2.sp d2.mem → d2.devices ≡ d.devices
-              → d2.marks ≡ marks → Safe f all (running f r2 d2) → Runs f all B Q j (running f r2 d2))
-              → Runs f all B Q (58 + j) (running f (record r1 { pc = A + 12; sr = sr }) d1)) sh.devices
-              (send_run f st all B at Q k A rt c.back c.priv slot one tag e refl (record r1 { pc = A + 12; sr = sr }) d1 ret v rest c.mem (pieces c)
-              (saved c 14) j refl h1 s2 ln refl ok.1 refl ok.0 ok.2 ok.3 to ev
-              (key_kept yr) marks same_marks ok.4)
-              (stop yr)
-              (λ mem good r2 d2 pc2 h2 dv mk s3. done yr mem good r2 d2 (record { pc = pc2 ∙ sym on; holds = h2; devices = dv ∙ sh.devices; marks = mk }) s3)),
-        ),
-      ))
+      (goes f st all B Q t 0 (call (## A)) refl (omega arith) refl refl r d (suc (suc (suc (suc (58 + j))))) (omega (arith, sh.pc)) safe
+      r1 m1 (record { from = rt.from; to = omega (arith, rt.to) }) (sp, down, pr, ret, refl, omega arith, (rw (down, target) refl, refl)) (λ s1.
+      tests_run f st all B at Q k A rt c.back c.priv slot one e refl r1 d1 (ret ∷ stack) c.mem (58 + j) (omega arith) h1 s1
+      (λ nr sr s2. subst (λ n. Runs f all B Q n (running f (record r1 { pc = A + 138; sr = sr }) d1)) (omega arith)
+      (return_run f st all B at Q k A rt c.back c.priv slot one (record r1 { pc = A + 138; sr = sr }) d1 c.priv stack c.mem ret (57 + j) refl h1 to ev s2
+      (λ h3 s3. later f all B Q j (57 + j) _ (omega arith)
+      (idle nr (record r1 { pc = ret; sr = sr; sp = sp + 2 }) d1 (record { pc = sym on; holds = h3; devices = sh.devices; marks = sh.marks }) s3))))
+      (λ yr sr s2.
+      let ok = fine yr in
+      let ln : e.number < 65535 = ltb-true e.number 65535 (and_parts e.is_open (nat_lt e.number 65535) yr).1 in
+      let same_marks : d1.marks ++ mark.Wrapped (event_header e) (windows.two v) false ∷ [] ≡ marks = ap (λ l. l ++ mark.Wrapped (event_header e) (windows.two v) false ∷ []) sh.marks in
+      subst (λ ds. ((x : Violation) → write_bytes f.setup ds c.mem (saved c 14 + 24 * pieces c) (event_packet f.setup e v) ≡ Err x → (w : Watched) → w.marks ≡ marks → B w x)
+      → ((mem : List ℕ) → write_bytes f.setup ds c.mem (saved c 14 + 24 * pieces c) (event_packet f.setup e v) ≡ Ok mem → (r2 : Regs) (d2 : Data) → r2.pc ≡ ret
+      → MemoryHolds f at c.back (v ∷ rest) (put_word (put_word c.priv (offsets.end_number_at k) (e.number + 1)) working.pieces_at (pieces c + 1)) mem r2.sp d2.mem → d2.devices ≡ d.devices
+      → d2.marks ≡ marks → Safe f all (running f r2 d2) → Runs f all B Q j (running f r2 d2))
+      → Runs f all B Q (58 + j) (running f (record r1 { pc = A + 12; sr = sr }) d1)) sh.devices
+      (send_run f st all B at Q k A rt c.back c.priv slot one tag e refl (record r1 { pc = A + 12; sr = sr }) d1 ret v rest c.mem (pieces c)
+      (saved c 14) j refl h1 s2 ln refl ok.1 refl ok.0 ok.2 ok.3 to ev
+      (key_kept yr) marks same_marks ok.4)
+      (stop yr)
+      (λ mem good r2 d2 pc2 h2 dv mk s3. done yr mem good r2 d2 (record { pc = pc2 ∙ sym on; holds = h2; devices = dv ∙ sh.devices; marks = mk }) s3))))
 
   stuck_violates : (v : Violation) (m : List Mark) → Stuck ≡ Violates v m → ⊥
   stuck_violates v m e = cc

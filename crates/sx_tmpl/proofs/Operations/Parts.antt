@@ -2,10 +2,9 @@
 use Rattle.sx_tmpl.specs.Template.{handler_words}
 use Rattle.sx_isa.specs.Standing.{words_of}
 use Rattle.sx_isa.specs.Assembly.{##◌, &◌, br, clr, mov}
-use Rattle.sx_tmpl.proofs.Running.Instructions.{step}
+use Rattle.sx_tmpl.proofs.Running.Instructions.{goes}
 use Rattle.std.proofs.Common.{◌≡◌, ℕ, ◌+◌, ◌-◌, ◌%◌, ◌≤◌, inl, List, [], ◌∷◌, length, Some, None, refl, arith}
 use Rattle.sx_rules.specs.declared.access.Violation.{Violation}
-use Rattle.sx_machine.specs.declared.kinds.Event.TheVariants as event
 use Rattle.sx_machine.specs.Memory.{put_word}
 use Rattle.sx_invoke.specs.Marks.{Mark}
 use Rattle.sx_image.specs.Watched.{Watched}
@@ -39,44 +38,14 @@ module _ (f : Fixed) (st : Stands f) (all : List Mark) (B : Watched → Violatio
       let r1 = record r { pc = at c.place + 4 } in
       let r2 = record r { pc = at c.place + 10 } in
       let r3 = record r { pc = at q } in
-      step f st all B _ t 0 (clr (& (base_of f + 4))) refl (omega arith) refl refl event.Quiet r d 2 (omega (arith, sh.pc)) safe (
-        base_of f + 4,
-        refl,
-        p4,
-        0,
-        refl,
-        omega arith,
-        λ k1. (
-          r1,
-          rw stay refl,
-          inside t 2 (omega arith),
-          λ s1.
-              step f st all B _ t 2 (mov (## ret) (& (base_of f + 104))) refl (omega arith) refl refl event.Quiet r1
-              (record d { mem = m1 }) 1 refl s1 (
-                base_of f + 104,
-                refl,
-                p104,
-                ret,
-                cut,
-                omega arith,
-                λ k2. (
-                  r2,
-                  rw stay refl,
-                  inside t 5 (omega arith),
-                  λ s2.
-                      step f st all B _ t 5 (br (## (at q))) refl (omega arith) refl refl event.Quiet r2 (record d { mem = m2 }) 0 refl s2
-                      (λ k3. (
-                        r3,
-                        rw (stay, e) refl,
-                        to,
-                        λ s3.
-                            stood f st all B at (record c { place = q; priv = put_word c.priv 4 0; back = Some (c.place + 1) }) r3 m2 d 0 s3 refl
-                            (holds_return f st at c.back (c.place + 1) c.stack (put_word c.priv 4 0) c.mem r.sp m1 k1 h1) sh.devices sh.marks,
-                      )),
-                ),
-              ),
-        ),
-      )
+      goes f st all B _ t 0 (clr (& (base_of f + 4))) refl (omega arith) refl refl r d 2 (omega (arith, sh.pc)) safe r1 m1 (inside t 2 (omega arith))
+      (base_of f + 4, refl, p4, 0, refl, omega arith, (rw stay refl, refl)) (λ s1.
+      goes f st all B _ t 2 (mov (## ret) (& (base_of f + 104))) refl (omega arith) refl refl r1 (record d { mem = m1 }) 1 refl s1
+      r2 m2 (inside t 5 (omega arith)) (base_of f + 104, refl, p104, ret, cut, omega arith, (rw stay refl, refl)) (λ s2.
+      goes f st all B _ t 5 (br (## (at q))) refl (omega arith) refl refl r2 (record d { mem = m2 }) 0 refl s2 r3 m2 to
+      (rw (stay, e) refl, refl) (λ s3.
+      stood f st all B at (record c { place = q; priv = put_word c.priv 4 0; back = Some (c.place + 1) }) r3 m2 d 0 s3 refl
+      (holds_return f st at c.back (c.place + 1) c.stack (put_word c.priv 4 0) c.mem r.sp m1 s1.memory h1) sh.devices sh.marks)))
 
   -- back to that place
   pub stop_leads : (c : Conf) (p : ℕ) → InText f (at p) → at p % 2 ≡ 0 → Leads f st all B at 2 (words_of (br (& (base_of f + 104)) ∷ [])) 1
@@ -86,17 +55,6 @@ module _ (f : Fixed) (st : Stands f) (all : List Mark) (B : Watched → Violatio
       let e : at p - at p % 2 ≡ at p = omega arith in
       let p104 = data_word f st 104 (mid_shown _ 104 2 (omega arith) (omega arith)) (omega arith) refl (omega (arith, st.room)) in
       let r2 = record r { pc = at p } in
-      step f st all B _ t 0 (br (& (base_of f + 104))) refl (omega arith) refl refl event.Quiet r d 0 (omega (arith, sh.pc)) safe (
-        base_of f + 104,
-        refl,
-        p104,
-        at p,
-        h.returns,
-        λ k1. (
-          r2,
-          rw (flags_stay r.sr, e) refl,
-          to,
-          λ s1.
-              stood f st all B at (record c { place = p; back = None }) r2 d.mem d 0 s1 refl (holds_forget f at (Some p) c.stack c.priv c.mem r.sp d.mem h) sh.devices sh.marks,
-        ),
-      )
+      goes f st all B _ t 0 (br (& (base_of f + 104))) refl (omega arith) refl refl r d 0 (omega (arith, sh.pc)) safe r2 d.mem to
+      (base_of f + 104, refl, p104, at p, h.returns, (rw (flags_stay r.sr, e) refl, refl)) (λ s1.
+      stood f st all B at (record c { place = p; back = None }) r2 d.mem d 0 s1 refl (holds_forget f at (Some p) c.stack c.priv c.mem r.sp d.mem h) sh.devices sh.marks)

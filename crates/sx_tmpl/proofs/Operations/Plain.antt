@@ -3,14 +3,13 @@ use Rattle.sx_tmpl.specs.Template.{operator_words}
 use Rattle.sx_ir.specs.declared.ir.IrOp.TheVariants as op
 use Rattle.sx_isa.specs.Standing.{words_of}
 use Rattle.sx_isa.specs.Assembly.{##◌, &◌, ◌⟨◌⟩, add, increment, pop, push, sp}
-use Rattle.sx_tmpl.proofs.Running.Instructions.{step}
-use Rattle.std.proofs.Common.{◌≡◌, ℕ, ◌+◌, ◌-◌, ◌*◌, ◌%◌, ◌<◌, ◌≤◌, List, [], ◌∷◌, length, refl, subst, arith}
+use Rattle.sx_tmpl.proofs.Running.Instructions.{goes}
+use Rattle.std.proofs.Common.{◌≡◌, ℕ, ◌+◌, ◌-◌, ◌*◌, ◌%◌, ◌<◌, ◌≤◌, List, [], ◌∷◌, length, refl, arith}
 use Rattle.sx_reach.specs.Reach.{Here}
 use Rattle.sx_isa.specs.declared.instruction.Op2.TheVariants as op2
 use Rattle.sx_lang.specs.declared.tree.BinOp.TheVariants as binary
 use Rattle.sx_mean.specs.Meaning.{combine}
 use Rattle.sx_rules.specs.declared.access.Violation.{Violation}
-use Rattle.sx_machine.specs.declared.kinds.Event.TheVariants as event
 use Rattle.sx_machine.specs.Memory.{word, put_word}
 use Rattle.sx_invoke.specs.Marks.{Mark}
 use Rattle.sx_image.specs.Watched.{Watched}
@@ -22,7 +21,7 @@ use Rattle.sx_tmpl.specs.Shows.{base_of, IsData, MemoryHolds, ShowsConfiguration
 use Rattle.sx_tmpl.proofs.Running.Steps.{Text, InText}
 use Rattle.sx_tmpl.specs.Unseen.{HoldsNoKey}
 use Rattle.sx_tmpl.proofs.Running.Flags.{flags_after}
-use Rattle.sx_tmpl.proofs.Running.Holding.{stack_word, data_word, holds_push, holds_pop, holds_replace, holds_store, holds_word, cell_below}
+use Rattle.sx_tmpl.proofs.Running.Holding.{stack_word, data_word, holds_push, holds_pop, holds_replace, holds_store, holds_word, word_below}
 
 pub inside : {f : Fixed} {P n : ℕ} {ws : List ℕ} → Text f P n ws → (k : ℕ) → k ≤ n → InText f (P + 2 * k)
 inside t k h = record { from = omega (arith, t.from); to = omega (arith, t.to) }
@@ -48,22 +47,10 @@ module _ (f : Fixed) (st : Stands f) (all : List Mark) (B : Watched → Violatio
       let pr = stack_word f st sp (length (x ∷ c.stack)) (omega arith) (omega arith) (omega arith) in
       let down : (r.sp + 65534) % 65536 ≡ sp = omega (arith, st.beneath, st.room) in
       let r2 = record r { pc = at c.place + 4; sp = sp } in
-      step f st all B _ t 0 (push (## x)) refl (omega arith) refl refl event.Quiet r d 0 (omega (arith, sh.pc)) safe (
-        sp,
-        down,
-        pr,
-        x,
-        omega arith,
-        lt,
-        λ kept. (
-          r2,
-          rw down refl,
-          inside t 2 (omega arith),
-          λ safe2.
-              stood (next c (x ∷ c.stack)) r2 (put_cell d.mem sp x) d 0 safe2 (omega (arith, on)) (holds_push f st at c.back c.stack c.priv c.mem r.sp d.mem sp x safe.memory h (omega arith)
-              (omega arith)) sh.devices sh.marks,
-        ),
-      )
+      goes f st all B _ t 0 (push (## x)) refl (omega arith) refl refl r d 0 (omega (arith, sh.pc)) safe
+      r2 (put_cell d.mem sp x) (inside t 2 (omega arith)) (sp, down, pr, x, omega arith, lt, (rw down refl, refl)) (λ safe2.
+      stood (next c (x ∷ c.stack)) r2 (put_cell d.mem sp x) d 0 safe2 (omega (arith, on)) (holds_push f st at c.back c.stack c.priv c.mem r.sp d.mem sp x safe.memory h (omega arith)
+      (omega arith)) sh.devices sh.marks)
 
   pub load_leads : (c : Conf) (o : ℕ) → o % 2 ≡ 0 → IsData o → HoldsNoKey (length f.setup.ends) o 2 → o + 2 ≤ length c.priv → length c.stack < 160 → Leads 2 (words_of (push (& (base_of f + o)) ∷ [])) 1 c (next c (word c.priv o ∷ c.stack))
   load_leads c o ev i shown fits room r d t on sh safe =
@@ -76,29 +63,11 @@ module _ (f : Fixed) (st : Stands f) (all : List Mark) (B : Watched → Violatio
       let is = holds_word f st at c.back c.stack c.priv c.mem r.sp d.mem o h ev i fits in
       let down : (r.sp + 65534) % 65536 ≡ sp = omega (arith, st.beneath, st.room) in
       let r2 = record r { pc = at c.place + 4; sp = sp } in
-      step f st all B _ t 0 (push (& (base_of f + o))) refl (omega arith) refl refl event.Quiet r d 0 (omega (arith, sh.pc)) safe (
-        base_of f + o,
-        refl,
-        po,
-        x,
-        is,
-        (
-          sp,
-          down,
-          pr,
-          x,
-          refl,
-          subst (λ (n : ℕ). n < 65536) is (cell_below f st d.mem (base_of f + o) safe.memory),
-          λ kept. (
-            r2,
-            rw down refl,
-            inside t 2 (omega arith),
-            λ safe2.
-                stood (next c (x ∷ c.stack)) r2 (put_cell d.mem sp x) d 0 safe2 (omega (arith, on)) (holds_push f st at c.back c.stack c.priv c.mem r.sp d.mem sp x safe.memory h (omega arith)
-                (omega arith)) sh.devices sh.marks,
-          ),
-        ),
-      )
+      goes f st all B _ t 0 (push (& (base_of f + o))) refl (omega arith) refl refl r d 0 (omega (arith, sh.pc)) safe
+      r2 (put_cell d.mem sp x) (inside t 2 (omega arith))
+      (base_of f + o, refl, po, x, is, (sp, down, pr, x, refl, word_below f st (base_of f + o) is safe.memory, (rw down refl, refl))) (λ safe2.
+      stood (next c (x ∷ c.stack)) r2 (put_cell d.mem sp x) d 0 safe2 (omega (arith, on)) (holds_push f st at c.back c.stack c.priv c.mem r.sp d.mem sp x safe.memory h (omega arith)
+      (omega arith)) sh.devices sh.marks)
 
   pub store_leads : (c : Conf) (x : ℕ) (rest : List ℕ) (o : ℕ) → o % 2 ≡ 0 → IsData o → HoldsNoKey (length f.setup.ends) o 2 → o + 2 ≤ length c.priv
       → Leads 2 (words_of (pop (& (base_of f + o)) ∷ [])) 1 (record c { stack = x ∷ rest }) (record c { place = c.place + 1; stack = rest; priv = put_word c.priv o x })
@@ -109,29 +78,11 @@ module _ (f : Fixed) (st : Stands f) (all : List Mark) (B : Watched → Violatio
       let po = data_word f st o shown i.low ev (omega (arith, h.size)) in
       let up : (r.sp + 2) % 65536 ≡ r.sp + 2 = omega (arith, st.beneath, st.room) in
       let r2 = record r { pc = at c.place + 4; sp = r.sp + 2; sr = flags_after op2.Mov 0 0 r.sr } in
-      step f st all B _ t 0 (pop (& (base_of f + o))) refl (omega arith) refl refl event.Quiet r d 0 (omega (arith, sh.pc)) safe (
-        r.sp,
-        refl,
-        p1,
-        x,
-        h.words.0,
-        (
-          base_of f + o,
-          refl,
-          po,
-          x,
-          refl,
-          subst (λ (n : ℕ). n < 65536) h.words.0 (cell_below f st d.mem r.sp safe.memory),
-          λ kept. (
-            r2,
-            rw up refl,
-            inside t 2 (omega arith),
-            λ safe2.
-                stood (record c { place = c.place + 1; stack = rest; priv = put_word c.priv o x }) r2 (put_cell d.mem (base_of f + o) x) d 0 safe2 (omega (arith, on))
-                (holds_store f st at c.back rest c.priv c.mem (r.sp + 2) d.mem o x safe.memory (holds_pop f st at c.back x rest c.priv c.mem r.sp d.mem h) ev i fits) sh.devices sh.marks,
-          ),
-        ),
-      )
+      goes f st all B _ t 0 (pop (& (base_of f + o))) refl (omega arith) refl refl r d 0 (omega (arith, sh.pc)) safe
+      r2 (put_cell d.mem (base_of f + o) x) (inside t 2 (omega arith))
+      (r.sp, refl, p1, x, h.words.0, (base_of f + o, refl, po, x, refl, word_below f st r.sp h.words.0 safe.memory, (rw up refl, refl))) (λ safe2.
+      stood (record c { place = c.place + 1; stack = rest; priv = put_word c.priv o x }) r2 (put_cell d.mem (base_of f + o) x) d 0 safe2 (omega (arith, on))
+      (holds_store f st at c.back rest c.priv c.mem (r.sp + 2) d.mem o x safe.memory (holds_pop f st at c.back x rest c.priv c.mem r.sp d.mem h) ev i fits) sh.devices sh.marks)
 
   pub add_leads : (c : Conf) (x y : ℕ) (rest : List ℕ) → Leads 2 (operator_words op.Add) 1 (record c { stack = y ∷ x ∷ rest }) (next c (combine binary.Add x y ∷ rest))
   add_leads c x y rest r d t on sh safe =
@@ -143,33 +94,8 @@ module _ (f : Fixed) (st : Stands f) (all : List Mark) (B : Watched → Violatio
       let up0 : ((r.sp + 2) % 65536 + 0) % 65536 ≡ r.sp + 2 = omega (arith, st.beneath, st.room) in
       let z = combine binary.Add x y in
       let r2 = record r { pc = at c.place + 4; sp = r.sp + 2; sr = flags_after op2.Add y x r.sr } in
-      step f st all B _ t 0 (add (increment sp) (0 ⟨ sp ⟩)) refl (omega arith) refl refl event.Quiet r d 0 (omega (arith, sh.pc)) safe (
-        r.sp,
-        refl,
-        p1,
-        y,
-        h.words.0,
-        (
-          r.sp + 2,
-          up0,
-          p2,
-          x,
-          h.words.1.0,
-          (
-            r.sp + 2,
-            up0,
-            p2,
-            z,
-            omega arith,
-            omega arith,
-            λ kept. (
-              r2,
-              rw up refl,
-              inside t 2 (omega arith),
-              λ safe2.
-                  stood (next c (z ∷ rest)) r2 (put_cell d.mem (r.sp + 2) z) d 0 safe2 (omega (arith, on)) (holds_replace f st at c.back x z rest c.priv c.mem (r.sp + 2) d.mem safe.memory
-                  (holds_pop f st at c.back y (x ∷ rest) c.priv c.mem r.sp d.mem h)) sh.devices sh.marks,
-            ),
-          ),
-        ),
-      )
+      goes f st all B _ t 0 (add (increment sp) (0 ⟨ sp ⟩)) refl (omega arith) refl refl r d 0 (omega (arith, sh.pc)) safe
+      r2 (put_cell d.mem (r.sp + 2) z) (inside t 2 (omega arith))
+      (r.sp, refl, p1, y, h.words.0, (r.sp + 2, up0, p2, x, h.words.1.0, (r.sp + 2, up0, p2, z, omega arith, omega arith, (rw up refl, refl)))) (λ safe2.
+      stood (next c (z ∷ rest)) r2 (put_cell d.mem (r.sp + 2) z) d 0 safe2 (omega (arith, on)) (holds_replace f st at c.back x z rest c.priv c.mem (r.sp + 2) d.mem safe.memory
+      (holds_pop f st at c.back y (x ∷ rest) c.priv c.mem r.sp d.mem h)) sh.devices sh.marks)

@@ -1,7 +1,7 @@
 -- Wrap and unwrap as operations.
 use Rattle.sx_isa.specs.Assembly.{##◌, clr, push, r15, r9}
 use Rattle.sx_tmpl.proofs.Running.Loading.{loads}
-use Rattle.sx_tmpl.proofs.Running.Instructions.{step}
+use Rattle.sx_tmpl.proofs.Running.Instructions.{goes_after}
 use Rattle.std.proofs.Common.{◌≡◌, ℕ, zero, suc, ◌+◌, ◌-◌, ◌*◌, ◌%◌, ◌<◌, ◌≤◌, ◌⊎◌, inl, inr, List, [], ◌∷◌, ◌++◌, length, Option, Some, None, refl, sym, ◌∙◌, ap, subst, arith, take}
 use Rattle.sx_reach.specs.Reach.{Here}
 use Rattle.sx_isa.specs.declared.instruction.Operand.{Operand}
@@ -173,14 +173,9 @@ module _ (f : Fixed) (st : Stands f) (all : List Mark) (B : Watched → Violatio
       let d2 : Data = record d { mem = mt; exchange = x; marks = d.marks ++ mark.Wrapped ad body (k == 0) ∷ [] } in
       let r2 = record rL { pc = at c.place + 30; r15 = 1 } in
       let r3 = record r2 { pc = at c.place + 32; r9 = 0 } in
-      step f st all B Q t 15 (clr r9) refl (omega arith) refl refl (event.Wrapped f.setup.section.id) r2 d2 0 refl s2
-      (λ kept. (
-        r3,
-        rw (flags_stay r.sr) refl,
-        inside t 16 (omega arith),
-        λ s3.
-            Here (record { regs = r3; rest = d2; state = refl; safe = s3; shows = record { pc = omega (arith, on); holds = ht; devices = sh.devices; marks = mk } }),
-      ))))
+      goes_after f st all B Q (event.Wrapped f.setup.section.id) t 15 (clr r9) refl (omega arith) refl refl r2 d2 0 refl s2 r3 d2.mem (inside t 16 (omega arith))
+      (rw (flags_stay r.sr) refl, refl) (λ s3.
+      Here (record { regs = r3; rest = d2; state = refl; safe = s3; shows = record { pc = omega (arith, on); holds = ht; devices = sh.devices; marks = mk } }))))
 
   -- the configuration after an unwrap
   abbrev pub after_open : Conf → ℕ → List ℕ → ℕ → ℕ → Option (List ℕ) → Conf
@@ -201,34 +196,22 @@ module _ (f : Fixed) (st : Stands f) (all : List Mark) (B : Watched → Violatio
       let cut : r.r15 % 65536 ≡ v = omega arith in
       let r2 = record r { pc = P + 32; sp = sp } in
       let h2 = holds_push f st at back stack priv outside r.sp d.mem sp v safe.memory hold (omega arith) (omega arith) in
-      step f st all B (Stood f all at c2) t 15 (push r15) has le refl refl e r d 0 pc safe (
-        sp,
-        down,
-        pr,
-        v,
-        cut,
-        lv,
-        λ kept. (
-          r2,
-          rw down refl,
-          inside t 16 le,
-          λ s3.
-              Here (record {
-                regs = r2;
-                rest = record d { mem = put_cell d.mem sp v };
-                state = refl;
-                safe = s3;
-                shows = record {
-                  pc = sym on;
-                  holds = subst (λ b. MemoryHolds f at b c2.stack c2.priv c2.mem sp (put_cell d.mem sp v)) (sym eb) (subst (λ l. MemoryHolds f at back l c2.priv c2.mem sp (put_cell d.mem sp v))
-                      (sym es) (subst (λ p. MemoryHolds f at back (v ∷ stack) p c2.mem sp (put_cell d.mem sp v)) (sym ep)
-                      (subst (λ o. MemoryHolds f at back (v ∷ stack) priv o sp (put_cell d.mem sp v)) (sym em) h2)));
-                  devices = dv;
-                  marks = mk;
-                };
-              }),
-        ),
-      )
+      goes_after f st all B (Stood f all at c2) e t 15 (push r15) has le refl refl r d 0 pc safe r2 (put_cell d.mem sp v) (inside t 16 le)
+      (sp, down, pr, v, cut, lv, (rw down refl, refl)) (λ s3.
+      Here (record {
+        regs = r2;
+        rest = record d { mem = put_cell d.mem sp v };
+        state = refl;
+        safe = s3;
+        shows = record {
+          pc = sym on;
+          holds = subst (λ b. MemoryHolds f at b c2.stack c2.priv c2.mem sp (put_cell d.mem sp v)) (sym eb) (subst (λ l. MemoryHolds f at back l c2.priv c2.mem sp (put_cell d.mem sp v))
+              (sym es) (subst (λ p. MemoryHolds f at back (v ∷ stack) p c2.mem sp (put_cell d.mem sp v)) (sym ep)
+              (subst (λ o. MemoryHolds f at back (v ∷ stack) priv o sp (put_cell d.mem sp v)) (sym em) h2)));
+          devices = dv;
+          marks = mk;
+        };
+      }))
 
   pub open_leads : (c : Conf) (k h hn b bn : ℕ) (result : Option (List ℕ)) → SealsAt k h hn b bn (length c.priv) → NamesNoKey (length f.setup.ends) (ir.Open k h hn b bn) [] → KeptAt c k → length c.stack < 160
       → unwrapped f.setup.mac (key_at f.setup c k) (bytes_from c.priv h hn) (bytes_from c.priv (h + hn) bn) (bytes_from c.priv (h + hn + bn) 16) ≡ result

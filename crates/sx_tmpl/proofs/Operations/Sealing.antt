@@ -31,7 +31,7 @@ use Rattle.sx_machine.specs.State.{State}
 use Rattle.sx_invoke.specs.Marks as mark
 use Rattle.sx_invoke.specs.Marks.{Mark, HasPrefix}
 use Rattle.sx_image.specs.Watched.{Watched, watch, violation_of, marks_of_event}
-use Rattle.sx_tmpl.specs.Running.{Regs, regs16, Fixed, Data, sections_of, running_after, Safe, cell}
+use Rattle.sx_tmpl.specs.Running.{Regs, regs16, Fixed, Data, sections_of, running_after, Safe}
 use Rattle.sx_tmpl.proofs.Running.MidRun.{Stands, Runs, PrivateRange}
 use Rattle.sx_tmpl.proofs.Running.Owned.{own_found, run_holder, in_private_yes}
 use Rattle.sx_tmpl.proofs.Running.Owes.{OwesSeal, Met, seal_met}
@@ -40,7 +40,7 @@ use Rattle.sx_tmpl.specs.Unseen.{AreShown, StepShowsNone, WasOpen, WordShowsNone
 use Rattle.sx_mean.specs.Offsets.{end_key_at}
 use Rattle.sx_mean.specs.Working.{plain_at}
 use Rattle.sx_tmpl.proofs.Running.Mem.{word_is}
-use Rattle.sx_tmpl.proofs.Running.Steps.{Text, InText, text_word, tests_passed, by_outcome}
+use Rattle.sx_tmpl.proofs.Running.Steps.{InText, Text, by_outcome, reached, tests_passed}
 use Rattle.sx_machine.proofs.Lengths.{length-bytes_from}
 
 -- no device's word meets bytes that lie on none
@@ -215,17 +215,11 @@ module _ (f : Fixed) (st : Stands f) (all : List Mark) (B : Watched → Violatio
       → ((a : State) → at_word f st all B Q w a ≡ exec a.sections (own_of a) (module_row f.setup.mac code (given_at_pc f.setup.mac a)) (start a))
       → attempt f.setup.mac (running_after e f r d).node ≡ exec (sections_of f) f.setup.section.id (module_row f.setup.mac code (given_own f st all B Q e r d)) (start (running_after e f r d).node)
   module_fetched {P = P} {n = n} t k w code has fits e r d pc safe row =
-      let low = t.from in
-      let high = t.to in
-      let even = t.is_even in
-      let here : f.setup.section.layout.pub_from ≤ r.pc = omega arith in
-      let ends : r.pc + 1 < f.setup.section.layout.pub_to = omega arith in
-      let ev : r.pc % 2 ≡ 0 = omega arith in
+      let x = reached f st all B Q t k w has fits r d.mem pc safe.memory in
       let a = (running_after e f r d).node in
-      let is : cell d.mem r.pc ≡ w = text_word f st all B Q d.mem r.pc w safe.memory here ends (ap (cell f.entered) pc ∙ t.word k w has) in
-      let e1 : word d.mem r.pc ≡ w = word_is d.mem r.pc ev ∙ is in
-      let own : own_of a ≡ f.setup.section.id = run_holder f st r.pc here (omega arith) in
-      tests_passed f st all B Q e r d safe here ends ev ∙ ap (λ w. at_word f st all B Q w a) e1 ∙ row a
+      let e1 : word d.mem r.pc ≡ w = word_is d.mem r.pc x.is_even ∙ x.is in
+      let own : own_of a ≡ f.setup.section.id = run_holder f st r.pc x.here (omega (arith, x.ends)) in
+      tests_passed f st all B Q e r d safe x.here x.ends x.is_even ∙ ap (λ w. at_word f st all B Q w a) e1 ∙ row a
       ∙ ap (λ o. exec (sections_of f) o (module_row f.setup.mac code (record (given_at_pc f.setup.mac a) { own = o })) (start a)) own
 
   -- what it shows
@@ -233,15 +227,9 @@ module _ (f : Fixed) (st : Stands f) (all : List Mark) (B : Watched → Violatio
       → Safe f all (running_after e f r d) → is_module_word w ≡ true → (w ≡ 0x1384) ⊎ (w ≡ 0x1385) → Buffers f r → KeyAt f r d key → (w ≡ 0x1384 → r.r9 ≡ 0 → r.r13 ≡ 0) → (w ≡ 0x1385 → AreShown f.setup r.r15 16) → (w ≡ 0x1385 → r.r9 ≡ 0 → (r.r14 ≡ base_of f + plain_at) × (r.r13 ≤ 16))
       → StepShowsNone f.setup f.entered (running_after e f r d)
   seal_shown t k w has fits e r d key pc safe module_ seals bs key_at bodiless_ tag opened_ =
-      let low = t.from in
-      let high = t.to in
-      let even = t.is_even in
-      let here : f.setup.section.layout.pub_from ≤ r.pc = omega arith in
-      let ends : r.pc + 1 < f.setup.section.layout.pub_to = omega arith in
-      let ev : r.pc % 2 ≡ 0 = omega arith in
+      let x = reached f st all B Q t k w has fits r d.mem pc safe.memory in
       let a = running_after e f r d in
-      let is : cell d.mem r.pc ≡ w = text_word f st all B Q d.mem r.pc w safe.memory here ends (ap (cell f.entered) pc ∙ t.word k w has) in
-      let e1 : word d.mem r.pc ≡ w = word_is d.mem r.pc ev ∙ is in
+      let e1 : word d.mem r.pc ≡ w = word_is d.mem r.pc x.is_even ∙ x.is in
       subst (λ (z : ℕ). WordShowsNone f.setup f.entered a z (is_module_word z)) (sym e1) (subst (λ b. WordShowsNone f.setup f.entered a w b) (sym module_)
       (record { seals = seals; key = key_in key_at; header = bs.header_shown; text = bs.text_shown; bodiless = bodiless_; tag = tag; opened = opened_ }))
     where
@@ -256,19 +244,21 @@ module _ (f : Fixed) (st : Stands f) (all : List Mark) (B : Watched → Violatio
   abbrev sealed : Regs → Data → List ℕ → Wrapped
   sealed r d key = wrapped f.setup.mac key (bytes_from d.mem r.r10 r.r11) (bytes_from d.mem r.r12 r.r13)
 
+  -- what is to follow a wrap of this header and body under this key
+  abbrev pub WrapThen : ℕ → Event → Regs → Data → ℕ → List ℕ → List ℕ → List ℕ → Type 0
+  WrapThen j e r d pc key ad body =
+      let w = wrapped f.setup.mac key ad body in
+      let marks = d.marks ++ mark.Wrapped ad body (r.r9 == 0) ∷ [] in
+      HasPrefix all marks
+      → ((x : Exchange) → let r2 = record r { pc = pc; r15 = 1 } in
+      let d2 : Data = record d { mem = put_bytes (put_bytes d.mem r.r14 w.cipher) r.r15 w.tag; exchange = x; marks = marks } in
+      Safe f all (running_after (event.Wrapped f.setup.section.id) f r2 d2) → Runs f all B Q j (running_after (event.Wrapped f.setup.section.id) f r2 d2))
+      → Runs f all B Q (suc j) (running_after e f r d)
+
   -- wrap
   pub wrap_step : {P n : ℕ} {ws : List ℕ} (t : Text f P n ws) (k : ℕ) → slice_get ws k ≡ Some 0x1384 → k + 1 ≤ n → (e : Event) (r : Regs) (d : Data) (key : List ℕ) (j : ℕ) → r.pc ≡ P + 2 * k
       → Safe f all (running_after e f r d)
-      → Buffers f r → KeyAt f r d key → (r.r9 ≡ 0 → r.r13 ≡ 0) → HasPrefix all (d.marks ++ mark.Wrapped (bytes_from d.mem r.r10 r.r11) (bytes_from d.mem r.r12 r.r13) (r.r9 == 0) ∷ [])
-      → ((x : Exchange) → let r2 = record r { pc = P + 2 * (k + 1); r15 = 1 } in
-      let d2 : Data = record d {
-        mem = put_bytes (put_bytes d.mem r.r14 (sealed r d key).cipher) r.r15 (sealed r d key).tag;
-        exchange = x;
-        marks = d.marks ++ mark.Wrapped
-            (bytes_from d.mem r.r10 r.r11) (bytes_from d.mem r.r12 r.r13) (r.r9 == 0) ∷ [];
-      } in
-      Safe f all (running_after (event.Wrapped f.setup.section.id) f r2 d2) → Runs f all B Q j (running_after (event.Wrapped f.setup.section.id) f r2 d2))
-      → Runs f all B Q (suc j) (running_after e f r d)
+      → Buffers f r → KeyAt f r d key → (r.r9 ≡ 0 → r.r13 ≡ 0) → WrapThen j e r d (P + 2 * (k + 1)) key (bytes_from d.mem r.r10 r.r11) (bytes_from d.mem r.r12 r.r13)
   unfolding module_row
   wrap_step {P = P} t k has fits e r d key j pc safe bs key_at bodiless_ marks after =
       let g = given_own f st all B Q e r d in
@@ -311,16 +301,26 @@ module _ (f : Fixed) (st : Stands f) (all : List Mark) (B : Watched → Violatio
   abbrev unsealed : Regs → Data → List ℕ → Option (List ℕ)
   unsealed r d key = unwrapped f.setup.mac key (bytes_from d.mem r.r10 r.r11) (bytes_from d.mem r.r12 r.r13) (bytes_from d.mem r.r15 16)
 
+  -- what is to follow an unwrap with this result: of a wrong tag, and of a right one, whose mark has its place
+  abbrev Refused : ℕ → Regs → Data → ℕ → Option (List ℕ) → Type 0
+  Refused j r d pc result =
+      result ≡ None → Safe f all (running_after event.Quiet f (record r { pc = pc; r15 = 0 }) d) → Runs f all B Q j (running_after event.Quiet f (record r { pc = pc; r15 = 0 }) d)
+
+  abbrev Begun : Regs → Data → Option (List ℕ) → Type 0
+  Begun r d result = (plain : List ℕ) → result ≡ Some plain → HasPrefix all (d.marks ++ mark.Unwrapped (bytes_from d.mem r.r10 r.r11) (take r.r13 plain) (r.r9 == 0) ∷ [])
+
+  abbrev Opened : ℕ → Regs → Data → ℕ → Option (List ℕ) → Type 0
+  Opened j r d pc result =
+      (plain : List ℕ) (x : Exchange) → result ≡ Some plain → let r2 = record r { pc = pc; r15 = 1 } in
+      let new = mark.Unwrapped (bytes_from d.mem r.r10 r.r11) (take r.r13 plain) (r.r9 == 0) ∷ [] in
+      let d2 : Data = record d { mem = put_bytes d.mem r.r14 (take r.r13 plain); exchange = x; marks = d.marks ++ new } in
+      Safe f all (running_after (event.Unwrapped f.setup.section.id) f r2 d2) → Runs f all B Q j (running_after (event.Unwrapped f.setup.section.id) f r2 d2)
+
   -- unwrap: where the tag is wrong only R15 tells it
   pub unwrap_step : {P n : ℕ} {ws : List ℕ} (t : Text f P n ws) (k : ℕ) → slice_get ws k ≡ Some 0x1385 → k + 1 ≤ n
       → (e : Event) (r : Regs) (d : Data) (key : List ℕ) (j : ℕ) (result : Option (List ℕ)) → r.pc ≡ P + 2 * k → Safe f all (running_after e f r d)
       → Buffers f r → AreShown f.setup r.r15 16 → (r.r9 ≡ 0 → (r.r14 ≡ base_of f + plain_at) × (r.r13 ≤ 16)) → KeyAt f r d key → unsealed r d key ≡ result
-      → (result ≡ None → Safe f all (running_after event.Quiet f (record r { pc = P + 2 * (k + 1); r15 = 0 }) d)
-      → Runs f all B Q j (running_after event.Quiet f (record r { pc = P + 2 * (k + 1); r15 = 0 }) d))
-      → ((plain : List ℕ) → result ≡ Some plain → HasPrefix all (d.marks ++ mark.Unwrapped (bytes_from d.mem r.r10 r.r11) (take r.r13 plain) (r.r9 == 0) ∷ []))
-      → ((plain : List ℕ) (x : Exchange) → result ≡ Some plain → let r2 = record r { pc = P + 2 * (k + 1); r15 = 1 } in
-      let d2 : Data = record d { mem = put_bytes d.mem r.r14 (take r.r13 plain); exchange = x; marks = d.marks ++ mark.Unwrapped (bytes_from d.mem r.r10 r.r11) (take r.r13 plain) (r.r9 == 0) ∷ [] } in
-      Safe f all (running_after (event.Unwrapped f.setup.section.id) f r2 d2) → Runs f all B Q j (running_after (event.Unwrapped f.setup.section.id) f r2 d2))
+      → Refused j r d (P + 2 * (k + 1)) result → Begun r d result → Opened j r d (P + 2 * (k + 1)) result
       → Runs f all B Q (suc j) (running_after e f r d)
   unfolding module_row
   unwrap_step {P = P} t k has fits e r d key j result pc safe bs tag_shown out_plain key_at is failed marks after =
@@ -349,17 +349,7 @@ module _ (f : Fixed) (st : Stands f) (all : List Mark) (B : Watched → Violatio
       ad = bytes_from d.mem r.r10 r.r11
 
       either : (result : Option (List ℕ))
-          → (result ≡ None → Safe f all (running_after event.Quiet f (record r { pc = P + 2 * (k + 1); r15 = 0 }) d)
-          → Runs f all B Q j (running_after event.Quiet f (record r { pc = P + 2 * (k + 1); r15 = 0 }) d))
-          → ((plain : List ℕ) → result ≡ Some plain → HasPrefix all (d.marks ++ mark.Unwrapped (bytes_from d.mem r.r10 r.r11) (take r.r13 plain) (r.r9 == 0) ∷ []))
-          → ((plain : List ℕ) (x : Exchange) → result ≡ Some plain → let r2 = record r { pc = P + 2 * (k + 1); r15 = 1 } in
-          let d2 : Data = record d {
-            mem = put_bytes d.mem r.r14 (take r.r13 plain);
-            exchange = x;
-            marks = d.marks ++ mark.Unwrapped (bytes_from d.mem r.r10 r.r11) (take r.r13 plain)
-                (r.r9 == 0) ∷ [];
-          } in
-          Safe f all (running_after (event.Unwrapped f.setup.section.id) f r2 d2) → Runs f all B Q j (running_after (event.Unwrapped f.setup.section.id) f r2 d2))
+          → Refused j r d (P + 2 * (k + 1)) result → Begun r d result → Opened j r d (P + 2 * (k + 1)) result
           → OwesSeal f (NoDone f st all B Q) (Tells f st all B Q j d) (B (running_after e f r d)) (opened (given_own f st all B Q e r d) (bytes_from d.mem r.r10 r.r11) result) d.mem
       either None failed marks after = λ kept. (
         record r { pc = P + 2 * (k + 1); r15 = 0 },
@@ -388,20 +378,6 @@ module _ (f : Fixed) (st : Stands f) (all : List Mark) (B : Watched → Violatio
               after plain _ refl,
             ),
           )
-
-  -- what is to follow a wrap of this header and body under this key
-  abbrev pub WrapThen : ℕ → Event → Regs → Data → ℕ → List ℕ → List ℕ → List ℕ → Type 0
-  WrapThen j e r d pc key ad body =
-      HasPrefix all (d.marks ++ mark.Wrapped ad body (r.r9 == 0) ∷ [])
-      → ((x : Exchange) → let r2 = record r { pc = pc; r15 = 1 } in
-      let d2 : Data = record d {
-        mem = put_bytes (put_bytes d.mem r.r14 (wrapped f.setup.mac key ad body).cipher) r.r15 (wrapped f.setup.mac key ad body).tag;
-        exchange = x;
-        marks =
-            d.marks ++ mark.Wrapped ad body (r.r9 == 0) ∷ [];
-      } in
-      Safe f all (running_after (event.Wrapped f.setup.section.id) f r2 d2) → Runs f all B Q j (running_after (event.Wrapped f.setup.section.id) f r2 d2))
-      → Runs f all B Q (suc j) (running_after e f r d)
 
   -- wrap, by the header and the body that stand in memory
   pub wrap_as : {P n : ℕ} {ws : List ℕ} (t : Text f P n ws) (k : ℕ) → slice_get ws k ≡ Some 0x1384 → k + 1 ≤ n → (e : Event) (r : Regs) (d : Data) (key ad body : List ℕ) (j : ℕ) → r.pc ≡ P + 2 * k

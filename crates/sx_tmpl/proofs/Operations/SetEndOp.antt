@@ -1,6 +1,6 @@
 -- An end is opened with the copied packet's field and the plain key, by a routine that stands once.
 use Rattle.sx_isa.specs.Assembly.{##◌, #◌, &◌, ◌⟨◌⟩, call, clr, mov, pc, pop, r12}
-use Rattle.sx_tmpl.proofs.Running.Instructions.{step}
+use Rattle.sx_tmpl.proofs.Running.Instructions.{goes}
 use Rattle.sx_tmpl.specs.Template.{slot_words}
 use Rattle.std.proofs.Common.{◌≡◌, ℕ, zero, suc, ◌+◌, ◌-◌, ◌*◌, ◌/◌, ◌%◌, ◌<◌, ◌≤◌, inl, inr, List, [], ◌∷◌, ◌++◌, length, Option, None, Some, refl, sym, ◌∙◌, ap, subst, arith, slice_index}
 use Rattle.sx_reach.specs.Reach.{Here}
@@ -22,7 +22,7 @@ use Rattle.sx_tmpl.proofs.Running.MidRun.{Stands, Runs, put_cell}
 use Rattle.sx_tmpl.specs.Shows.{base_of, MemoryHolds, Stood}
 use Rattle.sx_tmpl.proofs.Running.Steps.{NoTell, Text, Then, three_met}
 use Rattle.sx_tmpl.proofs.Running.Owes.{moved_met}
-use Rattle.sx_tmpl.proofs.Running.Instructions.{reads_of, word_there}
+use Rattle.sx_tmpl.proofs.Running.Instructions.{goes, reads_of, word_there}
 use Rattle.sx_isa.specs.declared.instruction.Instr.{Instr}
 use Rattle.sx_isa.specs.Instructions.{first_word}
 use Rattle.sx_machine.specs.Step.{start}
@@ -34,7 +34,7 @@ use Rattle.sx_tmpl.proofs.Operations.Plain.{inside, Leads}
 use Rattle.sx_machine.proofs.Lengths.{length-bytes_from, length-put_word}
 use Rattle.std.proofs.lemmas.List.{append_assoc}
 use Rattle.sx_isa.proofs.StandingLemmas.{even_same}
-use Rattle.sx_tmpl.proofs.Running.Holding.{low_shown, slot_shown, stack_word, data_place, data_word, holds_push, holds_pop, holds_store, holds_word, cell_below}
+use Rattle.sx_tmpl.proofs.Running.Holding.{low_shown, slot_shown, stack_word, data_place, data_word, holds_push, holds_pop, holds_store, holds_word, word_below}
 
 -- a word below stays
 word_stays : (p : List ℕ) (o v j : ℕ) → o % 2 ≡ 0 → j % 2 ≡ 0 → j + 2 ≤ o → word (put_word p o v) j ≡ word p j
@@ -127,28 +127,12 @@ module _ (f : Fixed) (st : Stands f) (all : List Mark) (B : Watched → Violatio
       let ps = data_word f st s shown_s s1 se (omega (arith, st.room)) in
       let po = data_word f st o shown_o (omega arith) oe (omega arith) in
       let is = holds_word f st at back stack priv outside r.sp d.mem s h se (record { low = s1; beside = inl (omega arith) }) (let y = st.room in omega arith) ∙ ev in
-      let lv = subst (λ (n : ℕ). n < 65536) is (cell_below f st d.mem (base_of f + s) safe.memory) in
-      step f st all B Q t i (mov (& (base_of f + s)) (y ⟨ r12 ⟩)) has le refl refl event.Quiet (record r { pc = P + 2 * i }) d j refl safe (
-        base_of f + s,
-        refl,
-        ps,
-        v,
-        is,
-        (
-          base_of f + o,
-          place,
-          po,
-          v,
-          refl,
-          lv,
-          λ kept. (
-            record r { pc = P + 2 * (i + 3) },
-            rw (flags_stay r.sr) refl,
-            inside t (i + 3) le,
-            after (put_cell d.mem (base_of f + o) v) (holds_store f st at back stack priv outside r.sp d.mem o v safe.memory h oe (record { low = omega arith; beside = inr o1 }) fits),
-          ),
-        ),
-      )
+      let lv = word_below f st (base_of f + s) is safe.memory in
+      let m2 = put_cell d.mem (base_of f + o) v in
+      let h2 = holds_store f st at back stack priv outside r.sp d.mem o v safe.memory h oe (record { low = omega arith; beside = inr o1 }) fits in
+      goes f st all B Q t i (mov (& (base_of f + s)) (y ⟨ r12 ⟩)) has le refl refl (record r { pc = P + 2 * i }) d j refl safe
+      (record r { pc = P + 2 * (i + 3) }) m2 (inside t (i + 3) le)
+      (base_of f + s, refl, ps, v, is, (base_of f + o, place, po, v, refl, lv, (rw (flags_stay r.sr) refl, refl))) (after m2 h2)
 
   -- the same of a word of a key
   move_key : (i s o y : ℕ) → o ≡ offsets.end_at k + y → take 3 (drop i (slot_words (base_of f))) ≡ spelling (mov (& (base_of f + s)) (y ⟨ r12 ⟩)) → i + 3 ≤ 32
@@ -165,7 +149,7 @@ module _ (f : Fixed) (st : Stands f) (all : List Mark) (B : Watched → Violatio
       let ps = data_place f st s s1 se (omega (arith, st.room)) in
       let po = data_place f st o (omega arith) oe (omega arith) in
       let is = holds_word f st at back stack priv outside r.sp d.mem s h se (record { low = s1; beside = inl (omega arith) }) (let y = st.room in omega arith) ∙ ev in
-      let lv = subst (λ (n : ℕ). n < 65536) is (cell_below f st d.mem (base_of f + s) safe.memory) in
+      let lv = word_below f st (base_of f + s) is safe.memory in
       let w = first_word (mov (& 0) (0 ⟨ r12 ⟩)) in
       let ii : ℕ → ℕ → Instr = λ x z. mov (& x) (z ⟨ r12 ⟩) in
       let no_device : device_at d.devices (base_of f + o) ≡ None = safe.devices (base_of f + o)
@@ -252,98 +236,46 @@ module _ (f : Fixed) (st : Stands f) (all : List Mark) (B : Watched → Violatio
       let i2 : (b + o0 + 2) % 65536 ≡ b + o1 = omega arith in
       let i4 : (b + o0 + 4) % 65536 ≡ b + o2 = omega arith in
       let done : key_part K0 p o 8 ≡ put_bytes K0 o (bytes_from p 56 16) = key_put K0 p o even_ small 8 (omega arith) in
-      step f st all B Q t 0 (mov (## (b + o0)) r12) refl (omega arith) refl refl event.Quiet r d 13 (omega (arith, sh.pc)) safe
-      (λ ka. (
-        r00,
-        rw (stay, e12) refl,
-        inside t 2 (omega arith),
-        λ s_a.
-            step f st all B Q t 2 (call (## A)) refl (omega arith) refl refl event.Quiet r00 d 12 refl s_a (
-              sp,
-              down,
-              pr,
-              ret,
-              refl,
-              omega arith,
-              λ kb_. (
-                record r_ { pc = A },
-                rw (down, target) refl,
-                record { from = rt.from; to = omega (arith, rt.to) },
-                λ s_b.
-                    subst (λ pc. Safe f all (running f (record r_ { pc = pc }) d0) → Runs f all B Q 12 (running f (record r_ { pc = pc }) d0)) (omega arith)
-                    (λ s0.
-                    move_step f st all B at Q A k rt c.back (ret ∷ c.stack) c.mem 0 18 o0 0 (omega arith) refl (omega arith) (omega arith) (omega arith) refl (omega arith)
-                    (omega arith) (low_shown _ 18 2 (omega arith)) (subst (λ (o : ℕ). HoldsNoKey (length f.setup.ends) o 2) first_at (slot_shown _ k 0 2 (omega arith))) r_ d0 p field 11 refl (omega arith) refl h0 s0 (λ ma ha sa.
-                    step f st all B Q rt 3 (clr (2 ⟨ r12 ⟩)) refl (omega arith) refl refl event.Quiet (record r_ { pc = A + 6 })
-                    (record d0 { mem = ma }) 10 refl sa (
-                      b + o1,
-                      i2,
-                      pn,
-                      0,
-                      refl,
-                      omega arith,
-                      λ kb. (
-                        record r_ { pc = A + 10 },
-                        rw stay refl,
-                        inside rt 5 (omega arith),
-                        λ sb.
-                            let hb = holds_store f st at c.back (ret ∷ c.stack) q0 c.mem sp ma o1 0 sa.memory ha (omega arith) (record { low = omega arith; beside = inr (omega arith) })
-                            (omega arith) in
-                            step f st all B Q rt 5 (mov (# 1) (4 ⟨ r12 ⟩)) refl (omega arith) refl refl event.Quiet (record r_ { pc = A + 10 })
-                            (record d0 { mem = put_cell ma (b + o1) 0 }) 9 refl sb (
-                              b + o2,
-                              i4,
-                              po,
-                              1,
-                              refl,
-                              omega arith,
-                              λ kc. (
-                                record r_ { pc = A + 14 },
-                                rw stay refl,
-                                inside rt 7 (omega arith),
-                                λ sc.
-                                    let hc = holds_store f st at c.back (ret ∷ c.stack) q1 c.mem sp (put_cell ma (b + o1) 0) o2 1 sb.memory hb (omega arith)
-                                    (record { low = omega arith; beside = inr (omega arith) }) (omega arith) in
-                                    move 0 (omega arith) refl (put_cell (put_cell ma (b + o1) 0) (b + o2) 1) 8 hc sc (λ x0 h0 s0_.
-                                    move 1 (omega arith) refl x0 7 h0 s0_ (λ x1 h1 s1_.
-                                    move 2 (omega arith) refl x1 6 h1 s1_ (λ x2 h2 s2_.
-                                    move 3 (omega arith) refl x2 5 h2 s2_ (λ x3 h3 s3_.
-                                    move 4 (omega arith) refl x3 4 h3 s3_ (λ x4 h4 s4_.
-                                    move 5 (omega arith) refl x4 3 h4 s4_ (λ x5 h5 s5_.
-                                    move 6 (omega arith) refl x5 2 h5 s5_ (λ x6 h6 s6_.
-                                    move 7 (omega arith) refl x6 1 h6 s6_ (λ x7 h7 s7_.
-                                    step f st all B Q rt 31 (pop pc) refl (omega arith) refl refl event.Quiet (record r_ { pc = A + 62 })
-                                    (record d0 { mem = x7 }) 0 refl s7_ (
-                                      sp,
-                                      refl,
-                                      pr,
-                                      ret,
-                                      h7.words.0,
-                                      λ kz. (
-                                        record r_ { pc = ret; sp = sp + 2 },
-                                        rw (up, stay, keven) refl,
-                                        inside t 4 (omega arith),
-                                        λ sz_2.
-                                            Here (record {
-                                              regs = record r_ { pc = ret; sp = sp + 2 };
-                                              rest = record d0 { mem = x7 };
-                                              state = refl;
-                                              safe = sz_2;
-                                              shows =
-                                                  record {
-                                                    pc = omega (arith, on);
-                                                    holds = subst (λ l. MemoryHolds f at c.back c.stack l c.mem (sp + 2) x7) done
-                                                        (holds_pop f st at c.back ret c.stack (K 8) c.mem sp x7 h7);
-                                                    devices = sh.devices;
-                                                    marks = sh.marks;
-                                                  };
-                                            }),
-                                      ),
-                                    ))))))))),
-                              ),
-                            ),
-                      ),
-                    ))) s_b,
-              ),
-            ),
-      ))
+      goes f st all B Q t 0 (mov (## (b + o0)) r12) refl (omega arith) refl refl r d 13 (omega (arith, sh.pc)) safe
+      r00 d.mem (inside t 2 (omega arith)) (rw (stay, e12) refl, refl) (λ s_a.
+      goes f st all B Q t 2 (call (## A)) refl (omega arith) refl refl r00 d 12 refl s_a
+      (record r_ { pc = A }) (put_cell d.mem sp ret) (record { from = rt.from; to = omega (arith, rt.to) })
+      (sp, down, pr, ret, refl, omega arith, (rw (down, target) refl, refl)) (λ s_b.
+      subst (λ pc. Safe f all (running f (record r_ { pc = pc }) d0) → Runs f all B Q 12 (running f (record r_ { pc = pc }) d0)) (omega arith)
+      (λ s0.
+      move_step f st all B at Q A k rt c.back (ret ∷ c.stack) c.mem 0 18 o0 0 (omega arith) refl (omega arith) (omega arith) (omega arith) refl (omega arith)
+      (omega arith) (low_shown _ 18 2 (omega arith)) (subst (λ (o : ℕ). HoldsNoKey (length f.setup.ends) o 2) first_at (slot_shown _ k 0 2 (omega arith))) r_ d0 p field 11 refl (omega arith) refl h0 s0 (λ ma ha sa.
+      goes f st all B Q rt 3 (clr (2 ⟨ r12 ⟩)) refl (omega arith) refl refl (record r_ { pc = A + 6 }) (record d0 { mem = ma }) 10 refl sa
+      (record r_ { pc = A + 10 }) (put_cell ma (b + o1) 0) (inside rt 5 (omega arith))
+      (b + o1, i2, pn, 0, refl, omega arith, (rw stay refl, refl)) (λ sb.
+      let hb = holds_store f st at c.back (ret ∷ c.stack) q0 c.mem sp ma o1 0 sa.memory ha (omega arith) (record { low = omega arith; beside = inr (omega arith) })
+      (omega arith) in
+      goes f st all B Q rt 5 (mov (# 1) (4 ⟨ r12 ⟩)) refl (omega arith) refl refl (record r_ { pc = A + 10 }) (record d0 { mem = put_cell ma (b + o1) 0 }) 9 refl sb
+      (record r_ { pc = A + 14 }) (put_cell (put_cell ma (b + o1) 0) (b + o2) 1) (inside rt 7 (omega arith))
+      (b + o2, i4, po, 1, refl, omega arith, (rw stay refl, refl)) (λ sc.
+      let hc = holds_store f st at c.back (ret ∷ c.stack) q1 c.mem sp (put_cell ma (b + o1) 0) o2 1 sb.memory hb (omega arith)
+      (record { low = omega arith; beside = inr (omega arith) }) (omega arith) in
+      move 0 (omega arith) refl (put_cell (put_cell ma (b + o1) 0) (b + o2) 1) 8 hc sc (λ x0 h0 s0_.
+      move 1 (omega arith) refl x0 7 h0 s0_ (λ x1 h1 s1_.
+      move 2 (omega arith) refl x1 6 h1 s1_ (λ x2 h2 s2_.
+      move 3 (omega arith) refl x2 5 h2 s2_ (λ x3 h3 s3_.
+      move 4 (omega arith) refl x3 4 h3 s3_ (λ x4 h4 s4_.
+      move 5 (omega arith) refl x4 3 h4 s4_ (λ x5 h5 s5_.
+      move 6 (omega arith) refl x5 2 h5 s5_ (λ x6 h6 s6_.
+      move 7 (omega arith) refl x6 1 h6 s6_ (λ x7 h7 s7_.
+      goes f st all B Q rt 31 (pop pc) refl (omega arith) refl refl (record r_ { pc = A + 62 }) (record d0 { mem = x7 }) 0 refl s7_
+      (record r_ { pc = ret; sp = sp + 2 }) x7 (inside t 4 (omega arith)) (sp, refl, pr, ret, h7.words.0, (rw (up, stay, keven) refl, refl)) (λ sz_2.
+      Here (record {
+        regs = record r_ { pc = ret; sp = sp + 2 };
+        rest = record d0 { mem = x7 };
+        state = refl;
+        safe = sz_2;
+        shows =
+            record {
+              pc = omega (arith, on);
+              holds = subst (λ l. MemoryHolds f at c.back c.stack l c.mem (sp + 2) x7) done
+                  (holds_pop f st at c.back ret c.stack (K 8) c.mem sp x7 h7);
+              devices = sh.devices;
+              marks = sh.marks;
+            };
+      })))))))))))))) s_b))

@@ -86,8 +86,9 @@ module _ (f : Fixed) (st : Stands f) where
       let i2 = in_private_yes f.setup.section (a + 1) (omega (arith, p.low)) (omega (arith, p.high)) in
       get-put_other m a v b (λ e. true≢false (sym i1 ∙ ap (in_private f.setup.section) (sym e) ∙ o)) (λ e. true≢false (sym i2 ∙ ap (in_private f.setup.section) (sym e) ∙ o)) ∙ h b o
 
-  pub cell_below : (m : List ℕ) (a : ℕ) → OutsideKept f m → cell m a < 65536
-  cell_below m a k = word_lt m a k.bytes
+  -- what memory holds at an address is a word
+  pub word_below : {m : List ℕ} {v : ℕ} (a : ℕ) → cell m a ≡ v → OutsideKept f m → v < 65536
+  word_below {m = m} a is k = subst (λ (n : ℕ). n < 65536) is (word_lt m a k.bytes)
 
 module _ (f : Fixed) (st : Stands f) (at : ℕ → ℕ) (back : Option ℕ) where
   -- a write under the stack's words: SP itself, or a place that only templates use

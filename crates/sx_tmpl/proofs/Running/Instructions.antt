@@ -1,5 +1,5 @@
--- One step of a template: the instruction that stands there, and what is to follow it.
-use Rattle.std.proofs.Common.{◌≡◌, ℕ, zero, suc, ◌+◌, ◌*◌, ◌≤◌, true, false, List, [], ◌∷◌, length, Some}
+-- One step of a template: the instruction that stands there, what it owes, and what is to follow it.
+use Rattle.std.proofs.Common.{◌≡◌, ℕ, zero, suc, ◌+◌, ◌*◌, ◌<◌, ◌≤◌, true, false, List, [], ◌∷◌, length, Some}
 use Rattle.std.proofs.Common.{refl, sym, ◌∙◌, ap, subst, arith, take, drop, get_or}
 use Rattle.std.specs.Prelude.{slice_get}
 use Rattle.sx_isa.specs.declared.instruction.Instr.{Instr}
@@ -9,17 +9,18 @@ use Rattle.sx_isa.specs.Spelling.{spelling}
 use Rattle.sx_isa.proofs.Spelled.{spelling_short}
 use Rattle.sx_machine.specs.Step.{is_module_word}
 use Rattle.sx_isa.specs.Shaped.{is_shaped}
-use Rattle.sx_tmpl.proofs.Running.Steps.{Reads, Text, Then, NoTell, one, two, three}
+use Rattle.sx_tmpl.proofs.Running.Steps.{InText, Reads, Text, Then, NoTell, one, two, three}
 use Rattle.std.proofs.lemmas.Option.{none-some}
 use Rattle.sx_rules.specs.declared.access.Violation.{Violation}
 use Rattle.sx_machine.specs.declared.kinds.Event.{Event}
-use Rattle.sx_machine.specs.Plan.{Plan}
+use Rattle.sx_machine.specs.declared.kinds.Event.TheVariants as event
+use Rattle.sx_machine.specs.Plan.{Plan, Done, Tell, Stop, Fetch, Load, Store, Need, Writable, Bytes, Put}
 use Rattle.sx_machine.specs.Registers.{at_pc}
 use Rattle.sx_machine.specs.Rows.{row}
 use Rattle.sx_invoke.specs.Marks.{Mark}
 use Rattle.sx_image.specs.Watched.{Watched}
-use Rattle.sx_tmpl.specs.Running.{Data, Fixed, Regs, Safe, regs16, running_after}
-use Rattle.sx_tmpl.proofs.Running.MidRun.{Runs, Stands}
+use Rattle.sx_tmpl.specs.Running.{Data, Fixed, Regs, Safe, cell, regs16, running, running_after}
+use Rattle.sx_tmpl.proofs.Running.MidRun.{PrivateWord, Runs, Stands, put_cell}
 use Rattle.sx_tmpl.proofs.Running.Owes.{Owes}
 use Rattle.sx_isa.proofs.Bare.{begins, behind, counted, own, spelled}
 
@@ -40,6 +41,23 @@ get_drop (suc k) j (x ∷ xs) = let on : suc k + j ≡ suc (k + j) = omega arith
 -- the words at a place are these
 pub word_there : (ws xs : List ℕ) (n k j w : ℕ) → take n (drop k ws) ≡ xs → slice_get xs j ≡ Some w → slice_get ws (k + j) ≡ Some w
 word_there ws xs n k j w e h = get_drop k j ws ∙ from_take n j w (drop k ws) (ap (λ l. slice_get l j) e ∙ h)
+
+-- What is owed by a plan that comes to these registers and this memory: of each word that is read its place and what it is, of each that is written its
+-- place and what is written.
+module _ (f : Fixed) (r2 : Regs) (m2 : List ℕ) where
+  abbrev pub Gives : Plan → List ℕ → Type 0
+  Gives (Done regs) m = (regs ≡ regs16 f r2) × (m ≡ m2)
+  Gives (Load true at k) m = (a : ℕ) × (at ≡ a) × PrivateWord f a × (v : ℕ) × (cell m a ≡ v) × Gives (k v) m
+  Gives (Store true at v k) m = (a : ℕ) × (at ≡ a) × PrivateWord f a × (w : ℕ) × (v ≡ w) × (w < 65536) × Gives k (put_cell m a w)
+  Gives (Load false at k) m = ⊥
+  Gives (Store false at v k) m = ⊥
+  Gives (Tell regs event exchange) m = ⊥
+  Gives (Stop v) m = ⊥
+  Gives (Fetch at k) m = ⊥
+  Gives (Need b v k) m = ⊥
+  Gives (Writable at n k) m = ⊥
+  Gives (Bytes at n k) m = ⊥
+  Gives (Put at bs k) m = ⊥
 
 module _ (f : Fixed) (st : Stands f) (all : List Mark) (B : Watched → Violation → Type 0) (Q : Watched → Type 0) where
   abbrev Then_owes : Event → Regs → Data → ℕ → Plan → Type 0
@@ -84,3 +102,43 @@ module _ (f : Fixed) (st : Stands f) (all : List Mark) (B : Watched → Violatio
       by (u ∷ v ∷ x ∷ us) b =
           let l : length (spelling i) ≡ length (first_word i ∷ u ∷ v ∷ x ∷ us) = ap (λ l. length l) (spelled i) ∙ ap (λ (l : List ℕ). length (first_word i ∷ l)) b in
           absurd (omega (arith, l, spelling_short i))
+
+  -- a plan that comes to them meets what a step owes
+  pub given : (X : Violation → Type 0) (d : Data) (j : ℕ) (r2 : Regs) (m2 : List ℕ) → InText f r2.pc
+      → (Safe f all (running f r2 (record d { mem = m2 })) → Runs f all B Q j (running f r2 (record d { mem = m2 })))
+      → (p : Plan) (m : List ℕ) → Gives f r2 m2 p m → Owes f (Then f st all B Q j d) (NoTell f st all B Q) X p m
+  given X d j r2 m2 to after (Done regs) m h = λ kept. (
+    r2,
+    h.0,
+    to,
+    subst (λ (m : List ℕ). Safe f all (running f r2 (record d { mem = m })) → Runs f all B Q j (running f r2 (record d { mem = m }))) (sym h.1) after,
+  )
+  given X d j r2 m2 to after (Load true at k) m h = (h.0, h.1, h.2, h.3, h.4, given X d j r2 m2 to after (k h.3) m h.5)
+  given X d j r2 m2 to after (Store true at v k) m h = (h.0, h.1, h.2, h.3, h.4, h.5, given X d j r2 m2 to after k (put_cell m h.0 h.3) h.6)
+  given X d j r2 m2 to after (Load false at k) m h = absurd h
+  given X d j r2 m2 to after (Store false at v k) m h = absurd h
+  given X d j r2 m2 to after (Tell regs event exchange) m h = absurd h
+  given X d j r2 m2 to after (Stop v) m h = absurd h
+  given X d j r2 m2 to after (Fetch at k) m h = absurd h
+  given X d j r2 m2 to after (Need b v k) m h = absurd h
+  given X d j r2 m2 to after (Writable at n k) m h = absurd h
+  given X d j r2 m2 to after (Bytes at n k) m h = absurd h
+  given X d j r2 m2 to after (Put at bs k) m h = absurd h
+
+  -- an instruction that nothing refuses, after this event: the registers and the memory that it leaves, what it owes, and what is to follow
+  pub goes_after : (e : Event) {P n : ℕ} {ws : List ℕ} (t : Text f P n ws) (k : ℕ) (i : Instr) → take (length (spelling i)) (drop k ws) ≡ spelling i → k + length (spelling i) ≤ n
+      → is_shaped i ≡ true → is_module_word (first_word i) ≡ false
+      → (r : Regs) (d : Data) (j : ℕ) → r.pc ≡ P + 2 * k → Safe f all (running_after e f r d) → (r2 : Regs) (m2 : List ℕ) → InText f r2.pc
+      → Gives f r2 m2 (row i (at_pc (regs16 f r) (P + 2 * (k + 1))) (P + 2 * (k + length (spelling i)))) d.mem
+      → (Safe f all (running f r2 (record d { mem = m2 })) → Runs f all B Q j (running f r2 (record d { mem = m2 }))) → Runs f all B Q (suc j) (running_after e f r d)
+  goes_after e {P = P} t k i stands fits shaped plain r d j pc safe r2 m2 to gives after =
+      step t k i stands fits shaped plain e r d j pc safe
+      (given (B (running_after e f r d)) d j r2 m2 to after (row i (at_pc (regs16 f r) (P + 2 * (k + 1))) (P + 2 * (k + length (spelling i)))) d.mem gives)
+
+  -- the same after a step that told nothing
+  pub goes : {P n : ℕ} {ws : List ℕ} (t : Text f P n ws) (k : ℕ) (i : Instr) → take (length (spelling i)) (drop k ws) ≡ spelling i → k + length (spelling i) ≤ n
+      → is_shaped i ≡ true → is_module_word (first_word i) ≡ false
+      → (r : Regs) (d : Data) (j : ℕ) → r.pc ≡ P + 2 * k → Safe f all (running f r d) → (r2 : Regs) (m2 : List ℕ) → InText f r2.pc
+      → Gives f r2 m2 (row i (at_pc (regs16 f r) (P + 2 * (k + 1))) (P + 2 * (k + length (spelling i)))) d.mem
+      → (Safe f all (running f r2 (record d { mem = m2 })) → Runs f all B Q j (running f r2 (record d { mem = m2 }))) → Runs f all B Q (suc j) (running f r d)
+  goes t k i stands fits shaped plain r d j pc safe r2 m2 to gives after = goes_after event.Quiet t k i stands fits shaped plain r d j pc safe r2 m2 to gives after

@@ -46,6 +46,13 @@ pub record InText (f : Fixed) (a : ℕ) : Type 0 where
   pub from : f.setup.section.layout.pub_from ≤ a
   pub to : a < f.setup.section.layout.pub_to
 
+-- PC is in the text, at this word
+pub record Reached (f : Fixed) (r : Regs) (m : List ℕ) (w : ℕ) : Type 0 where
+  pub here : f.setup.section.layout.pub_from ≤ r.pc
+  pub ends : r.pc + 1 < f.setup.section.layout.pub_to
+  pub is_even : r.pc % 2 ≡ 0
+  pub is : cell m r.pc ≡ w
+
 module _ (f : Fixed) (st : Stands f) (all : List Mark) (B : Watched → Violation → Type 0) (Q : Watched → Type 0) where
   abbrev pub R : ℕ → Watched → Type 0
   R n c = Runs f all B Q n c
@@ -64,6 +71,13 @@ module _ (f : Fixed) (st : Stands f) (all : List Mark) (B : Watched → Violatio
       let lo = text_kept f st m a k (in_public_yes f.setup.section a p (omega arith)) in
       let hi = text_kept f st m (a + 1) k (in_public_yes f.setup.section (a + 1) (omega arith) q) in
       omega arith
+
+  -- so it is where a word of these stands
+  pub reached : {P n : ℕ} {ws : List ℕ} (t : Text f P n ws) (k w : ℕ) → slice_get ws k ≡ Some w → k + 1 ≤ n → (r : Regs) (m : List ℕ) → r.pc ≡ P + 2 * k → OutsideKept f m → Reached f r m w
+  reached t k w has fits r m pc kept =
+      let here : f.setup.section.layout.pub_from ≤ r.pc = omega (arith, t.from) in
+      let ends : r.pc + 1 < f.setup.section.layout.pub_to = omega (arith, t.to) in
+      record { here = here; ends = ends; is_even = omega (arith, t.is_even); is = text_word m r.pc w kept here ends (ap (cell f.entered) pc ∙ t.word k w has) }
 
   -- the tests of PC are passed
   pub tests_passed : (e : Event) (r : Regs) (d : Data) → Safe f all (running_after e f r d) → f.setup.section.layout.pub_from ≤ r.pc → r.pc + 1 < f.setup.section.layout.pub_to → r.pc % 2 ≡ 0
@@ -216,48 +230,48 @@ module _ (f : Fixed) (st : Stands f) (all : List Mark) (B : Watched → Violatio
       → Owes f (Then j d) NoTell (B (running_after e f r d)) (row (i 0 0) (at_pc (regs16 f r) (P + 2 * (k + 1))) (P + 2 * (k + 1))) d.mem
       → R (suc j) (running_after e f r d)
   one {P = P} {n = n} t k w i has fits reads e r d j pc safe owed =
+      let h = reached t k w has fits r d.mem pc safe.memory in
+      let next : onward r.pc 2 ≡ P + 2 * (k + 1) = onward_to r.pc (P + 2 * (k + 1)) 2 (omega arith) (omega (arith, t.to, st.below)) in
+      let x = start (running_after e f r d).node in
+      let at = tests_passed e r d safe h.here h.ends h.is_even ∙ plain_instruction e r d w h.here h.ends h.is_even h.is reads.plain ∙ program_one w i (regs16 f r) x reads
+      ∙ ap (λ b. exec_own (row (i 0 0) (at_pc (regs16 f r) b) b) x) next in
+      let p : ℕ → Plan = λ b. row (i 0 0) (at_pc (regs16 f r) b) b in
+      let shown = step_shown (running_after e f r d) w h.is_even h.is reads.plain (shown_one w i (regs16 f r) x reads (subst (λ b. PlanShowsNone f.setup (p b) x) (sym next)
+      (owes_shown f st (Then j d) NoTell (B (running_after e f r d)) (p (P + 2 * (k + 1))) x safe.devices safe.memory owed))) in
+      from_met j e r d _ safe shown (record { from = h.here; to = omega (arith, h.ends) }) at (owes_met f st (Then j d) NoTell (B (running_after e f r d)) _ x safe.devices safe.memory owed)
+
+  -- what an instruction with an extension word does, and that it shows no key if its plan shows none
+  pub two_does : {P n : ℕ} {ws : List ℕ} (t : Text f P n ws) (k w u : ℕ) (i : ℕ → ℕ → Instr) → slice_get ws k ≡ Some w → slice_get ws (k + 1) ≡ Some u → k + 2 ≤ n → Reads w 2 i
+      → (e : Event) (r : Regs) (d : Data) → r.pc ≡ P + 2 * k → Safe f all (running_after e f r d)
+      → (let x = start (running_after e f r d).node in let p = row (i u 0) (at_pc (regs16 f r) (P + 2 * (k + 1))) (P + 2 * (k + 2)) in
+      (attempt f.setup.mac (running_after e f r d).node ≡ exec_own p x) × (PlanShowsNone f.setup p x → StepShowsNone f.setup f.entered (running_after e f r d)))
+  two_does {P = P} {n = n} t k w u i has has1 fits reads e r d pc safe =
       let low = t.from in
       let high = t.to in
       let even = t.is_even in
-      let here : f.setup.section.layout.pub_from ≤ r.pc = omega arith in
-      let ends : r.pc + 1 < f.setup.section.layout.pub_to = omega arith in
-      let ev : r.pc % 2 ≡ 0 = omega arith in
-      let next : onward r.pc 2 ≡ P + 2 * (k + 1) = onward_to r.pc (P + 2 * (k + 1)) 2 (omega arith) (omega (arith, st.below)) in
+      let lim = st.below in
+      let h = reached t k w has (omega arith) r d.mem pc safe.memory in
+      let next : onward r.pc 2 ≡ P + 2 * (k + 1) = onward_to r.pc (P + 2 * (k + 1)) 2 (omega arith) (omega arith) in
+      let next2 : onward r.pc 4 ≡ P + 2 * (k + 2) = onward_to r.pc (P + 2 * (k + 2)) 4 (omega arith) (omega arith) in
       let x = start (running_after e f r d).node in
-      let is : cell d.mem r.pc ≡ w = text_word d.mem r.pc w safe.memory here ends (ap (cell f.entered) pc ∙ t.word k w has) in
-      let at = tests_passed e r d safe here ends ev ∙ plain_instruction e r d w here ends ev is reads.plain ∙ program_one w i (regs16 f r) x reads
-      ∙ ap (λ b. exec_own (row (i 0 0) (at_pc (regs16 f r) b) b) x) next in
-      let p : ℕ → Plan = λ b. row (i 0 0) (at_pc (regs16 f r) b) b in
-      let shown = step_shown (running_after e f r d) w ev is reads.plain (shown_one w i (regs16 f r) x reads (subst (λ b. PlanShowsNone f.setup (p b) x) (sym next)
-      (owes_shown f st (Then j d) NoTell (B (running_after e f r d)) (p (P + 2 * (k + 1))) x safe.devices safe.memory owed))) in
-      from_met j e r d _ safe shown (record { from = here; to = omega arith }) at (owes_met f st (Then j d) NoTell (B (running_after e f r d)) _ x safe.devices safe.memory owed)
+      let is1 : cell d.mem (P + 2 * (k + 1)) ≡ u = text_word d.mem (P + 2 * (k + 1)) u safe.memory (omega arith) (omega arith) (t.word (k + 1) u has1) in
+      let got = fetched (onward r.pc 2) (P + 2 * (k + 1)) u x next (omega arith) (omega arith) (omega arith) safe.devices is1 in
+      let p : ℕ → ℕ → Plan = λ b c. row (i u 0) (at_pc (regs16 f r) b) c in (
+        tests_passed e r d safe h.here h.ends h.is_even ∙ plain_instruction e r d w h.here h.ends h.is_even h.is reads.plain ∙ program_two w u i (regs16 f r) x reads got
+            ∙ ap (λ b. exec_own (p b (onward r.pc 4)) x) next ∙ ap (λ b. exec_own (p (P + 2 * (k + 1)) b) x) next2,
+        λ none. step_shown (running_after e f r d) w h.is_even h.is reads.plain (shown_two w u i (regs16 f r) x reads got
+            (subst (λ b. PlanShowsNone f.setup (p b (onward r.pc 4)) x) (sym next) (subst (λ c. PlanShowsNone f.setup (p (P + 2 * (k + 1)) c) x) (sym next2) none))),
+      )
 
-  -- the same with an extension word
+  -- and what is to follow it
   pub two_met : {P n : ℕ} {ws : List ℕ} (t : Text f P n ws) (k w u : ℕ) (i : ℕ → ℕ → Instr) → slice_get ws k ≡ Some w → slice_get ws (k + 1) ≡ Some u → k + 2 ≤ n → Reads w 2 i
       → (e : Event) (r : Regs) (d : Data) (j : ℕ) → r.pc ≡ P + 2 * k → Safe f all (running_after e f r d)
       → Meets j e r d (exec_own (row (i u 0) (at_pc (regs16 f r) (P + 2 * (k + 1))) (P + 2 * (k + 2))) (start (running_after e f r d).node))
       → PlanShowsNone f.setup (row (i u 0) (at_pc (regs16 f r) (P + 2 * (k + 1))) (P + 2 * (k + 2))) (start (running_after e f r d).node)
       → R (suc j) (running_after e f r d)
-  two_met {P = P} {n = n} t k w u i has has1 fits reads e r d j pc safe met none =
-      let low = t.from in
-      let high = t.to in
-      let even = t.is_even in
-      let lim = st.below in
-      let here : f.setup.section.layout.pub_from ≤ r.pc = omega arith in
-      let ends : r.pc + 1 < f.setup.section.layout.pub_to = omega arith in
-      let ev : r.pc % 2 ≡ 0 = omega arith in
-      let next : onward r.pc 2 ≡ P + 2 * (k + 1) = onward_to r.pc (P + 2 * (k + 1)) 2 (omega arith) (omega arith) in
-      let next2 : onward r.pc 4 ≡ P + 2 * (k + 2) = onward_to r.pc (P + 2 * (k + 2)) 4 (omega arith) (omega arith) in
-      let x = start (running_after e f r d).node in
-      let is : cell d.mem r.pc ≡ w = text_word d.mem r.pc w safe.memory here ends (ap (cell f.entered) pc ∙ t.word k w has) in
-      let is1 : cell d.mem (P + 2 * (k + 1)) ≡ u = text_word d.mem (P + 2 * (k + 1)) u safe.memory (omega arith) (omega arith) (t.word (k + 1) u has1) in
-      let got = fetched (onward r.pc 2) (P + 2 * (k + 1)) u x next (omega arith) (omega arith) (omega arith) safe.devices is1 in
-      let at = tests_passed e r d safe here ends ev ∙ plain_instruction e r d w here ends ev is reads.plain ∙ program_two w u i (regs16 f r) x reads got
-      ∙ ap (λ b. exec_own (row (i u 0) (at_pc (regs16 f r) b) (onward r.pc 4)) x) next ∙ ap (λ b. exec_own (row (i u 0) (at_pc (regs16 f r) (P + 2 * (k + 1))) b) x) next2 in
-      let p : ℕ → ℕ → Plan = λ b c. row (i u 0) (at_pc (regs16 f r) b) c in
-      let shown = step_shown (running_after e f r d) w ev is reads.plain (shown_two w u i (regs16 f r) x reads got (subst (λ b. PlanShowsNone f.setup (p b (onward r.pc 4)) x) (sym next)
-      (subst (λ c. PlanShowsNone f.setup (p (P + 2 * (k + 1)) c) x) (sym next2) none))) in
-      from_met j e r d _ safe shown (record { from = here; to = omega arith }) at met
+  two_met t k w u i has has1 fits reads e r d j pc safe met none =
+      let does = two_does t k w u i has has1 fits reads e r d pc safe in
+      from_met j e r d _ safe (does.1 none) (record { from = omega (arith, t.from, pc); to = omega (arith, t.to, pc, fits) }) does.0 met
 
   -- by what it owes
   pub two : {P n : ℕ} {ws : List ℕ} (t : Text f P n ws) (k w u : ℕ) (i : ℕ → ℕ → Instr) → slice_get ws k ≡ Some w → slice_get ws (k + 1) ≡ Some u → k + 2 ≤ n → Reads w 2 i
@@ -282,24 +296,21 @@ module _ (f : Fixed) (st : Stands f) (all : List Mark) (B : Watched → Violatio
       let high = t.to in
       let even = t.is_even in
       let lim = st.below in
-      let here : f.setup.section.layout.pub_from ≤ r.pc = omega arith in
-      let ends : r.pc + 1 < f.setup.section.layout.pub_to = omega arith in
-      let ev : r.pc % 2 ≡ 0 = omega arith in
+      let h = reached t k w has (omega arith) r d.mem pc safe.memory in
       let next : onward r.pc 2 ≡ P + 2 * (k + 1) = onward_to r.pc (P + 2 * (k + 1)) 2 (omega arith) (omega arith) in
       let next2 : onward r.pc 4 ≡ P + 2 * (k + 2) = onward_to r.pc (P + 2 * (k + 2)) 4 (omega arith) (omega arith) in
       let next3 : onward r.pc 6 ≡ P + 2 * (k + 3) = onward_to r.pc (P + 2 * (k + 3)) 6 (omega arith) (omega arith) in
       let x = start (running_after e f r d).node in
-      let is : cell d.mem r.pc ≡ w = text_word d.mem r.pc w safe.memory here ends (ap (cell f.entered) pc ∙ t.word k w has) in
       let is1 : cell d.mem (P + 2 * (k + 1)) ≡ u = text_word d.mem (P + 2 * (k + 1)) u safe.memory (omega arith) (omega arith) (t.word (k + 1) u has1) in
       let is2 : cell d.mem (P + 2 * (k + 2)) ≡ v = text_word d.mem (P + 2 * (k + 2)) v safe.memory (omega arith) (omega arith) (t.word (k + 2) v has2) in
       let got = fetched (onward r.pc 2) (P + 2 * (k + 1)) u x next (omega arith) (omega arith) (omega arith) safe.devices is1 in
       let got2 = fetched (onward r.pc 4) (P + 2 * (k + 2)) v x next2 (omega arith) (omega arith) (omega arith) safe.devices is2 in
-      let at = tests_passed e r d safe here ends ev ∙ plain_instruction e r d w here ends ev is reads.plain ∙ program_three w u v i (regs16 f r) x reads got got2
+      let at = tests_passed e r d safe h.here h.ends h.is_even ∙ plain_instruction e r d w h.here h.ends h.is_even h.is reads.plain ∙ program_three w u v i (regs16 f r) x reads got got2
       ∙ ap (λ b. exec_own (row (i u v) (at_pc (regs16 f r) b) (onward r.pc 6)) x) next ∙ ap (λ b. exec_own (row (i u v) (at_pc (regs16 f r) (P + 2 * (k + 1))) b) x) next3 in
       let p : ℕ → ℕ → Plan = λ b c. row (i u v) (at_pc (regs16 f r) b) c in
-      let shown = step_shown (running_after e f r d) w ev is reads.plain (shown_three w u v i (regs16 f r) x reads got got2 (subst (λ b. PlanShowsNone f.setup (p b (onward r.pc 6)) x) (sym next)
+      let shown = step_shown (running_after e f r d) w h.is_even h.is reads.plain (shown_three w u v i (regs16 f r) x reads got got2 (subst (λ b. PlanShowsNone f.setup (p b (onward r.pc 6)) x) (sym next)
       (subst (λ c. PlanShowsNone f.setup (p (P + 2 * (k + 1)) c) x) (sym next3) none))) in
-      from_met j e r d _ safe shown (record { from = here; to = omega arith }) at met
+      from_met j e r d _ safe shown (record { from = h.here; to = omega (arith, h.ends) }) at met
 
   -- by what it owes
   pub three : {P n : ℕ} {ws : List ℕ} (t : Text f P n ws) (k w u v : ℕ) (i : ℕ → ℕ → Instr) → slice_get ws k ≡ Some w → slice_get ws (k + 1) ≡ Some u → slice_get ws (k + 2) ≡ Some v → k + 3 ≤ n
