@@ -53,9 +53,9 @@ fn tell_touches(touch: [Touch; 2], seen: &mut Seen) -> bool
 
 impl<B: Bus, T: Tag> Node<B, T> {
     /// One step, as `step` takes it. Whether it shows something, as few steps do; that is then left
-    /// in `seen`.
+    /// in `seen`. Each caller has a number above 2, and so code of its own (`step_quick`).
     #[inline(always)]
-    pub fn step_told(&mut self, seen: &mut Seen) -> bool
+    pub fn step_told<const CALLER: u8>(&mut self, seen: &mut Seen) -> bool
         requires { self.old.boot < 4294967295 }
         ensures state { self.new ≡ (step T.mac self.old).state }
         ensures shown { told result seen.new ≡ (step T.mac self.old).shown }
@@ -69,7 +69,7 @@ impl<B: Bus, T: Tag> Node<B, T> {
         }
         match self.executor.windows().at(pc) {
             Some(_device) => self.end_reset(Violation::Device, seen),
-            None => self.instruction_idle(seen),
+            None => self.instruction_idle::<CALLER>(seen),
         }
     }
 
@@ -112,7 +112,7 @@ impl<B: Bus, T: Tag> Node<B, T> {
     /// The instruction at PC, where the fast path is taken.
     #[inline(always)]
     #[tactic(auto, using(sx_executor::proofs::Rights::outside_word, sx_executor::proofs::Clear::none_found))]
-    fn instruction_idle(&mut self, seen: &mut Seen) -> bool
+    fn instruction_idle<const CALLER: u8>(&mut self, seen: &mut Seen) -> bool
         requires boot { self.old.boot < 4294967295 }
         requires own { own_of self.old ≡ 0 }
         requires cur { self.old.cur ≡ 0 }
@@ -124,7 +124,7 @@ impl<B: Bus, T: Tag> Node<B, T> {
         let pc = self.executor.register(PC);
         let first = self.executor.read(true, pc);
         if self.executor.has_shortcut(pc, first) {
-            self.plain_idle(first, seen)
+            self.plain_idle::<CALLER>(first, seen)
         } else {
             self.instruction_near(0, first, seen)
         }
@@ -132,7 +132,7 @@ impl<B: Bus, T: Tag> Node<B, T> {
 
     /// A plain instruction with a shortcut.
     #[inline(always)]
-    fn plain_idle(&mut self, first: u16, seen: &mut Seen) -> bool
+    fn plain_idle<const CALLER: u8>(&mut self, first: u16, seen: &mut Seen) -> bool
         requires boot { self.old.boot < 4294967295 }
         requires own { own_of self.old ≡ 0 }
         requires cur { self.old.cur ≡ 0 }
@@ -141,7 +141,7 @@ impl<B: Bus, T: Tag> Node<B, T> {
             (exec self.old.sections 0 (program first self.old.regs) (start self.old))
             result seen.new self.new }
     {
-        match step_quick::<B, 1>(&mut self.executor, first) {
+        match step_quick::<B, CALLER>(&mut self.executor, first) {
             Stepped::Quiet => {
                 self.stays_idle();
                 false
