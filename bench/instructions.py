@@ -6,7 +6,7 @@ few lines of difference. valgrind counts: callgrind the instructions, and memche
 
     bench/instructions.py            counts, and compares with the figures in bench/instructions.json
     bench/instructions.py --store    counts, and writes these figures
-    bench/instructions.py --long     the same for long inputs, instructions alone; takes some ten minutes
+    bench/instructions.py --long [--store]    the same for long inputs, instructions alone; takes some ten minutes
     bench/instructions.py --print CASE    writes the input of a case alone
 
 The cases: `check` and `images` of the largest deployment, `steps` of code outside modules, `events` that are carried from
@@ -168,17 +168,17 @@ def main():
         if words[1] in cases:
             sys.stdout.write(joined(cases[words[1]][1]).decode())
             return
-    if words not in ([], ["--store"], ["--long"]):
+    if words not in ([], ["--store"], ["--long"], ["--long", "--store"]):
         sys.exit(__doc__)
     stored = {}
     if os.path.exists(FIGURES):
         with open(FIGURES, encoding="utf-8") as file:
             stored = json.load(file)
-    if words == ["--long"]:
+    if "--long" in words:
         found = {case: {"instructions": instructions(*given)} for case, given in long_inputs().items()}
     else:
         found = {case: counts(*given) for case, given in inputs().items()}
-    if words == ["--store"]:
+    if "--store" in words:
         stored |= found
         with open(FIGURES, "w", encoding="utf-8") as file:
             json.dump(stored, file, indent=2)
