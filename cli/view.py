@@ -120,6 +120,8 @@ def run_texts(context: Context, given: Given, files: List[str]) -> Texts:
         if drawn.last.startswith("fault deployment") or drawn.last == "fault read":
             raise Ended(BAD_TEXT, drawn.last, *lines, "there is nothing to draw")
         context.voice.say(drawn.last, *lines, "what came before is drawn")
+    elif drawn.status:
+        context.voice.say(f"the program ended with status {drawn.status}; what it wrote is drawn")
     return drawn.texts
 
 
