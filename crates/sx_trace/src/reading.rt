@@ -1,19 +1,21 @@
-//! From a line to its item: the only item that can have the line is found, and is the answer where
-//! it has that line.
+//! From a line to its item. Each part of a line is taken only as an item's line has it, so what is
+//! read needs no second look.
 
-ghost use Rattle.std.specs.Prelude.{◌≡◌, ◌<◌, ◌≤◌, length, position, IsTrue, IfSome};
-ghost use Rattle.std.specs.Prelude.{MatchOption};
+ghost use Rattle.std.specs.Prelude.{◌≡◌, ◌<◌, ◌≤◌, ◌^◌, length, position, IsTrue, IfSome};
+ghost use Rattle.std.specs.Prelude.{MatchOption, None, Some};
 ghost use Rattle.sx_trace.specs.ValidNames.{are_valid};
+ghost use Rattle.sx_trace.specs.Names.{NameLists};
 ghost use Rattle.sx_trace.specs.Items.{item_text};
 ghost use Rattle.sx_trace.specs.KnownItems.{IsItem, IsSizedItem, IsNoItem, IsIndexOrNone};
-ghost use Rattle.sx_trace.specs.Finding.{is_space, cut, with_digit, number_of, up_to};
-ghost use Rattle.sx_trace.specs.Finding.{index_or_none, cause_of, side_of, open_in, take_in};
-ghost use Rattle.sx_trace.specs.Finding.{done_in, packet_in, numbered_in, module_in, device_in};
-ghost use Rattle.sx_trace.specs.Finding.{node_in, is_of_node, is_of_device, kind_in, item_in};
+ghost use Rattle.sx_trace.specs.Finding.{is_space, cut, has_first, with_digit, number_below};
+ghost use Rattle.sx_trace.specs.Finding.{index_or_none, cause_of, side_of, later_open, side_in};
+ghost use Rattle.sx_trace.specs.Finding.{open_in, take_in, done_in, packet_in, numbered_in};
+ghost use Rattle.sx_trace.specs.Finding.{module_in, device_in, node_in, refused_in, has_one_name};
+ghost use Rattle.sx_trace.specs.Finding.{named_in, is_of_node, is_of_device, first_in, kind_in};
+ghost use Rattle.sx_trace.specs.Finding.{item_in};
 
 use crate::items::{Cause, Item};
 use crate::names::{DEPLOYER, Names};
-use crate::writing::write_item;
 use sx_lang::sides::Side;
 
 /// The offset of the first space.
@@ -24,21 +26,77 @@ fn first_space(text: &[u8]) -> Option<usize>
     text.iter().position(|byte| *byte == b' ')
 }
 
-/// What stands before the first space, and what follows it.
+/// What stands before the first space, and what follows it; None exactly without a space.
 #[tactic(auto, using(std::proofs::lemmas::List::take_rest), unfolding(crate::specs::Finding::cut))]
-fn cut(text: &[u8]) -> (&[u8], &[u8])
-    ensures before { result.0.now ≡ (cut text.now).0 }
-    ensures behind { result.1.now ≡ (cut text.now).1 }
+fn cut(text: &[u8]) -> Option<(&[u8], &[u8])>
+    ensures { MatchOption result (cut text.now ≡ None)
+        (λ parts. cut text.now ≡ Some (parts.0.now, parts.1.now)) }
 {
-    match first_space(text) {
-        Some(end) => (&text[..end], &text[end + 1..]),
-        None => (text, b""),
+    let end = first_space(text)?;
+    Some((&text[..end], &text[end + 1..]))
+}
+
+/// Whether some byte is first, and a 0 only if it stands alone.
+fn has_first(text: &[u8]) -> bool
+    ensures { result ≡ has_first text.now }
+{
+    match text.split_first() {
+        Some((first, rest)) => *first != b'0' || rest.is_empty(),
+        None => false,
     }
 }
 
-/// The number with one more digit; None where the byte is no digit, or 128 bits are too few.
-fn with_digit(number: u128, byte: u8) -> Option<u128>
-    ensures { result ≡ with_digit number byte }
+/// The number with one more digit, below a limit.
+fn with_digit(limit: u64, number: u64, byte: u8) -> Option<u64>
+    requires few { limit ≤ 4294967296 }
+    requires below { number < limit }
+    ensures more { result ≡ with_digit limit number byte }
+    ensures below { IfSome result (λ n. n < limit) }
+{
+    if !byte.is_ascii_digit() {
+        return None;
+    }
+    let more = number * 10 + u64::from(byte - b'0');
+    if more < limit { Some(more) } else { None }
+}
+
+/// The number below a limit that a text writes without leading zeros.
+#[tactic(auto, unfolding(crate::specs::Finding::number_below))]
+fn number_below(limit: u64, text: &[u8]) -> Option<u64>
+    requires some { 0 < limit }
+    requires few { limit ≤ 4294967296 }
+    ensures number { result ≡ number_below limit text.now }
+    ensures below { IfSome result (λ n. n < limit) }
+{
+    if !has_first(text) {
+        return None;
+    }
+    let mut number = 0;
+    for byte in text {
+        number = with_digit(limit, number, *byte)?;
+    }
+    Some(number)
+}
+
+/// A number of 16 bits.
+fn number16(text: &[u8]) -> Option<u16>
+    ensures { result ≡ number_below (2 ^ 16) text.now }
+{
+    let number = number_below(65_536, text)?;
+    Some(number as u16)
+}
+
+/// A number of 32 bits.
+fn number32(text: &[u8]) -> Option<u32>
+    ensures { result ≡ number_below (2 ^ 32) text.now }
+{
+    let number = number_below(4_294_967_296, text)?;
+    Some(number as u32)
+}
+
+/// The number of 128 bits with one more digit.
+fn with_digit128(number: u128, byte: u8) -> Option<u128>
+    ensures { result ≡ with_digit (2 ^ 128) number byte }
 {
     if !byte.is_ascii_digit() {
         return None;
@@ -46,41 +104,19 @@ fn with_digit(number: u128, byte: u8) -> Option<u128>
     number.checked_mul(10)?.checked_add(u128::from(byte - b'0'))
 }
 
-/// The number that digits write; none write 0.
-#[tactic(auto, unfolding(crate::specs::Finding::number_of))]
-fn number_of(text: &[u8]) -> Option<u128>
-    ensures { result ≡ number_of text.now }
+/// A number of 128 bits.
+#[tactic(auto, unfolding(crate::specs::Finding::number_below))]
+fn number128(text: &[u8]) -> Option<u128>
+    ensures { result ≡ number_below (2 ^ 128) text.now }
 {
+    if !has_first(text) {
+        return None;
+    }
     let mut number = 0;
     for byte in text {
-        number = with_digit(number, *byte)?;
+        number = with_digit128(number, *byte)?;
     }
     Some(number)
-}
-
-/// The number that digits write, up to a limit.
-fn up_to(most: u128, text: &[u8]) -> Option<u128>
-    ensures value { result ≡ up_to most text.now }
-    ensures within { IfSome result (λ n. n ≤ most) }
-{
-    let number = number_of(text)?;
-    if number <= most { Some(number) } else { None }
-}
-
-/// A number of 16 bits.
-fn number16(text: &[u8]) -> Option<u16>
-    ensures { result ≡ up_to 65535 text.now }
-{
-    let number = up_to(65535, text)?;
-    Some(number as u16)
-}
-
-/// A number of 32 bits.
-fn number32(text: &[u8]) -> Option<u32>
-    ensures { result ≡ up_to 4294967295 text.now }
-{
-    let number = up_to(4294967295, text)?;
-    Some(number as u32)
 }
 
 /// The index of a module, or None for the other word.
@@ -132,17 +168,18 @@ fn side_of(word: &[u8]) -> Option<Side>
     }
 }
 
-fn open_in(names: &Names, module: u8, fields: &[u8]) -> Option<Item>
-    requires valid { IsTrue (are_valid names.now) }
+/// The item `open` with this side and this epoch, which isn't 0.
+fn later_open(names: &Names, module: u8, link: u8, side: &[u8], epoch: &[u8]) -> Option<Item>
     requires named { «module» < length names.now.modules }
-    ensures item { result ≡ open_in names.now «module» fields.now }
+    requires linked { link < length names.now.links }
+    ensures item { result ≡ later_open «module» link side.now epoch.now }
     ensures fit { IfSome result (λ item. IsItem names.now item) }
 {
-    let (link, fields) = cut(fields);
-    let (side, epoch) = cut(fields);
-    let link = names.link(link)?;
     let side = side_of(side)?;
-    let epoch = up_to(255, epoch)?;
+    let epoch = number_below(256, epoch)?;
+    if epoch == 0 {
+        return None;
+    }
     Some(Item::Open {
         module,
         link,
@@ -151,14 +188,44 @@ fn open_in(names: &Names, module: u8, fields: &[u8]) -> Option<Item>
     })
 }
 
+/// The item `open` of what follows its connection: without an epoch it is 0.
+fn side_in(names: &Names, module: u8, link: u8, fields: &[u8]) -> Option<Item>
+    requires named { «module» < length names.now.modules }
+    requires linked { link < length names.now.links }
+    ensures item { result ≡ side_in «module» link fields.now }
+    ensures fit { IfSome result (λ item. IsItem names.now item) }
+{
+    if let Some(side) = side_of(fields) {
+        return Some(Item::Open {
+            module,
+            link,
+            side,
+            epoch: 0,
+        });
+    }
+    let (side, epoch) = cut(fields)?;
+    later_open(names, module, link, side, epoch)
+}
+
+fn open_in(names: &Names, module: u8, fields: &[u8]) -> Option<Item>
+    requires valid { IsTrue (are_valid names.now) }
+    requires named { «module» < length names.now.modules }
+    ensures item { result ≡ open_in names.now «module» fields.now }
+    ensures fit { IfSome result (λ item. IsItem names.now item) }
+{
+    let (link, fields) = cut(fields)?;
+    let link = names.link(link)?;
+    side_in(names, module, link, fields)
+}
+
 fn take_in(names: &Names, module: u8, fields: &[u8]) -> Option<Item>
     requires valid { IsTrue (are_valid names.now) }
     requires named { «module» < length names.now.modules }
     ensures item { result ≡ take_in names.now «module» fields.now }
     ensures fit { IfSome result (λ item. IsItem names.now item) }
 {
-    let (link, fields) = cut(fields);
-    let (number, value) = cut(fields);
+    let (link, fields) = cut(fields)?;
+    let (number, value) = cut(fields)?;
     let link = names.link(link)?;
     let number = number32(number)?;
     let value = number16(value)?;
@@ -175,7 +242,7 @@ fn done_in(names: &Names, module: u8, fields: &[u8]) -> Option<Item>
     ensures item { result ≡ done_in «module» fields.now }
     ensures fit { IfSome result (λ item. IsItem names.now item) }
 {
-    let (status, pieces) = cut(fields);
+    let (status, pieces) = cut(fields)?;
     let status = number16(status)?;
     let pieces = number16(pieces)?;
     Some(Item::Done {
@@ -189,7 +256,7 @@ fn packet_in(fields: &[u8]) -> Option<Item>
     ensures item { result ≡ packet_in fields.now }
     ensures fit { IfSome result IsSizedItem }
 {
-    let (number, len) = cut(fields);
+    let (number, len) = cut(fields)?;
     let number = number32(number)?;
     let len = number16(len)?;
     Some(Item::Packet { number, len })
@@ -210,11 +277,11 @@ fn numbered_in(names: &Names, kind: &[u8], module: u8, fields: &[u8]) -> Option<
         return Some(Item::Out { module, value });
     }
     if kind == b"ask".as_slice() {
-        let challenge = number_of(fields)?;
+        let challenge = number128(fields)?;
         return Some(Item::Ask { module, challenge });
     }
     if kind == b"vouch".as_slice() {
-        let challenge = number_of(fields)?;
+        let challenge = number128(fields)?;
         return Some(Item::Vouch { module, challenge });
     }
     if kind == b"attested".as_slice() {
@@ -224,29 +291,26 @@ fn numbered_in(names: &Names, kind: &[u8], module: u8, fields: &[u8]) -> Option<
     None
 }
 
-/// An item whose first field is a module.
+/// An item whose first field is a module, and not its only one.
 fn module_in(names: &Names, kind: &[u8], module: u8, fields: &[u8]) -> Option<Item>
     requires valid { IsTrue (are_valid names.now) }
     requires named { «module» < length names.now.modules }
     ensures item { result ≡ module_in names.now kind.now «module» fields.now }
     ensures fit { IfSome result (λ item. IsItem names.now item) }
 {
-    if kind == b"denied".as_slice() {
-        return Some(Item::Denied { module });
-    }
-    if kind == b"open".as_slice() {
-        return open_in(names, module, fields);
+    if kind == b"done".as_slice() {
+        return done_in(names, module, fields);
     }
     if kind == b"take".as_slice() {
         return take_in(names, module, fields);
     }
-    if kind == b"done".as_slice() {
-        return done_in(names, module, fields);
+    if kind == b"open".as_slice() {
+        return open_in(names, module, fields);
     }
     numbered_in(names, kind, module, fields)
 }
 
-/// An item whose first field is a device.
+/// An item of a device and one number.
 fn device_in(names: &Names, kind: &[u8], device: u8, fields: &[u8]) -> Option<Item>
     requires { device < length names.now.devices }
     ensures item { result ≡ device_in kind.now device fields.now }
@@ -256,17 +320,11 @@ fn device_in(names: &Names, kind: &[u8], device: u8, fields: &[u8]) -> Option<It
         let value = number16(fields)?;
         return Some(Item::Sense { device, value });
     }
-    if kind == b"raw".as_slice() {
-        let value = number16(fields)?;
-        return Some(Item::Raw { device, value });
-    }
-    if kind == b"drain".as_slice() {
-        return Some(Item::Drain { device });
-    }
-    None
+    let value = number16(fields)?;
+    Some(Item::Raw { device, value })
 }
 
-/// An item whose first field is a node.
+/// An item of a node and one other word.
 fn node_in(names: &Names, kind: &[u8], node: u8, fields: &[u8]) -> Option<Item>
     requires valid { IsTrue (are_valid names.now) }
     requires named { node < length names.now.nodes }
@@ -277,52 +335,75 @@ fn node_in(names: &Names, kind: &[u8], node: u8, fields: &[u8]) -> Option<Item>
         let cause = cause_of(fields)?;
         return Some(Item::Reset { node, cause });
     }
-    if kind == b"protect".as_slice() {
-        let module = index_or_none(b"-", names, fields)?;
-        return Some(Item::Protect { node, module });
-    }
+    let module = index_or_none(b"-", names, fields)?;
+    Some(Item::Protect { node, module })
+}
+
+/// An item of a node alone.
+fn refused_in(kind: &[u8], node: u8) -> Item
+    ensures item { result ≡ refused_in kind.now node }
+    ensures fit { (n : NameLists) → node < length n.nodes → IsItem n result }
+{
     if kind == b"busy".as_slice() {
-        return Some(Item::Busy { node });
+        Item::Busy { node }
+    } else if kind == b"skip".as_slice() {
+        Item::Skip { node }
+    } else {
+        Item::Budget { node }
     }
-    if kind == b"skip".as_slice() {
-        return Some(Item::Skip { node });
+}
+
+fn has_one_name(kind: &[u8]) -> bool
+    ensures { result ≡ has_one_name kind.now }
+{
+    kind == b"busy".as_slice()
+        || kind == b"skip".as_slice()
+        || kind == b"budget".as_slice()
+        || kind == b"drain".as_slice()
+        || kind == b"denied".as_slice()
+        || kind == b"forged".as_slice()
+}
+
+/// An item of this kind and one name.
+fn named_in(names: &Names, kind: &[u8], name: &[u8]) -> Option<Item>
+    requires { IsTrue (are_valid names.now) }
+    ensures item { result ≡ named_in names.now kind.now name.now }
+    ensures fit { IfSome result (λ item. IsItem names.now item) }
+{
+    if kind == b"drain".as_slice() {
+        let device = names.device(name)?;
+        return Some(Item::Drain { device });
     }
-    if kind == b"budget".as_slice() {
-        return Some(Item::Budget { node });
+    if kind == b"denied".as_slice() {
+        let module = names.module(name)?;
+        return Some(Item::Denied { module });
     }
-    None
+    if kind == b"forged".as_slice() {
+        let module = index_or_none(&DEPLOYER, names, name)?;
+        return Some(Item::Forged { module });
+    }
+    let node = names.node(name)?;
+    Some(refused_in(kind, node))
 }
 
 fn is_of_node(kind: &[u8]) -> bool
     ensures { result ≡ is_of_node kind.now }
 {
-    kind == b"reset".as_slice()
-        || kind == b"protect".as_slice()
-        || kind == b"busy".as_slice()
-        || kind == b"skip".as_slice()
-        || kind == b"budget".as_slice()
+    kind == b"reset".as_slice() || kind == b"protect".as_slice()
 }
 
 fn is_of_device(kind: &[u8]) -> bool
     ensures { result ≡ is_of_device kind.now }
 {
-    kind == b"sense".as_slice() || kind == b"raw".as_slice() || kind == b"drain".as_slice()
+    kind == b"sense".as_slice() || kind == b"raw".as_slice()
 }
 
-/// An item of this kind and these fields.
-fn kind_in(names: &Names, kind: &[u8], fields: &[u8]) -> Option<Item>
+/// An item of this kind, whose first field is this name.
+fn first_in(names: &Names, kind: &[u8], name: &[u8], fields: &[u8]) -> Option<Item>
     requires { IsTrue (are_valid names.now) }
-    ensures item { result ≡ kind_in names.now kind.now fields.now }
+    ensures item { result ≡ first_in names.now kind.now name.now fields.now }
     ensures fit { IfSome result (λ item. IsItem names.now item) }
 {
-    if kind == b"packet".as_slice() {
-        return packet_in(fields);
-    }
-    if kind == b"forged".as_slice() {
-        let module = index_or_none(&DEPLOYER, names, fields)?;
-        return Some(Item::Forged { module });
-    }
-    let (name, fields) = cut(fields);
     if is_of_node(kind) {
         let node = names.node(name)?;
         return node_in(names, kind, node, fields);
@@ -335,29 +416,38 @@ fn kind_in(names: &Names, kind: &[u8], fields: &[u8]) -> Option<Item>
     module_in(names, kind, module, fields)
 }
 
-/// The only item that can have this line.
+/// An item of this kind and these fields.
+fn kind_in(names: &Names, kind: &[u8], fields: &[u8]) -> Option<Item>
+    requires { IsTrue (are_valid names.now) }
+    ensures item { result ≡ kind_in names.now kind.now fields.now }
+    ensures fit { IfSome result (λ item. IsItem names.now item) }
+{
+    if kind == b"packet".as_slice() {
+        return packet_in(fields);
+    }
+    if has_one_name(kind) {
+        return named_in(names, kind, fields);
+    }
+    let (name, fields) = cut(fields)?;
+    first_in(names, kind, name, fields)
+}
+
+/// The item that has this line.
 #[tactic(auto, unfolding(crate::specs::Finding::item_in))]
 fn item_in(names: &Names, line: &[u8]) -> Option<Item>
     requires { IsTrue (are_valid names.now) }
     ensures item { result ≡ item_in names.now line.now }
     ensures fit { IfSome result (λ item. IsItem names.now item) }
 {
-    let (kind, fields) = cut(line);
+    let (kind, fields) = cut(line)?;
     kind_in(names, kind, fields)
 }
 
-/// The item that has this line; None exactly where no item has it.
+/// The item that has this line; None exactly if no item has it.
 pub fn read_item(names: &Names, line: &[u8]) -> Option<Item>
     requires { IsTrue (are_valid names.now) }
     ensures { MatchOption result (IsNoItem names.now line.now) (λ item.
         IsItem names.now item × (item_text names.now item ≡ line.now)) }
 {
-    let item = item_in(names, line)?;
-    let mut text = [0; 128];
-    let count = write_item(names, &item, &mut text);
-    if &text[..count] == line {
-        Some(item)
-    } else {
-        None
-    }
+    item_in(names, line)
 }
