@@ -1,5 +1,5 @@
 -- An index after one more name.
-use Rattle.std.proofs.Common.{◌≡◌, ℕ, ◌+◌, ◌<◌, ◌≤◌, Bool, true, false, not, cond, nat_lt, List, [], ◌∷◌, ◌++◌, length, Option, Some, None, is_some, IfSome}
+use Rattle.std.proofs.Common.{◌≡◌, ℕ, ◌+◌, ◌<◌, ◌≤◌, Bool, true, false, not, cond, nat_lt, List, [], ◌∷◌, ◌++◌, length, Option, Some, None, is_some}
 use Rattle.std.proofs.Common.{refl, sym, ap, subst, ◌∙◌, arith, map, length-append}
 use Rattle.std.specs.List.{position, position_or_len}
 use Rattle.std.specs.Str.{bytes_eq}
@@ -8,7 +8,6 @@ use Rattle.std.proofs.lemmas.Bool.Decides.{nat_tests}
 use Rattle.std.proofs.lemmas.List.{length-map}
 use Rattle.std.proofs.lemmas.List.Folds.{position_or_len_push}
 use Rattle.std.proofs.lemmas.List.Sums.{prefix_len-le-length}
-use Rattle.std.proofs.lemmas.List.Quantifiers.{position-Some}
 use Rattle.std.proofs.lemmas.Slice.Eq.{bytes_eq-Decides}
 use Rattle.std.proofs.lemmas.Option.{none-some}
 use Rattle.indexmap.specs.IndexMap.{get}
@@ -103,11 +102,6 @@ module _ (old new : NameIndex) (name : List ℕ) (place : ℕ) (some : 0 < lengt
 pub place_is : (index : NameIndex) (names list : List (List ℕ)) (text : List ℕ) (o : Option ℕ) → names ≡ list → IsNameIndex index names
     → ((n : List (List ℕ)) → IsNameIndex index n → o ≡ place_of n text) → o ≡ place_of list text
 place_is index names list text o e h says = says names h ∙ ap (λ n. place_of n text) e
-
--- a place of a short list is small
-pub small_place : (names : List (List ℕ)) (text : List ℕ) (o : Option ℕ) → o ≡ place_of names text → length names ≤ 64 → IfSome o (λ place. place < 64)
-small_place names text None e few = tt
-small_place names text (Some i) e few = let inside = position-Some (λ n. bytes_eq n text) names i [] (sym e) in omega (arith, inside.0)
 
 -- the names of things, and the things by their names, have the same places
 module _ {A B : Type 0} (v : A → B) where

@@ -1,5 +1,5 @@
 -- What is known of a name at its index in a list of names.
-use Rattle.std.proofs.Common.{◌≡◌, ℕ, zero, suc, ◌+◌, ◌<◌, Bool, true, false, ◌&&◌, ◌==◌, not, nat_le, nat_lt, List, [], ◌∷◌, length, codes, Some, refl, subst, ◌∙◌, arith, IsTrue}
+use Rattle.std.proofs.Common.{◌≡◌, ℕ, zero, suc, ◌+◌, ◌<◌, Bool, true, false, ◌&&◌, ◌==◌, not, nat_le, nat_lt, List, [], ◌∷◌, length, codes, Some, refl, sym, ap, subst, ◌∙◌, arith, IsTrue}
 use Rattle.std.specs.List.{list_all, position_or_len}
 use Rattle.std.specs.Str.{bytes_eq}
 use Rattle.std.proofs.lemmas.Bool.Decides.{nat_tests}
@@ -110,3 +110,28 @@ known_link n i h lt = known 64 n.links i (and_parts (are_names 32 n.modules) _ (
 -- no module is the deployer
 pub no_deployer : (n : NameLists) (i : ℕ) → IsTrue (are_valid n) → i < length n.modules → bytes_eq (name_at n.modules i) deployer ≡ false
 no_deployer n i h lt = others n.modules deployer i (not-true _ (behind n h).1) lt
+
+-- a name that stands at an index of a list without repeats has this place
+pub guessed_right : (names : List (List ℕ)) (text : List ℕ) (i : ℕ) → no_repeat names ≡ true → i < length names → bytes_eq (name_at names i) text ≡ true → Some i ≡ place_of names text
+guessed_right names text i unique lt named =
+    let at = place names i unique lt in
+    let within : nat_lt i (length names) ≡ true = grind (arith, nat_tests) in
+    let found : place_of names (name_at names i) ≡ Some i = rw (at, within) refl in
+    sym found ∙ ap (place_of names) ((bytes_eq-Decides (name_at names i) text).0 named)
+
+unique : (most : ℕ) (names : List (List ℕ)) → are_names most names ≡ true → no_repeat names ≡ true
+unique most names h = (and_parts (list_all is_name names) (no_repeat names) (and_parts (nat_le (length names) most) _ h).1).1
+
+pub unique_nodes : (n : NameLists) → IsTrue (are_valid n) → no_repeat n.nodes ≡ true
+unfolding are_valid
+unique_nodes n h = unique 16 n.nodes (and_parts _ _ (and_parts (are_names 16 n.nodes && are_names 32 n.devices) _ h).0).0
+
+pub unique_devices : (n : NameLists) → IsTrue (are_valid n) → no_repeat n.devices ≡ true
+unfolding are_valid
+unique_devices n h = unique 32 n.devices (and_parts (are_names 16 n.nodes) _ (and_parts (are_names 16 n.nodes && are_names 32 n.devices) _ h).0).1
+
+pub unique_modules : (n : NameLists) → IsTrue (are_valid n) → no_repeat n.modules ≡ true
+unique_modules n h = unique 32 n.modules (and_parts (are_names 32 n.modules) _ (behind n h).0).0
+
+pub unique_links : (n : NameLists) → IsTrue (are_valid n) → no_repeat n.links ≡ true
+unique_links n h = unique 64 n.links (and_parts (are_names 32 n.modules) _ (behind n h).0).1

@@ -1,6 +1,6 @@
 //! The names of a deployment.
 
-ghost use Rattle.std.specs.Prelude.{◌≡◌, ◌<◌, length, IsTrue, IfOk, IfSome};
+ghost use Rattle.std.specs.Prelude.{◌≡◌, ◌<◌, ◌≤◌, length, true, IsTrue, IfOk, IfSome};
 ghost use Rattle.std.specs.List.{list_all};
 ghost use Rattle.std.specs.Str.{bytes_eq};
 ghost use Rattle.sx_lang.specs.Form.{is_name};
@@ -10,6 +10,7 @@ ghost use Rattle.sx_trace.specs.ValidNames.{are_names, are_valid, has_name, no_r
 ghost use Rattle.sx_trace.specs.Names.{place_of, sensor_place};
 ghost use Rattle.sx_trace.specs.Seen.{name_lists};
 
+use crate::guesses::{Guesses, guessed, guesses_of};
 use crate::index::NameIndex;
 use std::alloc::{AllocError, Global};
 use std::marker::Model;
@@ -36,6 +37,10 @@ pub struct Names {
     device_index: NameIndex,
     module_index: NameIndex,
     link_index: NameIndex,
+    node_guesses: Guesses,
+    device_guesses: Guesses,
+    module_guesses: Guesses,
+    link_guesses: Guesses,
 }
 
 impl Model for Names {
@@ -108,6 +113,21 @@ fn byte(place: Option<usize>) -> Option<u8>
     }
 }
 
+/// The index of a name in a list of at most 64 names that repeats none: the guess if it is right,
+/// and otherwise what the index gives.
+fn place_in(names: &[Name], guesses: &Guesses, index: &NameIndex, text: &[u8]) -> Option<u8>
+    requires indexed { IsNameIndex index.now names.now }
+    requires unique { no_repeat names.now ≡ true }
+    requires few { length names.now ≤ 64 }
+    ensures place { result ≡ place_of names.now text.now }
+    ensures within { IfSome result (λ place. place < length names.now) }
+{
+    match guessed(names, guesses, text) {
+        Some(place) => Some(place),
+        None => byte(index.place_of(text)),
+    }
+}
+
 fn if_sensor(sensors: &[bool], device: u8) -> Option<u8>
     ensures { result ≡ if_sensor sensors.now device }
 {
@@ -170,6 +190,10 @@ impl Names {
             module_index,
             link_index,
         } = indexes_of(alloc, &nodes, &devices, &modules, &links)?;
+        let node_guesses = guesses_of(&nodes);
+        let device_guesses = guesses_of(&devices);
+        let module_guesses = guesses_of(&modules);
+        let link_guesses = guesses_of(&links);
         Ok(Names {
             nodes,
             devices,
@@ -180,6 +204,10 @@ impl Names {
             device_index,
             module_index,
             link_index,
+            node_guesses,
+            device_guesses,
+            module_guesses,
+            link_guesses,
         })
     }
 
@@ -204,7 +232,7 @@ impl Names {
         ensures place { result ≡ place_of self.now.nodes text.now }
         ensures within { IfSome result (λ place. place < length self.now.nodes) }
     {
-        byte(self.node_index.place_of(text))
+        place_in(&self.nodes, &self.node_guesses, &self.node_index, text)
     }
 
     /// The index of the device of this name.
@@ -213,7 +241,12 @@ impl Names {
         ensures place { result ≡ place_of self.now.devices text.now }
         ensures within { IfSome result (λ place. place < length self.now.devices) }
     {
-        byte(self.device_index.place_of(text))
+        place_in(
+            &self.devices,
+            &self.device_guesses,
+            &self.device_index,
+            text,
+        )
     }
 
     /// The index among the devices of the sensor of this name.
@@ -232,7 +265,12 @@ impl Names {
         ensures place { result ≡ place_of self.now.modules text.now }
         ensures within { IfSome result (λ place. place < length self.now.modules) }
     {
-        byte(self.module_index.place_of(text))
+        place_in(
+            &self.modules,
+            &self.module_guesses,
+            &self.module_index,
+            text,
+        )
     }
 
     /// The index of the connection of this name.
@@ -241,6 +279,6 @@ impl Names {
         ensures place { result ≡ place_of self.now.links text.now }
         ensures within { IfSome result (λ place. place < length self.now.links) }
     {
-        byte(self.link_index.place_of(text))
+        place_in(&self.links, &self.link_guesses, &self.link_index, text)
     }
 }

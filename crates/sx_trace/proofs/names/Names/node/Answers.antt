@@ -1,12 +1,14 @@
-use Rattle.std.proofs.Common.{ap}
+use Rattle.std.proofs.Common.{◌≡◌, ℕ, ◌≤◌, List, length, true, ap, sym, subst, ◌∙◌}
 use Rattle.sx_trace.specs.Names.{NameLists}
-use Rattle.sx_trace.proofs.Indexed.{place_is, small_place}
+use Rattle.sx_trace.specs.ValidNames.{no_repeat}
+use Rattle.sx_trace.proofs.Known.{unique_nodes}
 use Rattle.sx_trace.proofs.Valid.{few_nodes}
 use Rattle.sx_trace.proofs.names.Names.node.Goals as goal
 
-pub byte-requires : goal.byte-requires
-byte-requires c =
-    small_place c.args.self.now.nodes c.args.text.now c.place_of.result
-    (place_is c.self.inside.node_index c.self.inside.nodes.items c.args.self.now.nodes c.args.text.now c.place_of.result
-    (ap (λ (n : NameLists). n.nodes) c.self.view_is) c.self.invariant.0 c.place_of.ensures)
-    (few_nodes c.args.self.now c.requires)
+pub place_in-requires-clause-unique : goal.place_in-requires-clause-unique
+place_in-requires-clause-unique c =
+    subst (λ (xs : List (List ℕ)). no_repeat xs ≡ true) (sym (c.deref.ensures.value ∙ ap (λ (n : NameLists). n.nodes) c.self.view_is)) (unique_nodes c.args.self.now c.requires)
+
+pub place_in-requires-clause-few : goal.place_in-requires-clause-few
+place_in-requires-clause-few c =
+    subst (λ (xs : List (List ℕ)). length xs ≤ 64) (sym (c.deref.ensures.value ∙ ap (λ (n : NameLists). n.nodes) c.self.view_is)) (few_nodes c.args.self.now c.requires)
