@@ -48,27 +48,13 @@ pub(crate) fn put_kept<K: Sink>(output: &mut K, kept: &Kept) -> Result<(), Faile
 }
 
 /// Appends a number of at most 20 digits.
-fn put_number(text: &mut Text, number: u64)
-    requires { length text.old.items + 20 ≤ 96 }
+fn put_number<const N: usize>(text: &mut ArrayVec<u8, N>, number: u64)
+    requires { length text.old.items + 20 ≤ N }
     ensures added { text.new.items ≡ text.old.items ++ decimal number }
     ensures short { length text.new.items ≤ length text.old.items + 20 }
 {
     let mut digits = Buffer::new();
     put(text, digits.format(number).as_bytes());
-}
-
-/// Which item caused an item.
-fn because_text(number: u32, cause: u64) -> Text
-    ensures text { result.items ≡ because_line number cause }
-    ensures short { length result.items ≤ 96 }
-{
-    let mut text = Text::new();
-    put(&mut text, b"because ");
-    put_number(&mut text, u64::from(number));
-    put(&mut text, b" ");
-    put_number(&mut text, cause);
-    put(&mut text, b"\n");
-    text
 }
 
 /// That an item is illegal.
@@ -115,7 +101,11 @@ fn keep_because(kept: &mut Kept, number: u32, cause: u64)
     requires { length kept.old.items + 96 ≤ 4096 }
     ensures { kept.new.items ≡ kept.old.items ++ because_line number cause }
 {
-    put(kept, because_text(number, cause).as_slice());
+    put(kept, b"because ");
+    put_number(kept, u64::from(number));
+    put(kept, b" ");
+    put_number(kept, cause);
+    put(kept, b"\n");
 }
 
 /// Writes all that is kept, and ends the command with this text and status, as `finish` does.
