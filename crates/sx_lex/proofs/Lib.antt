@@ -4,6 +4,7 @@ pub mod Found
 pub mod Names
 pub mod Numbers
 pub mod Signs
+pub mod Tables
 pub mod Turns
 pub mod Same
 pub mod HasReading

@@ -1,6 +1,6 @@
 -- What whole words are tokens.
 use Rattle.std.specs.Prelude.{◌≡◌, ℕ, suc, ◌+◌, ◌-◌, ◌*◌, ◌<◌, ◌≤◌, Bool, false, ◌&&◌, List, []}
-use Rattle.std.specs.Prelude.{◌∷◌, length, take, drop, Option, Some, None, nat_eq, nat_le}
+use Rattle.std.specs.Prelude.{◌∷◌, ◌++◌, length, take, drop, Option, Some, None, nat_eq, nat_le}
 use Rattle.std.specs.Prelude.{if◌then◌else◌, codes, ◌==◌}
 use Rattle.std.specs.Cmp.Lexicographic.{pointwise}
 use Rattle.std.specs.List.{list_all}
@@ -15,14 +15,22 @@ use Rattle.sx_lex.specs.declared.tokens.Kind.TheVariants.{EqualsEquals, NotEqual
 use Rattle.sx_lex.specs.declared.tokens.Kind.TheVariants.{Greater, GreaterEquals, Plus, Minus, Bar}
 use Rattle.sx_lex.specs.declared.tokens.Kind.TheVariants.{Caret, Star, Ampersand, Tilde, Bang}
 
--- the language's own words
-abbrev pub keywords : List (List ℕ × Kind)
-keywords =
+-- the words that a declaration or a handler begins with
+abbrev pub beginning_words : List (List ℕ × Kind)
+beginning_words =
     (codes "sensor", Sensor) ∷ (codes "actuator", Actuator) ∷ (codes "input", Input)
     ∷ (codes "output", Output) ∷ (codes "var", Var) ∷ (codes "array", Array)
-    ∷ (codes "on", On) ∷ (codes "sample", Sample) ∷ (codes "let", Let) ∷ (codes "if", If)
-    ∷ (codes "else", Else) ∷ (codes "repeat", Repeat) ∷ (codes "send", Send) ∷ (codes "emit", Emit)
-    ∷ []
+    ∷ (codes "on", On) ∷ (codes "sample", Sample) ∷ []
+
+-- the words of statements
+abbrev pub statement_words : List (List ℕ × Kind)
+statement_words =
+    (codes "let", Let) ∷ (codes "if", If) ∷ (codes "else", Else) ∷ (codes "repeat", Repeat)
+    ∷ (codes "send", Send) ∷ (codes "emit", Emit) ∷ []
+
+-- the language's own words
+abbrev pub keywords : List (List ℕ × Kind)
+keywords = beginning_words ++ statement_words
 
 -- its signs
 abbrev pub signs : List (List ℕ × Kind)

@@ -1,13 +1,12 @@
 //! The language's own words and signs.
 
 ghost use Rattle.std.specs.Prelude.{◌≡◌, [], ◌∷◌};
-ghost use Rattle.sx_lex.specs.Words.{found_in, keywords, signs};
+ghost use Rattle.sx_lex.specs.Words.{found_in, beginning_words, statement_words, keywords, signs};
 
 use crate::tokens::Kind;
 
-/// The token of these bytes, if they are one of the language's own words.
-pub fn keyword(word: &[u8]) -> Option<Kind>
-    ensures { result ≡ found_in keywords word.now }
+fn beginning_word(word: &[u8]) -> Option<Kind>
+    ensures { result ≡ found_in beginning_words word.now }
 {
     if word == b"sensor".as_slice() {
         Some(Kind::Sensor)
@@ -25,7 +24,15 @@ pub fn keyword(word: &[u8]) -> Option<Kind>
         Some(Kind::On)
     } else if word == b"sample".as_slice() {
         Some(Kind::Sample)
-    } else if word == b"let".as_slice() {
+    } else {
+        None
+    }
+}
+
+fn statement_word(word: &[u8]) -> Option<Kind>
+    ensures { result ≡ found_in statement_words word.now }
+{
+    if word == b"let".as_slice() {
         Some(Kind::Let)
     } else if word == b"if".as_slice() {
         Some(Kind::If)
@@ -40,6 +47,16 @@ pub fn keyword(word: &[u8]) -> Option<Kind>
     } else {
         None
     }
+}
+
+/// The token of these bytes, if they are one of the language's own words.
+pub fn keyword(word: &[u8]) -> Option<Kind>
+    ensures { result ≡ found_in keywords word.now }
+{
+    if let Some(kind) = beginning_word(word) {
+        return Some(kind);
+    }
+    statement_word(word)
 }
 
 /// The token of this byte, if it is a sign.
