@@ -1,10 +1,11 @@
 -- What is added to entries, part by part.
-use Rattle.std.proofs.Common.{◌≡◌, ℕ, Bool, true, false, List, [], ◌∷◌, ◌++◌, Some, None, refl, sym, ap, ◌∙◌, append_assoc}
+use Rattle.std.proofs.Common.{◌≡◌, ℕ, Bool, true, false, List, [], ◌∷◌, ◌++◌, length, Some, None, refl, sym, ap, ◌∙◌, append_assoc}
 use Rattle.std.proofs.lemmas.List.{append-nil}
 use Rattle.std.specs.Prelude.{Option, Result, Ok, Err}
 use Rattle.sx_asm.specs.declared.written.Token.{Token}
+use Rattle.sx_asm.specs.declared.written.Value.{Value}
 use Rattle.sx_asm.specs.declared.written.Item.{Item}
-use Rattle.sx_asm.specs.declared.written.Item.TheVariants.{Label}
+use Rattle.sx_asm.specs.declared.written.Item.TheVariants.{Label, Word}
 use Rattle.sx_asm.specs.declared.written.Entry.{Entry}
 use Rattle.sx_asm.specs.declared.error.AsmError.{AsmError}
 use Rattle.sx_asm.specs.declared.error.AsmError.TheVariants.{Fault, OutOfMemory}
@@ -39,6 +40,21 @@ no_value t (c ∷ ts) h = by_test (is_comma c) refl
 
 pub no_comma : (t c : Token) (ts : List Token) → is_comma c ≡ false → data_of (t ∷ c ∷ ts) ≡ None
 no_comma t c ts h = rw h refl
+
+-- a value of data before those behind its comma
+pub next_value : (t c : Token) (ts : List Token) (v : Value) (n : ℕ) (before after : List Entry) → value t ≡ Some v
+    → is_comma c ≡ true → after ≡ before ++ record { line = n; item = Word v } ∷ [] → grown before n (data_of (t ∷ c ∷ ts)) ≡ grown after n (data_of ts)
+next_value t c ts v n before after h k e = rw (k, h, e) (onto (data_of ts))
+  where
+    onto : (rest : Option (List Item))
+        → grown before n (first (Some (Word v)) rest) ≡ grown (before ++ record { line = n; item = Word v } ∷ []) n rest
+    onto None = refl
+    onto (Some is) = ap Some (sym (append_assoc before (record { line = n; item = Word v } ∷ []) (placed_entries n is)))
+
+pub last_value : (t : Token) (ts : List Token) (v : Value) (n : ℕ) (before after : List Entry) → length ts ≡ 0 → value t ≡ Some v
+    → after ≡ before ++ record { line = n; item = Word v } ∷ [] → grown before n (data_of (t ∷ ts)) ≡ Some after
+last_value t [] v n before after l h e = rw (h, e) refl
+last_value t (u ∷ ts) v n before after l h e = absurd (cc)
 
 -- an item before what is meant
 adds_first : (i : Item) (meant : Option (List Item)) (n : ℕ) (before after : List Entry) (r : Result (Unit {0}) AsmError)

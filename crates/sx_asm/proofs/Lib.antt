@@ -4,6 +4,7 @@ mod Examples
 pub mod Numbers
 pub mod WordKinds
 pub mod Runs
+pub mod Tables
 pub mod Growing
 pub mod Lines
 pub mod Forms

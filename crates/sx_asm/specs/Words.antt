@@ -123,11 +123,20 @@ abbrev pub sancus_names : List ℕ → Table
 sancus_names [] = []
 sancus_names (c ∷ cs) = (sancus_name c, Sancus c) ∷ sancus_names cs
 
+-- the names of instructions with two operands
+abbrev pub names_with_two : Table
+names_with_two = two_names (Mov ∷ Add ∷ Addc ∷ Subc ∷ Sub ∷ Cmp ∷ Bit ∷ Bic ∷ Bis ∷ Xor ∷ And ∷ [])
+
+-- the names of instructions with one operand
+abbrev pub names_with_one : Table
+names_with_one = one_names (Rrc ∷ Rra ∷ Push ∷ Swpb ∷ Sxt ∷ Call ∷ [])
+
+-- the names of all others, and of the directive
+abbrev pub other_names : Table
+other_names =
+    jump_names (0 ∷ 1 ∷ 2 ∷ 3 ∷ 4 ∷ 5 ∷ 6 ∷ 7 ∷ []) ++ sancus_names (0 ∷ 1 ∷ 2 ∷ 4 ∷ 5 ∷ 6 ∷ 7 ∷ [])
+    ++ (codes "reti", Reti) ∷ (codes ".word", Word) ∷ []
+
 -- the names of all instructions
 abbrev pub instructions : Table
-instructions =
-    two_names (Mov ∷ Add ∷ Addc ∷ Subc ∷ Sub ∷ Cmp ∷ Bit ∷ Bic ∷ Bis ∷ Xor ∷ And ∷ [])
-    ++ one_names (Rrc ∷ Rra ∷ Push ∷ Swpb ∷ Sxt ∷ Call ∷ [])
-    ++ jump_names (0 ∷ 1 ∷ 2 ∷ 3 ∷ 4 ∷ 5 ∷ 6 ∷ 7 ∷ [])
-    ++ sancus_names (0 ∷ 1 ∷ 2 ∷ 4 ∷ 5 ∷ 6 ∷ 7 ∷ [])
-    ++ (codes "reti", Reti) ∷ (codes ".word", Word) ∷ []
+instructions = names_with_two ++ names_with_one ++ other_names

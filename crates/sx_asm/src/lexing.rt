@@ -7,7 +7,8 @@ ghost use Rattle.sx_lang.specs.Form.{is_name};
 ghost use Rattle.sx_asm.specs.Fronts.{run_front, digit_of, with_digit, digits_from, numeral_of};
 ghost use Rattle.sx_asm.specs.Fronts.{number_of};
 ghost use Rattle.sx_lex.specs.Lexed.{begins_comment};
-ghost use Rattle.sx_asm.specs.Words.{signs, registers, instructions};
+ghost use Rattle.sx_asm.specs.Words.{signs, registers, names_with_two, names_with_one, other_names};
+ghost use Rattle.sx_asm.specs.Words.{instructions};
 ghost use Rattle.sx_asm.specs.Tokens.{is_word_byte, joins, runs, found_in, value_token, token_of};
 ghost use Rattle.sx_asm.specs.Tokens.{is_gap, tokens_of};
 ghost use Rattle.sx_asm.specs.Entries.{entry_of};
@@ -53,7 +54,7 @@ const REGISTERS: [(&[u8], Token); 19] = [
     (b"r15", Token::Reg(15)),
 ];
 
-const INSTRUCTIONS: [(&[u8], Token); 51] = [
+const WITH_TWO_OPERANDS: [(&[u8], Token); 22] = [
     (b"mov", Token::Two(Op2::Mov, false)),
     (b"mov.b", Token::Two(Op2::Mov, true)),
     (b"add", Token::Two(Op2::Add, false)),
@@ -76,6 +77,9 @@ const INSTRUCTIONS: [(&[u8], Token); 51] = [
     (b"xor.b", Token::Two(Op2::Xor, true)),
     (b"and", Token::Two(Op2::And, false)),
     (b"and.b", Token::Two(Op2::And, true)),
+];
+
+const WITH_ONE_OPERAND: [(&[u8], Token); 12] = [
     (b"rrc", Token::One(Op1::Rrc, false)),
     (b"rrc.b", Token::One(Op1::Rrc, true)),
     (b"rra", Token::One(Op1::Rra, false)),
@@ -88,6 +92,9 @@ const INSTRUCTIONS: [(&[u8], Token); 51] = [
     (b"sxt.b", Token::One(Op1::Sxt, true)),
     (b"call", Token::One(Op1::Call, false)),
     (b"call.b", Token::One(Op1::Call, true)),
+];
+
+const OTHERS: [(&[u8], Token); 17] = [
     (b"jne", Token::Jump(0)),
     (b"jeq", Token::Jump(1)),
     (b"jnc", Token::Jump(2)),
@@ -131,10 +138,34 @@ fn register(word: &[u8]) -> Option<Token>
     found_in(&REGISTERS, word)
 }
 
+fn with_two_operands(word: &[u8]) -> Option<Token>
+    ensures { result ≡ found_in names_with_two word.now }
+{
+    found_in(&WITH_TWO_OPERANDS, word)
+}
+
+fn with_one_operand(word: &[u8]) -> Option<Token>
+    ensures { result ≡ found_in names_with_one word.now }
+{
+    found_in(&WITH_ONE_OPERAND, word)
+}
+
+fn other_instruction(word: &[u8]) -> Option<Token>
+    ensures { result ≡ found_in other_names word.now }
+{
+    found_in(&OTHERS, word)
+}
+
 fn instruction(word: &[u8]) -> Option<Token>
     ensures { result ≡ found_in instructions word.now }
 {
-    found_in(&INSTRUCTIONS, word)
+    if let Some(token) = with_two_operands(word) {
+        return Some(token);
+    }
+    if let Some(token) = with_one_operand(word) {
+        return Some(token);
+    }
+    other_instruction(word)
 }
 
 /// Whether a byte can stand in a word.
