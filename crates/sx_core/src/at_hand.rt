@@ -1,5 +1,6 @@
 //! What compiled code does most, with operands and places named: MOV between registers and memory,
-//! PUSH, CALL, returns, and operations on one register.
+//! other operations on words that read an extension word, PUSH, CALL, returns, and operations on one
+//! register.
 //!
 //! A place that is at hand is read or written with no other test, and then no device was touched.
 //! Where it isn't, the long way takes the instruction. The clauses name the rows of the
@@ -20,7 +21,7 @@ ghost use Rattle.sx_core.specs.Quickly.{RunsQuietly, EndsStep};
 
 use crate::one_operand::one;
 use crate::quick::{Stepped, on_word};
-use crate::two_operands::{calculated, two};
+use crate::two_operands::{calculated, computed_as, two, writes};
 use sx_alu::{Calc, StatusBits};
 use sx_bus::Bus;
 use sx_executor::Executor;
@@ -91,6 +92,20 @@ fn into_any<B: Bus>(executor: &mut Executor<B>, r: u8, value: (u16, StatusBits))
 {
     executor.set_flags(value.1);
     executor.set_register(r, value.0);
+}
+
+/// An operation on words onto a register.
+#[inline(always)]
+fn onto_any<B: Bus>(executor: &mut Executor<B>, op: Op2, src: u16, r: u8)
+    requires { src < limit true }
+    ensures { RunsQuietly (onto op true (Reg r) src executor.old.regs) executor.old executor.new }
+{
+    let old = executor.operand(true, r);
+    let value = computed_as::<true>(op, src, old, executor.flags());
+    executor.set_flags(value.1);
+    if writes(op) {
+        executor.set_register(r, value.0);
+    }
 }
 
 /// MOV of a word onto a register.
@@ -294,6 +309,192 @@ pub fn increment_onto_indexed<B: Bus>(
     on_word(executor, op, at, value)
 }
 
+/// The same onto memory at an address.
+#[inline(always)]
+pub fn increment_onto_absolute<B: Bus>(
+    executor: &mut Executor<B>,
+    op: Op2,
+    src: u8,
+    at: u16,
+    after: u16,
+    next: u16,
+) -> Stepped
+    ensures { EndsStep
+        (two op true (Increment src) (Absolute at) (at_pc executor.old.regs after) next)
+        executor.old result executor.new }
+{
+    executor.set_pc(after);
+    let from = executor.register(src);
+    let Some(value) = load_at_hand(executor, true, from) else {
+        let (from, to) = (Operand::Increment(src), Operand::Absolute(at));
+        return Stepped::Answered(two_near(executor, op, true, from, to, next));
+    };
+    executor.increment(true, src);
+    executor.set_pc(next);
+    on_word(executor, op, at, value)
+}
+
+/// An operation on words from the extension word `x` onto a register.
+#[inline(always)]
+pub fn immediate_onto_register<B: Bus>(
+    executor: &mut Executor<B>,
+    op: Op2,
+    x: u16,
+    dst: u8,
+    after: u16,
+    next: u16,
+) -> Stepped
+    ensures { EndsStep (two op true (Immediate x) (Reg dst) (at_pc executor.old.regs after) next)
+        executor.old result executor.new }
+{
+    executor.set_pc(after);
+    let value = cut(true, x);
+    executor.set_pc(next);
+    onto_any(executor, op, value, dst);
+    Stepped::Quiet
+}
+
+/// The same from memory at an address.
+#[inline(always)]
+fn word_onto_register<B: Bus>(
+    executor: &mut Executor<B>,
+    op: Op2,
+    at: u16,
+    dst: u8,
+    next: u16,
+) -> Stepped
+    ensures { EndsStep (two op true (Absolute at) (Reg dst) executor.old.regs next)
+        executor.old result executor.new }
+{
+    let Some(value) = load_at_hand(executor, true, at) else {
+        let (from, to) = (Operand::Absolute(at), Operand::Reg(dst));
+        return Stepped::Answered(two_near(executor, op, true, from, to, next));
+    };
+    executor.set_pc(next);
+    onto_any(executor, op, value, dst);
+    Stepped::Quiet
+}
+
+/// The same of an instruction whose first word ends at `after`.
+#[inline(always)]
+pub fn absolute_onto_register<B: Bus>(
+    executor: &mut Executor<B>,
+    op: Op2,
+    at: u16,
+    dst: u8,
+    after: u16,
+    next: u16,
+) -> Stepped
+    ensures { EndsStep (two op true (Absolute at) (Reg dst) (at_pc executor.old.regs after) next)
+        executor.old result executor.new }
+{
+    executor.set_pc(after);
+    word_onto_register(executor, op, at, dst, next)
+}
+
+/// The same from memory at a register plus `x`.
+#[inline(always)]
+pub fn indexed_onto_register<B: Bus>(
+    executor: &mut Executor<B>,
+    op: Op2,
+    base: u8,
+    x: u16,
+    dst: u8,
+    after: u16,
+    next: u16,
+) -> Stepped
+    ensures { EndsStep
+        (two op true (Indexed base x) (Reg dst) (at_pc executor.old.regs after) next)
+        executor.old result executor.new }
+{
+    executor.set_pc(after);
+    let at = executor.register(base).wrapping_add(x);
+    word_onto_register(executor, op, at, dst, next)
+}
+
+/// An operation on words from a register onto memory at an address.
+#[inline(always)]
+pub fn register_onto_absolute<B: Bus>(
+    executor: &mut Executor<B>,
+    op: Op2,
+    src: u8,
+    at: u16,
+    after: u16,
+    next: u16,
+) -> Stepped
+    ensures { EndsStep (two op true (Reg src) (Absolute at) (at_pc executor.old.regs after) next)
+        executor.old result executor.new }
+{
+    executor.set_pc(after);
+    let value = executor.operand(true, src);
+    executor.set_pc(next);
+    on_word(executor, op, at, value)
+}
+
+/// The same at a register plus `x`.
+#[inline(always)]
+pub fn register_onto_indexed<B: Bus>(
+    executor: &mut Executor<B>,
+    op: Op2,
+    src: u8,
+    base: u8,
+    x: u16,
+    after: u16,
+    next: u16,
+) -> Stepped
+    ensures { EndsStep
+        (two op true (Reg src) (Indexed base x) (at_pc executor.old.regs after) next)
+        executor.old result executor.new }
+{
+    executor.set_pc(after);
+    let value = executor.operand(true, src);
+    executor.set_pc(next);
+    let at = executor.register(base).wrapping_add(x);
+    on_word(executor, op, at, value)
+}
+
+/// An operation on words from memory at an address onto memory at another.
+#[inline(always)]
+pub fn word_onto_absolute<B: Bus>(
+    executor: &mut Executor<B>,
+    op: Op2,
+    from: u16,
+    at: u16,
+    next: u16,
+) -> Stepped
+    ensures { EndsStep (two op true (Absolute from) (Absolute at) executor.old.regs next)
+        executor.old result executor.new }
+{
+    let Some(value) = load_at_hand(executor, true, from) else {
+        let (from, to) = (Operand::Absolute(from), Operand::Absolute(at));
+        return Stepped::Answered(two_near(executor, op, true, from, to, next));
+    };
+    executor.set_pc(next);
+    on_word(executor, op, at, value)
+}
+
+/// The same onto memory at a register plus `z`.
+#[inline(always)]
+pub fn word_onto_indexed<B: Bus>(
+    executor: &mut Executor<B>,
+    op: Op2,
+    from: u16,
+    base: u8,
+    z: u16,
+    next: u16,
+) -> Stepped
+    ensures { EndsStep (two op true (Absolute from) (Indexed base z) executor.old.regs next)
+        executor.old result executor.new }
+{
+    let Some(value) = load_at_hand(executor, true, from) else {
+        let (from, to) = (Operand::Absolute(from), Operand::Indexed(base, z));
+        return Stepped::Answered(two_near(executor, op, true, from, to, next));
+    };
+    executor.set_pc(next);
+    let at = executor.register(base).wrapping_add(z);
+    on_word(executor, op, at, value)
+}
+
 /// Pushes a word, and moves PC.
 #[inline(always)]
 fn push_word<B: Bus>(executor: &mut Executor<B>, value: u16, pc: u16) -> Stepped
@@ -317,6 +518,30 @@ pub fn push_constant<B: Bus>(executor: &mut Executor<B>, value: u16, next: u16) 
     push_word(executor, value, next)
 }
 
+/// PUSH of the extension word `x`.
+#[inline(always)]
+pub fn push_immediate<B: Bus>(executor: &mut Executor<B>, x: u16, after: u16, next: u16) -> Stepped
+    ensures { EndsStep (one Push true (Immediate x) (at_pc executor.old.regs after) next)
+        executor.old result executor.new }
+{
+    executor.set_pc(after);
+    let value = cut(true, x);
+    push_word(executor, value, next)
+}
+
+/// PUSH of the word at a place.
+#[inline(always)]
+fn push_from<B: Bus>(executor: &mut Executor<B>, from: u16, next: u16) -> Stepped
+    ensures { EndsStep (one Push true (Absolute from) executor.old.regs next) executor.old result
+        executor.new }
+{
+    let Some(value) = load_at_hand(executor, true, from) else {
+        let answer = one(executor, Op1::Push, true, Operand::Absolute(from), next);
+        return Stepped::Answered(answer);
+    };
+    push_word(executor, value, next)
+}
+
 /// PUSH of the word at an address.
 #[inline(always)]
 pub fn push_absolute<B: Bus>(
@@ -329,11 +554,24 @@ pub fn push_absolute<B: Bus>(
         executor.old result executor.new }
 {
     executor.set_pc(after);
-    let Some(value) = load_at_hand(executor, true, from) else {
-        let answer = one(executor, Op1::Push, true, Operand::Absolute(from), next);
-        return Stepped::Answered(answer);
-    };
-    push_word(executor, value, next)
+    push_from(executor, from, next)
+}
+
+/// The same at a register plus `x`.
+#[inline(always)]
+pub fn push_indexed<B: Bus>(
+    executor: &mut Executor<B>,
+    base: u8,
+    x: u16,
+    after: u16,
+    next: u16,
+) -> Stepped
+    ensures { EndsStep (one Push true (Indexed base x) (at_pc executor.old.regs after) next)
+        executor.old result executor.new }
+{
+    executor.set_pc(after);
+    let from = executor.register(base).wrapping_add(x);
+    push_from(executor, from, next)
 }
 
 /// CALL of the address `x`.

@@ -5,13 +5,21 @@
 
 ghost use Rattle.std.specs.Prelude.{true, false};
 ghost use Rattle.sx_isa.specs.declared.instruction.Operand.TheVariants.{Reg, Increment};
+ghost use Rattle.sx_isa.specs.declared.instruction.Operand.TheVariants.{Indexed};
 ghost use Rattle.sx_isa.specs.Extending.{extended};
 ghost use Rattle.sx_machine.specs.Registers.{at_pc};
 ghost use Rattle.sx_machine.specs.Rows.{row, two, one};
 ghost use Rattle.sx_executor.specs.Machine.{RunsPlan};
 ghost use Rattle.sx_executor.specs.Shortcuts.{single_of, double_of};
+ghost use Rattle.sx_core.specs.Quickly.{EndsStep};
 
+use crate::at_hand::{
+    absolute_onto_register, immediate_onto_register, increment_onto_absolute,
+    increment_onto_indexed, indexed_onto_register, push_indexed, register_onto_absolute,
+    register_onto_indexed,
+};
 use crate::one_operand::one;
+use crate::quick::Stepped;
 use crate::two_operands::two;
 use sx_bus::Bus;
 use sx_executor::{Double, Executor, Single};
@@ -34,23 +42,6 @@ fn onto_register<B: Bus>(
 {
     executor.set_pc(after);
     two(executor, op, true, src, Operand::Reg(dst), next)
-}
-
-/// The same from a register.
-#[inline(always)]
-fn from_register<B: Bus>(
-    executor: &mut Executor<B>,
-    op: Op2,
-    src: u8,
-    dst: Operand,
-    after: u16,
-    next: u16,
-) -> Result<(), Violation>
-    ensures { RunsPlan (two op true (Reg src) dst (at_pc executor.old.regs after) next)
-        executor.old result executor.new }
-{
-    executor.set_pc(after);
-    two(executor, op, true, Operand::Reg(src), dst, next)
 }
 
 /// The same from memory at a register, which goes on.
@@ -103,6 +94,25 @@ fn on_operand<B: Bus>(
     one(executor, op, true, arg, next)
 }
 
+/// The same in memory at a register plus `x`.
+#[inline(always)]
+fn on_indexed<B: Bus>(
+    executor: &mut Executor<B>,
+    op: Op1,
+    base: u8,
+    x: u16,
+    after: u16,
+    next: u16,
+) -> Stepped
+    ensures { EndsStep (one op true (Indexed base x) (at_pc executor.old.regs after) next)
+        executor.old result executor.new }
+{
+    match op {
+        Op1::Push => push_indexed(executor, base, x, after, next),
+        _ => Stepped::Answered(on_operand(executor, op, Operand::Indexed(base, x), after, next)),
+    }
+}
+
 /// An instruction without an extension word; `next` is the address after it.
 #[inline(never)]
 pub fn step_single<B: Bus>(
@@ -128,7 +138,7 @@ pub fn step_single<B: Bus>(
 }
 
 /// An instruction with the extension word `x`, which stands at `after`; `next` is the address after
-/// it.
+/// it. What compiled code does is done at once where its places are at hand.
 #[inline(never)]
 pub fn step_double<B: Bus>(
     executor: &mut Executor<B>,
@@ -136,36 +146,44 @@ pub fn step_double<B: Bus>(
     x: u16,
     after: u16,
     next: u16,
-) -> Result<(), Violation>
-    ensures { RunsPlan (row (extended (double_of form) x 0) (at_pc executor.old.regs after) next)
+) -> Stepped
+    ensures { EndsStep (row (extended (double_of form) x 0) (at_pc executor.old.regs after) next)
         executor.old result executor.new }
 {
-    let (at, value) = (Operand::Absolute(x), Operand::Immediate(x));
     match form {
-        Double::FromImmediate { op, dst } => onto_register(executor, op, value, dst, after, next),
-        Double::FromAbsolute { op, dst } => onto_register(executor, op, at, dst, after, next),
+        Double::FromImmediate { op, dst } => {
+            immediate_onto_register(executor, op, x, dst, after, next)
+        }
+        Double::FromAbsolute { op, dst } => {
+            absolute_onto_register(executor, op, x, dst, after, next)
+        }
         Double::FromIndexed { op, base, dst } => {
-            onto_register(executor, op, Operand::Indexed(base, x), dst, after, next)
+            indexed_onto_register(executor, op, base, x, dst, after, next)
         }
         Double::RegisterOntoAbsolute { op, src } => {
-            from_register(executor, op, src, at, after, next)
+            register_onto_absolute(executor, op, src, x, after, next)
         }
         Double::RegisterOntoIndexed { op, src, base } => {
-            from_register(executor, op, src, Operand::Indexed(base, x), after, next)
+            register_onto_indexed(executor, op, src, base, x, after, next)
         }
         Double::IncrementOntoAbsolute { op, src } => {
-            from_increment(executor, op, src, at, after, next)
+            increment_onto_absolute(executor, op, src, x, after, next)
         }
         Double::IncrementOntoIndexed { op, src, base } => {
-            from_increment(executor, op, src, Operand::Indexed(base, x), after, next)
+            increment_onto_indexed(executor, op, src, base, x, after, next)
         }
         Double::BytesOntoIndexed { op, src, base } => {
-            bytes_from_increment(executor, op, src, Operand::Indexed(base, x), after, next)
+            let to = Operand::Indexed(base, x);
+            Stepped::Answered(bytes_from_increment(executor, op, src, to, after, next))
         }
-        Double::OnImmediate { op } => on_operand(executor, op, value, after, next),
-        Double::OnAbsolute { op } => on_operand(executor, op, at, after, next),
-        Double::OnIndexed { op, base } => {
-            on_operand(executor, op, Operand::Indexed(base, x), after, next)
+        Double::OnImmediate { op } => {
+            let arg = Operand::Immediate(x);
+            Stepped::Answered(on_operand(executor, op, arg, after, next))
         }
+        Double::OnAbsolute { op } => {
+            let arg = Operand::Absolute(x);
+            Stepped::Answered(on_operand(executor, op, arg, after, next))
+        }
+        Double::OnIndexed { op, base } => on_indexed(executor, op, base, x, after, next),
     }
 }

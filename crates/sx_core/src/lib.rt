@@ -17,4 +17,5 @@ mod one_operand;
 mod operand;
 mod quick;
 mod step;
+mod triple;
 mod two_operands;

@@ -22,12 +22,14 @@ ghost use Rattle.sx_executor.specs.Shortcuts.{single_of, double_of};
 ghost use Rattle.sx_core.specs.Quickly.{RunsQuietly, EndsStep};
 
 use crate::at_hand::{
-    call_immediate, increment_onto_indexed, load_absolute, load_indexed, move_byte, move_immediate,
-    on_register, pop, push_absolute, push_constant, store_absolute, store_indexed,
+    call_immediate, immediate_onto_register, increment_onto_indexed, load_absolute, load_indexed,
+    move_byte, move_immediate, on_register, pop, push_absolute, push_constant, push_immediate,
+    store_absolute, store_indexed,
 };
 use crate::forms::{step_double, step_single};
 use crate::jump::jump_quietly;
 use crate::step::step_long;
+use crate::triple::step_triple;
 use crate::two_operands::{computed_as, on_memory, reads, writes};
 use sx_alu::StatusBits;
 use sx_bus::Bus;
@@ -226,8 +228,9 @@ fn symbolic_place<B: Bus>(executor: &Executor<B>, x: u16) -> u16
     executor.register(PC).wrapping_sub(2).wrapping_add(x)
 }
 
-/// The same at the extension word's address plus `x`.
-#[inline(always)]
+/// The same at the extension word's address plus `x`. Compiled code has no such place, so the
+/// compiler needn't put this into each step.
+#[inline(never)]
 fn onto_symbolic<B: Bus>(
     executor: &mut Executor<B>,
     op: Op2,
@@ -303,6 +306,9 @@ fn with_extension<B: Bus, const CALLER: u8>(
         Double::FromImmediate { op: Op2::Mov, dst } => {
             move_immediate(executor, x, dst, after, next)
         }
+        Double::FromImmediate { op, dst } => {
+            immediate_onto_register(executor, op, x, dst, after, next)
+        }
         Double::FromAbsolute { op: Op2::Mov, dst } => load_absolute(executor, x, dst, after, next),
         Double::FromIndexed {
             op: Op2::Mov,
@@ -326,8 +332,9 @@ fn with_extension<B: Bus, const CALLER: u8>(
             increment_onto_indexed(executor, op, src, base, x, after, next)
         }
         Double::OnImmediate { op: Op1::Call } => call_immediate(executor, x, after, next),
+        Double::OnImmediate { op: Op1::Push } => push_immediate(executor, x, after, next),
         Double::OnAbsolute { op: Op1::Push } => push_absolute(executor, x, after, next),
-        _ => Stepped::Answered(step_double(executor, form, x, after, next)),
+        _ => step_double(executor, form, x, after, next),
     }
 }
 
@@ -373,5 +380,9 @@ pub fn step_quick<B: Bus, const CALLER: u8>(executor: &mut Executor<B>, first: u
             Ok(x) => with_extension::<B, CALLER>(executor, form, x, pc),
             Err(violation) => Stepped::Answered(Err(violation)),
         },
+        Form::Triple(_) => {
+            let shortcut = *shortcut;
+            step_triple(executor, shortcut)
+        }
     }
 }

@@ -1,7 +1,8 @@
 -- Instructions that have a shortcut, by their form.
 --     instruction_of, words_of      the instruction of a form with extension words of 0, and how many
 --         words it has
---     single_of, double_of      the instructions of the forms with no extension word and with one
+--     single_of, double_of, triple_of      the instructions of the forms with no extension word,
+--         with one and with two
 --     is_general      its register is no one of PC, SP, SR and R3
 --     is_fit      the register that a form writes is general
 --     IsForm      a form is that of an instruction of so many words
@@ -22,6 +23,8 @@ use Rattle.sx_executor.specs.declared.shortcut.Single.{Single}
 use Rattle.sx_executor.specs.declared.shortcut.Single.TheVariants as single
 use Rattle.sx_executor.specs.declared.shortcut.Double.{Double}
 use Rattle.sx_executor.specs.declared.shortcut.Double.TheVariants as double
+use Rattle.sx_executor.specs.declared.shortcut.Triple.{Triple}
+use Rattle.sx_executor.specs.declared.shortcut.Triple.TheVariants as triple
 
 -- the instruction of a form with no extension word
 abbrev pub single_of : Single → Instr
@@ -53,6 +56,19 @@ double_of (double.OnImmediate op) = instr.One op false (operand.Immediate 0)
 double_of (double.OnAbsolute op) = instr.One op false (operand.Absolute 0)
 double_of (double.OnIndexed op base) = instr.One op false (operand.Indexed base 0)
 
+-- the instruction of a form with two extension words, which are 0
+abbrev pub triple_of : Triple → Instr
+triple_of (triple.ImmediateOntoAbsolute op) =
+    instr.Two op false (operand.Immediate 0) (operand.Absolute 0)
+triple_of (triple.ImmediateOntoIndexed op base) =
+    instr.Two op false (operand.Immediate 0) (operand.Indexed base 0)
+triple_of (triple.AbsoluteOntoAbsolute op) =
+    instr.Two op false (operand.Absolute 0) (operand.Absolute 0)
+triple_of (triple.AbsoluteOntoIndexed op base) =
+    instr.Two op false (operand.Absolute 0) (operand.Indexed base 0)
+triple_of (triple.IndexedOntoAbsolute op base) =
+    instr.Two op false (operand.Indexed base 0) (operand.Absolute 0)
+
 -- the instruction of a form, with extension words of 0
 abbrev pub instruction_of : Form → Instr
 instruction_of (JumpNotEqual offset) = instr.Jump 0 offset
@@ -73,6 +89,7 @@ instruction_of (OntoAbsolute op value) =
     instr.Two op false (operand.Const value) (operand.Absolute 0)
 instruction_of (form.Single f) = single_of f
 instruction_of (form.Double f) = double_of f
+instruction_of (form.Triple f) = triple_of f
 
 -- how many words it has
 abbrev pub words_of : Form → ℕ
@@ -91,6 +108,7 @@ words_of (OntoSymbolic op value) = 2
 words_of (OntoAbsolute op value) = 2
 words_of (form.Single f) = 1
 words_of (form.Double f) = 2
+words_of (form.Triple f) = 3
 
 -- a register that keeps all of what is written to it
 abbrev pub is_general : ℕ → Bool
@@ -113,6 +131,7 @@ is_fit (OntoSymbolic op value) = true
 is_fit (OntoAbsolute op value) = true
 is_fit (form.Single f) = true
 is_fit (form.Double f) = true
+is_fit (form.Triple f) = true
 
 -- a form is that of an instruction with extension words of 0, which has so many words
 abbrev pub IsForm : Form → Instr → ℕ → Type 0

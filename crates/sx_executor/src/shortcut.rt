@@ -9,12 +9,14 @@ ghost use Rattle.std.specs.Prelude.{◌≡◌, ℕ, true, false, Some, IfSome};
 ghost use Rattle.std.proofs.Props.{props};
 ghost use Rattle.sx_isa.specs.declared.instruction.Instr.TheVariants.{Jump, One, Two};
 ghost use Rattle.sx_isa.specs.declared.instruction.Operand.TheVariants.{Reg, Const, Increment};
+ghost use Rattle.sx_isa.specs.declared.instruction.Operand.TheVariants.{Immediate, Absolute};
+ghost use Rattle.sx_isa.specs.declared.instruction.Operand.TheVariants.{Indexed};
 ghost use Rattle.sx_isa.specs.Reading.{instruction_at};
 ghost use Rattle.sx_isa.specs.Extending.{extended};
 ghost use Rattle.sx_machine.specs.Step.{is_module_word};
 ghost use Rattle.sx_executor.specs.Reads.{IsDecoded};
 ghost use Rattle.sx_executor.specs.Shortcuts.{instruction_of, words_of, is_fit, IsForm};
-ghost use Rattle.sx_executor.specs.Shortcuts.{double_of};
+ghost use Rattle.sx_executor.specs.Shortcuts.{double_of, triple_of};
 
 use crate::decoded::Decoded;
 use sx_isa::{Instr, Op1, Op2, Operand};
@@ -45,6 +47,8 @@ pub enum Form {
     Single(Single),
     /// Another one with one extension word.
     Double(Double),
+    /// One with two extension words.
+    Triple(Triple),
 }
 
 /// A form of instruction without an extension word, on words.
@@ -85,6 +89,21 @@ pub enum Double {
     OnAbsolute { op: Op1 },
     /// One operand, in memory at a register plus `x`.
     OnIndexed { op: Op1, base: u8 },
+}
+
+/// A form of instruction with two extension words, `x` and `z`, on words.
+#[derive(Clone, Copy)]
+pub enum Triple {
+    /// From the value `x` onto memory at `z`.
+    ImmediateOntoAbsolute { op: Op2 },
+    /// From the value `x` onto memory at a register plus `z`.
+    ImmediateOntoIndexed { op: Op2, base: u8 },
+    /// From memory at `x` onto memory at `z`.
+    AbsoluteOntoAbsolute { op: Op2 },
+    /// From memory at `x` onto memory at a register plus `z`.
+    AbsoluteOntoIndexed { op: Op2, base: u8 },
+    /// From memory at a register plus `x` onto memory at `z`.
+    IndexedOntoAbsolute { op: Op2, base: u8 },
 }
 
 /// From here up to the first jump are the words of the module instructions and those that no
@@ -290,6 +309,67 @@ fn form_of_two(instruction: Instr) -> Option<Form>
     Some(Form::Double(double))
 }
 
+/// The form of an operation on words from a value onto memory.
+fn immediate_form(op: Op2, dst: Operand) -> Option<Triple>
+    ensures { IfSome result (λ form. triple_of form ≡ Two op false (Immediate 0) dst) }
+{
+    match dst {
+        Operand::Absolute(0) => Some(Triple::ImmediateOntoAbsolute { op }),
+        Operand::Indexed(base, 0) => Some(Triple::ImmediateOntoIndexed { op, base }),
+        _ => None,
+    }
+}
+
+/// The form of an operation on words from memory at an address onto memory.
+fn absolute_form(op: Op2, dst: Operand) -> Option<Triple>
+    ensures { IfSome result (λ form. triple_of form ≡ Two op false (Absolute 0) dst) }
+{
+    match dst {
+        Operand::Absolute(0) => Some(Triple::AbsoluteOntoAbsolute { op }),
+        Operand::Indexed(base, 0) => Some(Triple::AbsoluteOntoIndexed { op, base }),
+        _ => None,
+    }
+}
+
+/// The form of an operation on words from memory at a register plus a word onto memory.
+fn indexed_form(op: Op2, base: u8, dst: Operand) -> Option<Triple>
+    ensures { IfSome result (λ form. triple_of form ≡ Two op false (Indexed base 0) dst) }
+{
+    match dst {
+        Operand::Absolute(0) => Some(Triple::IndexedOntoAbsolute { op, base }),
+        _ => None,
+    }
+}
+
+/// The form of an operation on words of three words.
+fn triple_form(op: Op2, src: Operand, dst: Operand) -> Option<Triple>
+    ensures { IfSome result (λ form. triple_of form ≡ Two op false src dst) }
+{
+    match src {
+        Operand::Immediate(0) => immediate_form(op, dst),
+        Operand::Absolute(0) => absolute_form(op, dst),
+        Operand::Indexed(base, 0) => indexed_form(op, base, dst),
+        _ => None,
+    }
+}
+
+/// The form of an instruction of three words, if it has one.
+fn form_of_three(instruction: Instr) -> Option<Form>
+    ensures { IfSome result (λ form. IsForm form instruction 3) }
+{
+    let Instr::Two {
+        op,
+        byte: false,
+        src,
+        dst,
+    } = instruction
+    else {
+        return None;
+    };
+    let triple = triple_form(op, src, dst)?;
+    Some(Form::Triple(triple))
+}
+
 /// The form of an instruction of so many words, if it has one.
 fn form_of(instruction: Instr, words: u8) -> Option<Form>
     ensures { IfSome result (λ form. IsForm form instruction words) }
@@ -297,6 +377,7 @@ fn form_of(instruction: Instr, words: u8) -> Option<Form>
     match words {
         1 => form_of_one(instruction),
         2 => form_of_two(instruction),
+        3 => form_of_three(instruction),
         _ => None,
     }
 }

@@ -1,4 +1,4 @@
-use Rattle.std.proofs.Common.{rules, true, subst, sym}
+use Rattle.std.proofs.Common.{rules, true, subst}
 use Rattle.sx_isa.specs.declared.instruction.Operand.TheVariants.{Increment, Indexed}
 use Rattle.sx_machine.specs.Rows.{two}
 use Rattle.sx_executor.specs.Machine.{Machine, RunsPlan}
