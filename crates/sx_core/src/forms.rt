@@ -139,8 +139,8 @@ pub fn step_single<B: Bus>(
 
 /// An instruction with the extension word `x`, which stands at `after`; `next` is the address after
 /// it. What compiled code does is done at once where its places are at hand.
-#[inline(never)]
-pub fn step_double<B: Bus>(
+#[inline(always)]
+fn double_at_hand<B: Bus>(
     executor: &mut Executor<B>,
     form: Double,
     x: u16,
@@ -185,5 +185,23 @@ pub fn step_double<B: Bus>(
             Stepped::Answered(on_operand(executor, op, arg, after, next))
         }
         Double::OnIndexed { op, base } => on_indexed(executor, op, base, x, after, next),
+    }
+}
+
+/// The same as a call. Its answer says nothing of devices, so that it needs no place in memory.
+#[inline(never)]
+pub fn step_double<B: Bus>(
+    executor: &mut Executor<B>,
+    form: Double,
+    x: u16,
+    after: u16,
+    next: u16,
+) -> Result<(), Violation>
+    ensures { RunsPlan (row (extended (double_of form) x 0) (at_pc executor.old.regs after) next)
+        executor.old result executor.new }
+{
+    match double_at_hand(executor, form, x, after, next) {
+        Stepped::Quiet => Ok(()),
+        Stepped::Answered(answer) => answer,
     }
 }

@@ -237,15 +237,18 @@ fn onto_symbolic<B: Bus>(
     value: u16,
     x: u16,
     pc: u16,
-) -> Stepped
-    ensures { EndsStep (two op true (Const value) (Symbolic x)
+) -> Result<(), Violation>
+    ensures { RunsPlan (two op true (Const value) (Symbolic x)
         (at_pc executor.old.regs (onward pc 2)) (onward pc 4)) executor.old result executor.new }
 {
     executor.set_pc(pc.wrapping_add(2));
     let value = cut(true, value);
     executor.set_pc(pc.wrapping_add(4));
     let at = symbolic_place(executor, x);
-    on_word(executor, op, at, value)
+    match on_word(executor, op, at, value) {
+        Stepped::Quiet => Ok(()),
+        Stepped::Answered(answer) => answer,
+    }
 }
 
 /// The same at a register plus `x`.
@@ -334,7 +337,7 @@ fn with_extension<B: Bus, const CALLER: u8>(
         Double::OnImmediate { op: Op1::Call } => call_immediate(executor, x, after, next),
         Double::OnImmediate { op: Op1::Push } => push_immediate(executor, x, after, next),
         Double::OnAbsolute { op: Op1::Push } => push_absolute(executor, x, after, next),
-        _ => step_double(executor, form, x, after, next),
+        _ => Stepped::Answered(step_double(executor, form, x, after, next)),
     }
 }
 
@@ -368,7 +371,7 @@ pub fn step_quick<B: Bus, const CALLER: u8>(executor: &mut Executor<B>, first: u
             Err(violation) => Stepped::Answered(Err(violation)),
         },
         Form::OntoSymbolic { op, value } => match fetch_second(executor, shortcut, pc) {
-            Ok(x) => onto_symbolic(executor, op, value, x, pc),
+            Ok(x) => Stepped::Answered(onto_symbolic(executor, op, value, x, pc)),
             Err(violation) => Stepped::Answered(Err(violation)),
         },
         Form::OntoAbsolute { op, value } => match fetch_second(executor, shortcut, pc) {
@@ -382,7 +385,7 @@ pub fn step_quick<B: Bus, const CALLER: u8>(executor: &mut Executor<B>, first: u
         },
         Form::Triple(_) => {
             let shortcut = *shortcut;
-            step_triple(executor, shortcut)
+            Stepped::Answered(step_triple(executor, shortcut))
         }
     }
 }

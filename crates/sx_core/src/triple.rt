@@ -8,7 +8,7 @@ ghost use Rattle.sx_isa.specs.declared.instruction.Operand.TheVariants.{Indexed}
 ghost use Rattle.sx_machine.specs.Registers.{onward, at_pc};
 ghost use Rattle.sx_machine.specs.Rows.{row, with_words, program, two};
 ghost use Rattle.sx_machine.specs.Answers.{followed};
-ghost use Rattle.sx_executor.specs.Machine.{ran};
+ghost use Rattle.sx_executor.specs.Machine.{ran, RunsPlan};
 ghost use Rattle.sx_executor.specs.Shortcuts.{instruction_of, words_of, triple_of};
 ghost use Rattle.sx_core.specs.Quickly.{EndsStep};
 
@@ -171,16 +171,17 @@ fn with_both<B: Bus>(executor: &mut Executor<B>, form: Triple, x: u16, z: u16, p
 /// of the way of what most steps do.
 #[inline(never)]
 #[tactic(auto, unfolding(sx_machine::specs::Rows::program, sx_isa::specs::Reading::length_of))]
-pub fn step_triple<B: Bus>(executor: &mut Executor<B>, shortcut: Shortcut) -> Stepped
-    ensures { EndsStep (program shortcut.first executor.old.regs) executor.old result
+pub fn step_triple<B: Bus>(executor: &mut Executor<B>, shortcut: Shortcut) -> Result<(), Violation>
+    ensures { RunsPlan (program shortcut.first executor.old.regs) executor.old result
         executor.new }
 {
     let Form::Triple(form) = shortcut.form else {
-        return Stepped::Answered(step_long(executor, shortcut.first));
+        return step_long(executor, shortcut.first);
     };
     let pc = executor.register(PC);
-    match fetch_both(executor, &shortcut, pc) {
-        Ok((x, z)) => with_both(executor, form, x, z, pc),
-        Err(violation) => Stepped::Answered(Err(violation)),
+    let (x, z) = fetch_both(executor, &shortcut, pc)?;
+    match with_both(executor, form, x, z, pc) {
+        Stepped::Quiet => Ok(()),
+        Stepped::Answered(answer) => answer,
     }
 }
