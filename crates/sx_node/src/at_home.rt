@@ -12,7 +12,7 @@ ghost use Rattle.sx_bus.specs.Devices.{device_at};
 ghost use Rattle.sx_machine.specs.declared.kinds.Event.TheVariants.{Quiet};
 ghost use Rattle.sx_machine.specs.Run.{exec, untouched};
 ghost use Rattle.sx_machine.specs.Rows.{program};
-ghost use Rattle.sx_machine.specs.Step.{attempt, instruction, word_outside, pc_of, own_of};
+ghost use Rattle.sx_machine.specs.Step.{step, attempt, instruction, word_outside, pc_of, own_of};
 ghost use Rattle.sx_machine.specs.Step.{start, entered_from, left};
 ghost use Rattle.sx_node.specs.Telling.{told, Tells};
 
@@ -26,10 +26,42 @@ use sx_rules::Violation;
 use sx_tag::Tag;
 
 impl<B: Bus, T: Tag> Node<B, T> {
+    /// One step, told as `step_told` tells it. In a loop of steps of a module this is the shorter one:
+    /// the caller has the code of what a module does, and what code outside does is a call. The
+    /// caller has a number as there.
+    #[inline(always)]
+    pub fn step_running<const CALLER: u8>(&mut self, seen: &mut Seen) -> bool
+        requires { self.old.boot < 4294967295 }
+        ensures state { self.new ≡ (step T.mac self.old).state }
+        ensures shown { told result seen.new ≡ (step T.mac self.old).shown }
+    {
+        if self.cur == 0 {
+            return self.step_outside(seen);
+        }
+        self.step_of_module::<CALLER>(seen)
+    }
+
+    #[inline(never)]
+    fn step_outside(&mut self, seen: &mut Seen) -> bool
+        requires { self.old.boot < 4294967295 }
+        ensures state { self.new ≡ (step T.mac self.old).state }
+        ensures shown { told result seen.new ≡ (step T.mac self.old).shown }
+    {
+        self.step_told::<2>(seen)
+    }
+
     /// One step where a module runs. Its code stays out of the way of what most steps of code
     /// outside do.
     #[inline(never)]
     pub(crate) fn step_inside(&mut self, seen: &mut Seen) -> bool
+        requires { self.old.boot < 4294967295 }
+        ensures { Tells self.old (attempt T.mac self.old) result seen.new self.new }
+    {
+        self.step_of_module::<1>(seen)
+    }
+
+    #[inline(always)]
+    fn step_of_module<const CALLER: u8>(&mut self, seen: &mut Seen) -> bool
         requires { self.old.boot < 4294967295 }
         ensures { Tells self.old (attempt T.mac self.old) result seen.new self.new }
     {
@@ -40,14 +72,14 @@ impl<B: Bus, T: Tag> Node<B, T> {
         }
         match self.executor.windows().at(pc) {
             Some(_device) => self.end_reset(Violation::Device, seen),
-            None => self.instruction_inside(own, seen),
+            None => self.instruction_inside::<CALLER>(own, seen),
         }
     }
 
     /// The instruction at PC, where the fast path is taken.
     #[inline(always)]
     #[tactic(auto, using(sx_executor::proofs::Rights::outside_word, sx_executor::proofs::Clear::none_found))]
-    fn instruction_inside(&mut self, own: u16, seen: &mut Seen) -> bool
+    fn instruction_inside<const CALLER: u8>(&mut self, own: u16, seen: &mut Seen) -> bool
         requires boot { self.old.boot < 4294967295 }
         requires own { own ≡ own_of self.old }
         requires cur { self.old.cur ≡ own }
@@ -59,7 +91,7 @@ impl<B: Bus, T: Tag> Node<B, T> {
         let pc = self.executor.register(PC);
         let first = self.executor.read(true, pc);
         if self.executor.has_shortcut(pc, first) {
-            self.plain_inside(own, first, seen)
+            self.plain_inside::<CALLER>(own, first, seen)
         } else {
             self.instruction_near(own, first, seen)
         }
@@ -67,7 +99,7 @@ impl<B: Bus, T: Tag> Node<B, T> {
 
     /// A plain instruction with a shortcut.
     #[inline(always)]
-    fn plain_inside(&mut self, own: u16, first: u16, seen: &mut Seen) -> bool
+    fn plain_inside<const CALLER: u8>(&mut self, own: u16, first: u16, seen: &mut Seen) -> bool
         requires boot { self.old.boot < 4294967295 }
         requires own { own ≡ own_of self.old }
         requires cur { self.old.cur ≡ own }
@@ -77,7 +109,7 @@ impl<B: Bus, T: Tag> Node<B, T> {
             result seen.new self.new }
     {
         self.executor.turn(own);
-        match step_quick::<B, 2>(&mut self.executor, first) {
+        match step_quick::<B, CALLER>(&mut self.executor, first) {
             Stepped::Quiet => {
                 self.executor.turn(0);
                 self.ends_inside(own, seen)

@@ -71,7 +71,7 @@ pub(crate) fn module_stretch<B: Bus, T: Tag>(node: &mut Node<B, T>, count: u32) 
 {
     let mut seen = silent();
     for done in 0..count {
-        if node.step_told::<4>(&mut seen) {
+        if node.step_running::<4>(&mut seen) {
             return QuietSteps {
                 count: done,
                 last: Some(seen),
