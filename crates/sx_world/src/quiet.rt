@@ -42,7 +42,7 @@ fn silent() -> Seen
 /// Steps of a node, at most `count`, up to the first that shows something. The loop is code of its
 /// own, so that the processor's registers are its alone.
 #[inline(never)]
-pub(crate) fn quiet_stretch<B: Bus, T: Tag>(node: &mut Node<B, T>, count: u32) -> QuietSteps
+fn quiet_stretch<B: Bus, T: Tag>(node: &mut Node<B, T>, count: u32) -> QuietSteps
     requires { node.old.boot < 4294967295 }
     ensures quiet { AreQuiet T.mac false result.count node.old }
     ensures last { EndsWith T.mac count result.count result.last node.old }
@@ -63,7 +63,7 @@ pub(crate) fn quiet_stretch<B: Bus, T: Tag>(node: &mut Node<B, T>, count: u32) -
 /// Steps of a node, at most `count`, up to the first that shows something or leaves no module
 /// running. Its loop is code of its own, too.
 #[inline(never)]
-pub(crate) fn module_stretch<B: Bus, T: Tag>(node: &mut Node<B, T>, count: u32) -> QuietSteps
+fn module_stretch<B: Bus, T: Tag>(node: &mut Node<B, T>, count: u32) -> QuietSteps
     requires { node.old.boot < 4294967295 }
     ensures quiet { AreQuiet T.mac true result.count node.old }
     ensures last { EndsWith T.mac count result.count result.last node.old }
@@ -85,4 +85,24 @@ pub(crate) fn module_stretch<B: Bus, T: Tag>(node: &mut Node<B, T>, count: u32) 
         }
     }
     QuietSteps { count, last: None }
+}
+
+/// Steps of a node, at most `count`, up to the first that shows something or, where `idle` says so,
+/// leaves no module running. Where a module runs they end when it leaves even if `idle` doesn't say
+/// so, since the loop for a module is the shorter one; a caller goes on. Code outside is mostly run
+/// without that word, so its loop asks for no module.
+#[tactic(auto, using(crate::proofs::passing::Passed::quiet_either))]
+pub(crate) fn stretch<B: Bus, T: Tag>(node: &mut Node<B, T>, count: u32, idle: bool) -> QuietSteps
+    requires { node.old.boot < 4294967295 }
+    ensures quiet { AreQuiet T.mac idle result.count node.old }
+    ensures last { EndsWith T.mac count result.count result.last node.old }
+    ensures left { node.new ≡ after_steps T.mac (taken result.count result.last) node.old }
+{
+    if idle {
+        return module_stretch(node, count);
+    }
+    if node.running() != 0 {
+        return module_stretch(node, count);
+    }
+    quiet_stretch(node, count)
 }

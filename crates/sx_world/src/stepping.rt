@@ -16,7 +16,7 @@ ghost use Rattle.sx_run.specs.Run as run;
 ghost use Rattle.sx_run.specs.Run.{FINISH_STEPS, is_reset, steps_of};
 
 use crate::nodes::refused_item;
-use crate::quiet::{QuietSteps, module_stretch, quiet_stretch};
+use crate::quiet::{QuietSteps, stretch};
 use crate::running::Running;
 use std::alloc::AllocError;
 use sx_bus::{Bus, Copied};
@@ -78,8 +78,7 @@ impl<B: Copied, T: Tag> Running<B, T> {
         }
     }
 
-    /// Steps of a node, at most `count`, up to the first that shows something or, where `idle` says
-    /// so, leaves no module running. Most runs ask for no module, so their loop asks for none.
+    /// Steps of a node, as `stretch` takes them.
     fn pass(&mut self, n: u8, count: u32, idle: bool) -> QuietSteps
         requires node { n < length self.old.nodes }
         requires boot { (s : State) → slice_get self.old.nodes n ≡ Some s → s.boot < 4294967295 }
@@ -92,11 +91,7 @@ impl<B: Copied, T: Tag> Running<B, T> {
             → self.new ≡ stepped T.mac n (taken result.count result.last) s self.old }
     {
         let node = &mut self.nodes[usize::from(n)];
-        let quiet = if idle {
-            module_stretch(node, count)
-        } else {
-            quiet_stretch(node, count)
-        };
+        let quiet = stretch(node, count, idle);
         self.steps += quiet.taken();
         quiet
     }
