@@ -1,25 +1,29 @@
 -- How a paged memory keeps its pages in an arena. Nobody has to believe it: the contracts of
 -- `PagedBus` cite Memory.antt alone.
-use Rattle.std.specs.Prelude.{◌≡◌, ℕ, suc, true, List, [], ◌∷◌, length, get_or, Option, Some, None}
-use Rattle.sx_pages.specs.Pages.{Pages, is_live, size}
+use Rattle.std.specs.Prelude.{◌≡◌, ◌≢◌, ℕ, ◌+◌, ◌<◌, ◌≤◌, ◌==◌, nat_lt, true, if◌then◌else◌, List}
+use Rattle.std.specs.Prelude.{length, map, get_or, Option, Some, None}
+use Rattle.sx_pages.specs.Pages.{Pages, is_live, size, zeros}
 
--- the pages of the memory, at each index the page of the arena with this number, or none
-abbrev pub paged : Pages → List (Option ℕ) → Pages
-paged arena [] = []
-paged arena (None ∷ numbers) = None ∷ paged arena numbers
-paged arena (Some page ∷ numbers) = get_or arena page None ∷ paged arena numbers
+-- the page of the memory under a number, none under that of the blank page
+abbrev pub page_of : Pages → ℕ → ℕ → Option (List ℕ)
+page_of arena blank number = if number == blank then None else get_or arena number None
 
--- how many indices have a page
-abbrev pub count : List (Option ℕ) → ℕ
-count [] = 0
-count (None ∷ numbers) = count numbers
-count (Some page ∷ numbers) = suc (count numbers)
+-- the pages of the memory, at each index the one under the number there
+abbrev pub paged : Pages → List ℕ → ℕ → Pages
+paged arena numbers blank = map (page_of arena blank) numbers
 
--- each number is that of a live page, no two indices have the same, and no other page is live
-pub record IsPaged (arena : Pages) (numbers : List (Option ℕ)) : Type 0 where
+-- how many blank pages there are: one, or none if no page is absent
+abbrev pub spare : ℕ → ℕ
+spare blank = if nat_lt blank 256 then 1 else 0
+
+-- Each number is that of a live page, the blank page is zeros, no two indices have the same number
+-- except that of the blank page, and no other page is live
+pub record IsPaged (arena : Pages) (numbers : List ℕ) (blank : ℕ) : Type 0 where
   pub whole : length arena ≡ 256
   pub long : length numbers ≡ 256
-  pub live : (index page : ℕ) → get_or numbers index None ≡ Some page → is_live arena page ≡ true
-  pub apart : (index other page : ℕ) → get_or numbers index None ≡ Some page
-      → get_or numbers other None ≡ Some page → index ≡ other
-  pub counted : size arena ≡ count numbers
+  pub live : (index : ℕ) → index < 256 → is_live arena (get_or numbers index 0) ≡ true
+  pub apart : (index other : ℕ) → index < 256 → other < 256 → get_or numbers index 0 ≢ blank
+      → get_or numbers index 0 ≡ get_or numbers other 0 → index ≡ other
+  pub within : blank ≤ 256
+  pub zeroed : blank < 256 → get_or arena blank None ≡ Some zeros
+  pub counted : size arena ≡ size (paged arena numbers blank) + spare blank

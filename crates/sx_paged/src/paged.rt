@@ -13,16 +13,19 @@ use sx_pages::Arena;
 /// How many bytes a page has.
 const PAGE_BYTES: usize = 256;
 
-/// What an absent page reads as.
-const BLANK_PAGE: [u8; PAGE_BYTES] = [0; PAGE_BYTES];
+/// What stands for the number of the blank page if there is none. No page has it.
+const NO_PAGE: u16 = 256;
 
-/// The 256 pages of a memory, each of which has a page of the arena or none. Every live page of the
-/// arena is the page of one index alone.
+/// The 256 pages of a memory. All absent ones have one page of the arena, the blank page, which is
+/// zeros and never written; so a read asks nothing. Each other live page of the arena is the page
+/// of one index alone.
 #[derive(Drop)]
 pub(crate) struct Paged {
     arena: Arena,
-    /// At the index of a page, its number in the arena.
-    numbers: [Option<u8>; 256],
+    /// At the index of a page its number in the arena.
+    numbers: [u8; 256],
+    /// The number of the blank page; `NO_PAGE` if no page is absent.
+    blank: u16,
 }
 
 impl Model for Paged {
@@ -32,9 +35,9 @@ impl Model for Paged {
 
     ghost use Rattle.sx_paged.specs.Paged.{paged, IsPaged};
 
-    ghost view = { λ b. paged b.arena b.numbers };
+    ghost view = { λ b. paged b.arena b.numbers b.blank };
 
-    ghost invariant = { λ b. IsPaged b.arena b.numbers };
+    ghost invariant = { λ b. IsPaged b.arena b.numbers b.blank };
 }
 
 impl Paged {
@@ -42,31 +45,30 @@ impl Paged {
     pub(crate) fn new(alloc: Global) -> Result<Paged, OutOfMemory>
         ensures { IfOk result (λ pages. pages ≡ no_pages) }
     {
-        let arena = Arena::new(alloc)?;
-        Ok(Paged {
-            arena,
-            numbers: [None; 256],
-        })
+        let mut arena = Arena::new(alloc)?;
+        match arena.take() {
+            Some(page) => Ok(Paged {
+                arena,
+                numbers: [page; 256],
+                blank: u16::from(page),
+            }),
+            None => Err(OutOfMemory),
+        }
     }
 
     /// The byte at an address; 0 where the page is absent.
     pub(crate) fn get(&self, at: u16) -> u8
         ensures { result ≡ byte_at self.now at }
     {
-        match self.numbers[(at / 256) as usize] {
-            Some(page) => self.arena.read(page, (at % 256) as u8),
-            None => 0,
-        }
+        self.arena
+            .read(self.numbers[(at / 256) as usize], (at % 256) as u8)
     }
 
     /// The bytes of a page; zeros where it is absent.
     fn page(&self, index: u8) -> &[u8]
         ensures { result.now ≡ page_bytes (get_or self.now index None) }
     {
-        match self.numbers[index as usize] {
-            Some(page) => self.arena.page(page),
-            None => &BLANK_PAGE,
-        }
+        self.arena.page(self.numbers[index as usize])
     }
 
     /// Whether these bytes stand from an address on, where no page ends before them.
@@ -100,9 +102,17 @@ impl Paged {
     pub(crate) fn put(&mut self, at: u16, byte: u8)
         ensures { self.new ≡ after_put self.old at byte }
     {
-        match self.numbers[(at / 256) as usize] {
-            Some(page) => self.arena.write(page, (at % 256) as u8, byte),
-            None => put_new(&mut self.arena, &mut self.numbers, at, byte),
+        let number = self.numbers[(at / 256) as usize];
+        if u16::from(number) != self.blank {
+            self.arena.write(number, (at % 256) as u8, byte);
+        } else {
+            put_new(
+                &mut self.arena,
+                &mut self.numbers,
+                &mut self.blank,
+                at,
+                byte,
+            );
         }
     }
 
@@ -115,9 +125,11 @@ impl Paged {
     {
         let low = (value % 256) as u8;
         let high = (value / 256) as u8;
-        match self.numbers[(at / 256) as usize] {
-            Some(page) => write_two(&mut self.arena, page, (at % 256) as u8, low, high),
-            None => self.put_two(at, low, high),
+        let number = self.numbers[(at / 256) as usize];
+        if u16::from(number) != self.blank {
+            write_two(&mut self.arena, number, (at % 256) as u8, low, high);
+        } else {
+            self.put_two(at, low, high);
         }
     }
 
@@ -135,7 +147,9 @@ impl Paged {
     pub(crate) fn wipe(&mut self)
         ensures { self.new ≡ no_pages }
     {
-        release_all(&mut self.arena, &mut self.numbers);
+        let blank = blank_page(&mut self.arena, &mut self.numbers, self.blank);
+        release_all(&mut self.arena, &mut self.numbers, blank);
+        self.blank = u16::from(blank);
     }
 
     /// Equal pages of their own.
@@ -146,6 +160,7 @@ impl Paged {
         Ok(Paged {
             arena,
             numbers: self.numbers,
+            blank: self.blank,
         })
     }
 
@@ -153,7 +168,12 @@ impl Paged {
     pub(crate) fn present(&self) -> u16
         ensures { result ≡ size self.now }
     {
-        256 - self.arena.free()
+        let live = 256 - self.arena.free();
+        if self.blank == NO_PAGE {
+            live
+        } else {
+            live - 1
+        }
     }
 }
 
@@ -167,27 +187,54 @@ fn write_two(arena: &mut Arena, page: u8, at: u8, low: u8, high: u8)
     arena.write(page, at + 1, high);
 }
 
-// Writes a byte of a page that was absent. A page is free for it, since each live one has an index.
-fn put_new(arena: &mut Arena, numbers: &mut [Option<u8>], at: u16, byte: u8)
-    requires { IsPaged arena.old numbers.old × (get_or numbers.old (at / 256) None ≡ None) }
-    ensures value { paged arena.new numbers.new ≡ after_put (paged arena.old numbers.old) at byte }
-    ensures kept { IsPaged arena.new numbers.new }
+// Writes a byte of a page that was absent. If no page is free for it, all others are present, so no
+// other page needs the blank one.
+fn put_new(arena: &mut Arena, numbers: &mut [u8], blank: &mut u16, at: u16, byte: u8)
+    requires { IsPaged arena.old numbers.old blank.old
+        × (get_or numbers.old (at / 256) 0 ≡ blank.old) }
+    ensures value { paged arena.new numbers.new blank.new
+        ≡ after_put (paged arena.old numbers.old blank.old) at byte }
+    ensures kept { IsPaged arena.new numbers.new blank.new }
 {
-    if let Some(page) = arena.take() {
-        arena.write(page, (at % 256) as u8, byte);
-        numbers[(at / 256) as usize] = Some(page);
+    let index = (at / 256) as usize;
+    match arena.take() {
+        Some(page) => {
+            arena.write(page, (at % 256) as u8, byte);
+            numbers[index] = page;
+        }
+        None => {
+            arena.write(numbers[index], (at % 256) as u8, byte);
+            *blank = NO_PAGE;
+        }
     }
 }
 
-fn release_all(arena: &mut Arena, numbers: &mut [Option<u8>])
-    requires { IsPaged arena.old numbers.old }
-    ensures none { numbers.new ≡ replicate 256 None }
-    ensures kept { IsPaged arena.new numbers.new }
+// The number of the blank page. If there is none, the index 0 gives its page up, and the page that
+// is free then becomes the blank one.
+fn blank_page(arena: &mut Arena, numbers: &mut [u8], blank: u16) -> u8
+    requires { IsPaged arena.old numbers.old blank }
+    ensures { IsPaged arena.new numbers.new result }
+{
+    if blank != NO_PAGE {
+        return blank as u8;
+    }
+    arena.release(numbers[0]);
+    if let Some(page) = arena.take() {
+        numbers[0] = page;
+    }
+    numbers[0]
+}
+
+fn release_all(arena: &mut Arena, numbers: &mut [u8], blank: u8)
+    requires { IsPaged arena.old numbers.old blank }
+    ensures none { numbers.new ≡ replicate 256 blank }
+    ensures kept { IsPaged arena.new numbers.new blank }
 {
     for index in 0..numbers.len() {
-        if let Some(page) = numbers[index] {
-            arena.release(page);
-            numbers[index] = None;
+        let number = numbers[index];
+        if number != blank {
+            arena.release(number);
+            numbers[index] = blank;
         }
     }
 }

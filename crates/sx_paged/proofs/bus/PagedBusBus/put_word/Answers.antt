@@ -1,6 +1,6 @@
 use Rattle.std.proofs.Common.{arith, ◌∙◌, ap, ◌+◌, ◌/◌, ◌%◌, List, ℕ, ◌<◌}
 use Rattle.std.specs.Prelude.{slice_set}
-use Rattle.sx_paged.specs.Memory.{IsMemory, after_put, joined}
+use Rattle.sx_paged.specs.Memory.{IsMemory, after_put}
 use Rattle.sx_paged.proofs.Joined.{IsMemory-put, AreMemoryBytes-put, joined-put}
 use Rattle.sx_paged.proofs.bus.PagedBusBus.put_word.Goals as goal
 
