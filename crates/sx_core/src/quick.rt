@@ -4,7 +4,7 @@
 //! word of memory that is at hand, where one test is all that is asked. The clauses name the same
 //! rows as those of the long way.
 
-ghost use Rattle.std.specs.Prelude.{◌≡◌, ◌<◌, ◌+◌, ℕ, true, None, List};
+ghost use Rattle.std.specs.Prelude.{◌≡◌, ◌<◌, ◌+◌, ℕ, true, false, None, List};
 ghost use Rattle.sx_isa.specs.Reading.{length_of};
 ghost use Rattle.sx_isa.specs.Extending.{extended};
 ghost use Rattle.sx_isa.specs.declared.instruction.Operand.TheVariants.{Reg, Const, Indexed};
@@ -13,7 +13,7 @@ ghost use Rattle.sx_alu.specs.Table.{limit};
 ghost use Rattle.sx_rules.specs.declared.access.Access.TheVariants.{Read, Write};
 ghost use Rattle.sx_machine.specs.Registers.{onward, at_pc, reg};
 ghost use Rattle.sx_machine.specs.Rows.{row, with_words, program, jump, two, onto, on_memory};
-ghost use Rattle.sx_machine.specs.Rows.{into_register};
+ghost use Rattle.sx_machine.specs.Rows.{into_register, writes};
 ghost use Rattle.sx_machine.specs.Run.{may_at, device_of};
 ghost use Rattle.sx_machine.specs.Answers.{followed};
 ghost use Rattle.sx_executor.specs.Machine.{ran, RunsPlan};
@@ -168,8 +168,23 @@ pub fn on_word<B: Bus>(executor: &mut Executor<B>, op: Op2, at: u16, src: u16) -
     Stepped::Answered(on_word_near(executor, op, at, src))
 }
 
-/// The same where a section may refuse it, or a device be there. Its code stays out of the way of
-/// what most steps do.
+/// A comparison with a word of memory that the running code may read and that is no device's, or a
+/// test of its bits.
+#[inline(always)]
+fn test_of_word<B: Bus>(executor: &mut Executor<B>, op: Op2, at: u16, src: u16)
+    requires test { writes op ≡ false }
+    requires read { may_at true executor.old.sections.live executor.old.own Read at ≡ true }
+    requires memory { device_of executor.old.devices at ≡ None }
+    requires src { src < limit true }
+    ensures { RunsQuietly (on_memory op true at src executor.old.regs) executor.old executor.new }
+{
+    let dst = executor.read(true, at);
+    let value = computed_as::<true>(op, src, dst, executor.flags());
+    executor.set_flags(value.1);
+}
+
+/// The same where a section may refuse it, or a device be there. What a module compares with its own
+/// text needs no look at the sections. This code stays out of the way of what most steps do.
 #[inline(never)]
 fn on_word_near<B: Bus>(
     executor: &mut Executor<B>,
@@ -181,6 +196,10 @@ fn on_word_near<B: Bus>(
     ensures { RunsPlan (on_memory op true at src executor.old.regs) executor.old result
         executor.new }
 {
+    if !writes(op) && executor.is_own_text(at) {
+        test_of_word(executor, op, at, src);
+        return Ok(());
+    }
     on_memory(executor, op, true, at, src)
 }
 

@@ -68,6 +68,18 @@ impl<B: Bus> Executor<B> {
         self.is_free(at) && self.windows().at(at).is_none()
     }
 
+    /// Whether one look says that the running code may read the word at a place: it is in the public
+    /// part of the home, and no device is there. Then a read asks no more.
+    #[inline(always)]
+    #[tactic(auto, using(crate::proofs::Rights::outside_word))]
+    pub fn is_own_text(&self, at: u16) -> bool
+        ensures read { IsTrue result
+            → may_at true self.now.sections.live self.now.own Read at ≡ true }
+        ensures memory { IsTrue result → device_of self.now.devices at ≡ None }
+    {
+        self.protection().has_code(self.own(), at) && self.windows().at(at).is_none()
+    }
+
     /// Whether one look says that no live section has a byte of the word at an address: none meets
     /// its page, or it lies in a gap. Then what a step asks of the sections needs no look at them.
     #[inline(always)]

@@ -16,7 +16,7 @@ use sx_bus::Bus;
 pub(crate) const PLACES: usize = 256;
 
 /// How many shortcuts are kept.
-pub(crate) const SHORTCUT_PLACES: usize = 2048;
+pub(crate) const SHORTCUT_PLACES: usize = 4096;
 
 /// Where the first word at an address is kept.
 fn place_of(at: u16) -> usize
@@ -29,9 +29,9 @@ fn place_of(at: u16) -> usize
 /// are spread.
 #[inline(always)]
 fn shortcut_place_of(at: u16) -> usize
-    ensures { result < 2048 }
+    ensures { result < 4096 }
 {
-    usize::from(at) * 5 / 8 % 2048
+    usize::from(at) * 5 / 8 % 4096
 }
 
 /// Keeps a decoded word, in the place of another one.
@@ -44,7 +44,7 @@ fn keep(kept: &mut [Decoded], at: u16, decoded: Decoded)
 
 /// Keeps a shortcut, in the place of another one.
 fn keep_shortcut(kept: &mut [Shortcut], at: u16, shortcut: Shortcut)
-    requires { length kept.old ≡ 2048 }
+    requires { length kept.old ≡ 4096 }
 {
     let place = shortcut_place_of(at);
     kept[place] = shortcut;
