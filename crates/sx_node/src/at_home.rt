@@ -6,7 +6,7 @@
 //! section is at hand. Where PC is at home again after an instruction, nothing of the node but what
 //! the instruction did has changed.
 
-ghost use Rattle.std.specs.Prelude.{◌≡◌, ◌==◌, ◌<◌, if◌then◌else◌, true, None, IsTrue};
+ghost use Rattle.std.specs.Prelude.{◌≡◌, ◌≢◌, ◌==◌, ◌<◌, if◌then◌else◌, true, None, IsTrue};
 ghost use Rattle.sx_rules.specs.Access.{holder};
 ghost use Rattle.sx_bus.specs.Devices.{device_at};
 ghost use Rattle.sx_machine.specs.declared.kinds.Event.TheVariants.{Quiet};
@@ -14,7 +14,7 @@ ghost use Rattle.sx_machine.specs.Run.{exec, untouched};
 ghost use Rattle.sx_machine.specs.Rows.{program};
 ghost use Rattle.sx_machine.specs.Step.{step, attempt, instruction, word_outside, pc_of, own_of};
 ghost use Rattle.sx_machine.specs.Step.{start, entered_from, left};
-ghost use Rattle.sx_node.specs.Telling.{told, Tells};
+ghost use Rattle.sx_node.specs.Telling.{told, Tells, is_told, IsAtHome};
 
 use crate::node::Node;
 use crate::quick::is_untouched;
@@ -25,29 +25,83 @@ use sx_machine::{Seen, Touch};
 use sx_rules::Violation;
 use sx_tag::Tag;
 
+/// How a step ended in a loop of steps of modules.
+#[derive(Clone, Copy)]
+pub enum StepEnd {
+    /// Nothing is seen, and PC is at home.
+    AtHome,
+    /// Nothing is seen.
+    Silent,
+    /// What is seen was left for the caller.
+    Told,
+}
+
+impl StepEnd {
+    /// The end of a step after which PC may be anywhere.
+    #[inline(always)]
+    fn of(is_seen: bool) -> StepEnd
+        ensures told { is_told result ≡ is_seen }
+        ensures away { result ≢ StepEnd.AtHome }
+    {
+        if is_seen {
+            return StepEnd::Told;
+        }
+        StepEnd::Silent
+    }
+
+    /// Whether anything is seen.
+    #[inline(always)]
+    fn is_told(self) -> bool
+        ensures { result ≡ is_told self }
+    {
+        matches!(self, StepEnd::Told)
+    }
+}
+
 impl<B: Bus, T: Tag> Node<B, T> {
     /// One step, told as `step_told` tells it. In a loop of steps of a module this is the shorter one:
-    /// the caller has the code of what a module does, and what code outside does is a call. The
-    /// caller has a number as there.
+    /// the caller has the code of what a module does, and what code outside does is a call. After
+    /// `AtHome` the next step needs no look at where PC is, which the caller says by `at_home`. The
+    /// caller has a number as in `step_told`.
     #[inline(always)]
-    pub fn step_running<const CALLER: u8>(&mut self, seen: &mut Seen) -> bool
+    pub fn step_running<const CALLER: u8>(&mut self, at_home: bool, seen: &mut Seen) -> StepEnd
+        requires boot { self.old.boot < 4294967295 }
+        requires home { IsTrue at_home → IsAtHome self.old }
+        ensures state { self.new ≡ (step T.mac self.old).state }
+        ensures shown { told (is_told result) seen.new ≡ (step T.mac self.old).shown }
+        ensures home { result ≡ StepEnd.AtHome → IsAtHome self.new }
+    {
+        if !self.goes_on(at_home) {
+            return StepEnd::of(self.step_elsewhere(seen));
+        }
+        self.step_at_home::<CALLER>(seen)
+    }
+
+    /// Whether a module goes on at home, as is already known where `at_home` says so.
+    #[inline(always)]
+    fn goes_on(&self, at_home: bool) -> bool
+        requires { IsTrue at_home → IsAtHome self.now }
+        ensures { IsTrue result → IsAtHome self.now }
+    {
+        if at_home {
+            return true;
+        }
+        self.cur != 0 && self.last == self.cur && self.is_at_home(self.cur)
+    }
+
+    /// A step that isn't one of a module at home. Its code stays out of the way of what most steps of
+    /// a module do.
+    #[cold]
+    #[inline(never)]
+    fn step_elsewhere(&mut self, seen: &mut Seen) -> bool
         requires { self.old.boot < 4294967295 }
         ensures state { self.new ≡ (step T.mac self.old).state }
         ensures shown { told result seen.new ≡ (step T.mac self.old).shown }
     {
         if self.cur == 0 {
-            return self.step_outside(seen);
+            return self.step_told::<2>(seen);
         }
-        self.step_of_module::<CALLER>(seen)
-    }
-
-    #[inline(never)]
-    fn step_outside(&mut self, seen: &mut Seen) -> bool
-        requires { self.old.boot < 4294967295 }
-        ensures state { self.new ≡ (step T.mac self.old).state }
-        ensures shown { told result seen.new ≡ (step T.mac self.old).shown }
-    {
-        self.step_told::<2>(seen)
+        self.step_learning(seen)
     }
 
     /// One step where a module runs. Its code stays out of the way of what most steps of code
@@ -57,56 +111,60 @@ impl<B: Bus, T: Tag> Node<B, T> {
         requires { self.old.boot < 4294967295 }
         ensures { Tells self.old (attempt T.mac self.old) result seen.new self.new }
     {
-        self.step_of_module::<1>(seen)
-    }
-
-    #[inline(always)]
-    fn step_of_module<const CALLER: u8>(&mut self, seen: &mut Seen) -> bool
-        requires { self.old.boot < 4294967295 }
-        ensures { Tells self.old (attempt T.mac self.old) result seen.new self.new }
-    {
-        let pc = self.executor.register(PC);
-        let own = self.cur;
-        if self.last != own || !self.executor.is_at_home(own, pc) {
+        if !self.goes_on(false) {
             return self.step_learning(seen);
         }
+        self.step_at_home::<1>(seen).is_told()
+    }
+
+    /// One step of a module at home.
+    #[inline(always)]
+    fn step_at_home<const CALLER: u8>(&mut self, seen: &mut Seen) -> StepEnd
+        requires boot { self.old.boot < 4294967295 }
+        requires home { IsAtHome self.old }
+        ensures tells { Tells self.old (attempt T.mac self.old) (is_told result) seen.new self.new }
+        ensures home { result ≡ StepEnd.AtHome → IsAtHome self.new }
+    {
+        let pc = self.executor.register(PC);
         match self.executor.windows().at(pc) {
-            Some(_device) => self.end_reset(Violation::Device, seen),
-            None => self.instruction_inside::<CALLER>(own, seen),
+            Some(_device) => StepEnd::of(self.end_reset(Violation::Device, seen)),
+            None => self.instruction_inside::<CALLER>(self.cur, seen),
         }
     }
 
     /// The instruction at PC, where the fast path is taken.
     #[inline(always)]
     #[tactic(auto, using(sx_executor::proofs::Rights::outside_word, sx_executor::proofs::Clear::none_found))]
-    fn instruction_inside<const CALLER: u8>(&mut self, own: u16, seen: &mut Seen) -> bool
+    fn instruction_inside<const CALLER: u8>(&mut self, own: u16, seen: &mut Seen) -> StepEnd
         requires boot { self.old.boot < 4294967295 }
-        requires own { own ≡ own_of self.old }
-        requires cur { self.old.cur ≡ own }
-        requires last { self.old.last ≡ own }
-        requires outside { word_outside self.old.sections.live (pc_of self.old) ≡ true }
+        requires cur { own ≡ self.old.cur }
+        requires home { IsAtHome self.old }
         requires memory { device_at self.old.devices (pc_of self.old) ≡ None }
-        ensures { Tells self.old (instruction T.mac self.old) result seen.new self.new }
+        ensures tells { Tells self.old (instruction T.mac self.old) (is_told result) seen.new
+            self.new }
+        ensures home { result ≡ StepEnd.AtHome → IsAtHome self.new }
     {
         let pc = self.executor.register(PC);
         let first = self.executor.read(true, pc);
         if self.executor.has_shortcut(pc, first) {
             self.plain_inside::<CALLER>(own, first, seen)
         } else {
-            self.instruction_near(own, first, seen)
+            StepEnd::of(self.instruction_near(own, first, seen))
         }
     }
 
     /// A plain instruction with a shortcut.
     #[inline(always)]
-    fn plain_inside<const CALLER: u8>(&mut self, own: u16, first: u16, seen: &mut Seen) -> bool
+    fn plain_inside<const CALLER: u8>(&mut self, own: u16, first: u16, seen: &mut Seen) -> StepEnd
         requires boot { self.old.boot < 4294967295 }
+        requires some { 0 < own }
         requires own { own ≡ own_of self.old }
         requires cur { self.old.cur ≡ own }
         requires last { self.old.last ≡ own }
-        ensures { Tells self.old
+        ensures tells { Tells self.old
             (exec self.old.sections own (program first self.old.regs) (start self.old))
-            result seen.new self.new }
+            (is_told result) seen.new self.new }
+        ensures home { result ≡ StepEnd.AtHome → IsAtHome self.new }
     {
         self.executor.turn(own);
         match step_quick::<B, CALLER>(&mut self.executor, first) {
@@ -116,7 +174,7 @@ impl<B: Bus, T: Tag> Node<B, T> {
             }
             Stepped::Answered(Err(violation)) => {
                 self.executor.begin(0);
-                self.end_reset(violation, seen)
+                StepEnd::of(self.end_reset(violation, seen))
             }
             Stepped::Answered(Ok(())) => {
                 let touch = self.executor.touches();
@@ -126,14 +184,15 @@ impl<B: Bus, T: Tag> Node<B, T> {
                 }
                 self.executor.begin(0);
                 let caller = self.entered_from(own);
-                self.ends_plain(own, caller, touch, seen)
+                StepEnd::of(self.ends_plain(own, caller, touch, seen))
             }
         }
     }
 
     /// The end of an instruction of the module that did nothing at devices.
     #[inline(always)]
-    fn ends_inside(&mut self, own: u16, seen: &mut Seen) -> bool
+    fn ends_inside(&mut self, own: u16, seen: &mut Seen) -> StepEnd
+        requires some { 0 < own }
         requires cur { self.old.cur ≡ own }
         requires last { self.old.last ≡ own }
         ensures state { self.new ≡ record self.old {
@@ -141,19 +200,21 @@ impl<B: Bus, T: Tag> Node<B, T> {
           last = own;
           caller = entered_from self.old own;
         } }
-        ensures shown { told result seen.new
+        ensures shown { told (is_told result) seen.new
             ≡ record { touch = untouched; event = left self.old own self.old.regs } }
+        ensures home { result ≡ StepEnd.AtHome → IsAtHome self.new }
     {
-        if self.is_still_home(own) {
-            return false;
+        if self.is_at_home(own) {
+            return StepEnd::AtHome;
         }
         let caller = self.entered_from(own);
-        self.ends_plain(own, caller, [Touch::Quiet; 2], seen)
+        StepEnd::of(self.ends_plain(own, caller, [Touch::Quiet; 2], seen))
     }
 
-    /// Whether PC is at home again. Then the end of an instruction of the module changes nothing.
+    /// Whether PC is at home. Then the end of an instruction of the module changes nothing.
     #[inline(always)]
-    fn is_still_home(&self, own: u16) -> bool
+    fn is_at_home(&self, own: u16) -> bool
+        requires some { 0 < own }
         requires cur { self.now.cur ≡ own }
         requires last { self.now.last ≡ own }
         ensures cur { IsTrue result
@@ -161,6 +222,7 @@ impl<B: Bus, T: Tag> Node<B, T> {
             ≡ self.now.cur }
         ensures caller { IsTrue result → entered_from self.now own ≡ self.now.caller }
         ensures event { IsTrue result → left self.now own self.now.regs ≡ Quiet }
+        ensures home { IsTrue result → IsAtHome self.now }
     {
         self.executor.is_at_home(own, self.executor.register(PC))
     }

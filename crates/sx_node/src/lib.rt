@@ -13,5 +13,6 @@ mod node;
 mod quick;
 mod step;
 
+pub use at_home::StepEnd;
 pub use node::Node;
 pub use sx_machine::{Event, Exchange, Refused, Seen, Touch};

@@ -5,7 +5,7 @@ ghost use Rattle.sx_node.specs.Telling.{silent};
 ghost use Rattle.sx_world.specs.Passing.{after_steps, AreQuiet, EndsWith, taken};
 
 use sx_bus::Bus;
-use sx_node::{Event, Node, Seen, Touch};
+use sx_node::{Event, Node, Seen, StepEnd, Touch};
 use sx_tag::Tag;
 
 /// Steps that showed nothing, and the one that ended them.
@@ -70,18 +70,25 @@ fn module_stretch<B: Bus, T: Tag>(node: &mut Node<B, T>, count: u32) -> QuietSte
     ensures left { node.new ≡ after_steps T.mac (taken result.count result.last) node.old }
 {
     let mut seen = silent();
+    let mut at_home = false;
     for done in 0..count {
-        if node.step_running::<4>(&mut seen) {
-            return QuietSteps {
-                count: done,
-                last: Some(seen),
-            };
-        }
-        if node.running() == 0 {
-            return QuietSteps {
-                count: done,
-                last: Some(silent()),
-            };
+        match node.step_running::<4>(at_home, &mut seen) {
+            StepEnd::AtHome => at_home = true,
+            StepEnd::Silent => {
+                if node.running() == 0 {
+                    return QuietSteps {
+                        count: done,
+                        last: Some(silent()),
+                    };
+                }
+                at_home = false;
+            }
+            StepEnd::Told => {
+                return QuietSteps {
+                    count: done,
+                    last: Some(seen),
+                };
+            }
         }
     }
     QuietSteps { count, last: None }
