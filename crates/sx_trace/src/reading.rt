@@ -18,7 +18,9 @@ use crate::items::{Cause, Item};
 use crate::names::{DEPLOYER, Names};
 use sx_lang::sides::Side;
 
-/// The offset of the first space.
+/// The offset of the first space. It is a loop of its own: where it is inlined, each place that is
+/// computed from the offset is kept up at every byte.
+#[inline(never)]
 fn first_space(text: &[u8]) -> Option<usize>
     ensures offset { result ≡ position is_space text.now }
     ensures within { IfSome result (λ i. i < length text.now) }
