@@ -5,7 +5,8 @@ ghost use Rattle.std.specs.Option.{option_to_list};
 ghost use Rattle.sx_mean.specs.Ends.{ends_after, receiving, sending};
 
 use crate::apps::Link;
-use crate::events::End;
+use crate::events::{End, Ends};
+use smallvec::SmallVec;
 use std::alloc::{AllocError, Global};
 use sx_lang::sides::Side;
 
@@ -40,7 +41,7 @@ pub fn receiving(number: u8, part: u8, link: &Link) -> Option<End>
 }
 
 /// Adds an end, where there is one.
-fn add_end(ends: &mut Vec<End>, end: Option<End>) -> Result<(), AllocError>
+fn add_end(ends: &mut Ends, end: Option<End>) -> Result<(), AllocError>
     ensures { OnOk result (ends.new.items ≡ ends.old.items ++ option_to_list «end») }
 {
     match end {
@@ -55,11 +56,11 @@ fn add_end(ends: &mut Vec<End>, end: Option<End>) -> Result<(), AllocError>
 /// The ends that the part of this index holds, in connection order, the sending end before the
 /// receiving one. The error says that memory ran out.
 #[tactic(auto, using(crate::proofs::LinkEnds::both_ends))]
-pub fn ends_of(alloc: Global, links: &[Link], part: u8) -> Result<Vec<End>, AllocError>
+pub fn ends_of(alloc: Global, links: &[Link], part: u8) -> Result<Ends, AllocError>
     requires { length links.now ≤ 256 }
     ensures { IfOk result (λ ends. ends.items ≡ ends_after 0 part links.now) }
 {
-    let mut ends = Vec::new(alloc);
+    let mut ends = SmallVec::new(alloc);
     for n in 0..links.len() {
         let link = &links[n];
         add_end(&mut ends, sending(n as u8, part, link))?;

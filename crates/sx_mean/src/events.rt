@@ -1,5 +1,6 @@
 //! Events, acts, and the ends of connections.
 
+use smallvec::SmallVec;
 use sx_lang::sides::Side;
 
 /// What a module reacts to.
@@ -21,6 +22,16 @@ pub enum Act {
     Emit(u16),
 }
 
+impl Default for Act {
+    /// What fills the places of a list that hold no act.
+    fn default() -> Act {
+        Act::Emit(0)
+    }
+}
+
+/// The acts of an event, in order. Few of them need no allocation.
+pub type Acts = SmallVec<Act, 4>;
+
 /// One end of a connection in a module. A module's ends stand in connection order, `From` before
 /// `To`.
 #[derive(Clone, Copy, PartialEq, Eq, Debug)]
@@ -32,3 +43,17 @@ pub struct End {
     /// The number of the output on the side `From`, of the input on the side `To`.
     pub port: u8,
 }
+
+impl Default for End {
+    /// What fills the places of a list that hold no end.
+    fn default() -> End {
+        End {
+            link: 0,
+            side: Side::From,
+            port: 0,
+        }
+    }
+}
+
+/// The ends that a module holds. Those of a valid application, at most 16, need no allocation.
+pub type Ends = SmallVec<End, 16>;

@@ -1,6 +1,7 @@
 //! The state of a handler in mid-run.
 
-use crate::events::Act;
+use crate::events::Acts;
+use smallvec::SmallVec;
 use sx_lang::names::Name;
 
 /// A local and its value.
@@ -12,13 +13,23 @@ pub struct Local {
     pub value: u16,
 }
 
+impl Default for Local {
+    /// What fills the places of a list that hold no local: any name, and 0.
+    fn default() -> Local {
+        let Some(name) = Name::new(b"a") else {
+            unreachable!();
+        };
+        Local { name, value: 0 }
+    }
+}
+
 /// Where a handler stands: its locals, the cells, and the acts so far.
 #[derive(Drop)]
 pub struct Moment {
     /// The locals in scope; the last was defined last.
-    pub locals: Vec<Local>,
+    pub locals: SmallVec<Local, 4>,
     /// The module's cells as they stand.
     pub cells: Vec<u16>,
     /// What was sent and emitted, in order.
-    pub acts: Vec<Act>,
+    pub acts: Acts,
 }

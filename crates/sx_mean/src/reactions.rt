@@ -9,10 +9,11 @@ ghost use Rattle.sx_mean.specs.React.{handler_of_input, input_names};
 ghost use Rattle.sx_mean.specs.React.{nth, react, run, start};
 ghost use Rattle.sx_mean.specs.View.{state_of};
 
-use crate::events::{Act, SourceEvent};
+use crate::events::{Act, Acts, SourceEvent};
 use crate::moments::{Local, Moment};
 use crate::statements::run_block;
 use crate::stores::Store;
+use smallvec::SmallVec;
 use std::alloc::{AllocError, Global};
 use sx_check::checked::Checked;
 use sx_lang::names::Name;
@@ -45,10 +46,19 @@ pub fn handles(h: &Handler, input: &Option<Name>) -> bool
     }
 }
 
+/// What an event makes of a module.
+#[derive(Drop)]
+pub struct Reaction {
+    /// What its handler sent and emitted, in order.
+    pub acts: Acts,
+    /// The cells as its handler leaves them.
+    pub cells: Vec<u16>,
+}
+
 fn start(alloc: Global, h: &Handler, value: u16, cells: &[u16]) -> Result<Moment, AllocError>
     ensures { IfOk result (λ m. state_of m ≡ start (handler_of h.now) value cells.now) }
 {
-    let mut locals = Vec::new(alloc);
+    let mut locals = SmallVec::new(alloc);
     locals.push(Local {
         name: h.param,
         value,
@@ -57,7 +67,7 @@ fn start(alloc: Global, h: &Handler, value: u16, cells: &[u16]) -> Result<Moment
     Ok(Moment {
         locals,
         cells,
-        acts: Vec::new(alloc),
+        acts: SmallVec::new(alloc),
     })
 }
 
@@ -67,24 +77,30 @@ fn run_handler(
     h: &Handler,
     value: u16,
     cells: &[u16],
-) -> Result<Moment, AllocError>
+) -> Result<Reaction, AllocError>
     requires { AreSizedDecls decls.now }
-    ensures { IfOk result (λ m. state_of m ≡ run decls.now (Some (handler_of h.now)) value
-        cells.now) }
+    ensures acts { IfOk result (λ r. r.acts.items
+        ≡ (run decls.now (Some (handler_of h.now)) value cells.now).acts) }
+    ensures cells { IfOk result (λ r. r.cells.items
+        ≡ (run decls.now (Some (handler_of h.now)) value cells.now).cells) }
 {
     let mut moment = start(alloc, h, value, cells)?;
     run_block(decls, &h.body, &mut moment)?;
-    Ok(moment)
+    Ok(Reaction {
+        acts: moment.acts,
+        cells: moment.cells,
+    })
 }
 
-fn idle(alloc: Global, decls: &[Decl], value: u16, cells: &[u16]) -> Result<Moment, AllocError>
-    ensures { IfOk result (λ m. state_of m ≡ run decls.now None value cells.now) }
+fn idle(alloc: Global, decls: &[Decl], value: u16, cells: &[u16]) -> Result<Reaction, AllocError>
+    ensures acts { IfOk result (λ r. r.acts.items ≡ (run decls.now None value cells.now).acts) }
+    ensures cells { IfOk result (λ r. r.cells.items
+        ≡ (run decls.now None value cells.now).cells) }
 {
     let cells = Vec::from_slice(alloc, cells)?;
-    Ok(Moment {
-        locals: Vec::new(alloc),
+    Ok(Reaction {
+        acts: SmallVec::new(alloc),
         cells,
-        acts: Vec::new(alloc),
     })
 }
 
@@ -94,10 +110,12 @@ fn run_first(
     input: &Option<Name>,
     value: u16,
     cells: &[u16],
-) -> Result<Moment, AllocError>
+) -> Result<Reaction, AllocError>
     requires { AreSizedDecls m.now.decls.items }
-    ensures { IfOk result (λ n. state_of n ≡ run m.now.decls.items
-        (handler_of_input input.now (map handler_of m.now.handlers.items)) value cells.now) }
+    ensures acts { IfOk result (λ r. r.acts.items ≡ (run m.now.decls.items
+        (handler_of_input input.now (map handler_of m.now.handlers.items)) value cells.now).acts) }
+    ensures cells { IfOk result (λ r. r.cells.items ≡ (run m.now.decls.items
+        (handler_of_input input.now (map handler_of m.now.handlers.items)) value cells.now).cells) }
 {
     for h in &m.handlers {
         if handles(h, input) {
@@ -112,9 +130,12 @@ fn outcome(
     m: &Module,
     event: SourceEvent,
     cells: &[u16],
-) -> Result<Moment, AllocError>
+) -> Result<Reaction, AllocError>
     requires { AreSizedDecls m.now.decls.items }
-    ensures { IfOk result (λ n. state_of n ≡ react (module_of m.now) event cells.now) }
+    ensures acts { IfOk result (λ r. r.acts.items
+        ≡ (react (module_of m.now) event cells.now).acts) }
+    ensures cells { IfOk result (λ r. r.cells.items
+        ≡ (react (module_of m.now) event cells.now).cells) }
 {
     match event {
         SourceEvent::Input(number, value) => match input_name(&m.decls, number) {
@@ -125,10 +146,25 @@ fn outcome(
     }
 }
 
+/// What an event makes of a module with these cells: the acts of the event's handler, in order, and
+/// the cells as the handler leaves them. The error says that memory ran out. An event without a
+/// handler, or of an input that the module doesn't have, leaves the cells and gives no acts.
+pub fn reaction_of(
+    alloc: Global,
+    m: &Checked,
+    cells: &[u16],
+    event: SourceEvent,
+) -> Result<Reaction, AllocError>
+    ensures acts { IfOk result (λ r. r.acts.items
+        ≡ (react (source_tree m.now) event cells.now).acts) }
+    ensures cells { IfOk result (λ r. r.cells.items
+        ≡ (react (source_tree m.now) event cells.now).cells) }
+{
+    outcome(alloc, m.module(), event, cells)
+}
+
 /// The acts of the event's handler, in order; the store's cells are then as the handler leaves
-/// them. The error says that memory ran out. An event without a handler, or of an input that the
-/// module doesn't have, changes nothing and gives no acts. The handler runs on a copy of the cells,
-/// so after an `Err` the store is unchanged.
+/// them. After an `Err` the store is unchanged.
 pub fn react(
     alloc: Global,
     m: &Checked,
@@ -141,7 +177,8 @@ pub fn react(
         ≡ (react (source_tree m.now) event store.old.cells.items).cells) }
     ensures unchanged { OnErr result (store.new ≡ store.old) }
 {
-    let moment = outcome(alloc, m.module(), event, &store.cells)?;
-    store.cells = moment.cells;
-    Ok(moment.acts)
+    let made = reaction_of(alloc, m, &store.cells, event)?;
+    let acts = made.acts.into_vec()?;
+    store.cells = made.cells;
+    Ok(acts)
 }

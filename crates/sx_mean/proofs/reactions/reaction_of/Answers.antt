@@ -3,7 +3,7 @@ use Rattle.sx_lang.specs.declared.tree.Module.{Module}
 use Rattle.sx_check.specs.Source.{source_tree}
 use Rattle.sx_mean.specs.Sized.{AreSizedDecls}
 use Rattle.sx_mean.proofs.Kept.{sized}
-use Rattle.sx_mean.proofs.reactions.react.Goals as goal
+use Rattle.sx_mean.proofs.reactions.reaction_of.Goals as goal
 
 pub outcome-requires : goal.outcome-requires
 outcome-requires c =
