@@ -1,11 +1,14 @@
 -- Texts that are cut at their first space, and the numbers that digits write.
 use Rattle.std.proofs.Common.{◌≡◌, ℕ, suc, ◌+◌, ◌-◌, ◌*◌, ◌/◌, ◌%◌, ◌^◌, ◌<◌, ◌≤◌, Bool, true, false, ◌==◌, ◌&&◌, not, nat_le, nat_lt, List, [], ◌∷◌, ◌++◌, length}
-use Rattle.std.proofs.Common.{take, drop, decimal, if◌then◌else◌, Option, Some, None, refl, sym, ap, subst, ◌∙◌, append_assoc, length-append, arith}
+use Rattle.std.proofs.Common.{take, drop, decimal, if◌then◌else◌, Option, Some, None, refl, sym, ap, subst, ◌∙◌, append_assoc, length-append, cond, map, w64, arith}
 use Rattle.std.specs.Prelude.{position, unwrap_or}
 use Rattle.std.specs.List.{list_all, position_or_len}
+use Rattle.std.specs.Int.{trailing_zeros}
+use Rattle.std.specs.Simd.Lanes.{mask_l}
 use Rattle.std.proofs.lemmas.Bool.Decides.{nat_tests}
-use Rattle.std.proofs.lemmas.List.{append-nil, take_at, drop_at, drop-drop}
-use Rattle.std.proofs.lemmas.List.Folds.{list_all-append}
+use Rattle.std.proofs.lemmas.List.{append-nil, length-take-le, take-append-drop, take_at, drop_at, drop-drop}
+use Rattle.std.proofs.lemmas.List.Folds.{list_all-append, prefix_len-append}
+use Rattle.std.proofs.lemmas.Simd.{trailing_mask_l}
 use Rattle.std.proofs.lemmas.Fmt.{decimal_by_steps_wide, decimal_digit, decimal_step_wide}
 use Rattle.std.proofs.lemmas.Bool.{and_parts, not-true}
 use Rattle.sx_trace.specs.Finding.{is_space, cut, with_digit, with_digits, has_first, number_below, ◌>>=◌}
@@ -235,3 +238,47 @@ decimal_word n h = decimal_by_steps_wide (λ n ds. is_word ds ≡ true) one more
 
     more : (n : ℕ) (ds : List ℕ) → 10 ≤ n → is_word ds ≡ true → is_word (ds ++ ((48 + n % 10) ∷ [])) ≡ true
     more n ds h front = list_all-append is_plain ds ((48 + n % 10) ∷ []) ∙ rw (front, digit (n % 10)) refl
+
+-- where some lane passes a test, fewer lanes than all are before the first that does
+some_passes : (p : ℕ → Bool) (xs : List ℕ) → 0 < mask_l (map p xs) → position_or_len p xs < length xs
+some_passes p [] some = absurd (omega (arith, some))
+some_passes p (x ∷ xs) some = by_test (some_passes p xs) (p x) refl
+  where
+    by_test : (0 < mask_l (map p xs) → position_or_len p xs < length xs) → (t : Bool) → p x ≡ t → position_or_len p (x ∷ xs) < length (x ∷ xs)
+    by_test rest true e = rw e (omega arith)
+    by_test rest false e =
+        let behind : 0 < cond false 1 0 + 2 * mask_l (map p xs) = rw e at some in
+        let within = rest (omega (arith, behind)) in
+        rw e (omega (arith, within))
+
+-- what is found in a list's front is found in the list
+found_in_front : (p : ℕ → Bool) (xs ys : List ℕ) → position_or_len p xs < length xs → position_or_len p (xs ++ ys) ≡ position_or_len p xs
+found_in_front p xs ys within =
+    let differ : (position_or_len p xs == length xs) ≡ false = grind (arith, nat_tests, within) in
+    prefix_len-append (λ x. not (p x)) xs ys ∙ rw differ refl
+
+-- the lowest bit of the mask of the spaces among the first 8 bytes is the place of the first space
+module _ (text : List ℕ) (mask : ℕ) (long : 8 ≤ length text) (is : mask ≡ mask_l (map is_space (take 8 text))) (some : 0 < mask) where
+  abbrev front : List ℕ
+  front = take 8 text
+
+  size : length front ≡ 8
+  size = length-take-le 8 text long
+
+  set : 0 < mask_l (map is_space front)
+  set = omega (arith, is, some)
+
+  lowest : trailing_zeros w64 mask ≡ position_or_len is_space front
+  lowest = ap (trailing_zeros w64) is ∙ trailing_mask_l is_space 64 front (omega (arith, size)) set
+
+  place : position_or_len is_space text ≡ position_or_len is_space front
+  place = ap (λ (xs : List ℕ). position_or_len is_space xs) (sym (take-append-drop 8 text)) ∙ found_in_front is_space front (drop 8 text) (some_passes is_space front set)
+
+  pub near_within : trailing_zeros w64 mask < length text
+  near_within = let within = some_passes is_space front set in omega (arith, lowest, within, size, long)
+
+  pub near_is_first : position is_space text ≡ Some (trailing_zeros w64 mask)
+  near_is_first =
+      let within = near_within in
+      let there : nat_lt (position_or_len is_space text) (length text) ≡ true = grind (arith, nat_tests, place, lowest, within) in
+      rw there (ap Some (place ∙ sym lowest))

@@ -16,16 +16,38 @@ ghost use Rattle.sx_trace.specs.Finding.{item_in};
 
 use crate::items::{Cause, Item};
 use crate::names::{DEPLOYER, Names};
+use std::simd::prelude::*;
 use sx_lang::sides::Side;
 
-/// The offset of the first space. It is a loop of its own: where it is inlined, each place that is
+/// The offset of the first space, where a text has 8 bytes or more and one of the first 8 is one.
+#[inline(always)]
+fn near_space(text: &[u8]) -> Option<usize>
+    ensures offset { IfSome result (λ i. position is_space text.now ≡ Some i) }
+    ensures within { IfSome result (λ i. i < length text.now) }
+{
+    if text.len() < 8 {
+        return None;
+    }
+    let spaces = u8x8::from_slice(text)
+        .simd_eq(u8x8::splat(b' '))
+        .to_bitmask();
+    if spaces == 0 {
+        return None;
+    }
+    Some(spaces.trailing_zeros() as usize)
+}
+
+/// The offset of the first space. It is code of its own: where it is inlined, each place that is
 /// computed from the offset is kept up at every byte.
 #[inline(never)]
 fn first_space(text: &[u8]) -> Option<usize>
     ensures offset { result ≡ position is_space text.now }
     ensures within { IfSome result (λ i. i < length text.now) }
 {
-    text.iter().position(|byte| *byte == b' ')
+    match near_space(text) {
+        Some(offset) => Some(offset),
+        None => text.iter().position(|byte| *byte == b' '),
+    }
 }
 
 /// What stands before the first space, and what follows it; None exactly without a space.
