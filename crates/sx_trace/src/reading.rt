@@ -3,6 +3,7 @@
 
 ghost use Rattle.std.specs.Prelude.{◌≡◌, ◌<◌, ◌≤◌, ◌^◌, length, position, IsTrue, IfSome};
 ghost use Rattle.std.specs.Prelude.{MatchOption, None, Some};
+ghost use Rattle.std.specs.Str.{bytes_eq};
 ghost use Rattle.sx_trace.specs.ValidNames.{are_valid};
 ghost use Rattle.sx_trace.specs.Names.{NameLists};
 ghost use Rattle.sx_trace.specs.Items.{item_text};
@@ -156,24 +157,35 @@ fn index_or_none(other: &[u8], names: &Names, word: &[u8]) -> Option<Option<u8>>
     Some(Some(module))
 }
 
+/// Whether a text is this word. As arrays they are compared without a call: their length is known.
+#[inline(always)]
+fn is_word<const N: usize>(text: &[u8], word: &[u8; N]) -> bool
+    ensures { result ≡ bytes_eq text.now word.now }
+{
+    match <&[u8; N]>::try_from(text) {
+        Ok(text) => *text == *word,
+        Err(_) => false,
+    }
+}
+
 fn cause_of(word: &[u8]) -> Option<Cause>
     ensures { result ≡ cause_of word.now }
 {
-    if word == b"order".as_slice() {
+    if is_word(word, b"order") {
         Some(Cause::Order)
-    } else if word == b"fetch".as_slice() {
+    } else if is_word(word, b"fetch") {
         Some(Cause::Fetch)
-    } else if word == b"read".as_slice() {
+    } else if is_word(word, b"read") {
         Some(Cause::Read)
-    } else if word == b"write".as_slice() {
+    } else if is_word(word, b"write") {
         Some(Cause::Write)
-    } else if word == b"device".as_slice() {
+    } else if is_word(word, b"device") {
         Some(Cause::Device)
-    } else if word == b"illegal".as_slice() {
+    } else if is_word(word, b"illegal") {
         Some(Cause::Illegal)
-    } else if word == b"range".as_slice() {
+    } else if is_word(word, b"range") {
         Some(Cause::Range)
-    } else if word == b"asked".as_slice() {
+    } else if is_word(word, b"asked") {
         Some(Cause::Asked)
     } else {
         None
@@ -183,9 +195,9 @@ fn cause_of(word: &[u8]) -> Option<Cause>
 fn side_of(word: &[u8]) -> Option<Side>
     ensures { result ≡ side_of word.now }
 {
-    if word == b"from".as_slice() {
+    if is_word(word, b"from") {
         Some(Side::From)
-    } else if word == b"to".as_slice() {
+    } else if is_word(word, b"to") {
         Some(Side::To)
     } else {
         None
@@ -292,23 +304,23 @@ fn numbered_in(names: &Names, kind: &[u8], module: u8, fields: &[u8]) -> Option<
     ensures item { result ≡ numbered_in kind.now «module» fields.now }
     ensures fit { IfSome result (λ item. IsItem names.now item) }
 {
-    if kind == b"read".as_slice() {
+    if is_word(kind, b"read") {
         let value = number16(fields)?;
         return Some(Item::Read { module, value });
     }
-    if kind == b"out".as_slice() {
+    if is_word(kind, b"out") {
         let value = number16(fields)?;
         return Some(Item::Out { module, value });
     }
-    if kind == b"ask".as_slice() {
+    if is_word(kind, b"ask") {
         let challenge = number128(fields)?;
         return Some(Item::Ask { module, challenge });
     }
-    if kind == b"vouch".as_slice() {
+    if is_word(kind, b"vouch") {
         let challenge = number128(fields)?;
         return Some(Item::Vouch { module, challenge });
     }
-    if kind == b"attested".as_slice() {
+    if is_word(kind, b"attested") {
         let boot = number32(fields)?;
         return Some(Item::Attested { module, boot });
     }
@@ -322,13 +334,13 @@ fn module_in(names: &Names, kind: &[u8], module: u8, fields: &[u8]) -> Option<It
     ensures item { result ≡ module_in names.now kind.now «module» fields.now }
     ensures fit { IfSome result (λ item. IsItem names.now item) }
 {
-    if kind == b"done".as_slice() {
+    if is_word(kind, b"done") {
         return done_in(names, module, fields);
     }
-    if kind == b"take".as_slice() {
+    if is_word(kind, b"take") {
         return take_in(names, module, fields);
     }
-    if kind == b"open".as_slice() {
+    if is_word(kind, b"open") {
         return open_in(names, module, fields);
     }
     numbered_in(names, kind, module, fields)
@@ -340,7 +352,7 @@ fn device_in(names: &Names, kind: &[u8], device: u8, fields: &[u8]) -> Option<It
     ensures item { result ≡ device_in kind.now device fields.now }
     ensures fit { IfSome result (λ item. IsItem names.now item) }
 {
-    if kind == b"sense".as_slice() {
+    if is_word(kind, b"sense") {
         let value = number16(fields)?;
         return Some(Item::Sense { device, value });
     }
@@ -355,7 +367,7 @@ fn node_in(names: &Names, kind: &[u8], node: u8, fields: &[u8]) -> Option<Item>
     ensures item { result ≡ node_in names.now kind.now node fields.now }
     ensures fit { IfSome result (λ item. IsItem names.now item) }
 {
-    if kind == b"reset".as_slice() {
+    if is_word(kind, b"reset") {
         let cause = cause_of(fields)?;
         return Some(Item::Reset { node, cause });
     }
@@ -368,9 +380,9 @@ fn refused_in(kind: &[u8], node: u8) -> Item
     ensures item { result ≡ refused_in kind.now node }
     ensures fit { (n : NameLists) → node < length n.nodes → IsItem n result }
 {
-    if kind == b"busy".as_slice() {
+    if is_word(kind, b"busy") {
         Item::Busy { node }
-    } else if kind == b"skip".as_slice() {
+    } else if is_word(kind, b"skip") {
         Item::Skip { node }
     } else {
         Item::Budget { node }
@@ -380,12 +392,12 @@ fn refused_in(kind: &[u8], node: u8) -> Item
 fn has_one_name(kind: &[u8]) -> bool
     ensures { result ≡ has_one_name kind.now }
 {
-    kind == b"busy".as_slice()
-        || kind == b"skip".as_slice()
-        || kind == b"budget".as_slice()
-        || kind == b"drain".as_slice()
-        || kind == b"denied".as_slice()
-        || kind == b"forged".as_slice()
+    is_word(kind, b"busy")
+        || is_word(kind, b"skip")
+        || is_word(kind, b"budget")
+        || is_word(kind, b"drain")
+        || is_word(kind, b"denied")
+        || is_word(kind, b"forged")
 }
 
 /// An item of this kind and one name.
@@ -394,15 +406,15 @@ fn named_in(names: &Names, kind: &[u8], name: &[u8]) -> Option<Item>
     ensures item { result ≡ named_in names.now kind.now name.now }
     ensures fit { IfSome result (λ item. IsItem names.now item) }
 {
-    if kind == b"drain".as_slice() {
+    if is_word(kind, b"drain") {
         let device = names.device(name)?;
         return Some(Item::Drain { device });
     }
-    if kind == b"denied".as_slice() {
+    if is_word(kind, b"denied") {
         let module = names.module(name)?;
         return Some(Item::Denied { module });
     }
-    if kind == b"forged".as_slice() {
+    if is_word(kind, b"forged") {
         let module = index_or_none(&DEPLOYER, names, name)?;
         return Some(Item::Forged { module });
     }
@@ -413,13 +425,13 @@ fn named_in(names: &Names, kind: &[u8], name: &[u8]) -> Option<Item>
 fn is_of_node(kind: &[u8]) -> bool
     ensures { result ≡ is_of_node kind.now }
 {
-    kind == b"reset".as_slice() || kind == b"protect".as_slice()
+    is_word(kind, b"reset") || is_word(kind, b"protect")
 }
 
 fn is_of_device(kind: &[u8]) -> bool
     ensures { result ≡ is_of_device kind.now }
 {
-    kind == b"sense".as_slice() || kind == b"raw".as_slice()
+    is_word(kind, b"sense") || is_word(kind, b"raw")
 }
 
 /// An item of this kind, whose first field is this name.
@@ -446,7 +458,7 @@ fn kind_in(names: &Names, kind: &[u8], fields: &[u8]) -> Option<Item>
     ensures item { result ≡ kind_in names.now kind.now fields.now }
     ensures fit { IfSome result (λ item. IsItem names.now item) }
 {
-    if kind == b"packet".as_slice() {
+    if is_word(kind, b"packet") {
         return packet_in(fields);
     }
     if has_one_name(kind) {
