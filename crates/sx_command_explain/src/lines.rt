@@ -1,10 +1,9 @@
 //! The lines of a trace.
 
-ghost use Rattle.std.specs.Prelude.{◌≡◌, ◌≤◌, IsTrue, OnOk};
+ghost use Rattle.std.specs.Prelude.{◌≡◌, ◌≤◌, IsTrue, OnOk, option_map};
 ghost use Rattle.sx_trace.specs.ValidNames.{are_valid};
 ghost use Rattle.sx_command_explain.specs.Meant.{AreMeanings, Meanings};
 ghost use Rattle.sx_command_explain.specs.Trace.{is_last, judged_line, line_of, rule_behind};
-ghost use Rattle.sx_command_explain.specs.Trace.{said_by};
 
 use sx_trace::items::Item;
 use sx_trace::names::Names;
@@ -37,13 +36,10 @@ fn is_last(text: &[u8]) -> bool
     text == b"end".as_slice() || (text.len() >= 6 && &text[..6] == b"fault ".as_slice())
 }
 
-/// What a line says that is the last one, or has this item.
-fn said_by(is_last: bool, item: Option<Item>) -> Option<TraceLine>
-    ensures { result ≡ said_by is_last item }
+/// What a line says that isn't the last one, and has this item.
+fn item_line(item: Option<Item>) -> Option<TraceLine>
+    ensures { result ≡ option_map TraceLine.Item item }
 {
-    if is_last {
-        return Some(TraceLine::Last);
-    }
     match item {
         Some(item) => Some(TraceLine::Item(item)),
         None => None,
@@ -56,7 +52,10 @@ fn line_of(names: &Names, text: &[u8]) -> Option<TraceLine>
     ensures { (means : Meanings) → AreMeanings means
         → result ≡ line_of (means.item names.now) text.now }
 {
-    said_by(is_last(text), read_item(names, text))
+    if is_last(text) {
+        return Some(TraceLine::Last);
+    }
+    item_line(read_item(names, text))
 }
 
 /// What the line of this number says, counted from 1, or the first rule that it breaks.
