@@ -10,8 +10,7 @@ use Rattle.sx_mean.specs.declared.events.End.{End}
 use Rattle.sx_mean.specs.declared.events.SourceEvent.{SourceEvent}
 use Rattle.sx_mean.specs.React.{react}
 use Rattle.sx_model.specs.declared.sendings.Sending.{Sending}
-use Rattle.sx_model.specs.State.{EndView, Model, Pending, Present}
-use Rattle.sx_model.specs.Changes.{reacted, with_module}
+use Rattle.sx_model.specs.State.{EndView, Pending, Present}
 use Rattle.sx_model.specs.Reaction.{Flow, MOST_SENT, after_event, all_done, done, field_of, flow_of, sends, sent_over, sent_to}
 use Rattle.sx_model.specs.Sendings.{act_to_send, all_to_send, emits_of, emits_of_act, has_room, owed_of, sending_of, sent_one, sent_pieces, sent_words, to_send, with_word}
 
@@ -103,26 +102,20 @@ flow_event tree es e p ss =
     ∙ ap (λ n. record { cells = (react tree e p.cells).cells; ends = p.ends; pending = Some (record { emits = emits_of (react tree e p.cells).acts; pieces = n }) })
     (zero-add (sent_pieces (all_to_send es p.ends (react tree e p.cells).acts) ss))
 
--- the same of what was done, where these are the module's ends
-pub reacted_sent : (tree : ModuleTree) (es : List End) (e : SourceEvent) (p : Present) (views : List EndView) (ss new : List (List ℕ)) → views ≡ p.ends →
-    new ≡ sent_words (all_to_send es views (react tree e p.cells).acts) ss → new ≡ (flow_of tree es e p ss).sent
-reacted_sent tree es e p views ss new same is =
-    is ∙ ap (λ vs. sent_words (all_to_send es vs (react tree e p.cells).acts) ss) same ∙ sym (flow_sent tree es e p ss)
+-- the same of what was done, where these are the module's cells and ends
+pub reacted_sent : (tree : ModuleTree) (es : List End) (e : SourceEvent) (p : Present) (cells : List ℕ) (views : List EndView) (ss new : List (List ℕ)) → cells ≡ p.cells → views ≡ p.ends →
+    new ≡ sent_words (all_to_send es views (react tree e cells).acts) ss → new ≡ (flow_of tree es e p ss).sent
+reacted_sent tree es e p cells views ss new held same is =
+    is
+    ∙ ap (λ ws. sent_words (all_to_send es views (react tree e ws).acts) ss) held
+    ∙ ap (λ vs. sent_words (all_to_send es vs (react tree e p.cells).acts) ss) same
+    ∙ sym (flow_sent tree es e p ss)
 
-pub reacted_event : (tree : ModuleTree) (es : List End) (e : SourceEvent) (p : Present) (views : List EndView) (cells : List ℕ) (owed : Pending) (ss : List (List ℕ)) → views ≡ p.ends →
-    cells ≡ (react tree e p.cells).cells → owed ≡ owed_of tree es e p.cells views ss →
-    record { cells = cells; ends = p.ends; pending = Some owed } ≡ after_event tree e (flow_of tree es e p ss) p
-reacted_event tree es e p views cells owed ss same left is =
-    let one : record { cells = cells; ends = p.ends; pending = Some owed } ≡ record { cells = (react tree e p.cells).cells; ends = p.ends; pending = Some owed } =
-    ap (λ ws. record { cells = ws; ends = p.ends; pending = Some owed }) left in
-    one
-    ∙ ap (λ o. record { cells = (react tree e p.cells).cells; ends = p.ends; pending = Some o }) (is ∙ ap (λ vs. owed_of tree es e p.cells vs ss) same)
+pub reacted_event : (tree : ModuleTree) (es : List End) (e : SourceEvent) (p : Present) (cells : List ℕ) (views : List EndView) (left : List ℕ) (owed : Pending) (ss : List (List ℕ)) → cells ≡ p.cells →
+    views ≡ p.ends → left ≡ (react tree e cells).cells → owed ≡ owed_of tree es e cells views ss →
+    record { cells = left; ends = p.ends; pending = Some owed } ≡ after_event tree e (flow_of tree es e p ss) p
+reacted_event tree es e p cells views left owed ss held same made is =
+    let after : List ℕ → Pending → Present = λ ws o. record { cells = ws; ends = p.ends; pending = Some o } in
+    ap (λ ws. after ws owed) (made ∙ ap (λ ws. (react tree e ws).cells) held)
+    ∙ ap (λ o. after (react tree e p.cells).cells o) (is ∙ ap (λ ws. owed_of tree es e ws views ss) held ∙ ap (λ vs. owed_of tree es e p.cells vs ss) same)
     ∙ sym (flow_event tree es e p ss)
-
--- and of the state
-pub module_reacted : (tree : ModuleTree) (es : List End) (e : SourceEvent) (s new : Model) (m : ℕ) (p q : Present) (ss : List (List ℕ)) →
-    q ≡ after_event tree e (flow_of tree es e p s.sent) p → ss ≡ (flow_of tree es e p s.sent).sent →
-    new ≡ with_module (record s { sent = ss }) m q → new ≡ reacted tree es e s m p
-unfolding reacted
-module_reacted tree es e s new m p q ss same sent is =
-    is ∙ ap (λ ws. with_module (record s { sent = ws }) m q) sent ∙ ap (λ r. with_module (record s { sent = (flow_of tree es e p s.sent).sent }) m r) same

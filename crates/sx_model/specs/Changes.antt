@@ -14,6 +14,7 @@ use Rattle.sx_mean.specs.declared.events.SourceEvent.{SourceEvent}
 use Rattle.sx_mean.specs.declared.events.SourceEvent.TheVariants as event
 use Rattle.sx_mean.specs.Ends.{ends_of, same_side}
 use Rattle.sx_model.specs.Reaction.{after_event, flow_of}
+use Rattle.sx_model.specs.declared.receiving.Taking.{Taking}
 use Rattle.sx_model.specs.State.{EndView, Model, Pending, Present, Reading, Standing, Vouched}
 use Rattle.sx_model.specs.State.{contains}
 use Rattle.sx_model.specs.Step.{◌>>?◌, absent_at, first_present, idle}
@@ -258,6 +259,47 @@ word_at sent c i = slice_get sent (c + 256 * (i / 65536)) >>? (λ words. slice_g
 abbrev pub takes_present : ℕ → ℕ → List End → Present → Option Present
 takes_present c i es p = on_end (takes (i / 65536) (i % 65536)) c To es p.ends >>?
     (λ views. Some (record p { ends = views }))
+
+-- the views of a module's ends after the word of an event, if it brings one
+abbrev pub taken_views : Option Taking → List End → List EndView → Option (List EndView)
+taken_views None es views = Some views
+taken_views (Some t) es views =
+    on_end (takes (t.number / 65536) (t.number % 65536)) t.link To es views
+
+-- the module, with that word taken
+abbrev pub readied : Option Taking → List End → Present → Option Present
+readied t es p = taken_views t es p.ends >>? (λ views. Some (record p { ends = views }))
+
+-- the same of a module at which nothing is pending
+abbrev pub readies : Option Taking → List End → Present → Option Present
+readies t es p = if_so (is_none p.pending) (readied t es p)
+
+-- an idle module takes the word and reacts
+abbrev pub reacts_present : ModuleTree → List End → SourceEvent → Option Taking → List (List ℕ)
+    → Present → Option Present
+reacts_present tree es e t sent p = readies t es p >>?
+    (λ q. Some (after_event tree e (flow_of tree es e q sent) q))
+
+-- what is sent then
+abbrev pub sends_present : ModuleTree → List End → SourceEvent → Option Taking → List (List ℕ)
+    → Present → Option (List (List ℕ))
+sends_present tree es e t sent p = readies t es p >>? (λ q. Some (flow_of tree es e q sent).sent)
+
+-- the same of a module that may be absent
+abbrev pub reacts_standing : ModuleTree → List End → SourceEvent → Option Taking → List (List ℕ)
+    → Standing → Option Standing
+reacts_standing tree es e t sent x = on_present (reacts_present tree es e t sent) x
+
+-- what is sent then
+abbrev pub sends_standing : ModuleTree → List End → SourceEvent → Option Taking → List (List ℕ)
+    → Standing → Option (List (List ℕ))
+sends_standing tree es e t sent x = x.present >>? sends_present tree es e t sent
+
+-- the state after the event of an idle module
+abbrev pub reacts_at : ModuleTree → List End → SourceEvent → Option Taking → Model → ℕ
+    → Option Model
+reacts_at tree es e t s m = (slice_get s.modules m >>? idle) >>?
+    (λ p. readied t es p >>? (λ q. Some (reacted tree es e s m q)))
 
 -- an idle module takes a word at an input
 abbrev pub takes_idle : AppTree → Model → ℕ → PartTree → ℕ → ℕ → ℕ → ℕ → Present → Option Model

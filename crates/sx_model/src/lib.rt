@@ -22,6 +22,7 @@ mod nodes;
 mod opening;
 mod protecting;
 mod reactions;
+mod receiving;
 mod renewal;
 mod sendings;
 mod start;

@@ -8,6 +8,7 @@ ghost use Rattle.sx_model.specs.Sendings.{has_room, sending_of, sent_one, sent_p
 ghost use Rattle.sx_model.specs.Sendings.{to_send, without_last};
 
 use crate::state::{EndView, Words};
+use smallvec::SmallVec;
 use std::alloc::{AllocError, Global};
 use sx_lang::sides::Side;
 use sx_mean::events::{Act, End};
@@ -18,6 +19,16 @@ pub(crate) struct Sending {
     pub(crate) field: usize,
     pub(crate) value: u16,
 }
+
+impl Default for Sending {
+    /// What fills the places of a list that hold no sending.
+    fn default() -> Sending {
+        Sending { field: 0, value: 0 }
+    }
+}
+
+/// The sendings of an event, in order. Few of them need no allocation.
+pub(crate) type Sendings = SmallVec<Sending, 4>;
 
 /// This many words can be sent over a connection in one epoch.
 const MOST_SENT: usize = 65_535;
@@ -46,7 +57,7 @@ fn sending_of(end: &End, view: &EndView, output: u8, value: u16) -> Option<Sendi
     }
 }
 
-fn add_sending(sendings: &mut Vec<Sending>, sending: Option<Sending>) -> Result<(), AllocError>
+fn add_sending(sendings: &mut Sendings, sending: Option<Sending>) -> Result<(), AllocError>
     ensures { OnOk result (sendings.new.items ≡ sendings.old.items ++ option_to_list sending) }
 {
     match sending {
@@ -60,7 +71,7 @@ fn add_sending(sendings: &mut Vec<Sending>, sending: Option<Sending>) -> Result<
 
 #[tactic(auto, using(crate::proofs::Paired::to_send_end))]
 fn add_sent(
-    sendings: &mut Vec<Sending>,
+    sendings: &mut Sendings,
     ends: &[End],
     views: &[EndView],
     output: u8,
@@ -77,7 +88,7 @@ fn add_sent(
 }
 
 fn add_act(
-    sendings: &mut Vec<Sending>,
+    sendings: &mut Sendings,
     ends: &[End],
     views: &[EndView],
     act: Act,
@@ -97,10 +108,10 @@ pub(crate) fn to_send(
     ends: &[End],
     views: &[EndView],
     acts: &[Act],
-) -> Result<Vec<Sending>, AllocError>
+) -> Result<Sendings, AllocError>
     ensures { IfOk result (λ sendings. sendings.items ≡ all_to_send ends.now views.now acts.now) }
 {
-    let mut sendings = Vec::new(alloc);
+    let mut sendings = SmallVec::new(alloc);
     for act in acts {
         add_act(&mut sendings, ends, views, *act)?;
     }

@@ -2,26 +2,19 @@
 
 ghost use Rattle.std.specs.Prelude.{◌≡◌, ◌+◌, ◌*◌, ◌/◌, ◌%◌, ◌<◌, ◌≤◌, ◌&&◌, IfOk, OnErr, OnOk};
 ghost use Rattle.std.specs.Prelude.{is_some, length, slice_get, unwrap_or};
-ghost use Rattle.sx_check.specs.Source.{source_tree};
-ghost use Rattle.sx_mean.specs.Ends.{ends_of};
-ghost use Rattle.sx_mean.specs.declared.events.SourceEvent.TheVariants.{Sample};
 ghost use Rattle.sx_mean.specs.View.{app_as, part_as};
-ghost use Rattle.sx_lang.specs.declared.sides.Side.TheVariants.{To};
-ghost use Rattle.sx_model.specs.Changes.{at_index, is_readable, on_device, on_end, reads, reacted, is_fresh_with};
-ghost use Rattle.sx_model.specs.Changes.{reads_from, staled, takes_at, takes_idle, takes_in};
-ghost use Rattle.sx_model.specs.Changes.{takes_present, with_stale, word_at};
-ghost use Rattle.sx_model.specs.Renewal.{takes};
+ghost use Rattle.sx_model.specs.Changes.{is_fresh_with, is_readable, on_device, reads, reads_from};
+ghost use Rattle.sx_model.specs.Changes.{staled, takes_at, takes_in, word_at};
 ghost use Rattle.sx_model.specs.State.{contains};
 
 use crate::devices::has_sensor;
-use crate::ends::end_at;
-use crate::reactions::{idle_copy, react_module};
-use crate::state::{EndView, Present, Reading, State, Words};
+use crate::reactions::react_module;
+use crate::receiving::Taking;
+use crate::state::{Reading, State, Words};
 use std::alloc::{AllocError, Global};
-use sx_lang::sides::Side;
 use sx_mean::apps::{App, Part};
 use sx_mean::connections::ends_of;
-use sx_mean::events::{End, SourceEvent};
+use sx_mean::events::SourceEvent;
 
 fn is_fresh_with(value: u16, reading: &Reading) -> bool
     ensures { result ≡ is_fresh_with value reading.now }
@@ -58,91 +51,6 @@ fn stale_device(state: &mut State, device: u8)
     }
 }
 
-fn is_at(current: Option<u8>, epoch: u32) -> bool
-    ensures { result ≡ contains current epoch }
-{
-    match current {
-        Some(current) => u32::from(current) == epoch,
-        None => false,
-    }
-}
-
-fn take_view(view: &mut EndView, epoch: u32, index: u32) -> bool
-    requires { index < 65536 }
-    ensures answer { result ≡ is_some (takes epoch index view.old) }
-    ensures view { view.new ≡ unwrap_or (takes epoch index view.old) view.old }
-{
-    if !is_at(view.epoch, epoch) {
-        return false;
-    }
-    if view.next > index {
-        return false;
-    }
-    view.next = index + 1;
-    true
-}
-
-#[tactic(auto, using(crate::proofs::Changed::index_changed, crate::proofs::Changed::index_answered, crate::proofs::Changed::no_index))]
-fn take_view_at(views: &mut Vec<EndView>, at: usize, epoch: u32, index: u32) -> bool
-    requires { index < 65536 }
-    ensures answer { result ≡ is_some (at_index views.old.items at (takes epoch index)) }
-    ensures views { views.new.items ≡ unwrap_or (at_index views.old.items at (takes epoch index))
-        views.old.items }
-{
-    match views.get_mut(at) {
-        Some(view) => take_view(view, epoch, index),
-        None => false,
-    }
-}
-
-/// A receiving end takes the word of this index in an epoch.
-fn take_end(views: &mut Vec<EndView>, ends: &[End], link: u8, epoch: u32, index: u32) -> bool
-    requires { index < 65536 }
-    ensures answer { result ≡ is_some (on_end (takes epoch index) link To ends.now
-        views.old.items) }
-    ensures views { views.new.items ≡ unwrap_or (on_end (takes epoch index) link To ends.now
-        views.old.items) views.old.items }
-{
-    match end_at(ends, link, Side::To) {
-        Some(at) => take_view_at(views, at, epoch, index),
-        None => false,
-    }
-}
-
-/// A word that a module takes: its connection, its number and its value.
-#[derive(Clone, Copy)]
-pub(crate) struct Taking {
-    pub(crate) link: u8,
-    pub(crate) number: u32,
-    pub(crate) value: u16,
-}
-
-impl Taking {
-    pub(crate) fn new(link: u8, number: u32, value: u16) -> Taking
-        ensures link { result.link ≡ link }
-        ensures number { result.number ≡ number }
-        ensures value { result.value ≡ value }
-    {
-        Taking {
-            link,
-            number,
-            value,
-        }
-    }
-}
-
-/// A module's receiving end takes a word.
-fn take_present(present: &mut Present, ends: &[End], taking: Taking) -> bool
-    ensures answer { result ≡ is_some (takes_present taking.link taking.number ends.now
-        present.old) }
-    ensures present { present.new ≡ unwrap_or (takes_present taking.link taking.number ends.now
-        present.old) present.old }
-{
-    let epoch = taking.number / 65_536;
-    let index = taking.number % 65_536;
-    take_end(&mut present.ends, ends, taking.link, epoch, index)
-}
-
 fn word_in(words: &Words, index: usize) -> Option<u16>
     ensures { result ≡ slice_get words.now index }
 {
@@ -169,30 +77,6 @@ fn is_word(value: u16, word: Option<u16>) -> bool
     }
 }
 
-/// An idle driver reacts to its sensor's value, which is taken.
-fn read_idle(
-    alloc: Global,
-    state: &mut State,
-    app: &App,
-    part: &Part,
-    module: u8,
-    device: u8,
-    value: u16,
-    present: Present,
-) -> Result<(), AllocError>
-    requires { length app.now.links.items ≤ 256 }
-    ensures state { OnOk result (state.new ≡ with_stale device
-        (reacted (source_tree part.now.code) (ends_of (app_as app.now) «module») (Sample value)
-        state.old «module» present)) }
-    ensures err { OnErr result (state.new ≡ state.old) }
-{
-    let ends = ends_of(alloc, &app.links, module)?;
-    let event = SourceEvent::Sample(value);
-    react_module(alloc, state, module, &part.code, &ends, event, present)?;
-    stale_device(state, device);
-    Ok(())
-}
-
 /// A driver takes its sensor's fresh value.
 fn read_from(
     alloc: Global,
@@ -214,10 +98,12 @@ fn read_from(
     if !is_readable(app, state, device, value) {
         return Ok(false);
     }
-    let Some(present) = idle_copy(alloc, state, module)? else {
+    let ends = ends_of(alloc, &app.links, module)?;
+    let event = SourceEvent::Sample(value);
+    if !react_module(alloc, state, module, &part.code, &ends, event, None)? {
         return Ok(false);
-    };
-    read_idle(alloc, state, app, part, module, device, value, present)?;
+    }
+    stale_device(state, device);
     Ok(true)
 }
 
@@ -245,35 +131,6 @@ pub(crate) fn read(
     }
 }
 
-/// An idle module takes a word at an input.
-fn take_idle(
-    alloc: Global,
-    state: &mut State,
-    app: &App,
-    part: &Part,
-    module: u8,
-    taking: Taking,
-    input: u8,
-    mut present: Present,
-) -> Result<bool, AllocError>
-    requires { length app.now.links.items ≤ 256 }
-    ensures answer { IfOk result (λ b. b ≡ is_some
-        (takes_idle (app_as app.now) state.old «module» (part_as part.now) taking.link taking.number
-        input taking.value present)) }
-    ensures state { OnOk result (state.new ≡ unwrap_or
-        (takes_idle (app_as app.now) state.old «module» (part_as part.now) taking.link taking.number
-        input taking.value present) state.old) }
-    ensures err { OnErr result (state.new ≡ state.old) }
-{
-    let ends = ends_of(alloc, &app.links, module)?;
-    if !take_present(&mut present, &ends, taking) {
-        return Ok(false);
-    }
-    let event = SourceEvent::Input(input, taking.value);
-    react_module(alloc, state, module, &part.code, &ends, event, present)?;
-    Ok(true)
-}
-
 /// A module takes a word at an input, if it's idle.
 fn take_at(
     alloc: Global,
@@ -293,10 +150,9 @@ fn take_at(
         input taking.value) state.old) }
     ensures err { OnErr result (state.new ≡ state.old) }
 {
-    let Some(present) = idle_copy(alloc, state, module)? else {
-        return Ok(false);
-    };
-    take_idle(alloc, state, app, part, module, taking, input, present)
+    let ends = ends_of(alloc, &app.links, module)?;
+    let event = SourceEvent::Input(input, taking.value);
+    react_module(alloc, state, module, &part.code, &ends, event, Some(taking))
 }
 
 /// A module takes a word that was sent over a connection, and reacts to it.
