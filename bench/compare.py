@@ -11,7 +11,8 @@ a dash stands where it isn't installed. Below the table stands the median time o
 page of memory was written. The program must be built (`./sancus build`). Not a part of the gate.
 
 With --instructions the processor's instructions a step are printed alone, and also those of other code: of what a compiler writes, outside every module and
-as the code of one, and of the loop on memory where one, two and eight sections meet the page of its word.
+as the code of one, of the loop on memory where one, two and eight sections meet the page of its word, and of whole samples of `gen`: there without
+what the module instructions do.
 
     bench/compare.py                   the table
     bench/compare.py --instructions    the instructions a step alone
@@ -84,9 +85,9 @@ def ours(words, steps, sections):
     return seconds([PROGRAM, "run"], schedule(words, steps, sections))
 
 
-def counted(text):
-    """The processor's instructions of a run of a schedule."""
-    command = ["valgrind", "--tool=callgrind", "--callgrind-out-file=/dev/null", PROGRAM, "run"]
+def counted(words, text=b"", options=()):
+    """The processor's instructions of a call of the program."""
+    command = ["valgrind", "--tool=callgrind", "--callgrind-out-file=/dev/null", *options, PROGRAM, *words]
     told = subprocess.run(command, input=text, stdout=subprocess.DEVNULL, stderr=subprocess.PIPE, check=True).stderr
     return int(re.search(rb"Collected : (\d+)", told).group(1))
 
@@ -99,8 +100,24 @@ def instructions(words, sections):
 def instructions_after(words, sections):
     if shutil.which("valgrind") is None:
         return "-"
-    few, many = (counted(stepped(words, lines * RUN, sections)) for lines in (1, 17))
+    few, many = (counted(["run"], stepped(words, lines * RUN, sections)) for lines in (1, 17))
     return f"{(many - few) / (16 * RUN):.1f}"
+
+
+def in_modules(samples):
+    """What steps inside modules take in a workload of so many samples, without what module instructions do, and how many steps there are."""
+    stretch, module_instruction = (counted(["gen", str(samples)], options=[f"--toggle-collect={function}*"])
+                                   for function in ("sx_world::quiet::module_stretch", "sx_node::node::Node::module_instruction"))
+    printed = subprocess.run([PROGRAM, "gen", str(samples)], stdout=subprocess.PIPE, check=True).stdout
+    return stretch - module_instruction, int(re.search(rb"^steps (\d+)$", printed, re.MULTILINE).group(1))
+
+
+def sample_instructions():
+    """The processor's instructions of a step of a whole sample: 500 more of them take so many more. A dash where valgrind is missing."""
+    if shutil.which("valgrind") is None:
+        return "-"
+    (few, few_steps), (many, many_steps) = (in_modules(samples) for samples in (100, 600))
+    return f"{(many - few) / (many_steps - few_steps):.1f}"
 
 
 def theirs(words):
@@ -126,6 +143,7 @@ def main():
         for sections in (1, 2, 8):
             beside = [line for k in range(sections) for line in protected(0x600 + 16 * k, 0x608 + 16 * k, 0x2080 + 8 * k, 0x2088 + 8 * k)]
             print(f"{'memory':<10}{f'page of {sections}':<10}{instructions_after(CODE['memory'], beside):>8}")
+        print(f"{'sample':<10}{'inside':<10}{sample_instructions():>8}")
         return 0
     print(f"{'loop':<10}{'sections':<10}{'sancus':>8}{'mspdebug':>10}{'ratio':>7}{'least':>7}{'most':>7}{'instructions':>14}")
     for name, (words, each) in LOOPS.items():
