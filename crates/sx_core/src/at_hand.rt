@@ -1,6 +1,6 @@
 //! What compiled code does most, with operands and places named: MOV between registers and memory,
-//! other operations on words that read an extension word, PUSH, CALL, returns, and operations on one
-//! register.
+//! other operations on words that read an extension word, PUSH, CALL, returns, and operations on
+//! one register.
 //!
 //! A place that is at hand is read or written with no other test, and then no device was touched.
 //! Where it isn't, the long way takes the instruction. The clauses name the rows of the

@@ -183,8 +183,8 @@ fn test_of_word<B: Bus>(executor: &mut Executor<B>, op: Op2, at: u16, src: u16)
     executor.set_flags(value.1);
 }
 
-/// The same where a section may refuse it, or a device be there. What a module compares with its own
-/// text needs no look at the sections. This code stays out of the way of what most steps do.
+/// The same where a section may refuse it, or a device be there. What a module compares with its
+/// own text needs no look at the sections. This code stays out of the way of what most steps do.
 #[inline(never)]
 fn on_word_near<B: Bus>(
     executor: &mut Executor<B>,

@@ -68,8 +68,8 @@ impl<B: Bus> Executor<B> {
         self.is_free(at) && self.windows().at(at).is_none()
     }
 
-    /// Whether one look says that the running code may read the word at a place: it is in the public
-    /// part of the home, and no device is there. Then a read asks no more.
+    /// Whether one look says that the running code may read the word at a place: it is in the
+    /// public part of the home, and no device is there. Then a read asks no more.
     #[inline(always)]
     #[tactic(auto, using(crate::proofs::Rights::outside_word))]
     pub fn is_own_text(&self, at: u16) -> bool
@@ -156,8 +156,8 @@ impl<B: Bus> Executor<B> {
         self.load_near(wide, at)
     }
 
-    /// The same where a section may meet the page, or a device be there. Where it lies in a gap, the
-    /// gap is known from then on. Its code stays out of the way of what most accesses do.
+    /// The same where a section may meet the page, or a device be there. Where it lies in a gap,
+    /// the gap is known from then on. Its code stays out of the way of what most accesses do.
     #[inline(never)]
     fn load_near(&mut self, wide: bool, at: u16) -> Result<u16, Violation>
         ensures run { Loads wide at self.old result self.new }

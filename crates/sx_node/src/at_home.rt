@@ -12,7 +12,7 @@ ghost use Rattle.sx_bus.specs.Devices.{device_at};
 ghost use Rattle.sx_machine.specs.declared.kinds.Event.TheVariants.{Quiet};
 ghost use Rattle.sx_machine.specs.Run.{exec, untouched};
 ghost use Rattle.sx_machine.specs.Rows.{program};
-ghost use Rattle.sx_machine.specs.Step.{step, attempt, instruction, word_outside, pc_of, own_of};
+ghost use Rattle.sx_machine.specs.Step.{step, attempt, instruction, pc_of, own_of};
 ghost use Rattle.sx_machine.specs.Step.{start, entered_from, left};
 ghost use Rattle.sx_node.specs.Telling.{told, Tells, is_told, IsAtHome};
 
@@ -59,10 +59,10 @@ impl StepEnd {
 }
 
 impl<B: Bus, T: Tag> Node<B, T> {
-    /// One step, told as `step_told` tells it. In a loop of steps of a module this is the shorter one:
-    /// the caller has the code of what a module does, and what code outside does is a call. After
-    /// `AtHome` the next step needs no look at where PC is, which the caller says by `at_home`. The
-    /// caller has a number as in `step_told`.
+    /// One step, told as `step_told` tells it. In a loop of steps of a module this is the shorter
+    /// one: the caller has the code of what a module does, and what code outside does is a call.
+    /// After `AtHome` the next step needs no look at where PC is, which the caller says by
+    /// `at_home`. The caller has a number as in `step_told`.
     #[inline(always)]
     pub fn step_running<const CALLER: u8>(&mut self, at_home: bool, seen: &mut Seen) -> StepEnd
         requires boot { self.old.boot < 4294967295 }
@@ -89,8 +89,8 @@ impl<B: Bus, T: Tag> Node<B, T> {
         self.cur != 0 && self.last == self.cur && self.is_at_home(self.cur)
     }
 
-    /// A step that isn't one of a module at home. Its code stays out of the way of what most steps of
-    /// a module do.
+    /// A step that isn't one of a module at home. Its code stays out of the way of what most steps
+    /// of a module do.
     #[cold]
     #[inline(never)]
     fn step_elsewhere(&mut self, seen: &mut Seen) -> bool

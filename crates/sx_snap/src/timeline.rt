@@ -163,8 +163,8 @@ impl<B: Copied, T: Tag + Copy> Timeline<B, T> {
         Ok(Some(world))
     }
 
-    /// Adds a line and a checkpoint. After an error, which says that memory ran out, the timeline is
-    /// as before.
+    /// Adds a line and a checkpoint. After an error, which says that memory ran out, the timeline
+    /// is as before.
     fn push_both(&mut self, line: Line, world: World<B, T>) -> Result<(), AllocError>
         requires { 1 ≤ length self.old.checkpoints }
         ensures ok { OnOk result (self.new ≡ record {
