@@ -1,12 +1,12 @@
 -- A paged memory stays one through its calls, and what the pages hold that its numbers name.
-use Rattle.std.proofs.Common.{◌≡◌, ◌≢◌, ℕ, zero, suc, ◌+◌, ◌<◌, ◌≤◌, ◌/◌, ◌%◌, ◌==◌, Bool, true, false, List, [], ◌∷◌, length, get_or, set, replicate}
+use Rattle.std.proofs.Common.{◌≡◌, ◌≢◌, ℕ, zero, suc, ◌+◌, ◌<◌, ◌≤◌, ◌/◌, ◌%◌, ◌-◌, ◌==◌, Bool, true, false, List, [], ◌∷◌, length, get_or, set, take, drop, replicate}
 use Rattle.std.proofs.Common.{refl, sym, ◌∙◌, ap, subst, arith, length-set, Option, Some, None, if◌then◌else◌}
 use Rattle.std.proofs.lemmas.Bool.{false≢true, true_from_ne_false, cases_eq, cases_lt, eq-eqb, ne_eqb, lt-ltb}
-use Rattle.std.proofs.lemmas.List.{get_or-set_same, get_or-set_other, get_or-map, get_or-replicate, set-set, length-replicate, length-map, ext_get_or}
+use Rattle.std.proofs.lemmas.List.{get_or-set_same, get_or-set_other, get_or-take, get_or-drop, get_or-map, get_or-replicate, set-set, length-replicate, length-map, ext_get_or}
 use Rattle.sx_pages.proofs.Slots.{choose}
 use Rattle.sx_pages.specs.Pages.{Pages, with_byte, is_page, bytes_of, is_live, held, zeros, no_pages, size}
 use Rattle.sx_paged.specs.Laws.{PresentGrows}
-use Rattle.sx_paged.specs.Paged.{page_of, paged, spare, IsPaged}
+use Rattle.sx_paged.specs.Paged.{page_of, paged, spare, AreBlank, IsPaged}
 use Rattle.sx_paged.specs.Memory.{page_bytes, after_put}
 
 abbrev Page : Type 0
@@ -376,15 +376,12 @@ IsPaged-new p hp =
       counted = omega (arith, size-put no_pages p zeros (omega (arith, long, hp)) free, none, pages, spare-some p hp);
     }
 
--- a turn of the loop that releases the pages
-abbrev Blank : List ℕ → ℕ → ℕ → Type 0
-Blank numbers blank n = (i : ℕ) → i < n → get_or numbers i 0 ≡ blank
-
+-- a turn of the loops that release the pages
 upto : (n i : ℕ) → i < n + 1 → i ≢ n → i < n
 upto n i h ne = choose (cases_lt i n) (λ lt. lt) (λ ge. absurd (ne (omega (arith, h, ge))))
 
-pub drop-step : (arena : Pages) (numbers : List ℕ) (blank n : ℕ) → n < 256 → IsPaged arena numbers blank → blank < 256 → get_or numbers n 0 ≢ blank → Blank numbers blank n
-    → IsPaged (set arena (get_or numbers n 0) None) (set numbers n blank) blank × Blank (set numbers n blank) blank (n + 1)
+pub drop-step : (arena : Pages) (numbers : List ℕ) (blank n : ℕ) → n < 256 → IsPaged arena numbers blank → blank < 256 → get_or numbers n 0 ≢ blank → AreBlank numbers blank n
+    → IsPaged (set arena (get_or numbers n 0) None) (set numbers n blank) blank × AreBlank (set numbers n blank) blank (n + 1)
 drop-step arena numbers blank n h is hb own so_far = (
   IsPaged-drop arena numbers blank n is hb h own,
   λ i hi. choose (cases_eq i n)
@@ -392,10 +389,16 @@ drop-step arena numbers blank n h is hb own so_far = (
       (λ ne. get_or-set_other numbers n i blank 0 ne ∙ so_far i (upto n i hi ne)),
 )
 
-pub keep-step : (numbers : List ℕ) (blank n : ℕ) → get_or numbers n 0 ≡ blank → Blank numbers blank n → Blank numbers blank (n + 1)
+pub keep-step : (numbers : List ℕ) (blank n : ℕ) → get_or numbers n 0 ≡ blank → AreBlank numbers blank n → AreBlank numbers blank (n + 1)
 keep-step numbers blank n e so_far i hi = choose (cases_eq i n) (λ same. ap (λ (k : ℕ). get_or numbers k 0) same ∙ e) (λ ne. so_far i (upto n i hi ne))
 
-pub all-same : (numbers : List ℕ) (blank n : ℕ) → length numbers ≡ n → Blank numbers blank n → numbers ≡ replicate n blank
+pub run-step : (numbers : List ℕ) (blank n count : ℕ) → take count (drop n numbers) ≡ replicate count blank → AreBlank numbers blank n → AreBlank numbers blank (n + count)
+run-step numbers blank n count e so_far i hi = choose (cases_lt i n) (so_far i) (λ ge.
+    let inside : i - n < count = omega (arith, hi, ge) in
+    ap (λ (k : ℕ). get_or numbers k 0) (omega (arith, ge)) ∙ sym (get_or-drop n numbers (i - n) 0) ∙ sym (get_or-take count (drop n numbers) (i - n) 0 inside)
+    ∙ ap (λ (run : List ℕ). get_or run (i - n) 0) e ∙ get_or-replicate count (i - n) blank 0 inside)
+
+pub all-same : (numbers : List ℕ) (blank n : ℕ) → length numbers ≡ n → AreBlank numbers blank n → numbers ≡ replicate n blank
 all-same numbers blank n long all =
     ext_get_or 0 numbers (replicate n blank) (long ∙ sym (length-replicate {A = ℕ} n blank))
     (λ i h. all i (omega (arith, h, long)) ∙ sym (get_or-replicate n i blank 0 (omega (arith, h, long))))

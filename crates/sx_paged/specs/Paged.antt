@@ -16,6 +16,10 @@ paged arena numbers blank = map (page_of arena blank) numbers
 abbrev pub spare : ℕ → ℕ
 spare blank = if nat_lt blank 256 then 1 else 0
 
+-- the first n indices have the number of the blank page
+abbrev pub AreBlank : List ℕ → ℕ → ℕ → Type 0
+AreBlank numbers blank n = (index : ℕ) → index < n → get_or numbers index 0 ≡ blank
+
 -- Each number is that of a live page, the blank page is zeros, no two indices have the same number
 -- except that of the blank page, and no other page is live
 pub record IsPaged (arena : Pages) (numbers : List ℕ) (blank : ℕ) : Type 0 where

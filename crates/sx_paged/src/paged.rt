@@ -4,7 +4,7 @@ ghost use Rattle.std.specs.Prelude.{◌≡◌, ◌<◌, ◌≤◌, ◌+◌, ◌%
 ghost use Rattle.std.specs.Prelude.{length, take, drop, bytes_eq};
 ghost use Rattle.sx_pages.specs.Pages.{no_pages, size, is_live, with_byte};
 ghost use Rattle.sx_paged.specs.Memory.{IsMemory, byte_at, page_bytes, joined, after_put};
-ghost use Rattle.sx_paged.specs.Paged.{paged, IsPaged};
+ghost use Rattle.sx_paged.specs.Paged.{paged, IsPaged, AreBlank};
 
 use std::alloc::{AllocError as OutOfMemory, Global};
 use std::marker::Model;
@@ -15,6 +15,9 @@ const PAGE_BYTES: usize = 256;
 
 /// What stands for the number of the blank page if there is none. No page has it.
 const NO_PAGE: u16 = 256;
+
+/// How many numbers a wipe compares at once.
+const RUN: usize = 16;
 
 /// The 256 pages of a memory. All absent ones have one page of the arena, the blank page, which is
 /// zeros and never written; so a read asks nothing. Each other live page of the arena is the page
@@ -225,12 +228,29 @@ fn blank_page(arena: &mut Arena, numbers: &mut [u8], blank: u16) -> u8
     numbers[0]
 }
 
+// Makes all pages absent. Most are absent already, so a run of numbers is compared at once.
 fn release_all(arena: &mut Arena, numbers: &mut [u8], blank: u8)
     requires { IsPaged arena.old numbers.old blank }
     ensures none { numbers.new ≡ replicate 256 blank }
     ensures kept { IsPaged arena.new numbers.new blank }
 {
-    for index in 0..numbers.len() {
+    let absent = [blank; RUN];
+    for run in 0..256 / RUN {
+        let from = RUN * run;
+        if &numbers[from..from + RUN] != absent.as_slice() {
+            release_run(arena, numbers, blank, from);
+        }
+    }
+}
+
+// Makes the pages of a run of indices absent.
+fn release_run(arena: &mut Arena, numbers: &mut [u8], blank: u8, from: usize)
+    requires paged { IsPaged arena.old numbers.old blank }
+    requires within { from + 16 ≤ 256 }
+    requires before { AreBlank numbers.old blank from }
+    ensures { IsPaged arena.new numbers.new blank × AreBlank numbers.new blank (from + 16) }
+{
+    for index in from..from + RUN {
         let number = numbers[index];
         if number != blank {
             arena.release(number);

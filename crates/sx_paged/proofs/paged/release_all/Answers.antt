@@ -1,18 +1,28 @@
-use Rattle.std.proofs.Common.{◌<◌, arith}
-use Rattle.sx_paged.proofs.Kept.{drop-step, keep-step, all-same}
-use Rattle.sx_paged.proofs.paged.release_all.Goals.{then-number-blank, else-number-blank}
+use Rattle.std.proofs.Common.{◌≡◌, ◌+◌, ◌-◌, ◌*◌, ℕ, true, take, drop, replicate, sym, ap, subst, ◌∙◌, arith}
+use Rattle.std.specs.Prelude.{bytes_eq}
+use Rattle.std.proofs.lemmas.Bool.{false≢true, true_from_ne_false, not_from_false}
+use Rattle.std.proofs.lemmas.Slice.Eq.{bytes_eq-Decides}
+use Rattle.sx_paged.specs.Paged.{AreBlank}
+use Rattle.sx_paged.proofs.Kept.{run-step, all-same}
+use Rattle.sx_paged.proofs.paged.release_all.Goals.{then-ne, else-ne}
 use Rattle.sx_paged.proofs.paged.release_all.Goals as goal
 
-pub loop-index-preserved : goal.loop-index-preserved
-loop-index-preserved c =
-    let l = c.loop-index in let is = l.invariant.0 in let inside : l.index < 256 = omega (arith, is.long, c.loop-index-test.true, c.requires.long) in
-    elim c.if-number-blank.branch [
-      | then-number-blank w ↦ rw (w.arena-is, w.numbers-is, w.release.ensures)
-          (drop-step l.arena l.numbers c.args.blank l.index inside is (omega (arith, c.ranges.blank.fits)) w.if-number-blank.true l.invariant.1)
-      | else-number-blank w ↦ rw (w.arena-is, w.numbers-is) (is, keep-step l.numbers c.args.blank l.index w.if-number-blank.false l.invariant.1)
+pub loop-run-preserved : goal.loop-run-preserved
+loop-run-preserved c =
+    let l = c.loop-run in let from : ℕ = 16 * l.run in
+    let next : from + 16 ≡ 16 * (l.run + 1) = omega arith in
+    elim c.if-ne.branch [
+      | then-ne w ↦ rw (w.arena-is, w.numbers-is, ← next) w.release_run.ensures
+      | else-ne w ↦
+          let count : from + 16 - from ≡ 16 = omega arith in
+          let same : bytes_eq (take (from + 16 - from) (drop from l.numbers)) c.as_slice.result.now ≡ true =
+          true_from_ne_false _ (λ f. false≢true (sym w.if-ne.false ∙ c.ne.ensures ∙ not_from_false _ f)) in
+          let run : take 16 (drop from l.numbers) ≡ replicate 16 c.args.blank =
+          ap (λ (n : ℕ). take n (drop from l.numbers)) (sym count) ∙ (bytes_eq-Decides _ _).0 same ∙ c.as_slice.ensures in
+          rw (w.arena-is, w.numbers-is) (l.invariant.0, subst (AreBlank l.numbers c.args.blank) next (run-step l.numbers c.args.blank from 16 run l.invariant.1))
     ]
 
 pub returns-clause-none : goal.returns-clause-none
 returns-clause-none c =
-    let l = c.loop-index in let is = l.invariant.0 in
-    all-same l.numbers c.args.blank 256 is.long (λ i h. l.invariant.1 i (omega (arith, h, c.loop-index-test.false, c.requires.long)))
+    let l = c.loop-run in let is = l.invariant.0 in
+    all-same l.numbers c.args.blank 256 is.long (λ i h. l.invariant.1 i (omega (arith, h, c.loop-run-test.false)))

@@ -1,7 +1,7 @@
-use Rattle.std.proofs.Common.{◌≡◌, ℕ, ◌<◌, get_or}
-use Rattle.sx_paged.specs.Paged.{IsPaged}
+use Rattle.std.proofs.Common.{◌*◌}
+use Rattle.sx_paged.specs.Paged.{AreBlank, IsPaged}
 use Rattle.sx_paged.proofs.paged.release_all.Given as goal
 
--- the indices so far have the blank page
-abbrev pub invariant-loop-index : goal.invariant-loop-index
-invariant-loop-index l = IsPaged l.arena l.numbers l.blank × ((i : ℕ) → i < l.index → get_or l.numbers i 0 ≡ l.blank)
+-- the runs so far have the blank page
+abbrev pub invariant-loop-run : goal.invariant-loop-run
+invariant-loop-run l = IsPaged l.arena l.numbers l.blank × AreBlank l.numbers l.blank (16 * l.run)
