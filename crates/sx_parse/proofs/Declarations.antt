@@ -1,17 +1,18 @@
 -- What one turn of reading the declarations does to the machine.
-use Rattle.std.proofs.Common.{◌≡◌, ℕ, List, [], ◌∷◌, ◌++◌, Option, refl, ◌∙◌, length}
+use Rattle.std.proofs.Common.{◌≡◌, ℕ, List, [], ◌∷◌, ◌++◌, ◌<◌, Option, Some, Result, Ok, Err, IfOk, refl, ap, ◌∙◌, length, arith}
 use Rattle.std.proofs.lemmas.List.{nil_from_length}
 use Rattle.sx_lang.specs.declared.tree.Decl.{Decl}
-use Rattle.sx_lang.specs.declared.tree.DeviceKind.{DeviceKind}
 use Rattle.sx_lex.specs.declared.tokens.Kind.{Kind}
 use Rattle.sx_lex.specs.declared.tokens.Kind.TheVariants.{Sensor, Actuator, Input, Output, Var, Array, Semicolon, Equals}
 use Rattle.sx_lex.specs.declared.tokens.Placed.{Placed}
-use Rattle.sx_grammar.specs.Machine.{Symbol, Value, Want, Say, A_semicolon, An_open_square, A_close_square, After_input, After_output, After_var, After_array}
+use Rattle.sx_grammar.specs.Machine.{Symbol, Value, After, A_name, follow, read, Want, Say, A_semicolon, An_open_square, A_close_square}
 use Rattle.sx_grammar.specs.Machine.{A_number, For_initial, For_length, Initial_of, Do_declare, Declarations, Handlers, Refused}
 use Rattle.sx_grammar.specs.Machine as machine
+use Rattle.sx_parse.specs.declared.stop.Stop.{Stop}
+use Rattle.sx_parse.specs.declared.stop.Stop.TheVariants.{Fault, Memory}
 use Rattle.sx_parse.specs.Wanted.{declarations_wanted, end_wanted, length_wanted}
 use Rattle.sx_parse.specs.Reading.{Stops, TakesSign, Named, Numbered, done}
-use Rattle.sx_parse.specs.Declaring.{Declares, Passes, Declared, AnswersText, holding}
+use Rattle.sx_parse.specs.Declaring.{Declares, DeclaresOr, DeclaresNext, Passes, Declared, AnswersText, holding}
 use Rattle.sx_parse.proofs.Expressions.{said}
 
 pub ended : (ts r : List Placed) (ds us : List Decl) (d : Decl) → TakesSign A_semicolon ts r → us ≡ ds ++ d ∷ [] → Declares (end_wanted d) ds ts us done r
@@ -49,29 +50,32 @@ array_breaks x n ts a b c t p q s v = record {
       ∙ v.stops st vs o;
 }
 
-pub sensor : (ts a r : List Placed) (f : Placed) (ds us : List Decl) → ts ≡ f ∷ a → f.kind ≡ Sensor
-    → Declares (end_wanted (Decl.Device DeviceKind.Sensor)) ds a us done r → Declares declarations_wanted ds ts us declarations_wanted r
-sensor ts a r f ds us h k q = record { declares = λ st. rw (h, k) (q.declares (Declarations ∷ st)) }
+-- a name, and what is required behind it
+pub named : {A : Type 0} (w : After) (x : List ℕ) (ts a : List Placed) (ds us : List Decl) (result : Result A Stop) (rest : A → List Placed) → Named ts x a
+    → DeclaresOr result (follow w x) ds a us rest → DeclaresOr result (λ st. A_name w ∷ st) ds ts us rest
+named w x ts a ds us (Ok r) rest p q = record { declares = λ st. p.named w st (holding ds []) ∙ q.declares st }
+named w x ts a ds us (Err (Fault t)) rest p q = record { stops = λ st vs o. p.named w st vs ∙ q.stops st vs o }
+named w x ts a ds us (Err Memory) rest p q = q
 
-pub actuator : (ts a r : List Placed) (f : Placed) (ds us : List Decl) → ts ≡ f ∷ a → f.kind ≡ Actuator
-    → Declares (end_wanted (Decl.Device DeviceKind.Actuator)) ds a us done r → Declares declarations_wanted ds ts us declarations_wanted r
-actuator ts a r f ds us h k q = record { declares = λ st. rw (h, k) (q.declares (Declarations ∷ st)) }
+-- the word that a declaration begins with, and what is required behind it
+begun : (want : List Symbol → List Symbol) (k : Kind) (ts a : List Placed) (f : Placed) (st : List Symbol) (vs : List Value) → ts ≡ f ∷ a → f.kind ≡ k
+    → machine.declarations st vs k ≡ Some (want (Declarations ∷ st), vs) → read (Declarations ∷ st) vs ts ≡ read (want (Declarations ∷ st)) vs a
+begun want k ts a f st vs h e s =
+    let begins : machine.declarations st vs f.kind ≡ Some (want (Declarations ∷ st), vs) = ap (machine.declarations st vs) e ∙ s in rw h (rw begins refl)
 
-pub input : (x : List ℕ) (ts a b r : List Placed) (f : Placed) (ds us : List Decl) → ts ≡ f ∷ a → f.kind ≡ Input → Named a x b
-    → Declares (end_wanted (Decl.Input x)) ds b us done r → Declares declarations_wanted ds ts us declarations_wanted r
-input x ts a b r f ds us h k p q = record { declares = λ st. rw (h, k) (p.named After_input (Declarations ∷ st) (holding ds []) ∙ q.declares (Declarations ∷ st)) }
+pub started : {A : Type 0} (want : List Symbol → List Symbol) (k : Kind) (ts a : List Placed) (f : Placed) (ds us : List Decl) (result : Result A Stop)
+    (rest : A → List Placed) → ((st : List Symbol) (vs : List Value) → machine.declarations st vs k ≡ Some (want (Declarations ∷ st), vs)) → ts ≡ f ∷ a → f.kind ≡ k
+    → DeclaresOr result want ds a us rest → DeclaresNext (Some result) ds ts us rest
+started want k ts a f ds us (Ok r) rest s h e q = record {
+  declares = λ st. begun want k ts a f st (holding ds []) h e (s st (holding ds [])) ∙ q.declares (Declarations ∷ st);
+}
+started want k ts a f ds us (Err (Fault t)) rest s h e q = record { stops = λ st vs o. begun want k ts a f st vs h e (s st vs) ∙ q.stops (Declarations ∷ st) vs o }
+started want k ts a f ds us (Err Memory) rest s h e q = q
 
-pub output : (x : List ℕ) (ts a b r : List Placed) (f : Placed) (ds us : List Decl) → ts ≡ f ∷ a → f.kind ≡ Output → Named a x b
-    → Declares (end_wanted (Decl.Output x)) ds b us done r → Declares declarations_wanted ds ts us declarations_wanted r
-output x ts a b r f ds us h k p q = record { declares = λ st. rw (h, k) (p.named After_output (Declarations ∷ st) (holding ds []) ∙ q.declares (Declarations ∷ st)) }
-
-pub variable : (x : List ℕ) (ts a b r : List Placed) (f : Placed) (ds us : List Decl) → ts ≡ f ∷ a → f.kind ≡ Var → Named a x b
-    → Declares (λ st. Initial_of x ∷ st) ds b us done r → Declares declarations_wanted ds ts us declarations_wanted r
-variable x ts a b r f ds us h k p q = record { declares = λ st. rw (h, k) (p.named After_var (Declarations ∷ st) (holding ds []) ∙ q.declares (Declarations ∷ st)) }
-
-pub array_word : (x : List ℕ) (ts a b r : List Placed) (f : Placed) (ds us : List Decl) → ts ≡ f ∷ a → f.kind ≡ Array → Named a x b
-    → Declares (length_wanted x) ds b us done r → Declares declarations_wanted ds ts us declarations_wanted r
-array_word x ts a b r f ds us h k p q = record { declares = λ st. rw (h, k) (p.named After_array (Declarations ∷ st) (holding ds []) ∙ q.declares (Declarations ∷ st)) }
+pub shorter : {A : Type 0} (result : Result A Stop) (rest : A → List Placed) (ts a : List Placed) → length a < length ts
+    → IfOk result (λ r. length (rest r) < length a) → IfOk result (λ r. length (rest r) < length ts)
+shorter (Ok r) rest ts a h k = omega (arith, h, k)
+shorter (Err e) rest ts a h k = k
 
 passed : (k : Kind) (st : List Symbol) (vs : List Value) → (k ≡ Sensor → ⊥) → (k ≡ Actuator → ⊥) → (k ≡ Input → ⊥) → (k ≡ Output → ⊥) → (k ≡ Var → ⊥)
     → (k ≡ Array → ⊥) → machine.declarations st vs k ≡ machine.handlers st vs k

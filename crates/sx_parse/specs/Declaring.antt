@@ -38,13 +38,13 @@ pub record Passes (ds : List Decl) (ts : List Placed) (us : List Decl) : Type 0 
   pub same : us ≡ ds
 
 -- the declaration in front of these tokens was read, or there is none, or reading stops as it must
-abbrev pub DeclaresNext : {A : Type 0} → Result (Option A) Stop → List Decl → List Placed
+abbrev pub DeclaresNext : {A : Type 0} → Option (Result A Stop) → List Decl → List Placed
     → List Decl → (A → List Placed) → Type 0
-DeclaresNext result ds ts us rest =
+DeclaresNext next ds ts us rest =
+    MatchOption next (Passes ds ts us) (λ result.
     MatchResult result
-    (λ next. MatchOption next (Passes ds ts us) (λ found.
-    Declares declarations_wanted ds ts us declarations_wanted (rest found)))
-    (λ e. StopsAs declarations_wanted 0 ts e)
+    (λ found. Declares declarations_wanted ds ts us declarations_wanted (rest found))
+    (λ e. StopsAs declarations_wanted 0 ts e))
 
 -- from the module's first token to these declarations, what is required next being a declaration or
 -- a handler

@@ -1,7 +1,8 @@
 //! Parsing of declarations.
 
 ghost use Rattle.std.specs.Prelude.{◌<◌, ◌∷◌, length, MatchResult, IfOk, IfSome};
-ghost use Rattle.sx_grammar.specs.Machine.{Initial_of, Declarations, Handlers};
+ghost use Rattle.sx_grammar.specs.Machine.{Initial_of, A_name, After_input, After_output};
+ghost use Rattle.sx_grammar.specs.Machine.{After_var, After_array, Declarations, Handlers};
 ghost use Rattle.sx_parse.specs.Wanted.{end_wanted, length_wanted};
 ghost use Rattle.sx_parse.specs.Declaring.{DeclaresOr, DeclaresNext, Declared, RefusesText};
 
@@ -26,7 +27,7 @@ fn ended<'a>(all: &mut Vec<Decl>, found: Decl, tokens: &'a [Placed]) -> Result<&
 
 /// Adds a variable whose name was read.
 #[tactic(auto, using(crate::proofs::Declarations::initial_none, crate::proofs::Declarations::initial_number, crate::proofs::Declarations::initial_breaks))]
-fn variable<'a>(all: &mut Vec<Decl>, name: Name, tokens: &'a [Placed]) -> Result<&'a [Placed], Stop>
+fn initial<'a>(all: &mut Vec<Decl>, name: Name, tokens: &'a [Placed]) -> Result<&'a [Placed], Stop>
     ensures declares { DeclaresOr result (λ st. Initial_of name ∷ st) all.old.items tokens.now
         all.new.items (λ rest. rest.now) }
     ensures shorter { IfOk result (λ rest. length rest.now < length tokens.now) }
@@ -49,7 +50,7 @@ fn variable<'a>(all: &mut Vec<Decl>, name: Name, tokens: &'a [Placed]) -> Result
 
 /// Adds an array whose name was read.
 #[tactic(auto, using(crate::proofs::Declarations::array, crate::proofs::Declarations::array_breaks))]
-fn array<'a>(all: &mut Vec<Decl>, name: Name, tokens: &'a [Placed]) -> Result<&'a [Placed], Stop>
+fn length<'a>(all: &mut Vec<Decl>, name: Name, tokens: &'a [Placed]) -> Result<&'a [Placed], Stop>
     ensures declares { DeclaresOr result (length_wanted name) all.old.items tokens.now all.new.items
         (λ rest. rest.now) }
     ensures shorter { IfOk result (λ rest. length rest.now < length tokens.now) }
@@ -60,47 +61,63 @@ fn array<'a>(all: &mut Vec<Decl>, name: Name, tokens: &'a [Placed]) -> Result<&'
     ended(all, Decl::Array(name, length), rest)
 }
 
+/// Adds an input.
+fn input<'a>(all: &mut Vec<Decl>, tokens: &'a [Placed]) -> Result<&'a [Placed], Stop>
+    ensures declares { DeclaresOr result (λ st. A_name After_input ∷ st) all.old.items tokens.now
+        all.new.items (λ rest. rest.now) }
+    ensures shorter { IfOk result (λ rest. length rest.now < length tokens.now) }
+{
+    let (name, rest) = identifier(tokens)?;
+    ended(all, Decl::Input(*name), rest)
+}
+
+/// Adds an output.
+fn output<'a>(all: &mut Vec<Decl>, tokens: &'a [Placed]) -> Result<&'a [Placed], Stop>
+    ensures declares { DeclaresOr result (λ st. A_name After_output ∷ st) all.old.items tokens.now
+        all.new.items (λ rest. rest.now) }
+    ensures shorter { IfOk result (λ rest. length rest.now < length tokens.now) }
+{
+    let (name, rest) = identifier(tokens)?;
+    ended(all, Decl::Output(*name), rest)
+}
+
+/// Adds a variable.
+fn variable<'a>(all: &mut Vec<Decl>, tokens: &'a [Placed]) -> Result<&'a [Placed], Stop>
+    ensures declares { DeclaresOr result (λ st. A_name After_var ∷ st) all.old.items tokens.now
+        all.new.items (λ rest. rest.now) }
+    ensures shorter { IfOk result (λ rest. length rest.now < length tokens.now) }
+{
+    let (name, rest) = identifier(tokens)?;
+    initial(all, *name, rest)
+}
+
+/// Adds an array.
+fn array<'a>(all: &mut Vec<Decl>, tokens: &'a [Placed]) -> Result<&'a [Placed], Stop>
+    ensures declares { DeclaresOr result (λ st. A_name After_array ∷ st) all.old.items tokens.now
+        all.new.items (λ rest. rest.now) }
+    ensures shorter { IfOk result (λ rest. length rest.now < length tokens.now) }
+{
+    let (name, rest) = identifier(tokens)?;
+    length(all, *name, rest)
+}
+
 /// Adds the declaration that stands here, and gives what follows it; none where another token
 /// stands.
-#[tactic(auto, using(crate::proofs::Declarations::sensor, crate::proofs::Declarations::actuator, crate::proofs::Declarations::input, crate::proofs::Declarations::output, crate::proofs::Declarations::variable, crate::proofs::Declarations::array_word, crate::proofs::Declarations::passes, crate::proofs::Declarations::passes_end))]
-fn declaration<'a>(all: &mut Vec<Decl>, tokens: &'a [Placed]) -> Result<Option<&'a [Placed]>, Stop>
+#[tactic(auto, using(crate::proofs::Declarations::passes, crate::proofs::Declarations::passes_end))]
+fn declaration<'a>(all: &mut Vec<Decl>, tokens: &'a [Placed]) -> Option<Result<&'a [Placed], Stop>>
     ensures declares { DeclaresNext result all.old.items tokens.now all.new.items
         (λ rest. rest.now) }
-    ensures shorter { IfOk result (λ p. IfSome p (λ rest. length rest.now < length tokens.now)) }
+    ensures shorter { IfSome result (λ p. IfOk p (λ rest. length rest.now < length tokens.now)) }
 {
-    let Some((first, rest)) = tokens.split_first() else {
-        return Ok(None);
-    };
+    let (first, rest) = tokens.split_first()?;
     match first.kind {
-        Kind::Sensor => {
-            let rest = ended(all, Decl::Device(DeviceKind::Sensor), rest)?;
-            Ok(Some(rest))
-        }
-        Kind::Actuator => {
-            let rest = ended(all, Decl::Device(DeviceKind::Actuator), rest)?;
-            Ok(Some(rest))
-        }
-        Kind::Input => {
-            let (name, rest) = identifier(rest)?;
-            let rest = ended(all, Decl::Input(*name), rest)?;
-            Ok(Some(rest))
-        }
-        Kind::Output => {
-            let (name, rest) = identifier(rest)?;
-            let rest = ended(all, Decl::Output(*name), rest)?;
-            Ok(Some(rest))
-        }
-        Kind::Var => {
-            let (name, rest) = identifier(rest)?;
-            let rest = variable(all, *name, rest)?;
-            Ok(Some(rest))
-        }
-        Kind::Array => {
-            let (name, rest) = identifier(rest)?;
-            let rest = array(all, *name, rest)?;
-            Ok(Some(rest))
-        }
-        _ => Ok(None),
+        Kind::Sensor => Some(ended(all, Decl::Device(DeviceKind::Sensor), rest)),
+        Kind::Actuator => Some(ended(all, Decl::Device(DeviceKind::Actuator), rest)),
+        Kind::Input => Some(input(all, rest)),
+        Kind::Output => Some(output(all, rest)),
+        Kind::Var => Some(variable(all, rest)),
+        Kind::Array => Some(array(all, rest)),
+        _ => None,
     }
 }
 
@@ -113,12 +130,8 @@ pub fn declarations<'a>(alloc: Global, tokens: &'a [Placed]) -> Front<'a, Vec<De
 {
     let mut all = Vec::new(alloc);
     let mut rest = tokens;
-    loop {
-        let found = declaration(&mut all, rest)?;
-        let Some(more) = found else {
-            break;
-        };
-        rest = more;
+    while let Some(found) = declaration(&mut all, rest) {
+        rest = found?;
     }
     Ok((all, rest))
 }
