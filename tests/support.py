@@ -1,4 +1,4 @@
-"""What the tests of the front end share: the program, calls of ./sancus, and the lighting application.
+"""What the tests share: the program, calls of ./sancus, and the lighting application.
 
 The program is SANCUS_PROGRAM, else the build that ./sancus would start. If that is one without proof, which takes
 minutes a call, what needs a program is passed over, with a word on standard error.

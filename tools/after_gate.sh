@@ -1,7 +1,7 @@
 #!/usr/bin/env bash
 # What .ci/run checks after `rt ci` has passed: whether release/ holds the build that was proved, whether each wrong body and each wrong system
-# still applies, whether the lists of crates agree, and the tests of the front end. It says nothing if all is well. Without Python 3.9 only the
-# release is compared.
+# still applies, whether the lists of crates agree, and the rows and other tests of tests/. It says nothing if all is well. Without Python 3.9 only
+# the release is compared.
 cd "$(dirname "$0")/.." || exit 1
 if [ -x crates/sancus_run/out/sancus_run ]; then
   tools/release.sh stamp && tools/release.sh check || exit

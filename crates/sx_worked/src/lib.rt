@@ -1,32 +1,21 @@
-//! Whole runs as tests: inputs of the commands, and what must be written.
+//! Whole runs as tests that the program can't show: over streams that fail or come in pieces, and
+//! with a weak tag. All other runs are rows in `tests/rows`.
 //!
 //! They use what these crates give to everybody, and stand in a crate of their own since the tests
 //! of a crate are proved together with all of it: so a change of a test proves no crate again.
 //!
-//! `inputs` has the lighting with a sample of light, and does a row; `lighting` are runs after the
-//! first lines of that sample, `attacks` what an attacker tries, `listings` those of `asm` and
-//! `dis`, `traces` those of `explain`, `snaps` those of `snap`, `drives` those of `drive`,
-//! `commands` all other inputs, `streams` those whose reads and writes fail, and `workloads` those
-//! of `gen`. Inputs are rows of constant tables: a row costs no proof of its own.
+//! `inputs` has the words, the streams, and the lighting with a sample of light. `streams` has runs
+//! of all commands, `traces` and `drives` more of `explain` and `drive`, `forged` the one with a
+//! weak tag. Inputs are rows of constant tables: a row costs no proof of its own.
 #![tactic(auto)]
 
 #[cfg(test)]
-mod attacks;
-#[cfg(test)]
-mod commands;
-#[cfg(test)]
 mod drives;
 #[cfg(test)]
+mod forged;
+#[cfg(test)]
 mod inputs;
-#[cfg(test)]
-mod lighting;
-#[cfg(test)]
-mod listings;
-#[cfg(test)]
-mod snaps;
 #[cfg(test)]
 mod streams;
 #[cfg(test)]
 mod traces;
-#[cfg(test)]
-mod workloads;

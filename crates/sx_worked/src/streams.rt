@@ -77,7 +77,7 @@ type Failing<'a> = (&'a str, &'a [u8], usize, u64, usize, u64, u8, &'a [u8]);
 
 const ONE_STEP: &[u8] = b"%%\nput n 0x4000 2645\nset n r5 0x5000\nset n pc 0x4000\nrun n 1\n";
 
-const FAILING: [Failing; 17] = [
+const FAILING: [Failing; 22] = [
     ("run", ONE_STEP, 1, 2, 100, 0, 4, b"fault read\n"),
     ("run", ONE_STEP, 1, 22, 100, 0, 4, b"trace\nfault read\n"),
     ("run", b"%%\nreset n\n", 4096, 0, 100, 1, 5, b""),
@@ -107,6 +107,49 @@ const FAILING: [Failing; 17] = [
     ("dis 0", b"2645\n", 4096, 0, 400, 1, 5, b""),
     ("dis 0", b"2\n", 4096, 0, 400, 1, 5, b""),
     ("dis 0", b"26\n", 4096, 0, 400, 1, 5, b""),
+    // behind the second mark the answers to whole lines stand, before it nothing but a broken rule
+    (
+        "snap",
+        b"%%\nreset n\n",
+        4096,
+        2,
+        400,
+        0,
+        4,
+        b"fault read\n",
+    ),
+    (
+        "snap",
+        b"%%\nreset n\n%%",
+        4096,
+        2,
+        400,
+        0,
+        4,
+        b"fault read\n",
+    ),
+    (
+        "snap",
+        b"%%\nfly n\n",
+        4096,
+        2,
+        400,
+        0,
+        3,
+        b"fault schedule S3 1\n",
+    ),
+    (
+        "snap",
+        b"%%\nreset n\n%%\nitems 1\nitems 1",
+        4096,
+        2,
+        400,
+        0,
+        4,
+        b"item 1 reset n asked\nfault read\n",
+    ),
+    // before the mark is whole
+    ("drive", b"\n%%", 4096, 2, 400, 0, 4, b"fault read\n"),
 ];
 
 /// Whether a command ends so.
