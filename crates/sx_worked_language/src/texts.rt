@@ -1,4 +1,4 @@
-//! The places of first faults, texts that are printed, and the bounds at their limits.
+//! Texts that are printed, and names.
 
 use std::alloc::{AllocError, Global};
 use std::process::Abort;
@@ -6,7 +6,6 @@ use std::test::Fail;
 use sx_lang::names::Name;
 use sx_lang::sides::Side;
 use sx_lang::tree::{Expr, Handler, Module, Stmt};
-use sx_parse::error::ParseError;
 use sx_parse::parse::parse;
 use sx_parse::printed::reread;
 use sx_parse::{print, printable};
@@ -35,131 +34,6 @@ pub(crate) fn repeated(
     }
     text.push_str(back)?;
     Ok(text)
-}
-
-/// Line and column of the first fault; none where the text is a module.
-fn fault_of(alloc: Global, text: &str) -> Result<Option<(u32, u32)>, ParseError> {
-    match parse(alloc, text) {
-        Ok(_) => Ok(None),
-        Err(ParseError::Fault(at)) => Ok(Some((at.line, at.column))),
-        Err(ParseError::OutOfMemory) => Err(ParseError::OutOfMemory),
-    }
-}
-
-const FIRST_FAULTS: [(&str, Option<(u32, u32)>); 52] = [
-    ("", None),
-    ("// only a comment", None),
-    (
-        "sensor; actuator; input a; output b; var c; var d = 0xFFFF; array e[1024];",
-        None,
-    ),
-    ("sample(v) { v = (a < b) < c; }", None),
-    ("sample(v) { v = - ~ !a - - b; }", None),
-    ("sample(v) { let w = a[b[1] + 2]; a[w] = w; }", None),
-    (
-        "sample(v) { if v { } else { if v { } } repeat 2 { } } on a(v) { }",
-        None,
-    ),
-    (
-        "sensor;\noutput level;\nsample(v) { send level(v) }\n",
-        Some((3, 27)),
-    ),
-    ("sensor", Some((1, 7))),
-    ("sensor sensor", Some((1, 8))),
-    ("input ;", Some((1, 7))),
-    ("input input;", Some((1, 7))),
-    ("output x y;", Some((1, 10))),
-    ("input seventeen_letters;", Some((1, 23))),
-    ("var x", Some((1, 6))),
-    ("var x = y;", Some((1, 9))),
-    ("var x = -1;", Some((1, 9))),
-    ("var x = 65536;", Some((1, 13))),
-    ("array a;", Some((1, 8))),
-    ("array a[b];", Some((1, 9))),
-    ("array a[3;", Some((1, 10))),
-    ("x = 1;", Some((1, 1))),
-    ("sensor;\r\n", Some((1, 8))),
-    ("\nsensor;\n\n actuator", Some((4, 10))),
-    ("on on(v) {}", Some((1, 4))),
-    ("on a(v) {} input b;", Some((1, 12))),
-    ("on a(v);", Some((1, 8))),
-    ("sample v", Some((1, 8))),
-    ("sample(v) { ", Some((1, 13))),
-    ("sample(v) { } }", Some((1, 15))),
-    ("sample(v) { ; }", Some((1, 13))),
-    ("sample(v) { { } }", Some((1, 13))),
-    ("sample(v) { else { } }", Some((1, 13))),
-    ("sample(v) { let = 1; }", Some((1, 17))),
-    ("sample(v) { v + 1; }", Some((1, 15))),
-    ("sample(v) { v == 1; }", Some((1, 15))),
-    ("sample(v) { v[1 = 2; }", Some((1, 17))),
-    ("sample(v) { v[1] 2; }", Some((1, 18))),
-    ("sample(v) { v = ; }", Some((1, 17))),
-    ("sample(v) { v = a + ; }", Some((1, 21))),
-    ("sample(v) { v = a == b == c; }", Some((1, 24))),
-    ("sample(v) { v = (a; }", Some((1, 19))),
-    ("sample(v) { v = a[1; }", Some((1, 20))),
-    ("sample(v) { v = a) ; }", Some((1, 18))),
-    ("sample(v) { v = a ! b; }", Some((1, 19))),
-    ("sample(v) { if v v = 1; }", Some((1, 18))),
-    ("sample(v) { if v { } else if v { } }", Some((1, 27))),
-    ("sample(v) { repeat v { } }", Some((1, 20))),
-    ("sample(v) { send b v; }", Some((1, 20))),
-    ("sample(v) { send b(v) }", Some((1, 23))),
-    ("sample(v) { emit v }", Some((1, 20))),
-    ("sample(v) { v = 1 / 2; }", Some((1, 19))),
-];
-
-#[test]
-fn first_faults(rt: HostRuntime) -> Result<(), Fail> {
-    for (text, want) in FIRST_FAULTS.as_slice() {
-        assert_eq!(rt; fault_of(rt.alloc(), text)?, *want);
-    }
-    Ok(())
-}
-
-/// A text whose middle stands so many times, and its first fault. With the brace of the handler 47
-/// brackets and signs more may be open, and 48 operators of a kind may follow one another.
-const BOUNDS: [(&str, &str, u16, &str, Option<(u32, u32)>); 14] = [
-    ("sample(v){v=", "-", 47, "v;}", None),
-    ("sample(v){v=", "-", 48, "v;}", Some((1, 60))),
-    ("sample(v){v=", "~", 47, "v;}", None),
-    ("sample(v){v=", "~", 48, "v;}", Some((1, 60))),
-    ("sample(v){v=", "!", 47, "v;}", None),
-    ("sample(v){v=", "!", 48, "v;}", Some((1, 60))),
-    ("sample(v){v=", "(", 48, "v", Some((1, 60))),
-    ("sample(v){v=", "(", 47, "v;", Some((1, 61))),
-    ("sample(v){v=", "a[", 48, "v", Some((1, 108))),
-    ("on a(v)", "{if v", 49, "{", Some((1, 248))),
-    ("sample(v){v=0", "+1", 48, ";}", None),
-    ("sample(v){v=0", "^1", 49, ";}", Some((1, 110))),
-    ("sample(v){v=0", "*1&2", 24, ";}", None),
-    ("sample(v){v=0", "*1", 49, ";}", Some((1, 110))),
-];
-
-#[test]
-fn bounds_of_open_brackets_and_operators(rt: HostRuntime) -> Result<(), Fail> {
-    let alloc = rt.alloc();
-    for (front, middle, times, back, want) in BOUNDS.as_slice() {
-        let text = repeated(alloc, front, middle, *times, back)?;
-        assert_eq!(rt; fault_of(alloc, text.as_str())?, *want);
-    }
-    Ok(())
-}
-
-/// The highest tree that a text spells: behind each bracket stand two full chains.
-fn highest(alloc: Global) -> Result<String, AllocError> {
-    let factors = repeated(alloc, ")", "*v", 48, "")?;
-    let chains = repeated(alloc, factors.as_str(), "+v", 48, "")?;
-    let open = repeated(alloc, "sample(v){v=", "(", 47, "v")?;
-    repeated(alloc, open.as_str(), chains.as_str(), 47, ";}")
-}
-
-#[test]
-fn all_bounds_at_once(rt: HostRuntime) -> Result<(), Fail> {
-    let text = highest(rt.alloc())?;
-    assert_eq!(rt; fault_of(rt.alloc(), text.as_str())?, None);
-    Ok(())
 }
 
 const PRINTED: [(&str, &str); 5] = [
