@@ -1,14 +1,24 @@
-//! Worked deployments, schedules and traces, as tests, of what no command prints. The first faults of
-//! deployments and of the lines of schedules are rows of `tests/rows`.
+//! Worked streams, texts, deployments and traces, as tests, of what no command prints. The first
+//! faults of texts, of deployments and of the lines of schedules, and texts of the assembler with
+//! their bytes, are rows of `tests/rows`.
 //!
 //! They use what the crates give to everybody, and stand in a crate of their own, so that no crate
-//! is proved a second time for its tests. `lamps` has a deployment whose names they use; `trace`
-//! has the lines of items, `sched` lines of schedules that are written, `wire` packets, `ledger`
-//! entries, `deploy` what is read of a deployment, `bulk` the workload, `model` runs of the source,
-//! and `deployer` answers, keys and renewals. What is alike is rows of a constant table with one
+//! is proved a second time for its tests.
+//!
+//! Streams and lines: `io` has numbers and lines that are read in pieces, `head` heads, `told` texts
+//! that are written. The language: `lex` has tokens, `texts` what is printed of modules, `mean` what
+//! modules do at events and their sizes, up to the highest expressions and the deepest blocks, and
+//! `asm` a listing. Deployments: `lamps` has one whose names the others use, `deploy` what is read
+//! of it, `trace` the lines of items, `sched` lines of schedules that are written, `wire` packets,
+//! `ledger` entries, `bulk` the workload, `model` runs of the source, and `deployer` answers, keys
+//! and renewals.
+//!
+//! Modules are read from their texts, and what is alike is rows of a constant table with one
 //! function that takes a row, since both are cheap to prove.
 #![tactic(auto)]
 
+#[cfg(test)]
+mod asm;
 #[cfg(test)]
 mod bulk;
 #[cfg(test)]
@@ -16,13 +26,25 @@ mod deploy;
 #[cfg(test)]
 mod deployer;
 #[cfg(test)]
+mod head;
+#[cfg(test)]
+mod io;
+#[cfg(test)]
 mod lamps;
 #[cfg(test)]
 mod ledger;
 #[cfg(test)]
+mod lex;
+#[cfg(test)]
+mod mean;
+#[cfg(test)]
 mod model;
 #[cfg(test)]
 mod sched;
+#[cfg(test)]
+mod texts;
+#[cfg(test)]
+mod told;
 #[cfg(test)]
 mod trace;
 #[cfg(test)]
