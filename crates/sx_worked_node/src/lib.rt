@@ -1,11 +1,12 @@
-//! Worked cases of the crates of a node, from single words to whole steps, as tests.
+//! Worked cases of the crates of a node, from single words to module instructions, as tests, of what
+//! no command prints. Whole steps are rows of `tests/rows`.
 //!
 //! They use what these crates give to everybody, and stand in a crate of their own since the tests
 //! of a crate are proved together with all of it: so a change of a test proves no crate again.
 //!
 //! `words` reads and writes instructions, `calculations` works the table of arithmetic, `memories`,
 //! `arenas` and `pages` fill memories, `sections` asks a table of sections, and `tags` makes tags
-//! and keys. `instructions` and `module_instructions` step an executor, and `nodes` a whole node.
+//! and keys. `module_instructions` steps an executor.
 #![tactic(auto)]
 
 #[cfg(test)]
@@ -13,13 +14,9 @@ mod arenas;
 #[cfg(test)]
 mod calculations;
 #[cfg(test)]
-mod instructions;
-#[cfg(test)]
 mod memories;
 #[cfg(test)]
 mod module_instructions;
-#[cfg(test)]
-mod nodes;
 #[cfg(test)]
 mod pages;
 #[cfg(test)]

@@ -7,6 +7,7 @@ use std::alloc::Global;
 use std::process::Abort;
 use std::test::Fail;
 use sx_bus::{FlatBus, Kind, Windows};
+use sx_core::step_plain;
 use sx_executor::Executor;
 use sx_machine::Exchange;
 use sx_rules::{Layout, Violation};
@@ -163,6 +164,19 @@ fn violations(rt: HostRuntime) -> Result<(), Fail> {
     let mut parts = Parts::new(&rt, rt.alloc())?;
     wrap_violates(&rt, &mut parts);
     violates_with_any_tag(&rt, &mut parts);
+    Ok(())
+}
+
+/// Among plain instructions a module instruction is none.
+fn is_no_plain_instruction(rt: &impl Abort, parts: &mut Parts) {
+    parts.begin(0);
+    assert!(rt; step_plain(&mut parts.executor, 0x1380) == Err(Violation::Illegal));
+}
+
+#[test]
+fn a_module_instruction_is_not_plain(rt: HostRuntime) -> Result<(), Fail> {
+    let mut parts = Parts::new(&rt, rt.alloc())?;
+    is_no_plain_instruction(&rt, &mut parts);
     Ok(())
 }
 
