@@ -1,6 +1,6 @@
 //! Readings that `drive` reads from a source that fails.
 
-use crate::inputs::{IMAGES, done, joined, lighting, sink, source, words};
+use crate::inputs::{IMAGES, Streams, ended, joined, lighting};
 use std::alloc::Global;
 use std::process::Abort;
 use std::test::Fail;
@@ -100,14 +100,20 @@ const BROKEN_OFF: [Driven; 5] = [
     (b"light 120\nbulb 1\n", 3, BRIGHT, b"fault reading Q4 2\n"),
 ];
 
+/// The second read fails.
+const SECOND: Streams = Streams {
+    piece: 4096,
+    read: 2,
+    room: 40_000,
+    write: 0,
+};
+
 /// Whether the lighting is driven so: the images stand before the set-up.
 fn breaks_off(rt: &impl Abort, alloc: Global, row: &Driven) -> Result<(), Fail> {
     let said = joined(alloc, &[SETUP, row.2, row.3])?;
-    let mut input = source(alloc, &lighting(alloc, row.0)?, 4096, 2)?;
-    let mut output = sink(alloc, 40_000, 0)?;
-    let ended = done(alloc, &words(alloc, "drive")?, &mut input, &mut output);
-    let told = output.written().get(IMAGES..) == Some(said.as_slice());
-    assert!(rt; ended == row.1 && told);
+    let run = ended(alloc, "drive", &lighting(alloc, row.0)?, SECOND)?;
+    let told = run.output.written().get(IMAGES..) == Some(said.as_slice());
+    assert!(rt; run.status == row.1 && told);
     Ok(())
 }
 

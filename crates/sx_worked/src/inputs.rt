@@ -8,7 +8,7 @@ use sx_io::{MemSink, MemSource};
 use sx_top::top;
 
 /// The words of a command.
-pub(crate) fn words(alloc: Global, text: &str) -> Result<Vec<String>, AllocError> {
+fn words(alloc: Global, text: &str) -> Result<Vec<String>, AllocError> {
     let mut words = Vec::new(alloc);
     for word in text.split_whitespace() {
         words.push(String::from_str(alloc, word)?)?;
@@ -41,13 +41,44 @@ pub(crate) fn sink(alloc: Global, capacity: usize, failing: u64) -> Result<MemSi
 
 /// Does a command, and gives its status. No other function calls `top`, since what that call says
 /// is long, and is proved anew of each place that calls it.
-pub(crate) fn done(
-    alloc: Global,
-    words: &[String],
-    input: &mut MemSource,
-    output: &mut MemSink,
-) -> u8 {
+fn done(alloc: Global, words: &[String], input: &mut MemSource, output: &mut MemSink) -> u8 {
     top(alloc, words, input, output)
+}
+
+/// How streams behave: how many bytes a read gives, which read fails, how many bytes can be written,
+/// and which write fails. Calls are counted from 1.
+#[derive(Clone, Copy)]
+pub(crate) struct Streams {
+    pub(crate) piece: usize,
+    pub(crate) read: u64,
+    pub(crate) room: usize,
+    pub(crate) write: u64,
+}
+
+/// How a command ended: its status, what was written, and how many bytes weren't read.
+#[derive(Drop)]
+pub(crate) struct Run {
+    pub(crate) status: u8,
+    pub(crate) output: MemSink,
+    pub(crate) left: usize,
+}
+
+/// Does the command of these words on an input over such streams.
+pub(crate) fn ended(
+    alloc: Global,
+    command: &str,
+    text: &[u8],
+    streams: Streams,
+) -> Result<Run, AllocError> {
+    let mut input = source(alloc, text, streams.piece.max(1), streams.read)?;
+    let mut output = sink(alloc, streams.room, streams.write)?;
+    let status = done(alloc, &words(alloc, command)?, &mut input, &mut output);
+    let left = input.left();
+    Ok(Run {
+        status,
+        output,
+        left,
+    })
 }
 
 /// The texts one after the other.

@@ -1,6 +1,6 @@
 //! Streams that fail, at every place of one run.
 
-use crate::inputs::{SAMPLE, done, joined, lighting, sink, source, words};
+use crate::inputs::{SAMPLE, Streams, ended, joined, lighting};
 use std::alloc::Global;
 use std::process::Abort;
 use std::test::Fail;
@@ -13,20 +13,16 @@ struct Whole<'a> {
     told: &'a [u8],
 }
 
-/// Whether a run ends with this status where a read fails, or a write, by their numbers from 1, and
-/// told the start of the whole before.
+/// Whether a run over such streams ends with this status, and told the start of the whole before.
 fn breaks_off(
     rt: &impl Abort,
     alloc: Global,
     whole: &Whole,
-    read: u64,
-    room: (usize, u64),
+    streams: Streams,
     status: u8,
 ) -> Result<(), Fail> {
-    let mut input = source(alloc, whole.text, 97, read)?;
-    let mut output = sink(alloc, room.0, room.1)?;
-    let ended = done(alloc, &words(alloc, "run")?, &mut input, &mut output);
-    assert!(rt; ended == status && is_start(whole.told, &output, status));
+    let run = ended(alloc, "run", whole.text, streams)?;
+    assert!(rt; run.status == status && is_start(whole.told, &run.output, status));
     Ok(())
 }
 
@@ -38,35 +34,40 @@ fn is_start(whole: &[u8], output: &MemSink, status: u8) -> bool {
     told.ends_with(fault) && before.is_some_and(|before| whole.starts_with(before))
 }
 
+/// Pieces of 97 bytes, and room for all that is written.
+const WELL: Streams = Streams {
+    piece: 97,
+    read: 0,
+    room: 20_000,
+    write: 0,
+};
+
 /// Each read fails, each write, and a write at each place of the first bytes.
 fn all_break_off(rt: &impl Abort, alloc: Global, whole: &Whole) -> Result<(), Fail> {
-    // pieces of 97 bytes, and a last read that finds the end
+    // the last read finds the end
     for call in 0..whole.text.len() / 97 + 2 {
-        breaks_off(rt, alloc, whole, call as u64 + 1, (20_000, 0), 4)?;
+        let read = call as u64 + 1;
+        breaks_off(rt, alloc, whole, Streams { read, ..WELL }, 4)?;
     }
     // the images, the items of each line that has some, and the end
-    for call in 1..=27 {
-        breaks_off(rt, alloc, whole, 0, (20_000, call), 5)?;
+    for write in 1..=27 {
+        breaks_off(rt, alloc, whole, Streams { write, ..WELL }, 5)?;
     }
     for room in 0..=200 {
-        breaks_off(rt, alloc, whole, 0, (room, 0), 5)?;
+        breaks_off(rt, alloc, whole, Streams { room, ..WELL }, 5)?;
     }
-    breaks_off(rt, alloc, whole, 0, (20_000, 28), 0)
+    breaks_off(rt, alloc, whole, Streams { write: 28, ..WELL }, 0)
 }
 
 #[test]
 fn each_read_and_each_write_fails(rt: HostRuntime) -> Result<(), Fail> {
     let alloc = rt.alloc();
     let text = lighting(alloc, SAMPLE)?;
-    let mut input = source(alloc, &text, 97, 0)?;
-    let mut output = sink(alloc, 20_000, 0)?;
-    assert_eq!(rt;
-        done(alloc, &words(alloc, "run")?, &mut input, &mut output),
-        0
-    );
+    let run = ended(alloc, "run", &text, WELL)?;
+    assert!(rt; run.status == 0);
     let whole = Whole {
         text: &text,
-        told: output.written(),
+        told: run.output.written(),
     };
     all_break_off(&rt, alloc, &whole)
 }
@@ -154,10 +155,14 @@ const FAILING: [Failing; 22] = [
 
 /// Whether a command ends so.
 fn fails(rt: &impl Abort, alloc: Global, row: &Failing) -> Result<(), Fail> {
-    let mut input = source(alloc, row.1, row.2.max(1), row.3)?;
-    let mut output = sink(alloc, row.4, row.5)?;
-    let ended = done(alloc, &words(alloc, row.0)?, &mut input, &mut output);
-    assert!(rt; ended == row.6 && output.written() == row.7);
+    let streams = Streams {
+        piece: row.2,
+        read: row.3,
+        room: row.4,
+        write: row.5,
+    };
+    let run = ended(alloc, row.0, row.1, streams)?;
+    assert!(rt; run.status == row.6 && run.output.written() == row.7);
     Ok(())
 }
 
@@ -177,9 +182,13 @@ fn nothing_is_read_behind_a_failed_write(rt: HostRuntime) -> Result<(), Fail> {
     for _ in 0..10_000 {
         text.extend_from_slice(b"reset n\n")?;
     }
-    let mut input = source(alloc, &text, 4096, 0)?;
-    let mut output = sink(alloc, 200_000, 3)?;
-    let ended = done(alloc, &words(alloc, "run")?, &mut input, &mut output);
-    assert!(rt; ended == 5 && input.left() > 60_000);
+    let streams = Streams {
+        piece: 4096,
+        read: 0,
+        room: 200_000,
+        write: 3,
+    };
+    let run = ended(alloc, "run", &text, streams)?;
+    assert!(rt; run.status == 5 && run.left > 60_000);
     Ok(())
 }

@@ -1,6 +1,6 @@
 //! Traces that `explain` reads from a source that fails.
 
-use crate::inputs::{done, joined, sink, source, words};
+use crate::inputs::{Streams, ended, joined};
 use std::alloc::Global;
 use std::process::Abort;
 use std::test::Fail;
@@ -58,14 +58,18 @@ fn breaks_off(
     rt: &impl Abort,
     alloc: Global,
     piece: usize,
-    failing: u64,
+    read: u64,
     row: &Judged,
 ) -> Result<(), Fail> {
     let text = joined(alloc, &[DEPLOYMENT, row.0])?;
-    let mut input = source(alloc, &text, piece.max(1), failing)?;
-    let mut output = sink(alloc, 400, 0)?;
-    let ended = done(alloc, &words(alloc, "explain")?, &mut input, &mut output);
-    assert!(rt; ended == row.1 && output.written() == row.2);
+    let streams = Streams {
+        piece,
+        read,
+        room: 400,
+        write: 0,
+    };
+    let run = ended(alloc, "explain", &text, streams)?;
+    assert!(rt; run.status == row.1 && run.output.written() == row.2);
     Ok(())
 }
 
