@@ -4,13 +4,11 @@
 //! They use what these crates give to everybody, and stand in a crate of their own since the tests
 //! of a crate are proved together with all of it: so a change of a test proves no crate again.
 //!
-//! `words` reads and writes instructions, `calculations` works the table of arithmetic, `memories`,
-//! `arenas` and `pages` fill memories, `sections` asks a table of sections, and `tags` makes tags
-//! and keys. `module_instructions` steps an executor.
+//! `words` reads and writes instructions, `calculations` works the table of arithmetic, `memories`
+//! and `pages` fill memories, `sections` asks a table of sections, and `tags` makes tags and keys.
+//! `module_instructions` steps an executor.
 #![tactic(auto)]
 
-#[cfg(test)]
-mod arenas;
 #[cfg(test)]
 mod calculations;
 #[cfg(test)]

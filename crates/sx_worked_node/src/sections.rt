@@ -1,4 +1,4 @@
-//! Each refusal once, and the access table's rows.
+//! The access table's rows, and what a table knows of its sections by pages and words.
 
 use std::process::Abort;
 use sx_rules::{Access, Layout, Refusal, Table};
@@ -31,70 +31,6 @@ fn admit(table: &mut Table, layout: Layout, places: &[u16]) -> Result<u16, Refus
 
 fn remove(table: &mut Table, id: u16) -> bool {
     table.remove(id)
-}
-
-fn test(table: &Table, layout: Layout) -> Result<(), Refusal> {
-    table.test(layout, &[0x1002])
-}
-
-/// Layouts that are refused beside MODULE and a device at 0x1002.
-const REFUSED: [([u16; 4], Refusal); 5] = [
-    ([0x601, 0x608, 0x700, 0x710], Refusal::Bounds),
-    ([0x600, 0x600, 0x700, 0x710], Refusal::Bounds),
-    ([0x800, 0x810, 0x80E, 0x820], Refusal::Overlap),
-    ([0x800, 0x810, 0x70E, 0x720], Refusal::Overlap),
-    ([0x1000, 0x1004, 0x900, 0x910], Refusal::Device),
-];
-
-/// Each refusal that a layout alone has, beside a module that stands.
-fn refuses_layouts(rt: &impl Abort, table: &mut Table) {
-    assert!(rt; admit(table, MODULE, &[0x700]) == Ok(1));
-    for (bounds, refusal) in REFUSED.as_slice() {
-        let layout = layout(*bounds);
-        assert!(rt; test(table, layout) == Err(*refusal));
-        assert!(rt; admit(table, layout, &[0x1002]) == Err(*refusal));
-    }
-}
-
-#[test]
-fn refusals_by_the_layout(rt: HostRuntime) {
-    let mut table = Table::new();
-    refuses_layouts(&rt, &mut table);
-}
-
-/// Eight modules, a ninth that is refused, and one in the place of the third.
-fn refuses_a_ninth(rt: &impl Abort, table: &mut Table) {
-    for i in 0..8u16 {
-        let from = 0x1000 + 0x100 * i;
-        let placed = layout([from, from + 0x10, from + 0x80, from + 0x90]);
-        assert!(rt; admit(table, placed, &[]) == Ok(i + 1));
-    }
-    assert!(rt; admit(table, MODULE, &[]) == Err(Refusal::Full));
-    assert!(rt; remove(table, 3));
-    assert!(rt; !remove(table, 3));
-    assert!(rt; table.section(3).is_none() && table.section(4).is_some());
-    assert!(rt; admit(table, MODULE, &[]) == Ok(9));
-}
-
-#[test]
-fn refusal_of_a_ninth(rt: HostRuntime) {
-    let mut table = Table::new();
-    refuses_a_ninth(&rt, &mut table);
-}
-
-/// All ids are given, and then none.
-fn gives_each_id(rt: &impl Abort, table: &mut Table) {
-    for id in 1..=65535u16 {
-        assert!(rt; admit(table, MODULE, &[]) == Ok(id));
-        assert!(rt; remove(table, id));
-    }
-    assert!(rt; admit(table, MODULE, &[]) == Err(Refusal::Ids));
-}
-
-#[test]
-fn refusal_once_the_ids_are_used(rt: HostRuntime) {
-    let mut table = Table::new();
-    gives_each_id(&rt, &mut table);
 }
 
 /// Whether code may read, write and run a byte.
