@@ -17,7 +17,7 @@ const PAGE_BYTES: usize = 256;
 const NO_PAGE: u16 = 256;
 
 /// How many numbers a wipe compares at once.
-const RUN: usize = 16;
+const RUN: usize = 32;
 
 /// The 256 pages of a memory. All absent ones have one page of the arena, the blank page, which is
 /// zeros and never written; so a read asks nothing. Each other live page of the arena is the page
@@ -246,9 +246,9 @@ fn release_all(arena: &mut Arena, numbers: &mut [u8], blank: u8)
 // Makes the pages of a run of indices absent.
 fn release_run(arena: &mut Arena, numbers: &mut [u8], blank: u8, from: usize)
     requires paged { IsPaged arena.old numbers.old blank }
-    requires within { from + 16 ≤ 256 }
+    requires within { from + 32 ≤ 256 }
     requires before { AreBlank numbers.old blank from }
-    ensures { IsPaged arena.new numbers.new blank × AreBlank numbers.new blank (from + 16) }
+    ensures { IsPaged arena.new numbers.new blank × AreBlank numbers.new blank (from + 32) }
 {
     for index in from..from + RUN {
         let number = numbers[index];

@@ -9,17 +9,17 @@ use Rattle.sx_paged.proofs.paged.release_all.Goals as goal
 
 pub loop-run-preserved : goal.loop-run-preserved
 loop-run-preserved c =
-    let l = c.loop-run in let from : ℕ = 16 * l.run in
-    let next : from + 16 ≡ 16 * (l.run + 1) = omega arith in
+    let l = c.loop-run in let from : ℕ = 32 * l.run in
+    let next : from + 32 ≡ 32 * (l.run + 1) = omega arith in
     elim c.if-ne.branch [
       | then-ne w ↦ rw (w.arena-is, w.numbers-is, ← next) w.release_run.ensures
       | else-ne w ↦
-          let count : from + 16 - from ≡ 16 = omega arith in
-          let same : bytes_eq (take (from + 16 - from) (drop from l.numbers)) c.as_slice.result.now ≡ true =
+          let count : from + 32 - from ≡ 32 = omega arith in
+          let same : bytes_eq (take (from + 32 - from) (drop from l.numbers)) c.as_slice.result.now ≡ true =
           true_from_ne_false _ (λ f. false≢true (sym w.if-ne.false ∙ c.ne.ensures ∙ not_from_false _ f)) in
-          let run : take 16 (drop from l.numbers) ≡ replicate 16 c.args.blank =
+          let run : take 32 (drop from l.numbers) ≡ replicate 32 c.args.blank =
           ap (λ (n : ℕ). take n (drop from l.numbers)) (sym count) ∙ (bytes_eq-Decides _ _).0 same ∙ c.as_slice.ensures in
-          rw (w.arena-is, w.numbers-is) (l.invariant.0, subst (AreBlank l.numbers c.args.blank) next (run-step l.numbers c.args.blank from 16 run l.invariant.1))
+          rw (w.arena-is, w.numbers-is) (l.invariant.0, subst (AreBlank l.numbers c.args.blank) next (run-step l.numbers c.args.blank from 32 run l.invariant.1))
     ]
 
 pub returns-clause-none : goal.returns-clause-none

@@ -4,4 +4,4 @@ use Rattle.sx_paged.proofs.paged.release_all.Given as goal
 
 -- the runs so far have the blank page
 abbrev pub invariant-loop-run : goal.invariant-loop-run
-invariant-loop-run l = IsPaged l.arena l.numbers l.blank × AreBlank l.numbers l.blank (16 * l.run)
+invariant-loop-run l = IsPaged l.arena l.numbers l.blank × AreBlank l.numbers l.blank (32 * l.run)
