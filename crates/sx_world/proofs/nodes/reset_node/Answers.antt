@@ -1,8 +1,12 @@
 use Rattle.std.proofs.Common.{get_or}
 use Rattle.sx_machine.specs.State.{State}
 use Rattle.sx_machine.specs.State as state
-use Rattle.sx_world.proofs.doing.NodeAt.{slot_is, set_as}
+use Rattle.sx_world.proofs.doing.NodeAt.{slot_is, set_as, stands_at}
 use Rattle.sx_world.proofs.nodes.reset_node.Goals as goal
+
+pub reset-requires : goal.reset-requires
+reset-requires g c =
+    c.requires.boot (get_or c.args.nodes.now c.from.result c.index-nodes-from.result) (stands_at c.args.nodes.now c.args.n c.from.result c.index-nodes-from.result c.requires.node c.from.ensures)
 
 pub returns : goal.returns
 returns g c = λ s e.

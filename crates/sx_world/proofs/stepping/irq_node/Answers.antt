@@ -1,8 +1,12 @@
-use Rattle.std.proofs.Common.{get_or, sym, ap, ◌∙◌}
+use Rattle.std.proofs.Common.{get_or, sym}
 use Rattle.sx_machine.specs.State.{State}
 use Rattle.sx_machine.specs.Acts as acts
-use Rattle.sx_world.proofs.doing.NodeAt.{slot_is, set_as}
+use Rattle.sx_world.proofs.doing.NodeAt.{slot_is, set_as, shows_as, stands_at}
 use Rattle.sx_world.proofs.stepping.irq_node.Goals as goal
+
+pub irq-requires-clause-boots : goal.irq-requires-clause-boots
+irq-requires-clause-boots g c =
+    c.requires.boot (get_or c.args.nodes.now c.from.result c.index-nodes-from.result) (stands_at c.args.nodes.now c.args.n c.from.result c.index-nodes-from.result c.requires.node c.from.ensures)
 
 pub returns-clause-nodes : goal.returns-clause-nodes
 returns-clause-nodes g c = λ s e.
@@ -11,4 +15,5 @@ returns-clause-nodes g c = λ s e.
 
 pub returns-clause-answer : goal.returns-clause-answer
 returns-clause-answer g c = λ s e.
-    sym (c.irq.ensures.answer ∙ ap (λ (x : State). (acts.irq x c.args.line).shown) (slot_is c.args.nodes.now c.args.n c.from.result s c.index-nodes-from.result e c.from.ensures))
+    sym (shows_as c.irq.result (get_or c.args.nodes.now c.from.result c.index-nodes-from.result) s (λ (x : State). (acts.irq x c.args.line).shown)
+    (slot_is c.args.nodes.now c.args.n c.from.result s c.index-nodes-from.result e c.from.ensures) c.irq.ensures.answer)

@@ -1,4 +1,4 @@
-use Rattle.std.proofs.Common.{◌≡◌, Some, ap, ◌∙◌}
+use Rattle.std.proofs.Common.{◌≡◌, Some, sym, ap, ◌∙◌}
 use Rattle.std.specs.Prelude.{slice_get}
 use Rattle.std.proofs.lemmas.List.{with_items_is}
 use Rattle.sx_lists.proofs.Lists.{get_some}
@@ -12,6 +12,11 @@ use Rattle.sx_world.proofs.doing.Doing.{lent_set, lent_long, as_kept, wanted_her
 use Rattle.sx_world.proofs.passing.Stepped.{node_behind, next_irq, irq_did, irq_wanted, irq_refused, as_interrupted, refused_ok}
 use Rattle.sx_world.proofs.doing.Composed.{does_both}
 use Rattle.sx_world.proofs.running.Running.irq.Goals as goal
+
+pub irq_node-requires-clause-boot : goal.irq_node-requires-clause-boot
+irq_node-requires-clause-boot g c =
+    let same : c.deref_mut.result.now ≡ c.args.self.now.nodes = c.deref_mut.ensures.value ∙ ap (λ (k : Running). k.nodes) c.self.view_is in
+    λ s e. c.requires.boot s (ap (λ ns. slice_get ns c.args.n) (sym same) ∙ e)
 
 pub returns-in-Ok : goal.returns-in-Ok
 returns-in-Ok g c =

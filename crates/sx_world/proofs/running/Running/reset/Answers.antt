@@ -1,4 +1,4 @@
-use Rattle.std.proofs.Common.{◌≡◌, [], ◌∷◌, ap, ◌∙◌}
+use Rattle.std.proofs.Common.{◌≡◌, [], ◌∷◌, sym, ap, ◌∙◌}
 use Rattle.std.specs.Prelude.{slice_get}
 use Rattle.std.proofs.lemmas.List.{with_items_is}
 use Rattle.sx_trace.specs.declared.items.Item.TheVariants.{Reset}
@@ -9,6 +9,11 @@ use Rattle.sx_world.proofs.doing.Doing.{reset_did, as_kept, lent_set, lent_long,
 use Rattle.sx_run.specs.Acts.{at_node, with_node}
 use Rattle.sx_world.proofs.doing.Composed.{does_any}
 use Rattle.sx_world.proofs.running.Running.reset.Goals as goal
+
+pub reset_node-requires-clause-boot : goal.reset_node-requires-clause-boot
+reset_node-requires-clause-boot g c =
+    let same : c.deref_mut.result.now ≡ c.args.self.now.nodes = c.deref_mut.ensures.value ∙ ap (λ (k : Running). k.nodes) c.self.view_is in
+    λ s e. c.requires.boot s (ap (λ ns. slice_get ns c.args.n) (sym same) ∙ e)
 
 pub returns : goal.returns
 returns g c =

@@ -1,4 +1,4 @@
-use Rattle.std.proofs.Common.{◌≡◌, [], ◌∷◌, refl, ap, ◌∙◌}
+use Rattle.std.proofs.Common.{◌≡◌, [], ◌∷◌, refl, sym, ap, ◌∙◌}
 use Rattle.std.specs.Prelude.{slice_get}
 use Rattle.std.proofs.lemmas.List.{with_items_is}
 use Rattle.sx_trace.specs.declared.items.Item.TheVariants.{Sense}
@@ -9,6 +9,16 @@ use Rattle.sx_world.proofs.doing.Doing.{done_did, as_kept, lent_set, lent_long, 
 use Rattle.sx_run.specs.Acts.{at_node, done_on}
 use Rattle.sx_world.proofs.doing.Composed.{does_any}
 use Rattle.sx_world.proofs.running.Running.sense_at.Goals as goal
+
+pub sense_node-answer-requires-clause-device : goal.sense_node-answer-requires-clause-device
+sense_node-answer-requires-clause-device g c =
+    let same : c.deref_mut.result.now ≡ c.args.self.now.nodes = c.deref_mut.ensures.value ∙ ap (λ (k : Running). k.nodes) c.self.view_is in
+    λ s e. c.requires.device s (ap (λ ns. slice_get ns c.args.n) (sym same) ∙ e)
+
+pub sense_node-answer-requires-clause-sensor : goal.sense_node-answer-requires-clause-sensor
+sense_node-answer-requires-clause-sensor g c =
+    let same : c.deref_mut.result.now ≡ c.args.self.now.nodes = c.deref_mut.ensures.value ∙ ap (λ (k : Running). k.nodes) c.self.view_is in
+    λ s e. c.requires.sensor s (ap (λ ns. slice_get ns c.args.n) (sym same) ∙ e)
 
 pub returns : goal.returns
 returns g c =
