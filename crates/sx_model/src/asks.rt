@@ -10,6 +10,7 @@ ghost use Rattle.sx_mean.specs.View.{app_as};
 ghost use Rattle.sx_model.specs.Renewal.{boot_of};
 ghost use Rattle.sx_model.specs.Step.{is_vouched};
 
+use crate::parts::part_at;
 use crate::renewal::{may_attest, renewed};
 use crate::state::{Attestation, Pending, Standing, State, Vouched};
 use std::alloc::{AllocError, Global};
@@ -110,7 +111,7 @@ pub(crate) fn vouch(
         (vouches_in (app_as app.now) state.old «module» challenge) state.old) }
     ensures err { OnErr result (state.new ≡ state.old) }
 {
-    let Some(part) = app.parts.get(usize::from(module)) else {
+    let Some(part) = part_at(app, module) else {
         return Ok(false);
     };
     let Some(boot) = state.boots.get(usize::from(part.node)) else {

@@ -6,6 +6,7 @@ ghost use Rattle.sx_model.specs.Changes.{on_module, on_present, refuses, writes,
 ghost use Rattle.sx_mean.specs.View.{app_as};
 
 use crate::devices::waits;
+use crate::parts::part_at;
 use crate::state::{Pending, Present, Standing, State};
 use sx_mean::apps::App;
 
@@ -137,7 +138,7 @@ pub(crate) fn done(state: &mut State, app: &App, module: u8, status: u16, pieces
     ensures state { state.new ≡ unwrap_or (is_done_in (app_as app.now) state.old «module» status
         pieces) state.old }
 {
-    let Some(part) = app.parts.get(usize::from(module)) else {
+    let Some(part) = part_at(app, module) else {
         return false;
     };
     if status == 1 {

@@ -20,6 +20,7 @@ pub mod laws;
 pub mod model;
 mod nodes;
 mod opening;
+mod parts;
 mod protecting;
 mod reactions;
 mod receiving;

@@ -3,10 +3,12 @@
 ghost use Rattle.std.specs.Prelude.{◌≡◌, ◌<◌, ◌≤◌, IfOk, OnErr, OnOk, is_some, length, slice_index};
 ghost use Rattle.std.specs.Prelude.{unwrap_or};
 ghost use Rattle.sx_mean.specs.View.{app_as};
+ghost use Rattle.sx_mean.specs.Ends.{ends_of};
 ghost use Rattle.sx_model.specs.Changes.{on_module, opens_end, opens_in, opens_standing};
 ghost use Rattle.sx_model.specs.Renewal.{may_open};
 
 use crate::ends::open_end;
+use crate::parts::part_at;
 use crate::state::{Attestation, Pending, Present, Standing, State};
 use std::alloc::{AllocError, Global};
 use sx_lang::sides::Side;
@@ -122,6 +124,29 @@ fn open_module(
     }
 }
 
+/// A module opens an end at its node's boot.
+fn open_at(
+    alloc: Global,
+    state: &mut State,
+    app: &App,
+    module: u8,
+    opening: Opening,
+    boot: u32,
+) -> Result<bool, AllocError>
+    requires { length app.now.links.items ≤ 256 }
+    ensures answer { IfOk result (λ b. b ≡ is_some (on_module state.old «module»
+        (opens_standing boot (slice_index state.old.epochs opening.link) opening.link opening.side
+        opening.epoch (ends_of (app_as app.now) «module»)))) }
+    ensures state { OnOk result (state.new ≡ unwrap_or (on_module state.old «module»
+        (opens_standing boot (slice_index state.old.epochs opening.link) opening.link opening.side
+        opening.epoch (ends_of (app_as app.now) «module»))) state.old) }
+    ensures err { OnErr result (state.new ≡ state.old) }
+{
+    let ends = ends_of(alloc, &app.links, module)?;
+    let now = epoch_at(&state.epochs, opening.link);
+    Ok(open_module(alloc, state, module, opening, boot, now, &ends))
+}
+
 /// A module opens an end in an epoch from its floor to the connection's.
 pub(crate) fn open(
     alloc: Global,
@@ -138,14 +163,12 @@ pub(crate) fn open(
         state.old) }
     ensures err { OnErr result (state.new ≡ state.old) }
 {
-    let Some(part) = app.parts.get(usize::from(module)) else {
+    let Some(part) = part_at(app, module) else {
         return Ok(false);
     };
     let Some(boot) = state.boots.get(usize::from(part.node)) else {
         return Ok(false);
     };
-    let ends = ends_of(alloc, &app.links, module)?;
     let boot = *boot;
-    let now = epoch_at(&state.epochs, opening.link);
-    Ok(open_module(alloc, state, module, opening, boot, now, &ends))
+    open_at(alloc, state, app, module, opening, boot)
 }

@@ -7,6 +7,7 @@ ghost use Rattle.sx_mean.specs.View.{app_as};
 ghost use Rattle.sx_model.specs.Changes.{on_module, protects, protects_in};
 ghost use Rattle.sx_model.specs.Step.{first_present};
 
+use crate::parts::part_at;
 use crate::state::{EndView, Present, Standing, State};
 use std::alloc::{AllocError, Global};
 use sx_check::checked::Checked;
@@ -98,7 +99,7 @@ pub(crate) fn protect(
         (protects_in (app_as app.now) state.old node «module») state.old) }
     ensures err { OnErr result (state.new ≡ state.old) }
 {
-    let Some(part) = app.parts.get(usize::from(module)) else {
+    let Some(part) = part_at(app, module) else {
         return Ok(false);
     };
     if part.node != node {

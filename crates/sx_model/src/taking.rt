@@ -8,6 +8,7 @@ ghost use Rattle.sx_model.specs.Changes.{staled, takes_at, takes_in, word_at};
 ghost use Rattle.sx_model.specs.State.{contains};
 
 use crate::devices::has_sensor;
+use crate::parts::part_at;
 use crate::reactions::react_module;
 use crate::receiving::Taking;
 use crate::state::{Reading, State, Words};
@@ -122,7 +123,7 @@ pub(crate) fn read(
         (reads (app_as app.now) state.old «module» value) state.old) }
     ensures err { OnErr result (state.new ≡ state.old) }
 {
-    let Some(part) = app.parts.get(usize::from(module)) else {
+    let Some(part) = part_at(app, module) else {
         return Ok(false);
     };
     match part.device {
@@ -171,7 +172,7 @@ pub(crate) fn take(
         state.old) }
     ensures err { OnErr result (state.new ≡ state.old) }
 {
-    let Some(part) = app.parts.get(usize::from(module)) else {
+    let Some(part) = part_at(app, module) else {
         return Ok(false);
     };
     let Some(link) = app.links.get(usize::from(taking.link)) else {
