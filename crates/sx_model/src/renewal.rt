@@ -72,11 +72,8 @@ pub(crate) fn renewed(
     ensures { IfOk result (λ next. next.items ≡ renewed m links.now last epochs.now) }
 {
     let mut next = Vec::from_slice(alloc, epochs)?;
-    match last {
-        None => Ok(next),
-        Some(_) => {
-            raise(m, links, &mut next);
-            Ok(next)
-        }
+    if last.is_some() {
+        raise(m, links, &mut next);
     }
+    Ok(next)
 }

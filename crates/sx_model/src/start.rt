@@ -11,11 +11,7 @@ use sx_mean::apps::{App, AppDevice, Link, Part};
 fn no_boots(alloc: Global, nodes: u8) -> Result<Vec<u32>, AllocError>
     ensures { IfOk result (λ boots. boots.items ≡ replicate nodes 0) }
 {
-    let mut boots = Vec::new(alloc);
-    for _node in 0..nodes {
-        boots.push(0)?;
-    }
-    Ok(boots)
+    vec![in alloc; 0; usize::from(nodes)]
 }
 
 fn first_reading() -> Reading
