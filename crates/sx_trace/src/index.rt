@@ -1,5 +1,5 @@
 //! The first place of each name of a list, found without going through the list.
-ghost use Rattle.std.specs.Prelude.{◌≡◌, ℕ, List, [], IfOk, OnOk, OnErr};
+ghost use Rattle.std.specs.Prelude.{◌≡◌, ℕ, List, [], OnOk, OnErr};
 ghost use Rattle.sx_trace.specs.Index.{GrowsIndex, IsNameIndex, IsNewTo, KeepsIndex};
 ghost use Rattle.sx_trace.specs.Names.{place_of};
 
@@ -25,15 +25,15 @@ impl NameIndex {
         }
     }
 
-    /// The index of these names. The error says that memory ran out.
-    pub fn of(alloc: Global, names: &[Name]) -> Result<NameIndex, AllocError>
-        ensures { IfOk result (λ index. IsNameIndex index names.now) }
+    /// Takes in these names, the first ones. The error says that memory ran out.
+    pub fn fill(&mut self, names: &[Name]) -> Result<(), AllocError>
+        requires { IsNameIndex self.old [] }
+        ensures { OnOk result (IsNameIndex self.new names.now) }
     {
-        let mut index = NameIndex::new(alloc);
         for place in 0..names.len() {
-            index.push(names[place], place)?;
+            self.push(names[place], place)?;
         }
-        Ok(index)
+        Ok(())
     }
 
     /// Takes in the name that comes next, at this place. A name that stands before keeps its first

@@ -1,6 +1,7 @@
 //! The names of a deployment.
 
-ghost use Rattle.std.specs.Prelude.{◌≡◌, ◌<◌, ◌≤◌, length, true, IsTrue, IfOk, IfSome};
+ghost use Rattle.std.specs.Prelude.{◌≡◌, ◌<◌, ◌≤◌, length, true, [], IsTrue, IfOk, IfSome};
+ghost use Rattle.std.specs.Prelude.{OnOk};
 ghost use Rattle.std.specs.List.{list_all};
 ghost use Rattle.std.specs.Str.{bytes_eq};
 ghost use Rattle.sx_lang.specs.Form.{is_name};
@@ -146,6 +147,32 @@ struct NameIndexes {
     link_index: NameIndex,
 }
 
+impl NameIndexes {
+    /// Takes in the names of each list, where no index has any yet. The error says that memory ran
+    /// out.
+    fn fill(
+        &mut self,
+        nodes: &[Name],
+        devices: &[Name],
+        modules: &[Name],
+        links: &[Name],
+    ) -> Result<(), AllocError>
+        requires nodes { IsNameIndex self.old.node_index [] }
+        requires devices { IsNameIndex self.old.device_index [] }
+        requires modules { IsNameIndex self.old.module_index [] }
+        requires links { IsNameIndex self.old.link_index [] }
+        ensures nodes { OnOk result (IsNameIndex self.new.node_index nodes.now) }
+        ensures devices { OnOk result (IsNameIndex self.new.device_index devices.now) }
+        ensures modules { OnOk result (IsNameIndex self.new.module_index modules.now) }
+        ensures links { OnOk result (IsNameIndex self.new.link_index links.now) }
+    {
+        self.node_index.fill(nodes)?;
+        self.device_index.fill(devices)?;
+        self.module_index.fill(modules)?;
+        self.link_index.fill(links)
+    }
+}
+
 /// An index of each of these lists. The error says that memory ran out.
 fn indexes_of(
     alloc: Global,
@@ -159,16 +186,14 @@ fn indexes_of(
         × IsNameIndex i.module_index modules.now
         × IsNameIndex i.link_index links.now) }
 {
-    let node_index = NameIndex::of(alloc, nodes)?;
-    let device_index = NameIndex::of(alloc, devices)?;
-    let module_index = NameIndex::of(alloc, modules)?;
-    let link_index = NameIndex::of(alloc, links)?;
-    Ok(NameIndexes {
-        node_index,
-        device_index,
-        module_index,
-        link_index,
-    })
+    let mut indexes = NameIndexes {
+        node_index: NameIndex::new(alloc),
+        device_index: NameIndex::new(alloc),
+        module_index: NameIndex::new(alloc),
+        link_index: NameIndex::new(alloc),
+    };
+    indexes.fill(nodes, devices, modules, links)?;
+    Ok(indexes)
 }
 
 impl Names {
