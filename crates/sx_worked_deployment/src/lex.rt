@@ -1,5 +1,6 @@
 //! The places of the tokens of a dozen texts, and the values of numbers.
 
+use std::alloc::{AllocError, Global};
 use std::test::Fail;
 use sx_lang::names::Name;
 use sx_lex::reading::tokens_of;
@@ -55,12 +56,16 @@ fn are_tokens(list: &[Placed], want: &[Token]) -> bool {
     list.len() == want.len()
 }
 
+/// Whether a text has these tokens, and ends there.
+fn is_read(alloc: Global, text: &str, want: &[Token], end: (u32, u32)) -> Result<bool, AllocError> {
+    let tokens = tokens_of(alloc, text.as_bytes())?;
+    Ok((tokens.end.line, tokens.end.column) == end && are_tokens(&tokens.list, want))
+}
+
 #[test]
 fn tokens_of_texts(rt: HostRuntime) -> Result<(), Fail> {
     for (text, want, end) in TEXTS.as_slice() {
-        let tokens = tokens_of(rt.alloc(), text.as_bytes())?;
-        let at_end = (tokens.end.line, tokens.end.column) == *end;
-        assert!(rt; at_end && are_tokens(&tokens.list, want));
+        assert!(rt; is_read(rt.alloc(), text, want, *end)?);
     }
     Ok(())
 }
