@@ -1,6 +1,5 @@
 //! What is read of a deployment that is accepted.
 
-use crate::lamps::lamps;
 use std::alloc::Global;
 use std::process::Abort;
 use std::test::Fail;
@@ -44,16 +43,11 @@ const MIDDLE: [End; 2] = [
     },
 ];
 
-fn is_as_written(rt: &impl Abort, alloc: Global, d: &Deployment) -> Result<(), Fail> {
+pub(crate) fn is_as_written(rt: &impl Abort, alloc: Global, d: &Deployment) -> Result<(), Fail> {
     assert!(rt; d.app.valid() && d.names.valid());
     assert!(rt; d.places.as_slice() == [0x1000, 0x1000].as_slice());
     assert!(rt; d.providers.as_slice() == [7, 7, 7].as_slice());
     assert!(rt; d.layouts.as_slice() == LAYOUTS.as_slice());
     assert!(rt; d.ends(alloc, 1)?.as_slice() == MIDDLE.as_slice());
     Ok(())
-}
-
-#[test]
-fn a_deployment(rt: HostRuntime) -> Result<(), Fail> {
-    is_as_written(&rt, rt.alloc(), &lamps(rt.alloc())?)
 }

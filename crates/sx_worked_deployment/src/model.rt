@@ -1,6 +1,5 @@
 //! The lighting application's runs, as their traces are written.
 
-use crate::lamps::lamps;
 use std::alloc::{AllocError, Global};
 use std::process::Abort;
 use std::test::Fail;
@@ -182,12 +181,7 @@ fn runs(rt: &impl Abort, alloc: Global, d: &Deployment, steps: &[Step]) -> Resul
     Ok(())
 }
 
-fn both_run(rt: &impl Abort, alloc: Global, d: &Deployment) -> Result<(), Fail> {
+pub(crate) fn both_run(rt: &impl Abort, alloc: Global, d: &Deployment) -> Result<(), Fail> {
     runs(rt, alloc, d, &RENEWAL)?;
     runs(rt, alloc, d, &REPLAY)
-}
-
-#[test]
-fn runs_of_the_lighting(rt: HostRuntime) -> Result<(), Fail> {
-    both_run(&rt, rt.alloc(), &lamps(rt.alloc())?)
 }

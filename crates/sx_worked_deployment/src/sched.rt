@@ -5,9 +5,7 @@ ghost use Rattle.sx_trace.specs.ValidNames.{are_valid};
 ghost use Rattle.sx_sched.specs.Seen.{line_of};
 ghost use Rattle.sx_sched.specs.InForm.{IsLine, IsWritten};
 
-use crate::lamps::lamps;
 use std::process::Abort;
-use std::test::Fail;
 use sx_sched::lines::Line;
 use sx_sched::write_line;
 use sx_trace::names::Names;
@@ -20,10 +18,10 @@ fn is_written(rt: &impl Abort, names: &Names, line: &Line, text: &[u8])
 {
     let mut into = [0; 128];
     let length = write_line(names, line, &mut into);
-    assert_eq!(rt; into.get(..length), Some(text));
+    assert!(rt; into.get(..length) == Some(text));
 }
 
-fn are_written(rt: &impl Abort, names: &Names) {
+pub(crate) fn are_written(rt: &impl Abort, names: &Names) {
     let counted = names.nodes.len() == 2 && names.modules.len() == 3 && names.devices.len() == 2;
     assert!(rt; names.valid() && counted);
     if names.valid() && counted {
@@ -60,7 +58,7 @@ fn are_written(rt: &impl Abort, names: &Names) {
     }
 }
 
-fn a_sense_is_written(rt: &impl Abort, names: &Names) {
+pub(crate) fn a_sense_is_written(rt: &impl Abort, names: &Names) {
     let is_sensor = names.sensors.first() == Some(&true);
     assert!(rt; names.valid() && is_sensor && names.devices.len() == 2);
     if names.valid() && is_sensor && names.devices.len() == 2 {
@@ -72,12 +70,4 @@ fn a_sense_is_written(rt: &impl Abort, names: &Names) {
             b"sense light 32767",
         );
     }
-}
-
-#[test]
-fn lines_that_are_written(rt: HostRuntime) -> Result<(), Fail> {
-    let d = lamps(rt.alloc())?;
-    are_written(&rt, &d.names);
-    a_sense_is_written(&rt, &d.names);
-    Ok(())
 }

@@ -3,9 +3,7 @@
 ghost use Rattle.std.specs.Prelude.{IsTrue};
 ghost use Rattle.sx_trace.specs.ValidNames.{are_valid};
 
-use crate::lamps::lamps;
 use std::process::Abort;
-use std::test::Fail;
 use sx_trace::names::Names;
 use sx_trace::reading::read_item;
 use sx_trace::writing::write_item;
@@ -75,7 +73,7 @@ fn is_item(names: &Names, line: &[u8]) -> bool
     }
 }
 
-fn are_items(rt: &impl Abort, names: &Names)
+pub(crate) fn are_items(rt: &impl Abort, names: &Names)
     requires { IsTrue (are_valid names.now) }
 {
     for line in ITEMS.lines() {
@@ -84,10 +82,4 @@ fn are_items(rt: &impl Abort, names: &Names)
     for line in NONE.as_slice() {
         assert!(rt; read_item(names, line.as_bytes()).is_none());
     }
-}
-
-#[test]
-fn lines_of_items(rt: HostRuntime) -> Result<(), Fail> {
-    are_items(&rt, &lamps(rt.alloc())?.names);
-    Ok(())
 }
