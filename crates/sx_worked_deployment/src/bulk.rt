@@ -1,6 +1,6 @@
-//! The lines of the workload at chosen numbers, and how many there are.
+//! The lines of the workload at chosen numbers.
 
-use sx_bulk::{HEAD, MOST_SAMPLES, head, line, lines};
+use sx_bulk::{MOST_SAMPLES, line, lines};
 
 const LINES: [(u32, &[u8]); 13] = [
     (0, b"load eye"),
@@ -33,11 +33,4 @@ fn the_lines(rt: HostRuntime) {
     for (number, text) in LINES.as_slice() {
         assert!(rt; is_line(*number, text));
     }
-}
-
-#[test]
-fn the_sizes(rt: HostRuntime) {
-    assert!(rt; [lines(4), lines(MOST_SAMPLES)] == [58, 64_026]);
-    assert!(rt; HEAD.len() == 977);
-    assert!(rt; head() == HEAD.as_bytes());
 }

@@ -8,6 +8,10 @@ use sx_lang::sides::Side;
 use sx_mean::events::End;
 use sx_rules::Layout;
 
+const PLACES: [u16; 2] = [0x1000, 0x1000];
+
+const PROVIDERS: [u16; 3] = [7, 7, 7];
+
 const LAYOUTS: [Layout; 3] = [
     Layout {
         pub_from: 0x4000,
@@ -43,11 +47,16 @@ const MIDDLE: [End; 2] = [
     },
 ];
 
+/// Whether its parts stand as the text says.
+fn is_laid_out(d: &Deployment) -> bool {
+    d.places.as_slice() == PLACES.as_slice()
+        && d.providers.as_slice() == PROVIDERS.as_slice()
+        && d.layouts.as_slice() == LAYOUTS.as_slice()
+}
+
 pub(crate) fn is_as_written(rt: &impl Abort, alloc: Global, d: &Deployment) -> Result<(), Fail> {
-    assert!(rt; d.app.valid() && d.names.valid());
-    assert!(rt; d.places.as_slice() == [0x1000, 0x1000].as_slice());
-    assert!(rt; d.providers.as_slice() == [7, 7, 7].as_slice());
-    assert!(rt; d.layouts.as_slice() == LAYOUTS.as_slice());
-    assert!(rt; d.ends(alloc, 1)?.as_slice() == MIDDLE.as_slice());
+    let ends = d.ends(alloc, 1)?;
+    let is_valid = d.app.valid() && d.names.valid();
+    assert!(rt; is_valid && is_laid_out(d) && ends.as_slice() == MIDDLE.as_slice());
     Ok(())
 }

@@ -5,10 +5,10 @@
 //! They use what the crates give to everybody, and stand in a crate of their own, so that no crate
 //! is proved a second time for its tests.
 //!
-//! Streams and lines: `io` has numbers and lines that are read in pieces, `head` heads, `told` texts
-//! that are written. The language: `lex` has tokens, `texts` what is printed of modules, `mean` what
-//! modules do at events and their sizes, up to the highest expressions and the deepest blocks, and
-//! `asm` a listing. Deployments: `lamps` has one and tries it, `deploy` what is read of it, `trace`
+//! Streams and lines: `io` has numbers and lines that are read in pieces, `told` texts that are
+//! written. The language: `lex` has tokens, `texts` what is printed of modules, `mean` what modules
+//! do at events and their sizes, up to the highest expressions and the deepest blocks, and `asm` a
+//! word that is shown. Deployments: `lamps` has one and tries it, `deploy` what is read of it, `trace`
 //! the lines of items, `sched` lines of schedules that are written, `model` runs of the source;
 //! `wire` has packets, `ledger` entries, `bulk` the workload, and `deployer` answers, keys and
 //! renewals.
@@ -25,8 +25,6 @@ mod bulk;
 mod deploy;
 #[cfg(test)]
 mod deployer;
-#[cfg(test)]
-mod head;
 #[cfg(test)]
 mod io;
 #[cfg(test)]
