@@ -7,6 +7,7 @@ minutes a call, what needs a program is passed over, with a word on standard err
 from __future__ import annotations
 
 import os
+import signal
 import subprocess
 import sys
 import tempfile
@@ -122,6 +123,22 @@ def hand_over(write: int, data: bytes) -> None:
     except BrokenPipeError:
         pass
     os.close(write)
+
+
+def usual_signals(*ignored: int) -> None:
+    """For a process that is started: signals end it, but for those that it is to ignore, although this process may
+    ignore them, as all do that a script starts with `&`."""
+    for it in (signal.SIGINT, signal.SIGTERM, signal.SIGHUP, signal.SIGPIPE):
+        signal.signal(it, signal.SIG_IGN if it in ignored else signal.SIG_DFL)
+
+
+def started(*words: str, ignoring: Tuple[int, ...] = (), **streams: object) -> "subprocess.Popen[bytes]":
+    """./sancus as a process of its own, with pipes to it and from it unless other streams are named."""
+    kinds = {"stdin": subprocess.PIPE, "stdout": subprocess.PIPE, **streams}
+    env = {**os.environ, "SANCUS_PROGRAM": PROGRAM}
+    return subprocess.Popen(  # type: ignore[call-overload]
+        [SANCUS, *words], env=env, preexec_fn=lambda: usual_signals(*ignoring), **kinds
+    )
 
 
 def program(*words: str, text: Text = b"") -> Result:
