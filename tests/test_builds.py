@@ -1,6 +1,6 @@
 """Builds without proof, and `sancus build`, by a command rt that only prints; its lines are those of the real one.
 
-Which build is started, by sums, is tried by tools/test_release.sh; here, what is started where the released one can't
+Which build is started, by sums, is tried by tests/slow/test_release.py; here, what is started where the released one can't
 run.
 """
 

@@ -11,6 +11,7 @@ from support import (
     EXAMPLES,
     HEAD,
     LIGHTING,
+    MEASURE,
     PROGRAM,
     SANCUS,
     Room,
@@ -184,17 +185,6 @@ class Bounded(Room):
     def test_a_long_line(self):
         self.bounded(["run"], HEAD + b"%%\n" + b"x" * 5_000_000)
         self.bounded(["dis", "0"], b"a" * 5_000_000)
-
-
-# Runs a command, and says its peak of memory in KiB, children's not counted.
-MEASURE = """
-import os, resource, sys
-pid = os.posix_spawn(sys.argv[1], sys.argv[1:], os.environ)
-_, status, used = os.wait4(pid, 0)
-sys.stderr.write(f"peak {used.ru_maxrss}")
-sys.stderr.flush()
-os._exit(os.waitstatus_to_exitcode(status))
-"""
 
 
 @needs_program
