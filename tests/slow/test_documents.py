@@ -232,7 +232,7 @@ def try_example(file, room):
 
 def make_room(room):
     """A folder in which the document's commands find what they name."""
-    for name in "sancus examples tools tests docs bench crates crates.txt wrong-bodies wrong-systems".split():
+    for name in "sancus release examples tools tests docs bench crates crates.txt wrong-bodies wrong-systems".split():
         (room / name).symlink_to(TOP / name)
 
 
