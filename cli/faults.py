@@ -66,9 +66,10 @@ class Teller:
         text = text_of(whole)
         head = f"{self.place(line)}: "
         if len(text) > MOST_SHOWN:
-            return [f"{head}{text[:60]}.. ({len(whole):,} bytes)"]
-        if column is None:
-            return [head + text]
+            return [f"{head}{text[:60]}.. ({len(whole):,} bytes)", *guesses.of_encoding(whole, line <= self.mark)]
+        encoded = guesses.of_encoding(whole, line <= self.mark)
+        if column is None or encoded:
+            return [head + text, *encoded]
         before = text_of(whole[: column - 1])
         pad = "".join("\t" if it == "\t" else " " for it in before)
         return [head + text, " " * len(head) + pad + "^" * max(1, length)]
@@ -160,7 +161,7 @@ class Teller:
             column = error.start - self.head.rfind(b"\n", 0, error.start)
             return [*lines, "these bytes are no UTF-8", *self.shown(line, column)]
         try:
-            toml.read(text)
+            toml.read(text.replace("\ufeff", " ", 1) if text.startswith("\ufeff") else text)
         except toml.NoToml as error:
             if error.line and error.column:
                 # (columns there are characters)
