@@ -218,7 +218,8 @@ class Builds:
             found = shutil.which(name)
             command = [found or name, *(str(self.top / it) for it in words), str(self.wasm)]
             if found and self.answers(command, noted["wasm-sha256"]):
-                return Build(command, "hosted", [f"{why}; {name} runs release/sancus.wasm, which is made from it"]), []
+                told = f"{why}; {name} runs release/sancus.wasm, which is made from it, and isn't proved itself"
+                return Build(command, "hosted", [told]), []
         return None, [why, "release/sancus.wasm would run in its place with node (18 or newer) or wasmtime on the path"]
 
     def changed_since_release(self) -> str:
