@@ -7,6 +7,7 @@ import shutil
 import signal
 import subprocess
 import time
+import unittest
 
 from support import TOP, Room, usual_signals
 
@@ -79,3 +80,7 @@ class Gate(Room):
     def test_the_line_is_plain(self):
         lines = (TOP / ".ci" / "run").read_text().splitlines()
         self.assertEqual(len([it for it in lines if re.search(r"^[^#]*\brt ci$", it)]), 1)
+
+
+if __name__ == "__main__":
+    unittest.main()
