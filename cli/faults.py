@@ -65,9 +65,9 @@ class Teller:
             return [f"{self.place(line)}"] if line <= self.kept.lines_so_far() else []
         text = text_of(whole)
         head = f"{self.place(line)}: "
-        if len(text) > MOST_SHOWN:
-            return [f"{head}{text[:60]}.. ({len(whole):,} bytes)", *guesses.of_encoding(whole, line <= self.mark)]
         encoded = guesses.of_encoding(whole, line <= self.mark)
+        if len(text) > MOST_SHOWN:
+            return [f"{head}{text[:60]}.. ({len(whole):,} bytes)", *encoded]
         if column is None or encoded:
             return [head + text, *encoded]
         before = text_of(whole[: column - 1])
