@@ -59,17 +59,21 @@ class Teller:
         return f"line {number} of the input" if name in ("-", "") else f"{name}:{number}"
 
     def shown(self, line: int, column: Optional[int] = None, length: int = 1) -> Lines:
+        """A line of the input, and what its encoding is, if that isn't read."""
+        encoded = guesses.of_encoding(self.kept.line(line) or b"", line <= self.mark)
+        return self.with_caret(line, None if encoded else column, length) + encoded
+
+    def with_caret(self, line: int, column: Optional[int], length: int) -> Lines:
         """A line of the input, and below it a caret at the byte column, if there is one."""
         whole = self.kept.line(line)
         if whole is None:
             return [f"{self.place(line)}"] if line <= self.kept.lines_so_far() else []
         text = text_of(whole)
         head = f"{self.place(line)}: "
-        encoded = guesses.of_encoding(whole, line <= self.mark)
         if len(text) > MOST_SHOWN:
-            return [f"{head}{text[:60]}.. ({len(whole):,} bytes)", *encoded]
-        if column is None or encoded:
-            return [head + text, *encoded]
+            return [f"{head}{text[:60]}.. ({len(whole):,} bytes)"]
+        if column is None:
+            return [head + text]
         before = text_of(whole[: column - 1])
         pad = "".join("\t" if it == "\t" else " " for it in before)
         return [head + text, " " * len(head) + pad + "^" * max(1, length)]

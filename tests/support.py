@@ -141,15 +141,6 @@ def usual_signals(*ignored: int) -> None:
         signal.signal(it, signal.SIG_IGN if it in ignored else signal.SIG_DFL)
 
 
-def started(*words: str, ignoring: Tuple[int, ...] = (), **streams: object) -> "subprocess.Popen[bytes]":
-    """./sancus as a process of its own, with pipes to it and from it unless other streams are named."""
-    kinds = {"stdin": subprocess.PIPE, "stdout": subprocess.PIPE, **streams}
-    env = {**os.environ, "SANCUS_PROGRAM": PROGRAM}
-    return subprocess.Popen(  # type: ignore[call-overload]
-        [SANCUS, *words], env=env, preexec_fn=lambda: usual_signals(*ignoring), **kinds
-    )
-
-
 def program(*words: str, text: Text = b"") -> Result:
     """A call of the program itself."""
     ran = subprocess.run([PROGRAM, *words], input=as_bytes(text), capture_output=True, timeout=120)

@@ -9,7 +9,7 @@ import unittest
 from contextlib import contextmanager
 from unittest.mock import patch
 
-from support import EXAMPLES, HEAD, LIGHTING, PROGRAM, SANCUS, Room, needs_program, program, sancus, started
+from support import EXAMPLES, HEAD, LIGHTING, PROGRAM, SANCUS, Room, needs_program, program, sancus, usual_signals
 
 from cli.commands import BY_NAME, parse
 from cli.main import waiting
@@ -121,7 +121,12 @@ class Joined(Room):
 class Streams(Room):
     def test_line_by_line_on_a_pipe(self):
         """The items of a line come before the next line is there."""
-        process = started("run")
+        process = subprocess.Popen(
+            [SANCUS, "run"],
+            stdin=subprocess.PIPE,
+            stdout=subprocess.PIPE,
+            env={**os.environ, "SANCUS_PROGRAM": PROGRAM},
+        )
         process.stdin.write(b"%%\nreset n\n")
         process.stdin.flush()
         self.assertEqual(process.stdout.readline(), b"trace\n")
@@ -133,7 +138,12 @@ class Streams(Room):
 
     def test_line_by_line_at_a_terminal(self):
         leader, follower = pty.openpty()
-        process = started("--quiet", "run", stdin=follower)
+        process = subprocess.Popen(
+            [SANCUS, "--quiet", "run"],
+            stdin=follower,
+            stdout=subprocess.PIPE,
+            env={**os.environ, "SANCUS_PROGRAM": PROGRAM},
+        )
         os.write(leader, b"%%\nreset n\n")
         self.assertEqual(process.stdout.readline(), b"trace\n")
         self.assertEqual(process.stdout.readline(), b"reset n asked\n")
@@ -214,7 +224,14 @@ class Streams(Room):
         ended."""
         for here, ignoring in ((signal.SIG_DFL, ()), (signal.SIG_IGN, ()), (signal.SIG_DFL, (signal.SIGTERM,))):
             with self.subTest(here=here, ignoring=ignoring), handled(signal.SIGINT, here):
-                process = started("run", ignoring=ignoring, stderr=subprocess.PIPE)
+                process = subprocess.Popen(
+                    [SANCUS, "run"],
+                    stdin=subprocess.PIPE,
+                    stdout=subprocess.PIPE,
+                    stderr=subprocess.PIPE,
+                    env={**os.environ, "SANCUS_PROGRAM": PROGRAM},
+                    preexec_fn=lambda: usual_signals(*ignoring),
+                )
                 process.stdin.write(b"%%\nreset n\n")
                 process.stdin.flush()
                 process.stdout.readline()
