@@ -236,7 +236,7 @@ class Streams(Room):
                 process.stdin.flush()
                 process.stdout.readline()
                 process.send_signal(signal.SIGINT)
-                _, said = process.communicate(timeout=10)
+                _, said = process.communicate(timeout=60)
                 self.assertEqual((process.returncode, said), (130, b""))
 
     def test_the_program_reads_what_it_needs(self):
