@@ -68,6 +68,7 @@ HELP = Option("--help", "prints this", short="-h")
 EVERYWHERE = (QUIET, PROGRAM, HELP)
 JSON = Option("--json", "prints a JSON object a line (docs/FORMATS.md)")
 NO_IMAGES = Option("--no-images", "leaves out the lines of images, nine tenths of the output")
+IMAGES = Option("--images", "prints images whole on a terminal too, which else shows how they begin, and their length")
 
 DEPLOYMENT = Argument(
     "DEPLOYMENT", MAYBE, "the deployment, or a whole input with its line %%; absent or -, standard input"
@@ -91,7 +92,7 @@ COMMANDS: Tuple[Command, ...] = (
         "run",
         "compiles and runs a deployment under a schedule",
         (DEPLOYMENT, SCHEDULES),
-        (NO_IMAGES, JSON),
+        (NO_IMAGES, IMAGES, JSON),
         "sancus run examples/lighting.txt",
         "It prints the modules' images and the trace, an item a line. At a terminal each line is answered at once.",
         True,
@@ -103,6 +104,7 @@ COMMANDS: Tuple[Command, ...] = (
         (DEPLOYMENT, Argument("READINGS", MANY, "readings, a line `DEVICE VALUE` each")),
         (
             NO_IMAGES,
+            IMAGES,
             Option("--schedule", "prints the lines of the schedule alone, as `run` takes them"),
             Option("--trace", "prints what `run` would print of that schedule"),
             JSON,
@@ -136,7 +138,7 @@ COMMANDS: Tuple[Command, ...] = (
         "snap",
         "prints registers, memory or items after any line of a schedule",
         (DEPLOYMENT, Argument("SCHEDULE", MAYBE, "a schedule"), Argument("QUERIES", MAYBE, "queries, a line each")),
-        (NO_IMAGES,),
+        (NO_IMAGES, IMAGES),
         "sancus snap --no-images examples/snap/dark_bulb.txt",
         "The queries follow a second line %%: `regs NODE L`, `bytes NODE AT LEN L` and `items L`.",
         True,
@@ -146,7 +148,7 @@ COMMANDS: Tuple[Command, ...] = (
         "gen",
         "runs a fixed application for some samples, and counts",
         (Argument("SAMPLES", ONE, "a number from 1 to 8,000", False),),
-        (NO_IMAGES,),
+        (NO_IMAGES, IMAGES),
         "sancus gen --no-images 4",
         "",
         True,
@@ -200,7 +202,7 @@ The program runs as the lines are written, so packets, boots and pieces are thos
         "marks",
         "runs a schedule and prints which items each of its lines gave",
         (DEPLOYMENT, SCHEDULES),
-        (NO_IMAGES,),
+        (NO_IMAGES, IMAGES),
         "sancus marks examples/forged.txt",
         typed="a deployment, a line %%, and a schedule",
     ),

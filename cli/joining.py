@@ -38,7 +38,8 @@ class Begun:
                 return left.pop()
             return b"" if self.is_at_end else self.part.read()
 
-        return Part(self.part.name, read, self.part.fd if not left and not self.is_at_end else None, 1 + lines)
+        fd = None if self.is_at_end else self.part.fd
+        return Part(self.part.name, read, fd, 1 + lines, ahead=lambda: left[0] if left else self.part.ahead())
 
 
 def deployment_alone(name: str, voice: Voice) -> List[Part]:
@@ -170,7 +171,7 @@ class TraceReader:
 def trace_part(name: str, voice: Voice) -> Part:
     part = file_part(name)
     reader = TraceReader(part, voice)
-    return Part(name, reader.read, part.fd, 1, reader.line_of)
+    return Part(name, reader.read, part.fd, 1, reader.line_of, part.ahead)
 
 
 def explained(deployment: str, trace: str, voice: Voice) -> List[Part]:

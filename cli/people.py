@@ -3,7 +3,7 @@
 from __future__ import annotations
 
 from dataclasses import dataclass, field
-from typing import List, Tuple
+from typing import List, Optional, Tuple, Type, TypeVar
 
 from cli.acts import is_act
 from cli.context import Context
@@ -15,7 +15,7 @@ from cli.marks import CannotMark, marked_lines, marked_run
 from cli.output import print_lines, write
 from cli.program import Program
 from cli.running import gathered, parts_of
-from cli.say import text_of
+from cli.say import plain, short, text_of
 from cli.schedule import Mistake, Writer
 from cli.session import Stopped, start
 from cli.status import BAD_TEXT, Ended
@@ -24,6 +24,7 @@ from cli.commands import Given
 
 # The acts whose packet may get a name.
 NAMING = ("take", "forge", "ask")
+W = TypeVar("W", bound=Writer)
 
 
 @dataclass
@@ -43,6 +44,8 @@ class Written:
     lines: List[str]
     notes: List[str] = field(default_factory=list)
     spans: List[Tuple[int, int]] = field(default_factory=list)
+    # why it ends before a line that can't be done
+    refusal: Optional[Ended] = None
 
     @property
     def text(self) -> bytes:
@@ -51,7 +54,7 @@ class Written:
 
 def place(kept: Kept, line: int) -> str:
     name, number = kept.place(line)
-    return f"{name}:{number}" if name not in ("", "-") else f"line {number}" if number else name
+    return f"{plain(name)}:{number}" if name not in ("", "-") else f"line {number}" if number else name
 
 
 def lines_of(kept: Kept, data: Input) -> Lines:
@@ -94,7 +97,7 @@ def read_lines(files: List[str], context: Context) -> Lines:
 def refused(error: Stopped, made: Lines, at: str, text: str, command: Program) -> Ended:
     """A plain line that breaks a rule of a schedule, told with the people's own place."""
     fault = error.fault.split()
-    lines = [f"{at}: {text}"]
+    lines = [f"{at}: {short(text)}"]
     if fault[:2] == ["fault", "schedule"]:
         whole = kept_of(made.head + b"%%\n" + text.encode(errors="surrogateescape"), "")
         told = Teller(whole, "schedule", command.ask).told(f"fault schedule {fault[2]} 1")
@@ -106,11 +109,11 @@ def refused(error: Stopped, made: Lines, at: str, text: str, command: Program) -
 
 def noted(writer: Writer, at: str, text: str) -> List[str]:
     """What a line showed that it does, or does not do."""
-    return [f"{at}: {text.strip()}: {it}" for it in writer.notes]
+    return [f"{at}: {short(text.strip())}: {it}" for it in writer.notes]
 
 
-def written(made: Lines, context: Context) -> Written:
-    """The schedule of lines for people."""
+def begun(made: Lines, context: Context, kind: Type[W]) -> W:
+    """A writer of lines, with the program beside it."""
     plan = plan_of(made.head)
     if plan is None:
         raise Ended(BAD_TEXT, "the deployment can't be read: `sancus check` says why")
@@ -118,26 +121,51 @@ def written(made: Lines, context: Context) -> Written:
         session = start(context.program, made.head, plan)
     except Stopped as error:
         raise Ended(BAD_TEXT, error.fault, *Teller(made.kept, "run", context.program.ask).told(error.fault)) from None
-    writer = Writer(plan, made.head, session, context.program)
-    notes: List[str] = []
-    spans: List[Tuple[int, int]] = []
+    return kind(plan, made.head, session, context.program)
+
+
+def do_line(writer: Writer, at: str, text: str, made: Lines, context: Context) -> List[str]:
+    """Does a line, and returns what is to be noted of it; a line that can't be done ends the command."""
+    before = len(writer.lines)
+    try:
+        writer.line(text, at)
+        return noted(writer, at, text)
+    except Mistake as error:
+        raise Ended(BAD_TEXT, *noted(writer, at, text), f"{at}: {short(text.strip())}: {error}") from None
+    except Stopped as error:
+        act = writer.lines[-1] if len(writer.lines) > before else text
+        raise refused(error, made, at, act, context.program) from None
+    except (IndexError, KeyError):
+        raise Ended(BAD_TEXT, f"{at}: {short(text.strip())}: too few words") from None
+    finally:
+        writer.notes.clear()
+
+
+def written_so_far(made: Lines, context: Context) -> Written:
+    """The schedule of lines for people, up to the first that can't be done."""
+    writer = begun(made, context, Writer)
+    found = Written(writer.lines)
     try:
         for at, text in made.lines:
             before = len(writer.lines)
             try:
-                writer.line(text, at)
-            except Mistake as error:
-                raise Ended(BAD_TEXT, *notes, *noted(writer, at, text), f"{at}: {text.strip()}: {error}") from None
-            except Stopped as error:
-                raise refused(error, made, at, writer.lines[-1] if writer.lines else text, context.program) from None
-            except (IndexError, KeyError):
-                raise Ended(BAD_TEXT, f"{at}: {text.strip()}: too few words") from None
-            spans.append((before + 1, len(writer.lines)))
-            notes += noted(writer, at, text)
-            writer.notes.clear()
+                found.notes += do_line(writer, at, text, made, context)
+            except Ended as error:
+                del writer.lines[before:]
+                found.refusal = error
+                break
+            found.spans.append((before + 1, len(writer.lines)))
     finally:
-        session.close()
-    return Written(writer.lines, notes, spans)
+        writer.session.close()
+    return found
+
+
+def written(made: Lines, context: Context) -> Written:
+    """The schedule of lines for people, all of which can be done."""
+    found = written_so_far(made, context)
+    if found.refusal:
+        raise Ended(found.refusal.status, *found.notes, *found.refusal.lines)
+    return found
 
 
 def answer(context: Context, given: Given) -> int:

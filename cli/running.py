@@ -17,7 +17,7 @@ from cli.output import print_lines
 from cli.program import Ran, Sink
 from cli.say import text_of
 from cli.session import Stopped, snapped
-from cli.sinks import ForgedSeen, NoImages, ScheduleOnly, TraceOnly
+from cli.sinks import ForgedSeen, NoImages, ScheduleOnly, ShortImages, TraceOnly
 from cli.status import NO_FILE, WITH_A_FAULT, Ended
 from cli.texts import (
     MOST_HEAD,
@@ -65,6 +65,8 @@ def sink_of(given: Given) -> Sink:
         return ScheduleOnly(sink)
     if given.has("no_images"):
         sink = NoImages(sink)
+    elif os.isatty(1) and not given.has("images"):
+        sink = ShortImages(sink)
     return TraceOnly(sink) if given.has("trace") else sink
 
 
@@ -117,6 +119,12 @@ def run_program(context: Context, given: Given, files: List[str], sink: Sink) ->
         with open(os.devnull, "rb") as nothing:
             return context.program.run_file(words, nothing.fileno(), "-", sink)
     parts = parts_of(given, files, context)
+    if given.command.name == "run" and context.program.build().is_fast:
+        # (imported here, as few calls need it)
+        from cli.live import are_typed, is_live, run_live
+
+        if is_live(files, parts or []):
+            return run_live(context, parts or [file_part(files[0])], are_typed(files), sink)
     if parts is not None:
         return context.program.run_parts(words, parts, sink)
     fd = open_file(files[0])
@@ -125,9 +133,13 @@ def run_program(context: Context, given: Given, files: List[str], sink: Sink) ->
     return context.program.run_parts(words, [file_part(files[0])], sink)
 
 
-def warn_before(context: Context, given: Given, files: List[str]) -> None:
-    """Says what the rules allow and hardly anybody wants, if the deployment is a file."""
-    if context.voice.is_quiet or given.command.name not in ("run", "check", "drive") or files[0] == "-":
+def warn(context: Context, given: Given, files: List[str], ran: Ran) -> None:
+    """Says what the rules allow and hardly anybody wants, unless the deployment broke a rule, which comes first."""
+    if context.voice.is_quiet or given.command.name not in ("run", "check", "drive") or ran.status == 1:
+        return
+    if files[0] == "-":
+        if not os.isatty(0) and find_mark(bytes(ran.kept.first)):
+            warn_of(context, ran.kept)
         return
     fd = open_file(files[0])
     if is_regular(fd):
@@ -231,12 +243,10 @@ def answer(context: Context, given: Given) -> int:
         return explain_in_words(context, given, files)
     if given.command.name == "dis":
         return list_code(context, given, files)
-    warn_before(context, given, files)
     watch = ForgedSeen(sink_of(given))
     ran = run_program(context, given, files, watch)
-    if files[0] == "-" and given.command.name in ("run", "check", "drive") and not os.isatty(0):
-        warn_kept(context, ran.kept)
     context.voice.say(*tell(context, given, ran))
+    warn(context, given, files, ran)
     warn_after(context, given, ran)
     if watch.is_seen and given.command.name == "run":
         context.voice.say(*words_of(lambda: about_forged(context, ran.kept)))
@@ -259,12 +269,6 @@ def list_code(context: Context, given: Given, files: List[str]) -> int:
         ran = run_program(context, given, files, Sink())
     context.voice.say(*tell(context, given, ran))
     return ran.status
-
-
-def warn_kept(context: Context, kept: Kept) -> None:
-    """The same warnings for standard input, which is known when it was read."""
-    if find_mark(bytes(kept.first)) and not context.voice.is_quiet:
-        warn_of(context, kept)
 
 
 def explain_in_words(context: Context, given: Given, files: List[str]) -> int:

@@ -443,6 +443,15 @@ class Warnings(Room):
             self.says(sancus(word, text=text, program=self.fake()), "no `secret`")
         self.assertEqual(sancus("run", "--quiet", self.file("x", text), program=self.fake()).said, "")
 
+    def test_a_fault_comes_first(self):
+        """Warnings wait until the deployment is accepted, and stand below the fault of a schedule."""
+        text = LIGHTING.replace(b"secret", b"# secret")
+        for word, last, status in (("run", "schedule S3 1", 3), ("check", "deployment D4 top", 1)):
+            for words, piped in (((self.file("x", text),), b""), ((), text)):
+                ran = sancus(word, *words, text=piped, program=self.fake(f"fault {last}", status))
+                self.assertTrue(ran.said.startswith(f"sancus: {last.split()[1]}: "), ran.said)
+                self.assertEqual("no `secret`" in ran.said, status == 3)
+
     @needs_program
     def test_a_finish_that_ends_inside_a_module(self):
         text = LIGHTING + b"asm b 0x800 mov #0x4010, pc\nset b pc 0x800\nfinish b\n"

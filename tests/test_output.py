@@ -1,13 +1,28 @@
 """Output on request: without images, the schedule or the trace of an honest run, JSON, marks, and listings of
 images."""
 
+import contextlib
 import json
+import os
+import pty
+import subprocess
 import unittest
 
-from support import EXAMPLES, LIGHTING, Room, needs_program, program, sancus, one_by_one, whole_examples
+from support import (
+    EXAMPLES,
+    LIGHTING,
+    PROGRAM,
+    SANCUS,
+    Room,
+    needs_program,
+    program,
+    sancus,
+    one_by_one,
+    whole_examples,
+)
 
 from cli.program import Collected
-from cli.sinks import NoImages, ScheduleOnly, TraceOnly
+from cli.sinks import NoImages, ScheduleOnly, ShortImages, TraceOnly
 from cli.texts import Input
 
 READINGS = EXAMPLES / "readings.txt"
@@ -30,6 +45,12 @@ class Sinks(unittest.TestCase):
         for text in (b"", b"end\n", b"ima", b"image "):
             self.assertEqual(passed(NoImages, text, 1), b"" if text == b"image " else text)
 
+    def test_short_images(self):
+        for digits, shown in (("00" * 16, "00" * 16), ("8241" * 600, "8241" * 8 + ".. (1,200 bytes)")):
+            text = f"image eye {digits}\ntrace\nout eye 1\nend\n".encode()
+            for size in (1, 7, len(text)):
+                self.assertEqual(passed(ShortImages, text, size), text.replace(digits.encode(), shown.encode()))
+
     def test_schedule_and_trace(self):
         text = b"image eye 8241\n> load eye\nprotect a eye\nsteps 5\nend\n"
         for size in (1, 3, 100):
@@ -50,6 +71,25 @@ class Output(Room):
             whole, without = sancus(*words), sancus(*words, "--no-images")
             self.assertEqual(without.lines, [it for it in whole.lines if not it.startswith("image ")])
             self.assertEqual(whole.status, without.status)
+
+    def test_images_on_a_terminal(self):
+        for words, is_short in (([], True), (["--images"], False)):
+            leader, follower = pty.openpty()
+            ran = subprocess.Popen(
+                [SANCUS, "run", *words, EXAMPLES / "lighting.txt"],
+                stdout=follower,
+                env={**os.environ, "SANCUS_PROGRAM": PROGRAM},
+            )
+            os.close(follower)
+            out = b""
+            with contextlib.suppress(OSError):
+                while not out.endswith(b"end\r\n"):
+                    out += os.read(leader, 65536)
+            self.assertEqual(ran.wait(), 0)
+            os.close(leader)
+            line = out.partition(b"\r\n")[0]
+            self.assertEqual(line.endswith(b".. (2,432 bytes)"), is_short)
+            self.assertEqual(len(line), len("image eye ") + (32 + 16 if is_short else 2 * 2432))
 
     def test_an_honest_run_as_a_schedule(self):
         schedule = sancus("drive", READINGS, "--schedule")

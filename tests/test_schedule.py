@@ -2,7 +2,7 @@
 
 import unittest
 
-from support import HEAD, LIGHTING, Room, needs_program, program, sancus, one_by_one
+from support import HEAD, LIGHTING, TOP, Room, needs_program, program, sancus, one_by_one
 
 DEPLOYMENT = HEAD.decode() + "%%\n"
 READING = "deploy all\nsample eye 120\ncarry eye logic\ncarry logic lamp\n"
@@ -200,6 +200,51 @@ class Schedule(Room):
         ran = sancus("schedule", text="node = 3\n%%\ndeploy all\n")
         self.assertEqual((ran.status, ran.out), (122, b""))
         self.says(ran, "fault deployment D4 top", "`node` must be an array of tables")
+
+
+@needs_program
+class Run(Room):
+    """Lines for people in a run: their items come as they are done."""
+
+    def setUp(self):
+        super().setUp()
+        self.head, self.easy = self.file("d.toml", HEAD), self.file("easy.txt", READING)
+        self.wanted = program("run", text=LIGHTING).out
+
+    def test_files_and_pipes(self):
+        whole = self.file("whole.txt", DEPLOYMENT + READING)
+        more = self.file("more.txt", READING.partition("carry")[0])
+        rest = self.file("rest.txt", "carry eye logic\ncarry logic lamp\n")
+        for words, text in (
+            ([self.head, self.easy], ""),
+            ([self.head, more, rest], ""),
+            ([self.head, "-"], READING),
+            ([whole], ""),
+        ):
+            ran = sancus("run", *words, text=text)
+            self.assertEqual((ran.status, ran.out, ran.said), (0, self.wanted, ""))
+
+    def test_a_line_that_can_not_be_done(self):
+        for line, words in (("carry eye lamp", "no connection leads from eye to lamp"), ("load ear", "S4: a field")):
+            file = self.file("bad.txt", f"reset a\ndeploy eye\n{line}\nreset b\n")
+            ran = sancus("run", self.head, file, "--no-images")
+            self.assertEqual((ran.status, ran.lines[:2]), (122, ["trace", "reset a asked"]))
+            self.assertEqual(ran.lines[-1], "done eye 1 0")
+            self.says(ran, f"{file}:3: {line}", words)
+
+    def test_notes_and_faults(self):
+        again = self.file("again.txt", READING + "give event.eye.logic a\ncall logic 2\nsample eye 3\n")
+        ran = sancus("run", self.head, again)
+        self.assertEqual((ran.status, ran.out[: len(self.wanted) - 4]), (0, self.wanted[:-4]))
+        self.assertIn("done logic 6 0", ran.lines)
+        ran = sancus("run", self.file("bad.toml", "node = 3\n"), self.easy)
+        self.assertEqual((ran.status, ran.lines), (1, ["fault deployment D4 top"]))
+        self.says(ran, "`node` must be an array of tables")
+
+    def test_a_forged_tag_is_told(self):
+        text = (TOP / "examples" / "forged.txt").read_text().replace("load left", "windows 0x500 0x600\nload left", 1)
+        ran = sancus("run", self.file("f.txt", text))
+        self.says(ran, "item 8, `forged deployer`", "left hadn't made, in packet 1")
 
 
 if __name__ == "__main__":
