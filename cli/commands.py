@@ -70,6 +70,8 @@ JSON = Option("--json", "prints a JSON object a line (docs/FORMATS.md)")
 NO_IMAGES = Option("--no-images", "leaves out the lines of images, nine tenths of the output")
 IMAGES = Option("--images", "prints images whole on a terminal too, which else shows how they begin, and their length")
 
+FORCE = Option("--force", "writes over files that are no earlier output of the command, too")
+
 DEPLOYMENT = Argument(
     "DEPLOYMENT", MAYBE, "the deployment, or a whole input with its line %%; absent or -, standard input"
 )
@@ -202,7 +204,7 @@ The program runs as the lines are written, so packets, boots and pieces are thos
         "marks",
         "runs a schedule and prints which items each of its lines gave",
         (DEPLOYMENT, SCHEDULES),
-        (NO_IMAGES, IMAGES),
+        (NO_IMAGES, IMAGES, Option("--input", "prints the deployment first, with all keys, and a line %%")),
         "sancus marks examples/forged.txt",
         typed="a deployment, a line %%, and a schedule",
     ),
@@ -220,11 +222,12 @@ The program runs as the lines are written, so packets, boots and pieces are thos
         ),
         (
             Option("--drive", "draws the honest run of readings"),
-            Option("--page", "writes the page there, by default beside INPUT with the ending .html", "PAGE"),
+            Option("--page", "writes the page there, by default beside the last file: day.html, or pump.day.html", "PAGE"),
             Option("--empty", "writes the page without a run, which opens files by itself"),
+            FORCE,
         ),
         "sancus view examples/lighting.txt --page lighting.html",
-        "The page opens in any browser, without a connection.",
+        "The page opens in any browser, without a connection. It is written over an earlier page, and over no other file.",
     ),
     Command(
         "vars",
@@ -273,6 +276,7 @@ The program runs as the lines are written, so packets, boots and pieces are thos
             Option("--input", "put: warns if bytes meet what this input has on the node", "INPUT"),
             Option("--format", "image, convert: TI-TXT or Intel HEX", "FORMAT", choices=("ti", "hex")),
             Option("--to", "image: writes the files there", "FOLDER"),
+            FORCE,
         ),
         "sancus hex image examples/lighting.txt --to images",
         "Files are ELF, Intel HEX or TI-TXT. Encodings and keys are this project's own: images are for looking, and "

@@ -2,6 +2,7 @@
 
 from __future__ import annotations
 
+import os
 from dataclasses import dataclass, field
 from typing import List, Optional, Tuple, Type, TypeVar
 
@@ -19,7 +20,8 @@ from cli.say import plain, short, text_of
 from cli.schedule import Mistake, Writer
 from cli.session import Stopped, start
 from cli.status import BAD_TEXT, Ended
-from cli.texts import Input, Kept, file_part, kept_of
+from cli.sinks import is_image, short_image
+from cli.texts import MARK, Input, Kept, file_part, kept_of, split_lines
 from cli.commands import Given
 
 # The acts whose packet may get a name.
@@ -71,14 +73,15 @@ def is_for_people(words: List[str]) -> bool:
     return words[0] in PEOPLE or words[0] in NAMING and words[-2:-1] == ["as"]
 
 
-def as_schedule(kept: Kept, data: Input, context: Context) -> Tuple[Kept, Input]:
-    """An input whose lines are those of a schedule: lines for people become one."""
+def as_schedule(kept: Kept, data: Input, context: Context) -> Tuple[Kept, Input, Optional[Ended]]:
+    """An input whose lines are those of a schedule: lines for people become one, up to the first that can't be done,
+    with why it can't."""
     if not are_for_people(data):
-        return kept, data
-    made = written(lines_of(kept, data), context)
+        return kept, data, None
+    made = written_so_far(lines_of(kept, data), context)
     context.voice.say(*made.notes)
     text = data.head + b"%%\n" + made.text
-    return kept_of(text, ""), Input(text)
+    return kept_of(text, ""), Input(text), made.refusal
 
 
 def read_lines(files: List[str], context: Context) -> Lines:
@@ -188,17 +191,23 @@ def why_unmarked(kept: Kept, data: Input, context: Context) -> List[str]:
 def print_marked(context: Context, given: Given) -> int:
     """Prints a run with the line of the schedule before the items that it gave."""
     files = [*given.texts("DEPLOYMENT"), *given.texts("SCHEDULE")] or ["-"]
-    kept, data = as_schedule(*gathered(parts_of(given, files, context) or [file_part(files[0])]), context)
+    kept, data, refusal = as_schedule(*gathered(parts_of(given, files, context) or [file_part(files[0])]), context)
     try:
         made = marked_run(data, context.program)
     except CannotMark as error:
         raise Ended(BAD_TEXT, f"no marked run: {error}", *why_unmarked(kept, data, context)) from None
+    last = text_of(made.last or b"")
     if not made.has_trace:
-        last = text_of(made.last or b"")
         print_lines(last)
         context.voice.say(*Teller(kept, "run", context.program.ask).told(last))
         return made.status
-    lines = [it for it in marked_lines(data, made) if not (given.has("no_images") and it.startswith(b"image "))]
-    write(b"".join(it + b"\n" for it in lines))
-    context.voice.say(*Teller(kept, "run", context.program.ask).told(text_of(made.last or b"")))
+    if refusal:
+        made.last = None
+    is_short = os.isatty(1) and not given.has("images")
+    lines = (short_image(it) if is_short else it for it in marked_lines(data, made))
+    head = [*split_lines(data.head), MARK] if given.has("input") else []
+    print_lines(*map(text_of, head), *(text_of(it) for it in lines if not (given.has("no_images") and is_image(it))))
+    if refusal:
+        raise refusal
+    context.voice.say(*Teller(kept, "run", context.program.ask).told(last))
     return made.status

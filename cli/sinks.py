@@ -87,9 +87,13 @@ class ShortImages(Lines):
         return short_image(line) + b"\n"
 
 
+def is_image(line: bytes) -> bool:
+    return line.startswith(b"image ")
+
+
 def short_image(line: bytes) -> bytes:
     words = line.split(b" ")
-    if words[0] != b"image" or len(words) != 3 or len(words[2]) <= FIRST_DIGITS:
+    if not is_image(line) or len(words) != 3 or len(words[2]) <= FIRST_DIGITS:
         return line
     return b"image %s %s.. (%s bytes)" % (words[1], words[2][:FIRST_DIGITS], f"{len(words[2]) // 2:,}".encode())
 

@@ -358,7 +358,7 @@ class Viewer(unittest.TestCase):
                 split = "page.run.rows.filter(row => row.kind === 'act').map(row => [row.line.text.trim(), row.line.isUnsure ? null : row.line.items.map(item => item.text)])"
                 self.show({"input": text, "output": plain})
                 found = self.browser.value(split)
-                self.show({"input": text, "output": (b"\n" + lines).partition(b"\n%%\n")[2]})
+                self.show({"input": text, "output": lines})
                 self.browser.shoot(file.stem)
                 exact = self.browser.value(split)
                 self.assertEqual(len(found), len(exact))
@@ -597,6 +597,49 @@ class Page(Room):
         self.assertIn("> load eye\nprotect a eye\n", self.held(page, "output"))
 
     @needs_program
+    def test_names_of_pages(self):
+        """Two schedules of one deployment have two pages, each with its title."""
+        head, folder = self.file("d.toml", Input(LIGHTING_BYTES).head), self.room / "days"
+        folder.mkdir()
+        one, other = self.file("one.txt", b"load eye\n"), self.file("days/other.txt", b"load lamp\n")
+        whole = self.file("whole.txt", LIGHTING_BYTES)
+        for files, name, title in (
+            ((head, one), "d.one.html", "one.txt, d.toml"),
+            ((head, one, other), "days/d.other.html", "other.txt, d.toml"),
+            ((whole,), "whole.html", "whole.txt"),
+        ):
+            ran = sancus("view", *files)
+            self.assertEqual((ran.status, ran.out), (0, f"{self.room / name}\n".encode()), ran.said)
+            held = base64.b64encode(title.encode()).decode()
+            self.assertIn(f"\nname {held}</script>", (self.room / name).read_text())
+
+    @needs_program
+    def test_nothing_is_overwritten(self):
+        head, plain = self.file("d.toml", Input(LIGHTING_BYTES).head), self.file("s.txt", b"load eye\n")
+        link = self.room / "link"
+        link.symlink_to(head)
+        for files, page in (((head, plain), head), ((head, plain), plain), ((head, plain), link)):
+            for force in ((), ("--force",)):
+                ran = sancus("view", *files, "--page", page, *force)
+                self.assertEqual((ran.status, ran.out), (121, b""))
+                self.says(ran, "is an input, and isn't written over")
+        page = self.file("s.html", LIGHTING_BYTES)
+        self.says(sancus("view", page), "is an input")
+        self.assertEqual(page.read_bytes(), LIGHTING_BYTES)
+        for text in (b"important\n", b"<!doctype html>\n<p>mine"):
+            mine = self.file("d.s.html", text)
+            for words in ((head, plain), ("--empty", "--page", mine)):
+                ran = sancus("view", *words)
+                self.assertEqual((ran.status, ran.out, mine.read_bytes()), (121, b"", text))
+                self.says(ran, "d.s.html is there, and is no page of `view`: --force writes over it")
+        self.assertEqual(sancus("view", head, plain, "--force").status, 0)
+        # an earlier page is written over, and an empty file has nothing to lose
+        self.assertEqual(sancus("view", head, plain).status, 0)
+        mine.write_bytes(b"")
+        self.assertEqual(sancus("view", head, plain).status, 0)
+        self.assertIn("load eye", self.held(mine, "output"))
+
+    @needs_program
     def test_misuse(self):
         page = self.room / "p.html"
         for text, words in (
@@ -609,15 +652,16 @@ class Page(Room):
             self.says(ran, words)
             self.assertFalse(page.exists())
         ran = sancus("view", self.file("x", LIGHTING_BYTES + b"load ear\n"), "--page", page)
-        self.assertEqual(ran.status, 0)
+        self.assertEqual((ran.status, ran.out), (3, f"{page}\n".encode()))
         self.says(ran, "S4", "what came before is drawn")
         out = self.file("out", b"trace\nend\n")
         ran = sancus("view", EXAMPLES / "lighting.txt", out, out, out, "--page", page)
         self.assertEqual(ran.status, 2)
         self.says(ran, "takes only what `explain` wrote of it")
-        ran = sancus("view", EXAMPLES / "lighting.txt", self.file("p", b"deploy ear\n"), "--page", page)
-        self.assertEqual(ran.status, 122)
-        self.says(ran, "there is no module ear")
+        ran = sancus("view", EXAMPLES / "lighting.txt", self.file("p", b"deploy eye\ndeploy ear\n"), "--page", page)
+        self.assertEqual((ran.status, ran.out), (122, f"{page}\n".encode()))
+        self.says(ran, "there is no module ear", "what came before is drawn")
+        self.assertIn("attested eye 0\n", self.held(page, "output"))
         ran = sancus("view", EXAMPLES / "lighting.txt", "--page", self.room / "no" / "p.html")
         self.assertEqual(ran.status, 121)
 
