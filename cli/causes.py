@@ -17,6 +17,7 @@ from cli.running import gathered
 from cli.say import Voice, text_of
 from cli.sinks import Kept as KeptLines
 from cli.status import BAD_TEXT, Ended
+from cli.texts import Part
 
 # How many items of a module are shown before an illegal one.
 BEFORE = 6
@@ -55,9 +56,9 @@ def items_of(lines: List[bytes]) -> List[Item]:
     return [Item(at, it) for at, it in enumerate((it for it in texts if it.split(" ")[0] in ITEMS), 1)]
 
 
-def explain(deployment: str, trace: str, program: Program, voice: Voice) -> Explained:
+def explain(deployment: str, trace: Part, program: Program) -> Explained:
     """Has the program judge a trace, and takes apart what it says."""
-    kept, data = gathered(explained(deployment, trace, voice))
+    kept, data = gathered(explained(deployment, trace))
     sink = KeptLines(Collected())
     ran = program.ran_of(["explain"], data.data, sink)
     made = Explained(items_of(data.schedule), status=ran.status, plan=plan_of(data.head))

@@ -174,7 +174,6 @@ def trace_part(name: str, voice: Voice) -> Part:
     return Part(name, reader.read, part.fd, 1, reader.line_of, part.ahead)
 
 
-def explained(deployment: str, trace: str, voice: Voice) -> List[Part]:
-    """The input of `explain`: the deployment of one file, and the trace of another."""
-    silent = Voice(True)
-    return [*deployment_alone(deployment, silent), trace_part(trace, voice)]
+def explained(deployment: str, trace: Part) -> List[Part]:
+    """The input of `explain`: the deployment of a file, and a trace."""
+    return [*deployment_alone(deployment, Voice(True)), trace]

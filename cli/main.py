@@ -61,9 +61,11 @@ def steps(context: Context, given: Given) -> int:
 
 def why(context: Context, given: Given) -> int:
     from cli import causes
+    from cli.runs import trace_for
 
     trace, words = trace_and_item(given)
-    made = causes.explain(given.text("DEPLOYMENT"), trace, context.program, context.voice)
+    deployment = given.text("DEPLOYMENT")
+    made = causes.explain(deployment, trace_for(deployment, trace, context), context.program)
     causes.must_be_judged(made)
     print_lines(*causes.why(made, causes.chosen(made, words, context.voice)))
     return 0

@@ -84,7 +84,7 @@ def parts_of(given: Given, files: List[str], context: Context) -> Optional[List[
     """The parts of an input that is put together; None if one file is the whole input."""
     word = given.command.name
     if word == "explain" and (len(files) == 2 or is_trace_in_pipe(files)):
-        return explained(files[0], files[1] if len(files) == 2 else "-", context.voice)
+        return explained(files[0], trace_of(files, context))
     if word == "snap" and len(files) > 1:
         return snap_parts(files, context.voice)
     if len(files) > 1:
@@ -93,6 +93,14 @@ def parts_of(given: Given, files: List[str], context: Context) -> Optional[List[
     if word == "check" and (has_no_mark(fd) if is_regular(fd) else not is_direct(fd)):
         return with_mark(files[0])
     return None
+
+
+def trace_of(files: List[str], context: Context) -> Part:
+    """The trace of a call of `explain`, which may come in a pipe, or be the run of a schedule."""
+    # (imported here, as it takes a while)
+    from cli.runs import trace_for
+
+    return trace_for(files[0], files[1] if len(files) > 1 else "-", context)
 
 
 def is_trace_in_pipe(files: List[str]) -> bool:
@@ -119,12 +127,15 @@ def run_program(context: Context, given: Given, files: List[str], sink: Sink) ->
         with open(os.devnull, "rb") as nothing:
             return context.program.run_file(words, nothing.fileno(), "-", sink)
     parts = parts_of(given, files, context)
-    if given.command.name == "run" and context.program.build().is_fast:
-        # (imported here, as few calls need it)
-        from cli.live import are_typed, is_live, run_live
+    if given.command.name in ("run", "snap") and context.program.build().is_fast:
+        # (imported here, as other commands don't need it)
+        from cli.live import are_typed, has_lines_for_people, is_live, run_live
+        from cli.snapping import snap
 
-        if is_live(files, parts or []):
+        if given.command.name == "run" and is_live(files, parts or []):
             return run_live(context, parts or [file_part(files[0])], are_typed(files), sink)
+        if given.command.name == "snap" and any(map(has_lines_for_people, files[:2])):
+            return snap(context, *gathered(parts or [file_part(files[0])]), sink)
     if parts is not None:
         return context.program.run_parts(words, parts, sink)
     fd = open_file(files[0])
@@ -276,8 +287,9 @@ def explain_in_words(context: Context, given: Given, files: List[str]) -> int:
         raise Usage("`explain --words` takes DEPLOYMENT and TRACE", given.command)
     from cli.causes import explain, in_words
 
-    made = explain(files[0], files[1] if len(files) > 1 else "-", context.program, context.voice)
+    made = explain(files[0], trace_of(files, context), context.program)
     print_lines(*in_words(made))
+    context.voice.say(*made.about_fault)
     return made.status
 
 

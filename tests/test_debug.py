@@ -134,6 +134,37 @@ class Marks(Room):
 
 
 @needs_program
+class Snap(Room):
+    """Queries about lines for people."""
+
+    QUERIES = "items 3\n# regs a 9\nregs a 4\nbytes a 0x300 4 3\nregs b 0\n"
+
+    def test_lines_for_people(self):
+        head, easy, queries = self.file("d", HEAD), self.file("e", EASY), self.file("q", self.QUERIES)
+        made = sancus("schedule", head, easy).out.decode()
+        lines = made.partition("%%\n")[2].splitlines()
+        first, second = (next(at for at, it in enumerate(lines, 1) if it.startswith(f"#= {easy}:{n}")) for n in (3, 4))
+        asked = "".join(f"items {it}\n" for it in range(first + 1, second)) + f"regs a {second - 1}\n"
+        wanted = program("snap", text=f"{made}%%\n{asked}bytes a 0x300 4 {second - 1}\nregs b 0\n")
+        answers = [it.split(" ") for it in wanted.lines if not it.startswith("image ")]
+        for it in answers[:-1]:
+            it[{"item": 1, "regs": 2, "bytes": 3}[it[0]]] = {"regs": "4"}.get(it[0], "3") if it[1] != "b" else "0"
+        for files in ((head, easy, queries), (self.file("w", f"{HEAD.decode()}%%\n{EASY}%%\n{self.QUERIES}"),)):
+            ran = sancus("snap", "--no-images", *files)
+            self.assertEqual((ran.status, ran.lines), (0, [" ".join(it) for it in answers]), ran.said)
+
+    def test_misuse(self):
+        head, easy = self.file("d", HEAD), self.file("e", EASY)
+        for queries, last in (("regs a 1\nregs a 99\n", "Y6 2"), ("\nmoods a 1\n", "Y3 2"), ("\n" * 65, "Y2 65")):
+            ran = sancus("snap", "--no-images", head, easy, self.file("q", queries))
+            self.assertEqual((ran.status, ran.lines[-1]), (11, f"fault query {last}"), ran.said)
+            self.says(ran, f"{last.split()[0]}: ")
+        ran = sancus("snap", head, self.file("bad", "deploy ear\n"), self.file("q", "regs a 1\n"))
+        self.assertEqual((ran.status, ran.out), (122, b""))
+        self.says(ran, "there is no module ear")
+
+
+@needs_program
 class Steps(Room):
     def test_a_call(self):
         ran = sancus("steps", LIGHTING_FILE, "39")
@@ -316,10 +347,35 @@ class Why(Room):
         self.assertEqual(ran.status, 8)
         self.assertIn("illegal: 38", ran.out.decode())
         self.says(
-            sancus("why", LIGHTING_FILE, LIGHTING_FILE),
+            sancus("why", LIGHTING_FILE, "-", text=LIGHTING),
             "the trace isn't judged: fault trace E1 1",
             "this is a schedule, and no trace",
         )
+
+    def test_explain_words_of_a_fault(self):
+        """A fault has the same words with and without --words."""
+        faulty, trace = self.file("d.toml", HEAD.replace(b"v > limit", b"v % limit")), self.file("e", b"none\n")
+        for files, said in (((faulty, self.trace), "there is no remainder"), ((LIGHTING_FILE, trace), "E1: a line")):
+            plain, worded = sancus("explain", *files), sancus("explain", "--words", *files)
+            self.assertEqual(worded, plain)
+            self.says(worded, said)
+
+    def test_a_schedule_in_place_of_a_trace(self):
+        """It is run first: a plain one, one for people, or readings."""
+        head, easy = self.file("d.toml", HEAD), self.file("easy.txt", EASY)
+        whole = sancus("why", LIGHTING_FILE, self.trace)
+        self.assertEqual(sancus("why", LIGHTING_FILE, LIGHTING_FILE), whole)
+        for words in (("42",), ("out", "lamp"), ("out lamp",)):
+            self.assertEqual(sancus("why", head, easy, *words), whole)
+        self.assertEqual(sancus("explain", head, easy).out, sancus("explain", head, self.trace).out)
+        self.assertEqual(sancus("explain", "--words", head, easy).lines[-1].split(":")[0], "legal")
+        self.assertIn("42 out lamp 1", sancus("why", head, self.file("r", "light 120\n")).out.decode())
+        ran = sancus("why", head, self.file("bad", "deploy all\ncarry eye logic\n"), "1")
+        self.assertEqual((ran.status, ran.out), (122, b""))
+        self.says(ran, "eye sent nothing at its last call")
+        ran = sancus("why", head, self.file("s", "load eye\nload ear\n"), "1")
+        self.assertEqual((ran.status, ran.lines[0].split(":")[0]), (0, "1 protect a eye"))
+        self.says(ran, "fault schedule S4 2", "/s:2: load ear", "what came before is judged")
 
     def test_forged(self):
         for name, item, words in (

@@ -117,6 +117,23 @@ class Output(Room):
             ],
         )
 
+    def test_marks_hold_no_keys(self):
+        """The deployment, with its keys, is printed on demand alone, and what a comment holds moves no cursor."""
+        text = LIGHTING + b"# \x1b]0;owned\x07 \xc2\x9b caf\xc3\xa9\n"
+        ran = sancus("marks", self.file("x", text), "--no-images")
+        self.assertEqual((ran.status, ran.lines[:2]), (0, ["trace", f"> {Input(LIGHTING).schedule[0].decode()}"]))
+        self.assertNotIn(b"secret", ran.out)
+        self.assertIn("> # \\x1b]0;owned\\x07 \\x9b caf\u00e9\n", ran.out.decode())
+        whole = sancus("marks", self.file("x", text), "--no-images", "--input")
+        self.assertEqual(whole.out, text.partition(b"%%\n")[0] + b"%%\n" + ran.out)
+
+    def test_marks_up_to_a_line_that_can_not_be_done(self):
+        lines = self.file("p", "deploy eye\nsample ear 3\nreset a\n")
+        ran = sancus("marks", EXAMPLES / "lighting.txt", lines, "--no-images")
+        self.assertEqual((ran.status, ran.lines[:3]), (122, ["trace", f"> #= {lines}:1 deploy eye", "> load eye"]))
+        self.assertEqual(ran.lines[-1], "done eye 1 0")
+        self.says(ran, f"{lines}:2: sample ear 3: there is no module ear")
+
     def test_marks_of_examples(self):
         files = [it for it in whole_examples() if b"`./sancus drive`" not in it.read_bytes()[:400]]
         for file, ran in zip(files, one_by_one(lambda it: sancus("marks", it), files)):
@@ -160,6 +177,11 @@ class Json(Room):
             ("up", 0, 0, 0, 120, 42),
         )
         self.assertEqual(len(self.objects("run", "--no-images", EXAMPLES / "lighting.txt")), 44)
+
+    def test_lines_for_people(self):
+        easy = self.file("easy.txt", "deploy all\nsample eye 120\n")
+        made = self.objects("run", EXAMPLES / "lighting.txt", easy)
+        self.assertEqual([it["text"] for it in made[-4:-1]], ["sense light 120", "read eye 120", "done eye 1 1"])
 
     def test_items_are_those_of_run(self):
         for file in (
