@@ -96,7 +96,8 @@ COMMANDS: Tuple[Command, ...] = (
         (DEPLOYMENT, SCHEDULES),
         (NO_IMAGES, IMAGES, JSON),
         "sancus run examples/lighting.txt",
-        "It prints the modules' images and the trace, an item a line. At a terminal each line is answered at once.",
+        "It prints the modules' images and the trace, an item a line. SCHEDULE may have lines for people (`sancus help "
+        "schedule`). At a terminal each line is answered at once, and one that can't be done is explained and left out.",
         True,
         typed="a deployment, a line %%, and a schedule, each line of which is answered at once",
     ),
@@ -129,7 +130,10 @@ COMMANDS: Tuple[Command, ...] = (
     Command(
         "explain",
         "judges a trace by the sources alone, and prints which item caused which",
-        (DEPLOYMENT, Argument("TRACE", MAYBE, "what `run` or `drive` wrote; -, standard input")),
+        (
+            DEPLOYMENT,
+            Argument("TRACE", MAYBE, "what `run` or `drive` wrote, or a schedule, which is run first; -, standard input"),
+        ),
         (Option("--words", "prints the items with their causes, in words"), JSON),
         "sancus run examples/lighting.txt | sancus explain examples/lighting.txt",
         "If DEPLOYMENT has no trace after a line %%, and TRACE is absent, the trace comes on standard input.",
@@ -142,7 +146,8 @@ COMMANDS: Tuple[Command, ...] = (
         (DEPLOYMENT, Argument("SCHEDULE", MAYBE, "a schedule"), Argument("QUERIES", MAYBE, "queries, a line each")),
         (NO_IMAGES, IMAGES),
         "sancus snap --no-images examples/snap/dark_bulb.txt",
-        "The queries follow a second line %%: `regs NODE L`, `bytes NODE AT LEN L` and `items L`.",
+        "The queries follow a second line %%: `regs NODE L`, `bytes NODE AT LEN L` and `items L`. Of lines for people L "
+        "is one of those.",
         True,
         typed="a deployment, a line %%, a schedule, a line %%, and queries",
     ),
@@ -204,7 +209,7 @@ The program runs as the lines are written, so packets, boots and pieces are thos
         "marks",
         "runs a schedule and prints which items each of its lines gave",
         (DEPLOYMENT, SCHEDULES),
-        (NO_IMAGES, IMAGES, Option("--input", "prints the deployment first, with all keys, and a line %%")),
+        (NO_IMAGES, IMAGES, Option("--input", "prints the deployment first, with its keys, and a line %%")),
         "sancus marks examples/forged.txt",
         typed="a deployment, a line %%, and a schedule",
     ),
@@ -251,7 +256,11 @@ The program runs as the lines are written, so packets, boots and pieces are thos
         "prints the chain of causes of an item, or why it is illegal",
         (
             Argument("DEPLOYMENT", ONE, "the deployment"),
-            Argument("TRACE", MAYBE, "what `run` or `drive` wrote; absent or -, standard input"),
+            Argument(
+                "TRACE",
+                MAYBE,
+                "what `run` or `drive` wrote, or a schedule, which is run first; absent or -, standard input",
+            ),
             Argument(
                 "ITEM",
                 MANY,

@@ -207,7 +207,7 @@ class Teller:
         if rule == "D6":
             return lines + tables.counts(self.plan)
         if place == ["top"]:
-            return lines + tables.keys("top", self.plan.toml)
+            return lines + tables.keys("top", self.plan.toml) + guesses.of_tables(self.plan.toml)
         return lines + self.entry(rule, place)
 
     def entry(self, rule: str, place: List[str]) -> Lines:

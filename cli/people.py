@@ -176,7 +176,11 @@ def answer(context: Context, given: Given) -> int:
     made = read_lines(files, context)
     found = written(made, context)
     context.voice.say(*found.notes)
-    write(found.text if given.has("lines") else made.head + b"%%\n" + found.text)
+    text = found.text if given.has("lines") else made.head + b"%%\n" + found.text
+    if os.isatty(1):
+        print_lines(*map(text_of, split_lines(text)))
+    else:
+        write(text)
     return 0
 
 

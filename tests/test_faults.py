@@ -179,7 +179,7 @@ CASES = [
         b"deploy lamp",
         "run",
         "schedule S3 4",
-        ["`sancus schedule DEPLOYMENT LINES | sancus run` takes those"],
+        ["`sancus run DEPLOYMENT LINES` takes those"],
     ),
     (b"load lamp", b"light 5", "run", "schedule S3 4", ["this looks like a reading"]),
     (b"load lamp", b"items 5", "run", "schedule S3 4", ["is a query of `sancus snap`"]),
@@ -210,6 +210,21 @@ CASES = [
     (b"ask eye", b"asm a 0x200 mov #70000, r5", "run", "schedule S8 9", ["`70000` is out of range"]),
     (b"ask eye", b"asm a 0x200 mov #-1, r5", "run", "schedule S8 9", ["write `65535`"]),
     (b"ask eye", b"asm a 0x200 mov.w #1, r5", "run", "schedule S8 9", ["is written `mov`"]),
+    (b"if v > limit", b"if v > 3 send bright(1); if v > limit", "check", "deployment D7 module 1 4 24", ["a block has braces"]),
+    (b"send bright(1)", b"send bright(1, v)", "check", "deployment D7 module 1 4 43", ["an event carries one word"]),
+    (b"if v > limit", b"print v; if v > limit", "check", "deployment D7 module 1 4 21", ["nothing is printed"]),
+    (b"limit = 100", b"limit = -1", "check", "deployment D7 module 1 3 13", ["-1 is written 65535"]),
+    (b"var limit = 100;", b"var limit = 100; array h[2] = {1, 2};", "check", "deployment D7 module 1 3 29", ["an array begins with zeros"]),
+    (b"var limit = 100;", b"var limit = 100; array h[limit];", "check", "deployment D7 module 1 3 26", ["an array's length is a number"]),
+    (b"if v > limit", b"let w = v ? 1 : 2; if v > limit", "check", "deployment D7 module 1 4 25", ["there is no `? :`"]),
+    (b"if v > limit", b"let w; if v > limit", "check", "deployment D7 module 1 4 20", ["a local has a value from the start"]),
+    (b"on show(v)", b"on show()", "check", "deployment D7 module 2 3 9", ["a handler has one parameter"]),
+    (b"on show(v)", b"on show", "check", "deployment D7 module 2 3 9", ["a handler has one parameter"]),
+    (b"on show(v)", b"on show(input)", "check", "deployment D7 module 2 3 9", ["a reserved word, and no name"]),
+    (b"var limit = 100;", b"let limit = 100;", "check", "deployment D7 module 1 3 1", ["declared by `var x = 1;`"]),
+    (b"if v > limit", b"var w = 1; if v > limit", "check", "deployment D7 module 1 4 15", ["in a handler a local is declared by `let x = 1;`"]),
+    (b"limit = 100", b"limit = 0xFFFFF", "check", "deployment D7 module 1 3 19", ["a number is at most 65,535"]),
+    (b'[[module]]\nname = "logic"', b'[module]\nname = "logic"', "check", "deployment D3 -", ["`[[module]]`"]),
 ]
 
 
@@ -275,7 +290,7 @@ class Cases(unittest.TestCase):
             ),
             (
                 b"deploy all\n",
-                "lines of a schedule for people, and the deployment comes before them: `sancus schedule DEP",
+                "lines of a schedule for people, and the deployment comes before them: `sancus run DEPLOY",
             ),
         ):
             self.assertIn(said, told(text, "fault deployment D2 -", "run"))

@@ -203,6 +203,25 @@ class Schedule(Room):
 
 
 @needs_program
+class Names(Room):
+    """A file's name, or a comment, makes no line and moves no cursor."""
+
+    def test_names(self):
+        folder = self.room / "x\nreset a\n\x1b[2J"
+        folder.mkdir()
+        easy = folder / "easy.txt"
+        easy.write_text(READING)
+        ran = sancus("schedule", "--lines", self.file("d.toml", HEAD), easy)
+        self.assertEqual((ran.status, acts("%%\n" + ran.out.decode())), (0, acts(LIGHTING.decode())))
+        self.assertIn(f"#= {self.room}/x\\x0areset a\\x0a\\x1b[2J/easy.txt:3 carry eye logic\n", ran.out.decode())
+
+    def test_comments(self):
+        text = self.file("x", b"# \x1b]0;owned\x07\n")
+        for words in (("vars", self.file("d.toml", HEAD), text, "eye", "1"), ("steps", self.room / "d.toml", text, "1")):
+            self.assertEqual(sancus(*words).lines[0], r"line 1: # \x1b]0;owned\x07")
+
+
+@needs_program
 class Run(Room):
     """Lines for people in a run: their items come as they are done."""
 
