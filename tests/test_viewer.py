@@ -419,15 +419,14 @@ class Viewer(unittest.TestCase):
         self.assertEqual(self.texts("#notes div"), [])
         shown = self.browser.value("page.run.shown[page.at].line.text")
         self.assertTrue(shown.startswith("sense "), shown)
+        self.assertEqual(self.browser.value("byId('scroll').scrollWidth - byId('scroll').clientWidth"), 0)
         self.browser.press("f")
-        self.browser.shoot("parking-fitted")
-        room = "byId('scroll').clientWidth - document.querySelector('.corner').offsetWidth"
-        self.assertLessEqual(self.browser.value("page.picture.columns.list.at(-1).x"), self.browser.value(room))
-        self.browser.press("f")
+        self.browser.shoot("parking-full")
         self.assertEqual(self.browser.value("page.look.scale"), 1)
 
     def test_columns_are_hidden_and_moved(self):
         self.show(run_of(*readings(2)))
+        self.browser.press("f")
         wide, rows = (self.browser.value(it) for it in ("page.picture.columns.width", "page.run.shown.length"))
         self.browser.value(
             "document.querySelector('[data-id=\"module eye\"]').dispatchEvent(new MouseEvent('dblclick', {bubbles: true}))"
@@ -462,10 +461,47 @@ class Viewer(unittest.TestCase):
             *first[10:],
         ]
         self.show(run_of(lines, items))
-        self.assertEqual(self.browser.value("page.run.groups.map(it => it.title)"), ["--- 1. a reading"])
-        self.show(run_of(lines[1:], items))
+        made = ["sample eye 0", "carry eye logic", "sample eye 37"]
         titles = self.browser.value("page.run.groups.map(it => it.title)")
-        self.assertEqual(titles, ["sample eye 0", "carry eye logic", "sample eye 37"])
+        self.assertEqual(titles, ["--- 1. a reading", *made])
+        self.show(run_of(lines[1:], items))
+        self.assertEqual(self.browser.value("page.run.groups.map(it => it.title)"), made)
+
+    @needs_program
+    def test_the_set_up_after_a_comment_is_folded(self):
+        """As `sancus schedule` writes it for `# my day`, `deploy all` and a reading."""
+        set_up, reading = (it.splitlines() for it in LIGHTING.partition("%%\n")[2].split("sense light", 1))
+        acts = [it for it in set_up if not it.startswith("#")]
+        lines = ["# my day", "#= x:2 deploy all", *acts, "#= x:3 sample eye 120", f"sense light{reading[0]}", *reading[1:]]
+        self.show(of_run(context(), Input((DEPLOYMENT + "\n".join(lines) + "\n").encode())).texts)
+        self.assertEqual(self.browser.value("page.run.groups.slice(0, 3).map(it => [it.title, it.isFolded])"),
+                         [["my day", False], ["deploy all", True], ["sample eye 120", False]])
+        self.assertEqual(self.browser.value("page.run.shown[page.at].text"), "sample eye 120  (x:3)")
+
+    def test_acts_of_an_attacker(self):
+        lines, items = readings(1)
+        # the event for logic is given twice, and that for lamp never
+        lines = [*lines[:5], "give 0 a 0x300", "call logic 2 0x300 0x400", "asm b 0x800 mov #9, &0x1000", "run b 1"]
+        lines.append("take a 0x400 24")
+        items = [*items[:6], "done logic 6 0", "raw bulb 9", "packet 1 24"]
+        self.show(run_of(lines, items))
+        self.browser.shoot("attacker")
+        drawn = self.texts("svg.drawing text")
+        for text in ("#0", "#0 again", "#1 · never given", "RAW bulb 9"):
+            self.assertIn(text, drawn)
+        self.assertEqual(self.texts(".is-attack:not(.legend *)"), ["give 0 a 0x300", "asm b 0x800 mov #9, &0x1000", "run b 1"])
+        self.assertEqual(self.texts(".row.raw .text"), ["raw bulb 9"])
+        self.assertEqual(self.texts("#about"), ["9 items · 0 out · 0 reset · 1 raw"])
+        self.browser.press("End")
+        self.assertIn("It is never given.", self.texts("#more")[0])
+
+    def test_no_other_script_runs(self):
+        self.show(run_of(*readings(1)))
+        self.browser.value(
+            "document.body.append(Object.assign(document.createElement('script'), {textContent: 'window.bad = 1'}))"
+        )
+        self.browser.value("document.body.setAttribute('onclick', 'window.bad = 2'); document.body.click()")
+        self.assertIsNone(self.browser.value("window.bad"))
 
     def test_picture_as_a_file(self):
         self.show(run_of(*readings(2)) | {"causes": b"because 9 8\nlegal\n"}, "#item=9")

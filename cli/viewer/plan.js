@@ -78,6 +78,9 @@ class Plan {
     return undefined;
   }
 
+  // Whether an actuator that a module drives was written past its driver.
+  isPastDriver({kind, words}) { return kind === "raw" && Boolean(this.devices.get(words[1])?.driver); }
+
   isTrouble({kind, words}) {
     if (kind === "reset") return words[2] !== "asked";
     if (kind === "done") return words[2] !== "1";

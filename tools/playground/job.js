@@ -17,6 +17,11 @@ function asSchedule(text) {
   return second < 0 ? text : lines.slice(0, second).concat("").join("\n");
 }
 
+// A deployment with the mark that the program wants; the page takes it without.
+function withMark(text) {
+  return splitLines(text).includes("%%") ? text : `${text.replace(/\n?$/, "\n")}%%\n`;
+}
+
 class Job {
   // purpose: the command that the text is made for; start: runs a command on a text.
   constructor(word, text, purpose, start) {
@@ -28,7 +33,7 @@ class Job {
   async does(last) {
     const isOfRun = this.word === "explain" && this.purpose !== "explain";
     if (isOfRun) this.run = last ?? await this.ran(this.purpose === "drive" ? "drive" : "run");
-    const input = isOfRun ? this.judged(this.run.trace ?? "") : this.text;
+    const input = isOfRun ? this.judged(this.run.trace ?? "") : this.word === "check" ? withMark(this.text) : this.text;
     this.ended = await this.start(this.word, input);
     return this.ended;
   }

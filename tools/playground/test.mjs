@@ -240,7 +240,65 @@ async function testSaved(test) {
   rmSync(file);
 }
 
+const OWN = `${example("lighting").replace("sense light 120", "sense light 9")}`;
+const chosen = test => test.value(`${element("example")}.value`);
+const reload = async test => {
+  await test.value(act(`delete ${DONE}; location.reload()`)).catch(() => null);
+  await sleep(300);
+  return test.done();
+};
+
+async function testTexts(test) {
+  await test.value(act("localStorage.clear()"));
+  await test.open("#example=lighting");
+  await test.write(OWN);
+  expect("a text of one's own has a name", await chosen(test) === "own 1", await chosen(test));
+  await test.choose("attack");
+  expect("another text can be chosen", await test.text() === example("attack"));
+  await test.choose("own 1");
+  expect("and the own one again", await test.text() === OWN, await test.text());
+  await test.choose("attack");
+  await test.value(act(`${element("text")}.focus(); document.execCommand("undo")`));
+  expect("a text that was replaced comes back by Undo", await test.text() === OWN && await chosen(test) === "own 1");
+  await reload(test);
+  expect("it is there after the page was loaded again", await test.text() === OWN && await chosen(test) === "own 1");
+  await test.open("#example=attack");
+  await test.write(`${example("attack")}# more`);
+  expect("a second text doesn't take the place of the first", await chosen(test) === "own 2", await chosen(test));
+  await test.open();
+  expect("what was written last is there after the page was closed", await test.text() === `${example("attack")}# more`);
+  await test.choose("own 1");
+  expect("and so is the other", await test.text() === OWN);
+  await test.value(act(`Storage.prototype.setItem = () => { throw new Error("full") }`));
+  await test.write(`${OWN}# more`);
+  expect("the browser asks before it leaves what it can't keep", await test.value("typeof onbeforeunload") === "function");
+  await test.value(act(`${element("do-save")}.click()`));
+  expect("and doesn't if that was saved", await test.value("onbeforeunload === null"));
+  const names = await test.value(`[...${element("example")}.options].map(it => it.value).join(" ")`);
+  expect("parking is in the list", ["day", "hostile", "replay"].every(it => names.includes(`parking/${it}`)), names);
+  await test.value(act("localStorage.clear()"));
+}
+
+async function testOpen(test) {
+  await test.open("#example=readings");
+  const [head, lines] = example("lighting").split("%%\n"), open = texts => test.value(act(`delete ${DONE}; page.open(${JS(texts)})`));
+  await open([head]);
+  await test.done();
+  expect("a deployment that is opened stands in the editor", await test.text() === head);
+  expect("and is checked", (await test.said()).startsWith("check ended with status 0"), await test.said());
+  expect("nothing is said of an output", await test.value(`document.querySelectorAll("#notes .bad").length`) === 0);
+  await open([lines]);
+  await test.done();
+  expect("a schedule joins the deployment that is there", await test.text() === example("lighting"), await test.text());
+  expect("and is run", (await test.said()).startsWith("run ended with status 0"), await test.said());
+  await open([lines, head]);
+  await test.done();
+  expect("two files are one input", await test.text() === example("lighting"));
+}
+
 async function testPolicy(test) {
+  await test.value(act(`document.body.append(Object.assign(document.createElement("script"), {textContent: "window.bad = 1"}))`));
+  expect("no script but the page's runs", await test.value(`String(window.bad)`) === "undefined");
   const reached = await test.value(`fetch("https://example.org").then(() => "reached", () => "refused")`);
   expect("the page connects to nothing", reached === "refused", reached);
 }
@@ -280,6 +338,19 @@ async function testKeys(test) {
   expect("Tab goes from word to word", wanted.every((id, k) => order[k] === id), order);
 }
 
+async function testPhone(Browser) {
+  const browser = new Browser(), test = new Test(browser);
+  await browser.begin({width: 390, height: 844});
+  await test.open("#example=lighting");
+  const box = id => test.value(`(({left, right, top, bottom}) => ({left, right, top, bottom}))(${element(id)}.getBoundingClientRect())`);
+  const desk = await box("desk"), seen = await box("seen");
+  expect("on a phone the picture stands below the editor", seen.top >= desk.bottom && seen.left === 0, {desk, seen});
+  expect("both are as wide as the window", [desk, seen].every(it => it.right > 370), {desk, seen});
+  expect("nothing is wider", await test.value("document.documentElement.scrollWidth <= innerWidth"));
+  await test.picture("phone");
+  await browser.end();
+}
+
 async function testWithoutWebAssembly(Browser) {
   const browser = new Browser(), test = new Test(browser);
   await browser.begin({width: 1280, height: 720, script: "delete globalThis.WebAssembly"});
@@ -302,12 +373,14 @@ for (const Browser of BROWSERS.filter(it => !wanted || it.name === wanted)) {
   const browser = new Browser(), test = new Test(browser);
   await browser.begin({width: 1280, height: 720});
   await test.open();
-  for (const one of [testLayout, testWords, testFaults, testStop, testLink, testSaved, testKeys, testExamples])
+  for (const one of [testTexts, testOpen, testLayout, testWords, testFaults, testStop, testLink, testSaved, testKeys, testExamples])
     await one(test);
   expect("no errors", !browser.errors.length, browser.errors);
   await testPolicy(test);
   await browser.end();
-  if (Browser.name === "Chromium") await testWithoutWebAssembly(Browser);
+  if (Browser.name !== "Chromium") continue;
+  await testPhone(Browser);
+  await testWithoutWebAssembly(Browser);
 }
 console.log(failed ? `${failed} failed` : "all passed");
 process.exitCode = failed ? 1 : 0;
