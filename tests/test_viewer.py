@@ -495,6 +495,26 @@ class Viewer(unittest.TestCase):
         self.browser.press("End")
         self.assertIn("It is never given.", self.texts("#more")[0])
 
+    @needs_program
+    def test_the_variables_of_a_row(self):
+        """What the strip says of a module's variables is what `sancus vars` reads from its memory."""
+        parking = EXAMPLES / "parking"
+        names = ("parking.toml", "set-up.schedule", "renewal.schedule")
+        text = b"".join((parking / it).read_bytes() for it in names)
+        (self.room / "renewal.txt").write_bytes(text)
+        self.show(of_run(context(), Input(text)).texts)
+        count = len(Input(text).schedule)
+        for module in ("p1", "vio", "agg"):
+            for line in range(85, count, 25):
+                read = sancus("vars", self.room / "renewal.txt", module, str(line)).lines
+                cells = [it.split(" ", 1)[1].split(" = ") for it in read if it.startswith(("var ", "array "))]
+                index = f"page.run.rows.findLast(it => it.line?.number <= {line} && it.kind !== 'note').index"
+                shown = self.browser.value(f"[...page.run.values.after({json.dumps(module)}, {index}) ?? []]")
+                self.assertEqual([[name, value.strip("[]")] for name, value in shown], cells, (module, line))
+        self.browser.value("page.go(page.run.rows.find(it => it.item?.text.startsWith('take vio p1_vio')))")
+        self.browser.shoot("variables")
+        self.assertRegex(self.texts("#more")[0], r"Variables of vio: limit = 120, .*occupied = \[1 0\] \(was \[0 0\]\)")
+
     def test_no_other_script_runs(self):
         self.show(run_of(*readings(1)))
         self.browser.value(
@@ -519,6 +539,7 @@ class Viewer(unittest.TestCase):
         self.assertEqual(len(self.texts(".row.group")), 3)
 
 
+VALUED = ("toml", "texts", "language", "plan", "match", "values", "rows", "words")
 NODE = shutil.which("node") or shutil.which("nodejs")
 FORGED = """
 const run = new Run(JSON.parse(require("fs").readFileSync(0)));
@@ -533,7 +554,7 @@ class Words(unittest.TestCase):
 
     def said(self, texts):
         folder = TOP / "cli" / "viewer"
-        scripts = [(folder / f"{it}.js").read_text() for it in ("texts", "toml", "plan", "match", "rows", "words")]
+        scripts = [(folder / f"{it}.js").read_text() for it in VALUED]
         words = "const WORDS = " + (TOP / "cli" / "faults.json").read_text() + ";"
         ran = subprocess.run(
             [NODE, "-e", "\n".join([words, *scripts, FORGED])], input=json.dumps(texts), capture_output=True, text=True

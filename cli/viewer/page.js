@@ -247,6 +247,7 @@ class Page {
           `: ${counted(row.group.rows.length, "row")}, ${counted(row.group.items, "item")}. Enter unfolds.`);
     if (row.kind === "note") say(row.text);
     if (row.kind === "act" || row.kind === "item") this.tellLine(row, say);
+    for (const {module, text} of this.valuesHere(row)) say("Variables of ", html("b", "", module), ": ", html("code", "", text));
     const packet = row.line ? this.run.packetOf(row) : null, acts = this.run.packets.get(packet) ?? [];
     if (acts.length)
       say(`Packet #${packet}: `,
@@ -260,6 +261,18 @@ class Page {
     else if (row.item?.kind === "out" && !this.run.causes)
       say("The causes of an out are shown if what `explain` wrote is opened too.");
     if (row.isAfter) say("This comes after the first `forged`: nothing is promised of it.");
+  }
+
+  // The variables of the row's modules: after its group, its line or its item, and before its line.
+  valuesHere(row) {
+    const rows = row.kind === "group" ? row.group.rows :
+                                        this.run.rows.filter(it => it.line === row.line && (row.kind === "act" || it.index <= row.index));
+    try {
+      return rows.length ? this.run.values.told(rows) : [];
+    } catch (error) {
+      if (error instanceof RangeError) return [];
+      throw error;
+    }
   }
 
   tellLine(row, say) {

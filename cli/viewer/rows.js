@@ -24,6 +24,7 @@ class Run {
     this.addRows(this.lines());
     this.findSpans();
     this.followPackets();
+    this.values = new Values(this);
     this.say();
     for (const group of this.groups) group.isFolded = this.rows.length > FOLDED_FROM && group.rows.length > 1;
     this.foldSetUp();
