@@ -20,7 +20,6 @@ class Desk {
     this.address = null;
     this.name = null;
     this.begun = null;
-    this.faults = new Faults();
     this.editor = new Editor(() => this.isChanged());
     const lacks = missing();
     if (lacks) return this.refuse(lacks);
@@ -223,21 +222,35 @@ class Desk {
     byId("wrote").textContent = short.slice(0, MOST_SHOWN);
     if (short.length > MOST_SHOWN)
       parts.push(`The first ${MOST_SHOWN.toLocaleString("en")} letters of the output are shown. `);
-    const fault = this.faults.told(splitLines(ended.text).at(-1), text);
+    const last = splitLines(ended.text).at(-1), fault = new Faults(text).told(last);
     if (fault) parts.push(...this.fault(fault));
+    if (word !== "explain" && !/^fault deployment/.test(last)) parts.push(...this.warnings(text));
     this.say(...parts);
   }
 
-  fault({words, line, column}) {
-    const parts = [html("span", "fault", words)];
-    if (line && line <= this.editor.lines.length) {
-      const place = html("button", "place", `line ${line}`);
-      place.onclick = () => this.editor.go(line, column);
+  fault(fault) {
+    const place = this.place(fault), {line} = fault;
+    if (place.length) {
       this.editor.mark(line);
       this.editor.show(line);
-      parts.push(", at ", place);
     }
-    return parts;
+    return [html("span", "fault", fault.words), ...place, ...fault.notes.map(it => html("div", "note", it))];
+  }
+
+  warnings(text) {
+    return warningsOf(text).map(it => {
+      const made = html("div", "warning", `warning: ${it.words}`);
+      made.append(...this.place(it));
+      return made;
+    });
+  }
+
+  // A place of the text in words, to go there; none if there is none.
+  place({line, column}) {
+    if (!line || line > this.editor.lines.length) return [];
+    const made = html("button", "place", `line ${line}${column ? `, column ${column}` : ""}`);
+    made.onclick = () => this.editor.go(line, column);
+    return [", at ", made];
   }
 
   // --- the input in an address ---

@@ -165,7 +165,7 @@ async function testFaults(test) {
     ],
     [
       "a source's rules", "check", changed("send level(v)", "send other(v)"), "Unknown: a name isn't declared",
-      at("[[module]]")
+      at("send level(v)")
     ],
     ["a key", "check", changed("provider = 7", "povider = 7"), "D4: a key is unknown or missing", at("[[module]]")],
     ["TOML", "check", changed('node = "a"', "node = a b"), "D3", undefined],
@@ -185,12 +185,47 @@ async function testFaults(test) {
     const said = await test.said(),
           marked = await test.value(`${element("marked")}.hidden ? 0 : Number(${element("marked")}.dataset.line)`);
     const isRight =
-        said.includes(words) && (line === undefined || said.endsWith(`, at line ${line}`) && marked === line);
+        said.includes(words) && (line === undefined || said.includes(`, at line ${line}`) && marked === line);
     expect(`a fault in words at its line: ${name}`, isRight, {said, marked, line});
   }
+  await testNotes(test, changed);
   await test.write(cases[0][2]);
   await test.click("do-run");
   await test.picture("fault");
+}
+
+// What the command line says of a text, beyond the fault line: on a terminal.
+function told(word, text) {
+  const ran = spawnSync(fileURLToPath(new URL("sancus", TOP)), [word, "-"], {input: text});
+  return String(ran.stderr).split("\n").map(line => line.replace(/^sancus: /, ""));
+}
+
+async function testNotes(test, changed) {
+  const cases = [
+    ["an operator that isn't there", "check", changed("send level(v)", "send level(v % 3)"), ", column 26"],
+    ["a semicolon that is missing", "check", changed("output level;", "output level"), "perhaps a `;` is missing"],
+    ["a name that isn't declared", "check", changed("send level(v)", "send levl(v)"), "did you mean `level`?"],
+    ["a local declared twice", "check", changed("send level(v);", "let v = 1; send level(v);"), "the handler has a local `v` already"],
+    ["a key", "check", changed("provider = 7", "povider = 7"), "the key `povider` is unknown here; did you mean `provider`?"],
+    ["a device", "check", changed('device = "light"', 'device = "ligth"'), "did you mean `light`?"],
+    ["a port", "check", changed("logic.level", "logic.levle"), "has no input `levle`; its inputs: level; did you mean"],
+    ["a place", "check", changed("text = 0x6000", "text = 0x4400"), "share 0x4400 to"],
+    ["a line for people", "run", changed("load logic", "deploy all"), "`deploy` is a line for people"],
+    ["an act", "run", changed("load logic", "laod logic"), "did you mean `load`?"],
+    ["a module of a line", "run", changed("load logic", "load lgic"), "expected: a module: eye logic lamp; did you mean `logic`?"],
+    ["no secret", "run", changed(/^secret.*$/m, ""), "warning: the deployment has connections and no `secret`"],
+    ["a comparison", "run", changed("v > limit", "v >= 0"), "warning: this always holds"],
+  ];
+  for (const [name, word, input, words] of cases) {
+    await test.write(input);
+    await test.click(`do-${word}`);
+    const said = await test.value(`${element("said")}.innerText`);
+    expect(`more words of a fault: ${name}`, said.includes(words), said);
+    const notes = await test.value(`[...${element("said")}.querySelectorAll(".note, .warning")].map(it => it.firstChild.data)`);
+    const others = told(word, input).map(line => line.replace(/, line \d+ of the input$/, ""));
+    const foreign = notes.filter(it => !others.some(other => other.includes(it)) && !it.includes("for people"));
+    expect(`as the command line has them: ${name}`, !foreign.length, {foreign, others});
+  }
 }
 
 async function testStop(test) {
@@ -281,7 +316,11 @@ async function testTexts(test) {
 
 async function testOpen(test) {
   await test.open("#example=readings");
-  const [head, lines] = example("lighting").split("%%\n"), open = texts => test.value(act(`delete ${DONE}; page.open(${JS(texts)})`));
+  const [head, lines] = example("lighting").split("%%\n"), open = texts => test.value(act(`delete ${DONE};
+    const files = new DataTransfer();
+    for (const text of ${JS(texts)}) files.items.add(new File([text], "a file"));
+    ${element("files")}.files = files.files;
+    ${element("files")}.dispatchEvent(new Event("change"))`));
   await open([head]);
   await test.done();
   expect("a deployment that is opened stands in the editor", await test.text() === head);
