@@ -16,10 +16,14 @@ SEAL = re.compile(r"'sha256-[^']*'")
 
 def joined() -> str:
     """The page: its style, its scripts, and the one table of words."""
-    words = "const WORDS = " + FAULTS.read_text().strip().replace("</", "<\\/") + ";\n"
-    script = words + "\n".join((HERE / f"{name}.js").read_text() for name in SCRIPTS)
+    script = words() + "\n".join((HERE / f"{name}.js").read_text() for name in SCRIPTS)
     page = (HERE / "page.html").read_text()
     return sealed(page.replace("STYLE\n", (HERE / "style.css").read_text(), 1).replace("SCRIPT\n", script, 1))
+
+
+def words() -> str:
+    """The table of words, as a script has it."""
+    return "const WORDS = " + FAULTS.read_text().strip().replace("</", "<\\/") + ";\n"
 
 
 def sealed(page: str) -> str:

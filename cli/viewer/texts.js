@@ -19,7 +19,7 @@ function numberOf(word) {
 
 // The first words of the lines that a schedule has, and of those for people, which `sancus schedule` makes a schedule of.
 const ACTS = "run finish put asm set take give forge sense irq reset ask answer load call".split(" ");
-const PEOPLE = ["deploy", "sample", "carry", "windows", "packets", "boots"];
+const PEOPLE = ["deploy", "sample", "carry", "flow", "settle", "windows", "packets", "boots"];
 
 // Which of the texts this is, as a part of {input, head, output, causes}, or of {deployment, schedule}, which an input is made of.
 function sortText(text) {

@@ -95,6 +95,7 @@ class Desk {
     try {
       await this.take(await unpackedText(letters), OPENED, word);
     } catch (error) {
+      this.put("", OPENED);
       this.say(html("span", "fault", `The address holds no input: ${error.message}`));
     }
   }
@@ -177,7 +178,7 @@ class Desk {
     this.say(`${word} …`);
     const job = new Job(word, text, this.purpose(), start), ended = await job.does(this.last);
     if (!isNow()) return;
-    this.tell(word, ended, text);
+    this.tell(word, ended, text, job.people);
     const texts = await job.drawn();
     if (!isNow()) return;
     if (job.run?.trace) this.last = job.run;
@@ -208,7 +209,7 @@ class Desk {
     byId("said").replaceChildren(...parts);
   }
 
-  tell(word, ended, text) {
+  tell(word, ended, text, people) {
     if (ended.error) {
       byId("wrote").textContent = "";
       return this.say(html("span", "fault", `${word}: ${ended.error}`));
@@ -224,6 +225,7 @@ class Desk {
       parts.push(`The first ${MOST_SHOWN.toLocaleString("en")} letters of the output are shown. `);
     const last = splitLines(ended.text).at(-1), fault = new Faults(text).told(last);
     if (fault) parts.push(...this.fault(fault));
+    if (people) parts.push(...this.ofPeople(people, text));
     if (word !== "explain" && !/^fault deployment/.test(last)) parts.push(...this.warnings(text));
     this.say(...parts);
   }
@@ -235,6 +237,18 @@ class Desk {
       this.editor.show(line);
     }
     return [html("span", "fault", fault.words), ...place, ...fault.notes.map(it => html("div", "note", it))];
+  }
+
+  // The line for people that can't be done, and what the others showed.
+  ofPeople({wrong, notes}, text) {
+    const faults = new Faults(text), {line, rule, words} = wrong ?? {};
+    const fault = rule ? faults.told(`fault schedule ${rule} ${line - faults.mark}`) : {words, line, notes: []};
+    const told = notes.map(it => {
+      const made = html("div", "note", it.words);
+      made.append(...this.place(it));
+      return made;
+    });
+    return [...(wrong ? this.fault(fault) : []), ...told];
   }
 
   warnings(text) {

@@ -57,7 +57,8 @@ class Editor {
 
   // Numbers each line, and after the mark its place in the schedule too, which is what the picture shows.
   number() {
-    const count = this.text.split("\n").length, mark = this.markAt, wanted = `${count} ${mark}`;
+    // (lines for people become others)
+    const count = this.text.split("\n").length, mark = areForPeople(this.text) ? -1 : this.markAt, wanted = `${count} ${mark}`;
     if (wanted !== this.numbered) {
       const width = mark < 0 ? 0 : String(count - mark).length + 2;
       const row = (_, at) => `${at + 1}${(mark >= 0 && at > mark ? String(at - mark) : "").padStart(width)}`;

@@ -6,12 +6,6 @@ function lettersOf(text, bytes) {
   return new TextDecoder().decode(new TextEncoder().encode(text).subarray(0, bytes)).length;
 }
 
-// The deployment of a text: its lines before the mark.
-function headOf(text) {
-  const lines = splitLines(text), mark = lines.indexOf("%%");
-  return lines.slice(0, mark < 0 ? lines.length : mark).map(line => `${line}\n`).join("");
-}
-
 // Line and column, from 1, of a place in a source by its letters.
 function placeAt(source, at) {
   const before = source.slice(0, at).split("\n");

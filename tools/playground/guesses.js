@@ -76,6 +76,5 @@ function guessOfAct(act, plan) {
 }
 
 function forPeople(act) {
-  return `\`${act}\` is a line for people, and this page runs plain ones: \`./sancus schedule DEPLOYMENT LINES\` makes these of ` +
-      "them, and `./sancus view DEPLOYMENT LINES` a page with the picture";
+  return `\`${act}\` is a line for people: Run takes those, after a deployment with modules`;
 }

@@ -46,12 +46,13 @@ def examples():
 
 
 def parking(folder):
-    """The parking lot: a day's readings, and each schedule after the set-up."""
+    """The parking lot: a day's readings, the lines for people, and each schedule after the set-up."""
     head, set_up = ((folder / name).read_text() for name in ("parking.toml", "set-up.schedule"))
     days = {it: head + it.read_text() for it in sorted(folder.glob("*.readings"))}
+    people = {f"parking/{it.stem} for people": f"{head}%%\n{it.read_text()}" for it in sorted(folder.glob("*.people"))}
     schedules = [it for it in sorted(folder.glob("*.schedule")) if it.name != "set-up.schedule"]
     days.update({it: head + set_up + it.read_text() for it in schedules})
-    return {f"parking/{it.stem}": text for it, text in days.items()}
+    return {**{f"parking/{it.stem}": text for it, text in days.items()}, **people}
 
 
 def part(name):
@@ -71,6 +72,14 @@ def held(name, text):
     return f'<script type="text/plain" id="{name}">{text}</script>\n'
 
 
+def worker():
+    """What runs the program: its host, and what makes a schedule of lines for people."""
+    host = (TOP / "tools" / "wasm" / "host.js").read_text()
+    shared = [(TOP / "cli" / "viewer" / f"{it}.js").read_text() for it in ("toml", "texts", "language")]
+    own = [part(f"{it}.js") for it in ("guesses", "deployment", "people", "worker")]
+    return "\n".join([VIEWER.words(), host, *shared, *own])
+
+
 def packed(data):
     return base64.b64encode(gzip.compress(data, 9, mtime=0)).decode()
 
@@ -82,7 +91,7 @@ def made():
     texts = [
         held("program", packed(program)),
         held("examples", packed(json.dumps(examples()).encode())),
-        held("worker", (TOP / "tools" / "wasm" / "host.js").read_text() + part("worker.js")),
+        held("worker", worker()),
     ]
     page = re.sub(r'(http-equiv="Content-Security-Policy" content=)"[^"]*"', rf'\1"{POLICY}"', VIEWER.joined(), count=1)
     page = re.sub(r"(<title>|<b id=\"title\">)[^<]*", rf"\g<1>{TITLE}", page)

@@ -210,7 +210,6 @@ async function testNotes(test, changed) {
     ["a device", "check", changed('device = "light"', 'device = "ligth"'), "did you mean `light`?"],
     ["a port", "check", changed("logic.level", "logic.levle"), "has no input `levle`; its inputs: level; did you mean"],
     ["a place", "check", changed("text = 0x6000", "text = 0x4400"), "share 0x4400 to"],
-    ["a line for people", "run", changed("load logic", "deploy all"), "`deploy` is a line for people"],
     ["an act", "run", changed("load logic", "laod logic"), "did you mean `load`?"],
     ["a module of a line", "run", changed("load logic", "load lgic"), "expected: a module: eye logic lamp; did you mean `logic`?"],
     ["no secret", "run", changed(/^secret.*$/m, ""), "warning: the deployment has connections and no `secret`"],
@@ -223,8 +222,25 @@ async function testNotes(test, changed) {
     expect(`more words of a fault: ${name}`, said.includes(words), said);
     const notes = await test.value(`[...${element("said")}.querySelectorAll(".note, .warning")].map(it => it.firstChild.data)`);
     const others = told(word, input).map(line => line.replace(/, line \d+ of the input$/, ""));
-    const foreign = notes.filter(it => !others.some(other => other.includes(it)) && !it.includes("for people"));
+    const foreign = notes.filter(it => !others.some(other => other.includes(it)));
     expect(`as the command line has them: ${name}`, !foreign.length, {foreign, others});
+  }
+}
+
+async function testPeople(test) {
+  await test.open("#example=" + encodeURIComponent("parking/day for people"));
+  const outs = (await test.wrote()).split("\n").filter(it => it.startsWith("out "));
+  expect("lines for people are run", outs.join() === "out dfree 2,out dfree 2,out dfree 1", outs);
+  const here = await test.value(`document.querySelector(".row.selected").textContent`);
+  expect("and the picture begins after their set-up", here.includes("7:00"), here);
+  await test.picture("people");
+  const head = example("lighting").split("%%\n")[0], at = head.split("\n").length + 2;
+  for (const [line, words] of [["carry eye lmp", "there is no module lmp; did you mean `lamp`?"], ["laod eye", "S3: its first word is no act"]]) {
+    await test.write(`${head}%%\ndeploy all\nsample eye 5\n${line}\n`);
+    await test.click("do-run");
+    const said = await test.said(), marked = await test.value(`Number(${element("marked")}.dataset.line)`);
+    expect(`a line for people that can't be done: ${line}`, said.includes(words) && marked === at + 1, {said, marked, at});
+    expect("what came before it is drawn", await test.rows() >= 6, await test.rows());
   }
 }
 
@@ -412,7 +428,7 @@ for (const Browser of BROWSERS.filter(it => !wanted || it.name === wanted)) {
   const browser = new Browser(), test = new Test(browser);
   await browser.begin({width: 1280, height: 720});
   await test.open();
-  for (const one of [testTexts, testOpen, testLayout, testWords, testFaults, testStop, testLink, testSaved, testKeys, testExamples])
+  for (const one of [testTexts, testOpen, testLayout, testWords, testFaults, testPeople, testStop, testLink, testSaved, testKeys, testExamples])
     await one(test);
   expect("no errors", !browser.errors.length, browser.errors);
   await testPolicy(test);
