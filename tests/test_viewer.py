@@ -330,6 +330,20 @@ class Viewer(unittest.TestCase):
         self.show({"input": b"node = [\n%%\nload eye\n", "output": b"trace\nprotect a eye\nend\n"})
         self.assertIn("The deployment isn't read", self.texts("#notes div.bad")[0])
 
+    def test_files_that_are_opened(self):
+        """A deployment, a schedule and an output, in any order."""
+        lines, items = readings(1)
+        schedule, output = "\n".join(lines) + "\n", "trace\n" + "\n".join(items) + "\nend\n"
+        self.show({})
+        self.browser.value(f"page.open({json.dumps([DEPLOYMENT.partition('%%')[0]])})")
+        self.assertIn("This is a part of a run", self.texts("#notes div")[0])
+        self.browser.value(f"page.open({json.dumps([output])})")
+        self.assertEqual(self.texts("#notes div"), [])
+        self.assertIn("▣ logic", self.texts("#heads text"))
+        self.browser.value(f"page.open({json.dumps([schedule])})")
+        self.assertEqual(self.texts("#notes div"), [])
+        self.assertEqual(self.texts(".row .cell")[-1], "10done lamp 1 0")
+
     def test_hostile_texts_stay_texts(self):
         text = '# </script><img src=x onerror="window.bad=1">'
         self.show(run_of([text, *readings(1)[0]], readings(1)[1]))
