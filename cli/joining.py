@@ -2,6 +2,7 @@
 
 from __future__ import annotations
 
+import os
 from array import array
 from dataclasses import dataclass, field
 from typing import Callable, List, Optional
@@ -59,7 +60,10 @@ def is_comment(line: bytes) -> bool:
 
 
 def after_mark(name: str, voice: Voice) -> Part:
-    """The lines of a file that come after the mark: without its own mark, and without its own deployment."""
+    """The lines of a file that come after the mark: without its own mark, and without its own deployment. Lines that are
+    typed have neither, and aren't waited for."""
+    if name == "-" and os.isatty(0):
+        return file_part(name)
     begun = Begun(file_part(name))
     data = begun.look(lambda it: find_mark(it) is not None or not may_have_mark(it))
     found = find_mark(data) if may_have_mark(data) else None

@@ -12,16 +12,19 @@ from dataclasses import dataclass, field
 from typing import Iterator, List, Optional
 
 from cli.acts import is_act
+from cli.commands import Given
 from cli.context import Context
 from cli.guesses import PEOPLE
 from cli.items import Item
 from cli.people import Lines, are_for_people, begun, do_line, is_for_people, place
 from cli.program import Collected, Ran, Sink
+from cli.running import gathered, parts_of, run_parts
 from cli.say import text_of
 from cli.schedule import Writer
 from cli.session import Stopped
+from cli.snapping import snap
 from cli.status import BAD_TEXT, Ended
-from cli.texts import MARK, Input, Kept, Origin, Part, is_regular, kept_of, open_file, without_return
+from cli.texts import MARK, Input, Kept, Origin, Part, file_part, is_regular, kept_of, open_file, without_return
 
 # In a larger file no lines for people are looked for.
 MOST_LOOKED = 1 << 24
@@ -53,16 +56,20 @@ def begins_for_people(part: Part) -> bool:
     return bool(first) and is_for_people([text_of(it) for it in first.split()])
 
 
-def are_typed(files: List[str]) -> bool:
-    return "-" in files and os.isatty(0)
-
-
-def is_live(files: List[str], parts: List[Part]) -> bool:
-    """Whether the lines of a run are done one by one: they are typed, or some are for people. Of a pipe only the first
+def run_of_people(context: Context, given: Given, files: List[str], sink: Sink) -> Ran:
+    """Answers `run` or `snap`: line by line if lines are typed, or if some are for people. Of a pipe only the first line
     is known."""
-    return are_typed(files) or any(map(has_lines_for_people, files[1:] or files)) or any(
-        map(begins_for_people, parts[1:])
-    )
+    is_typed = "-" in files and os.isatty(0)
+    # (looked at before parts of files are read)
+    has_people = any(map(has_lines_for_people, files[1:] or files))
+    parts = parts_of(given, files, context)
+    if given.command.name == "snap":
+        if not has_people:
+            return run_parts(context, given, files, parts, sink)
+        return snap(context, *gathered(parts or [file_part(files[0])]), sink)
+    if is_typed or has_people or any(map(begins_for_people, (parts or [])[1:])):
+        return run_live(context, parts or [file_part(files[0])], is_typed, sink)
+    return run_parts(context, given, files, parts, sink)
 
 
 @dataclass

@@ -126,16 +126,17 @@ def run_program(context: Context, given: Given, files: List[str], sink: Sink) ->
     if given.command.name == "gen":
         with open(os.devnull, "rb") as nothing:
             return context.program.run_file(words, nothing.fileno(), "-", sink)
-    parts = parts_of(given, files, context)
     if given.command.name in ("run", "snap") and context.program.build().is_fast:
         # (imported here, as other commands don't need it)
-        from cli.live import are_typed, has_lines_for_people, is_live, run_live
-        from cli.snapping import snap
+        from cli.live import run_of_people
 
-        if given.command.name == "run" and is_live(files, parts or []):
-            return run_live(context, parts or [file_part(files[0])], are_typed(files), sink)
-        if given.command.name == "snap" and any(map(has_lines_for_people, files[:2])):
-            return snap(context, *gathered(parts or [file_part(files[0])]), sink)
+        return run_of_people(context, given, files, sink)
+    return run_parts(context, given, files, parts_of(given, files, context), sink)
+
+
+def run_parts(context: Context, given: Given, files: List[str], parts: Optional[List[Part]], sink: Sink) -> Ran:
+    """Runs the program on the parts of an input, or on its one file."""
+    words = words_for_program(given)
     if parts is not None:
         return context.program.run_parts(words, parts, sink)
     fd = open_file(files[0])
