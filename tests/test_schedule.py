@@ -1,8 +1,11 @@
 """`sancus schedule`: lines for people, done by the program as they are written."""
 
 import unittest
+from unittest.mock import patch
 
 from support import HEAD, LIGHTING, TOP, Room, needs_program, program, sancus, one_by_one
+
+from cli import people, schedule, session
 
 DEPLOYMENT = HEAD.decode() + "%%\n"
 READING = "deploy all\nsample eye 120\ncarry eye logic\ncarry logic lamp\n"
@@ -252,7 +255,8 @@ class Schedule(Room):
         self.says(ran, "the event of eye isn't delivered: end isn't loaded on b any more: b was reset once")
         self.assertIn("take mid to_mid 1 2", trace(ran.out))
         restless = CHAIN.replace("v < 3", "1")
-        self.says(written("deploy all\nflow light 1\n", deployment=restless), "doesn't come to rest")
+        with patch.object(schedule, "MOST_CARRIED", 20):
+            self.says(written("deploy all\nflow light 1\n", deployment=restless), "doesn't come to rest")
 
     def test_an_event_is_carried_once(self):
         """Also a second event, over the one end that is open."""
@@ -278,16 +282,17 @@ class Schedule(Room):
                 self.assertNotIn(b"\x1b", ran.out)
 
     def test_as_many_lines_as_a_run_takes(self):
-        """Marks don't count: they are left out if a run would take no more."""
-        many = 65536 - len(acts(LIGHTING.decode()))
-        ran = written(READING + "set a r5 1\n" * many, "--lines")
+        """Neither marks in the schedule nor those between lines that are done one by one count: what a run takes can be
+        made of lines for people."""
+        lines = READING + "set a r5 1\n" * 30
+        most = len(acts(LIGHTING.decode())) + 30
+        whole = written(lines, "--lines")
+        with patch.object(people, "MOST_LINES", most), patch.object(session, "MOST_LINES", most):
+            ran = written(lines, "--lines")
         self.assertEqual(ran.status, 0, ran.said)
-        self.says(ran, "the comments `#= FILE:LINE ..` are left out")
-        self.assertEqual(ran.out.count(b"\n"), 65536)
-        self.assertEqual(program("run", text=DEPLOYMENT.encode() + ran.out).status, 0)
-        ran = written(READING + "set a r5 1\n" * (many + 1), "--lines")
-        self.assertEqual(ran.status, 122)
-        self.says(ran, "S2: a schedule has at most 65,536 lines")
+        self.assertEqual(ran.lines, [it for it in whole.lines if not it.startswith("#= ")])
+        self.assertEqual(len(ran.lines), most)
+        self.says(ran, "the comments `#= FILE:LINE ..` are left out: with them there are more than ")
 
     def test_notes_stand_before_a_fault(self):
         ran = written("deploy all\nwindows 0x1000 0x400\nsample eye 1\ncarry eye agg\n", deployment=FAN_OUT)
