@@ -324,7 +324,7 @@ class Names(Room):
         easy.write_text(READING)
         ran = sancus("schedule", "--lines", self.file("d.toml", HEAD), easy)
         self.assertEqual((ran.status, acts("%%\n" + ran.out.decode())), (0, acts(LIGHTING.decode())))
-        self.assertIn(f"#= {self.room}/x\\x0areset a\\x0a\\x1b[2J/easy.txt:3 carry eye logic\n", ran.out.decode())
+        self.assertIn(f"#= {self.room}/x\\x0areset\\x20a\\x0a\\x1b[2J/easy.txt:3 carry eye logic\n", ran.out.decode())
 
     def test_comments(self):
         text = self.file("x", b"# \x1b]0;owned\x07\n")
