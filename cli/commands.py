@@ -182,7 +182,7 @@ COMMANDS: Tuple[Command, ...] = (
     ),
     Command(
         "schedule",
-        "turns lines for people (`deploy`, `sample`, `carry`) into a schedule",
+        "turns lines for people (`deploy`, `flow`, `carry`) into a schedule",
         (DEPLOYMENT, Argument("LINES", MANY, "lines for people")),
         (Option("--lines", "prints the schedule alone, without the deployment"),),
         "printf 'deploy all\\nsample eye 120\\ncarry eye logic\\n' | sancus schedule examples/lighting.txt - | sancus "
@@ -193,6 +193,8 @@ COMMANDS: Tuple[Command, ...] = (
             ("sample M VALUE", "the sensor of M has this sample, and M reads it"),
             ("carry M N [WHICH]", "the next event for N of M's last call is taken, and N is called with it"),
             ("", "(WHICH is a connection, or the number of a piece from 0)"),
+            ("flow SENSOR VALUE", "the driver of SENSOR reads this sample, and every event that follows is carried"),
+            ("settle", "every event that is still in its window is carried, and those that follow"),
             ("call M ENTRY", "M is called, with the windows that are set"),
             ("give P NODE", "packet P, by number or name, is put into the in-window"),
             ("take NODE LENGTH", "a packet is made of what is in the out-window"),
@@ -237,11 +239,11 @@ The program runs as the lines are written, so packets, boots and pieces are thos
     Command(
         "vars",
         "prints a module's variables, arrays and ends after a line",
-        (INPUT, MORE, Argument("MODULE", ONE, "a module", False), LINE),
-        (DRIVE,),
+        (INPUT, MORE, Argument("MODULE", ONE, "a module", False), Argument("LINE", MAYBE, f"{LINE.says}; absent, the last", False)),
+        (DRIVE, Option("--changes", "prints each change of a variable or an array element up to LINE, a line each")),
         "sancus vars examples/lighting.txt logic 45",
-        "Of lines for people LINE is one of those; of what `sancus schedule` wrote it may also be FILE:LINE as it was "
-        "made of.",
+        "Of lines for people LINE is one of those; FILE:LINE may also be one of those that `sancus schedule` made what "
+        "is given of, or a reading, after which its last event was carried.",
     ),
     Command(
         "steps",
@@ -253,13 +255,14 @@ The program runs as the lines are written, so packets, boots and pieces are thos
     ),
     Command(
         "why",
-        "prints the chain of causes of an item, or why it is illegal",
+        "prints the chain of causes of an item, or why it is illegal or refused",
         (
             Argument("DEPLOYMENT", ONE, "the deployment"),
             Argument(
                 "TRACE",
                 MAYBE,
-                "what `run` or `drive` wrote, or a schedule, which is run first; absent or -, standard input",
+                "what `run` or `drive` wrote, or schedules, lines for people or readings, which are run; absent or -, "
+                "standard input",
             ),
             Argument(
                 "ITEM",
@@ -271,7 +274,8 @@ The program runs as the lines are written, so packets, boots and pieces are thos
         ),
         (),
         "sancus run examples/lighting.txt | sancus why examples/lighting.txt out lamp",
-        "A cause is the last event that triggered an item, and not all that its value depends on.",
+        "A cause is the last event that triggered an item, and not all that its value depends on. Of a schedule it also "
+        "prints by which line and instruction a node was reset, and why a line, an answer or a call was refused.",
     ),
     Command(
         "hex",

@@ -14,7 +14,7 @@ from cli.table import words
 
 OPERATORS = {*COMPARED, *SUMMED, *MULTIPLIED}
 STATEMENT = {"let", "send", "emit", "if", "repeat", NAMED}
-PEOPLE = ("deploy", "sample", "carry", "windows", "packets", "boots")
+PEOPLE = ("deploy", "sample", "carry", "flow", "settle", "windows", "packets", "boots")
 
 
 def expected(error: NotInGrammar) -> List[str]:

@@ -4,6 +4,7 @@ from __future__ import annotations
 
 import os
 from dataclasses import dataclass, field
+from itertools import accumulate
 from typing import List, Optional, Tuple, Type, TypeVar
 
 from cli.acts import is_act
@@ -12,7 +13,7 @@ from cli.deployment import plan_of
 from cli.faults import Teller
 from cli.guesses import PEOPLE
 from cli.joining import joined
-from cli.marks import CannotMark, marked_lines, marked_run
+from cli.marks import MOST_LINES, CannotMark, marked_lines, marked_run
 from cli.output import print_lines, write
 from cli.program import Program
 from cli.running import gathered, parts_of
@@ -160,7 +161,7 @@ def written_so_far(made: Lines, context: Context) -> Written:
             found.spans.append((before + 1, len(writer.lines)))
     finally:
         writer.session.close()
-    return found
+    return fitted(found)
 
 
 def written(made: Lines, context: Context) -> Written:
@@ -169,6 +170,17 @@ def written(made: Lines, context: Context) -> Written:
     if found.refusal:
         raise Ended(found.refusal.status, *found.notes, *found.refusal.lines)
     return found
+
+
+def fitted(made: Written) -> Written:
+    """The schedule without its marks, if it has more lines with them than a run takes."""
+    if len(made.lines) <= MOST_LINES:
+        return made
+    kept = list(accumulate((not it.startswith("#= ") for it in made.lines), initial=0))
+    lines = [it for it in made.lines if not it.startswith("#= ")]
+    note = f"the comments `#= FILE:LINE ..` are left out: with them there are more than {MOST_LINES:,} lines"
+    spans = [(kept[first - 1] + 1, kept[last]) for first, last in made.spans]
+    return Written(lines, [*made.notes, note], spans, made.refusal)
 
 
 def answer(context: Context, given: Given) -> int:

@@ -6,7 +6,7 @@ import unittest
 
 from support import EXAMPLES, HEAD, LIGHTING, PROGRAM, Room, needs_program, program, sancus, one_by_one, whole_examples
 
-from cli import language, toml, warnings
+from cli import language, tables, toml, warnings
 from cli.deployment import plan_of
 from cli.faults import Teller
 from cli.texts import Input, kept_of
@@ -244,6 +244,32 @@ class Cases(unittest.TestCase):
                     if "^^^" == it and not PROGRAM and " S8" in fault:
                         continue
                     self.assertIn(it, lines)
+
+    @needs_program
+    def test_a_free_place(self):
+        """A place that doesn't suit is named with one that does."""
+        port = b'{ name = "port", node = "a", kind = "actuator", at = 0x1000 },\n         '
+        for old, new, place, key in (
+            (b"text = 0x6000", b"text = 0x4900", b"text = 0x4900", "text = 0x4a00"),
+            (b"data = 0x2000", b"data = 0xff00", b"data = 0xff00", "data = 0x0600"),
+            (b"data = 0x2000", b"data = 0x1000", b"data = 0x1000", "data = 0x1300"),
+            (b"data = 0x2000", b"data = 0x6400", b"data = 0x6400", "data = 0x6c00"),
+            (b"at = 0x1000 },\n", b"at = 0x1001 },\n", b"at = 0x1001 },\n", "at = 0x1100"),
+            (b"text = 0x6000", b"text = 0xe000", b"data = 0x2000", ""),
+            (b'{ name = "light"', port + b'{ name = "light"', b'"sensor", at = 0x1000', "at = 0x1100"),
+        ):
+            text = HEAD.replace(old, new, 1)
+            ran = sancus("check", text=text)
+            if key:
+                self.assertTrue(ran.out.startswith(b"fault deployment D10 "), ran.out)
+                self.assertIn(f": `{key}`", ran.said)
+                text = text.replace(place, re.sub(b"0x[0-9a-f]+", key[-6:].encode(), place), 1)
+            self.assertEqual(sancus("check", text=text + b"%%\n").status, 0, text)
+        taken = [tables.Range("", 0x0600, 0x8004), tables.Range("", 0x8020, 0xFF00)]
+        self.assertEqual(tables.free_place(0x10, taken, 0x4000), 0xFF00)
+        taken.append(tables.Range("", 0xFF00, 0xFFE0))
+        self.assertEqual(tables.free_place(0x10, taken, 0x4000), 0x8004)
+        self.assertIsNone(tables.free_place(0x1E, taken, 0x4000))
 
     @needs_program
     def test_the_program_says_so(self):
