@@ -13,7 +13,7 @@ from cli.deployment import Plan, plan_of
 from cli.faults import Teller
 from cli.joining import joined
 from cli.numbers import number
-from cli.people import are_for_people, lines_of, written
+from cli.people import are_for_people, lines_of, written_so_far
 from cli.program import Collected, Program
 from cli.rules import near
 from cli.running import gathered
@@ -173,8 +173,10 @@ def inspected(files: List[str], is_driven: bool, context: Context) -> Inspected:
         return seen
     given = lines_of(kept, data)
     if are_for_people(data):
-        made = written(given, context)
+        made = written_so_far(given, context)
         context.voice.say(*made.notes)
+        if made.refusal:
+            context.voice.must_say(*made.refusal.lines, "the lines before it are looked into")
         spans, seen.lines, seen.is_for_people = made.spans, made.lines, True
     else:
         seen.kept, seen.lines = kept, [text for _, text in given.lines]

@@ -111,6 +111,18 @@ class Variables(Room):
         self.assertIn(f"{readings}:3: last[1] 7 -> 9", changed)
         self.assertIn("> call lamp 2 0x40 0x80", sancus("steps", head, readings, "r.txt:1").lines)
 
+    def test_up_to_a_line_that_can_not_be_done(self):
+        head, easy = self.file("d.toml", HEAD), self.file("bad.txt", EASY.replace("# at last", "sample lamp 3"))
+        good = self.file("good.txt", EASY)
+        for words in (("vars", "logic", "3"), ("steps", "3")):
+            ran = sancus(words[0], head, easy, *words[1:])
+            wanted = sancus(words[0], head, good, *words[1:]).lines
+            self.assertEqual((ran.status, ran.lines), (0, [it.replace("good.txt", "bad.txt") for it in wanted]))
+            self.says(ran, "bad.txt:5: sample lamp 3: lamp drives no sensor", "the lines before it are looked into")
+        ran = sancus("vars", head, easy, "logic", "6")
+        self.assertEqual((ran.status, ran.out), (122, b""))
+        self.says(ran, "lamp drives no sensor", "6 is no line of the schedule: it has 4")
+
     def test_misuse(self):
         for words, said in (
             (("vars", LIGHTING_FILE, "ear", "1"), "there is no module ear: eye logic lamp"),
