@@ -193,7 +193,8 @@ class Snap(Room):
         answers = [it.split(" ") for it in wanted.lines if not it.startswith("image ")]
         for it in answers[:-1]:
             it[{"item": 1, "regs": 2, "bytes": 3}[it[0]]] = {"regs": "4"}.get(it[0], "3") if it[1] != "b" else "0"
-        for files in ((head, easy, queries), (self.file("w", f"{HEAD.decode()}%%\n{EASY}%%\n{self.QUERIES}"),)):
+        both = self.file("both", EASY + "%%\n" + self.QUERIES)
+        for files in ((head, easy, queries), (head, both), (self.file("w", f"{HEAD.decode()}%%\n{EASY}%%\n{self.QUERIES}"),)):
             ran = sancus("snap", "--no-images", *files)
             self.assertEqual((ran.status, ran.lines), (0, [" ".join(it) for it in answers]), ran.said)
 
@@ -435,7 +436,14 @@ class Why(Room):
         self.assertEqual(sancus("explain", head, easy).out, sancus("explain", head, self.trace).out)
         self.assertEqual(sancus("explain", "--words", head, easy).lines[-1].split(":")[0], "legal")
         self.assertIn("42 out lamp 1", sancus("why", head, self.file("r", "light 120\n")).out.decode())
-        ran = sancus("why", head, self.file("bad", "deploy all\ncarry eye logic\n"), "1")
+        for text in ("node = 3\n", "node\n"):
+            ran = sancus("explain", self.file("n.toml", text), easy)
+            self.assertEqual((ran.status, ran.out), (1, program("explain", text=text + "%%\n").out))
+        bad = self.file("bad", "deploy all\ncarry eye logic\n")
+        ran = sancus("why", head, bad, "1")
+        self.assertEqual((ran.status, ran.lines[0].split(":")[0]), (0, "1 protect a eye"))
+        self.says(ran, "eye sent nothing at its last call", "the lines before it are looked into")
+        ran = sancus("explain", head, bad)
         self.assertEqual((ran.status, ran.out), (122, b""))
         self.says(ran, "eye sent nothing at its last call")
         ran = sancus("why", head, self.file("s", "load eye\nload ear\n"), "1")
