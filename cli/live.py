@@ -42,7 +42,7 @@ from cli.texts import (
 # In a larger file no lines for people are looked for.
 MOST_LOOKED = 1 << 24
 # What a text has that has lines for people.
-LIKE_PEOPLE = re.compile(rb"(?m)^[ \t]*(?:%s)[ \t]|[ \t]as[ \t]" % "|".join(PEOPLE).encode())
+LIKE_PEOPLE = re.compile(rb"(?m)^[ \t]*(?:%s)(?:[ \t\r]|$)|[ \t]as[ \t]" % "|".join(PEOPLE).encode())
 
 
 def has_lines_for_people(name: str) -> bool:

@@ -367,6 +367,8 @@ class Run(Room):
         ran = sancus("run", self.head, again)
         self.assertEqual((ran.status, ran.out[: len(self.wanted) - 4]), (0, self.wanted[:-4]))
         self.assertIn("done logic 6 0", ran.lines)
+        ran = sancus("run", self.head, self.file("still.txt", "settle\n"), "--no-images")
+        self.assertEqual((ran.status, ran.lines), (0, ["trace", "end"]), ran.said)
         ran = sancus("run", self.file("bad.toml", "node = 3\n"), self.easy)
         self.assertEqual((ran.status, ran.lines), (1, ["fault deployment D4 top"]))
         self.says(ran, "`node` must be an array of tables")
