@@ -281,7 +281,7 @@ def of_denied(moment: Moment) -> Iterator[str]:
     elif attested and LAST_EPOCH in epochs.values():
         yield f"a connection of {module} is at its last epoch, {LAST_EPOCH}"
     else:
-        yield f"packet {packet} isn't {module}'s answer to its last ask, with challenge {challenge}, as {module} made it"
+        yield f"packet {packet} isn't the answer that {module} made to its last ask, with challenge {challenge}"
 
 
 # --- Calls ------------------------------------------------------------------------------------------------------------

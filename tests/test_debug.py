@@ -361,7 +361,7 @@ class Why(Room):
             (
                 b"take lamp down 0 1",
                 b"take lamp down 1 1",
-                "logic sent 1 events over down in epoch 0, so there is no event 1",
+                "logic sent 1 event over down in epoch 0, so there is no event 1",
             ),
             (b"read eye 120", b"read eye 121", "the sensor light has the value 120, and not 121"),
             (b"sense light 120\n", b"", "has no new sample"),
