@@ -163,7 +163,8 @@ def inspected(files: List[str], is_driven: bool, context: Context) -> Inspected:
     that they become."""
     kept, data = put_together(files, context)
     plan = must_be_accepted(kept, data, files[0], context.program)
-    seen = Inspected(files[0], data.head, plan, [], [], context.program, is_driven=is_driven or are_readings(plan, data))
+    seen = Inspected(files[0], data.head, plan, [], [], context.program)
+    seen.is_driven = is_driven or are_readings(plan, data)
     if seen.is_driven:
         if not is_driven:
             context.voice.say(f"{files[-1]} has readings: the lines are those that `drive` makes of them")

@@ -134,6 +134,8 @@ class Variables(Room):
             (("vars", LIGHTING_FILE, "eye", "lighting.txt:9"), "it has 45, counted from 1 after %%; the first is"),
             (("steps", LIGHTING_FILE, "0"), "line 0 is power-on"),
             (("steps", self.file("d", HEAD), self.file("e", "fly 3\n"), "1"), "S3: its first word is no act"),
+            (("steps", self.file("d", HEAD), self.file("g", "call eye 3\n"), "1"), "S7: it has too many words or too few"),
+            (("steps", self.file("d", HEAD), self.file("h", "run a x\n"), "1"), "S5: a field is no number"),
             (("vars", self.file("d", HEAD), self.file("f", "deploy ear\n"), "eye", "1"), "there is no module ear"),
         ):
             ran = sancus(*words)
@@ -374,7 +376,7 @@ class Why(Room):
             (
                 b"take lamp down 0 1",
                 b"take lamp down 1 1",
-                "logic sent 1 events over down in epoch 0, so there is no event 1",
+                "logic sent 1 event over down in epoch 0, so there is no event 1",
             ),
             (b"read eye 120", b"read eye 121", "the sensor light has the value 120, and not 121"),
             (b"sense light 120\n", b"", "has no new sample"),

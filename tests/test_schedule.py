@@ -247,7 +247,7 @@ class Schedule(Room):
         taken = [it for it in trace(ran.out) if it.startswith("take")]
         after_mid = ["take mid to_mid 0 7", "take end straight 1 8", "take mid to_mid 1 8", "take end on 0 7"]
         self.assertEqual(taken[:4], after_mid)
-        self.says(ran, "1 of the 4 events of eye aren't there any more: mid's call", "settle: nothing is on its way")
+        self.says(ran, "1 event of eye can't be carried any more: mid's call", "settle: nothing is on its way")
 
     def test_what_is_gone_is_passed_over(self):
         ran = written("deploy all\nreset b\nflow light 1\n", deployment=CHAIN)
