@@ -33,6 +33,9 @@ deploy lamp
 sample eye 3
 carry eye logic up
 carry logic lamp 0
+flow light 101
+sample eye 7
+settle
 asm a 0x800 mov #1, r5; jmp 0x800
 """
 
@@ -74,8 +77,12 @@ class People(unittest.TestCase):
             ("deploy eye\nsample eye 1\ncarry eye logic", 3, "logic isn't loaded on a yet: `deploy logic` first"),
             ("deploy all\nsample ey 1", 2, "there is no module ey; did you mean `eye`?"),
             ("deploy all\ncarry eye lamp", 2, "no connection leads from eye to lamp; eye sends to: logic"),
-            # (logic answers into the window that had the event)
-            ("deploy all\nsample eye 5\ncarry eye logic\ncarry eye logic", 4, "any more"),
+            ("deploy all\nsample eye 5\ncarry eye logic\ncarry eye logic", 4, "was carried; `give event.eye.logic NODE`"),
+            (
+                "deploy all\nsample eye 5\ncarry eye logic\nsample eye 6\ncarry logic lamp",
+                5,
+                "in the window of logic any more: eye's call at line 48 wrote over what it sent",
+            ),
             ("deploy all\nsample 1", 2, "`sample` has too many words or too few: sample MODULE VALUE"),
         ):
             text = HEAD + b"%%\n" + lines.encode() + b"\n"
