@@ -66,12 +66,18 @@ class Faults {
     if (rule === "D3") return this.noToml();
     if (rule === "D6" && this.plan) return {notes: badCounts(this.plan)};
     const [kind, number, ...rest] = place, index = Number(number);
-    if (kind === "top" && this.plan) return {notes: badKeys("top", this.plan.toml)};
+    if (kind === "top" && this.plan) return {notes: [...badKeys("top", this.plan.toml), ...this.bareTables()]};
     const entry = KINDS.includes(kind) && this.plan?.by[kind][index];
     if (!entry) return {};
     const named = entry.name ? `${kind} ${entry.name}` : `${kind} number ${index}, counted from 0`;
     const {notes = [], ...found} = this.ofEntry(rule, kind, index, rest);
     return {line: entryLine(this.text, this.plan, kind, index), notes: [named, ...notes], ...found};
+  }
+
+  // What there is in place of a table of a kind of which there may be several.
+  bareTables() {
+    const isTable = value => typeof value === "object" && value !== null && !Array.isArray(value);
+    return KINDS.filter(kind => isTable(this.plan.toml[kind])).map(twoBrackets);
   }
 
   ofEntry(rule, kind, index, rest) {
