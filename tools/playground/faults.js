@@ -160,7 +160,17 @@ class Faults {
     const [act] = wordsOf(text);
     if (rule === "S3") return {column: begins, notes: guessOfAct(act, this.plan)};
     if (["S4", "S5", "S6"].includes(rule) && ACT_FIELDS[act]) return badField(text, ACT_FIELDS[act], this.plan);
+    if (rule === "S8") return this.assembly(text);
     return rule === "S7" ? {column: begins, notes: [`its words: ${toldFields(act, ACT_FIELDS)}`]} : {};
+  }
+
+  // Why the text of an `asm` line isn't assembled, and at which statement.
+  assembly(text) {
+    const begins = /^[ \t]*asm[ \t]+\S+[ \t]+\S+[ \t]+/.exec(text)?.[0].length ?? 0, found = assemblyHint(text.slice(begins));
+    return {
+      column: (found ? text.indexOf(found.statement, begins) : begins) + 1,
+      notes: found ? [found.say] : []
+    };
   }
 
   reading(rule, text, begins) {

@@ -18,7 +18,7 @@ from pathlib import Path
 HERE = Path(__file__).resolve().parent
 TOP = HERE.parent.parent
 PAGE = TOP / "playground.html"
-SCRIPTS = ("link", "editor", "drafts", "trees", "guesses", "acts", "deployment", "rules", "tables", "faults", "warnings", "marks", "runner", "job", "desk")
+SCRIPTS = ("link", "editor", "drafts", "trees", "guesses", "acts", "assembly", "deployment", "rules", "tables", "faults", "warnings", "marks", "runner", "job", "desk")
 POLICY = (
     "default-src 'none'; script-src 'sha256-HASH' 'wasm-unsafe-eval'; style-src 'unsafe-inline'; img-src data:; "
     "worker-src blob:; form-action 'none'; base-uri 'none'"

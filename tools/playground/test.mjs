@@ -213,6 +213,8 @@ async function testNotes(test, changed) {
     ["a table in place of several", "check", `[module]\nname = "x"\n%%\n`, "each module begins with two brackets"],
     ["an act", "run", changed("load logic", "laod logic"), "did you mean `load`?"],
     ["a module of a line", "run", changed("load logic", "load lgic"), "expected: a module: eye logic lamp; did you mean `logic`?"],
+    ["an instruction", "run", changed("load logic", "asm a 0x800 mov r5, r6; inc r5"), "write `add #1, r5`"],
+    ["an operand", "run", changed("load logic", "asm a 0x800 mov #70000, r6"), "`70000` is out of range"],
     ["no secret", "run", changed(/^secret.*$/m, ""), "warning: the deployment has connections and no `secret`"],
     ["a comparison", "run", changed("v > limit", "v >= 0"), "warning: this always holds"],
   ];
