@@ -177,7 +177,10 @@ class Faults {
     const [first, value] = wordsOf(text);
     if (rule === "Q5" && value) return {column: text.indexOf(value, begins - 1 + first.length) + 1};
     if (rule !== "Q4" && rule !== "Q3") return {};
-    if (ACTS.includes(first)) return {column: begins, notes: [`\`${first}\` is a line of a schedule: Run takes those, and Drive makes them of readings`]};
+    if (ACTS.includes(first)) {
+      const says = `\`${first}\` is a line of a schedule: Run takes those, and Drive makes them of readings`;
+      return {column: begins, notes: [says]};
+    }
     if (PEOPLE.includes(first)) return {column: begins, notes: [forPeople(first)]};
     if (rule === "Q3" || !this.plan) return {};
     const sensors = sensorsOf(this.plan).filter(it => this.plan.driverOf(it));
