@@ -297,6 +297,26 @@ The program runs as the lines are written, so packets, boots and pieces are thos
         "not to be flashed.",
     ),
     Command(
+        "tag",
+        "prints a packet for who holds the keys of a deployment, as a line `forge`",
+        (
+            Argument("PACKET", ONE, "`event`, `set-key` or `answer`", False),
+            Argument("DEPLOYMENT", ONE, "the deployment, whose `secret` and keys of nodes are used"),
+            Argument("NAME", MANY, "of an event the connection; of a set-key packet the connection, and `from` or `to`; "
+                     "of an answer the module", False),
+        ),
+        (
+            Option("--epoch", "event, set-key: the connection's epoch", "N"),
+            Option("--number", "event: its number in the epoch", "N"),
+            Option("--value", "event: its value", "N"),
+            Option("--boot", "set-key, answer: the boot of the module's node", "N"),
+            Option("--challenge", "answer: the challenge of the deployer's ask", "N"),
+        ),
+        "sancus tag event examples/lighting.txt down --value 1",
+        "A number that isn't given is 0. What accepts the packet, though nobody for whom the key is meant made it, gives "
+        "the item `forged` first.",
+    ),
+    Command(
         "build",
         "proves and builds the program",
         (),

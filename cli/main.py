@@ -67,6 +67,12 @@ def hex_files(context: Context, given: Given) -> int:
     return answer(context, given)
 
 
+def tag(context: Context, given: Given) -> int:
+    from cli.tagging import answer
+
+    return answer(context, given)
+
+
 def build(context: Context, given: Given) -> int:
     from cli.building import build
 
@@ -148,6 +154,7 @@ ANSWERS: Dict[str, Callable[[Context, Given], int]] = {
     "steps": steps,
     "why": why,
     "hex": hex_files,
+    "tag": tag,
     "build": build,
     "version": version,
     "help": help_,
