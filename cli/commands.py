@@ -231,6 +231,8 @@ The program runs as the lines are written, so packets, boots and pieces are thos
         (
             Option("--drive", "draws the honest run of readings"),
             Option("--page", "writes the page there, by default beside the last file: day.html, or pump.day.html", "PAGE"),
+            Option("--beside", "draws two runs of the deployment INPUT side by side, one of each FILE, and marks the first "
+                   "item in which they differ"),
             Option("--empty", "writes the page without a run, which opens files by itself"),
             FORCE,
         ),

@@ -141,6 +141,11 @@ def answer(context: Context, given: Given) -> int:
         write_file(page, joined())
         print_lines(str(page))
         return 0
+    if given.has("beside"):
+        # (imported here, since it draws with what is here)
+        from cli import beside
+
+        return beside.answer(context, given)
     if not files:
         raise Usage("`view` takes INPUT, or --empty", given.command)
     named = [it for it in files if Path(it).is_file()] or ["run"]

@@ -13,6 +13,7 @@ class Page {
     this.run = null;
     this.at = 0;
     this.hits = new Set();
+    this.differing = null;
     this.look = {scale: 1, isFull: false, hidden: new Set(), order: []};
     this.listen();
   }
@@ -46,7 +47,16 @@ class Page {
     this.tellCounts();
     this.layOut();
     this.begin();
+    if (this.texts.differs) this.showDifference();
     byId("scroll").focus({preventScroll: true});
+  }
+
+  // Shows where this run first differs from the one beside it: a number, and words.
+  showDifference() {
+    const [number, words] = this.texts.differs.split(/ (.*)/s);
+    this.differing = this.run.output?.items[number - 1]?.row ?? null;
+    this.warn(words[0].toUpperCase() + words.slice(1));
+    if (this.differing) this.go(this.differing);
   }
 
   // Opens after the set-up, which is folded.
@@ -177,6 +187,7 @@ class Page {
       after: row.isAfter,
       chain: inChain.has(row),
       hit: this.hits.has(row),
+      differs: row === this.differing,
       fault: row.fault
     };
     classes.raw = row.item && this.run.plan.isPastDriver(row.item);
