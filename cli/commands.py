@@ -319,6 +319,21 @@ The program runs as the lines are written, so packets, boots and pieces are thos
         "the item `forged` first.",
     ),
     Command(
+        "goal",
+        "judges whether your lines make an application do what it must not",
+        (
+            Argument("NAME", MAYBE, "a goal of examples/goals; absent, all are listed", False),
+            Argument("LINES", MAYBE, "your lines, as a schedule or for people; absent, the goal is described"),
+        ),
+        (
+            Option("--hint", "prints a hint"),
+            Option("--never", "you say that it can't be reached: prints whether that is so"),
+        ),
+        "sancus goal late_light mine.txt",
+        "It prints `reached` and how many lines that took, `not allowed` and the first line that isn't, or `not reached` "
+        "and what is missing; and ends with status 15 unless it is reached.",
+    ),
+    Command(
         "build",
         "proves and builds the program",
         (),

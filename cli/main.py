@@ -73,6 +73,12 @@ def tag(context: Context, given: Given) -> int:
     return answer(context, given)
 
 
+def goal(context: Context, given: Given) -> int:
+    from cli.goals import answer
+
+    return answer(context, given)
+
+
 def build(context: Context, given: Given) -> int:
     from cli.building import build
 
@@ -155,6 +161,7 @@ ANSWERS: Dict[str, Callable[[Context, Given], int]] = {
     "why": why,
     "hex": hex_files,
     "tag": tag,
+    "goal": goal,
     "build": build,
     "version": version,
     "help": help_,

@@ -44,6 +44,7 @@ STATUSES = [
     ("9", "the honest run is too long"),
     ("10", "a text or bytes of asm or dis break a rule"),
     ("11", "a query breaks a rule"),
+    ("15", "lines don't reach their goal, or aren't allowed"),
     ("121", "a file can't be read or written"),
     ("122", "a text isn't what a command of the front end takes"),
     ("125", "there is no answer of the program: no build, or one that was ended"),

@@ -7,6 +7,8 @@ from __future__ import annotations
 USAGE = 2
 READ_FAILED = 4
 WRITE_FAILED = 5
+# A player's lines don't reach their goal, or aren't allowed.
+NOT_REACHED = 15
 # A file can't be opened or read.
 NO_FILE = 121
 # A text isn't what a command of the front end takes: a schedule for people, a program in hexadecimal.

@@ -1,0 +1,77 @@
+"""Judges a trace by a property (docs/PROPERTIES.md): by the program's `watch`, or here if the program that is started
+has no such command.
+"""
+
+from __future__ import annotations
+
+import re
+from dataclasses import dataclass
+from typing import Dict, List, Optional, Tuple
+
+from cli import language
+from cli.context import Context
+from cli.meaning import first_cells, react
+from cli.program import Collected
+from cli.status import USAGE
+
+VALUED = ("sense", "raw", "read", "out", "take")
+COMMENT = re.compile(r"//[^\n]*")
+HEADING = re.compile(r"\bon\s+([a-z]+)\s+([a-z][a-z0-9_]*)\s*(?:\(\s*([a-z][a-z0-9_]*)\s*\))?\s*\{")
+ASSUME = re.compile(r"\bassume\b([^;]*);")
+FAIL = re.compile(r"\bfail\s*;")
+Heading = Tuple[str, str]
+
+
+def heading_of(item: str) -> Heading:
+    """Where a handler of this item stands: its kind, and what that is of."""
+    words = item.split(" ")
+    at = 2 if words[0] in ("take", "protect") else 1
+    return words[0], words[at] if len(words) > at else ""
+
+
+@dataclass
+class Watched:
+    """A property as a module: each handler is one of an input, `fail` emits 1, and `assume` of what is 0 emits 0. What
+    comes first decides."""
+
+    source: str
+
+    def __post_init__(self) -> None:
+        text = COMMENT.sub("", self.source)
+        self.headings: List[Heading] = [(it[1], it[2]) for it in HEADING.finditer(text)]
+        numbers = iter(range(len(self.headings)))
+        text = HEADING.sub(lambda it: f"on h{next(numbers)}({it[3] or 'none'}) {{", text)
+        text = FAIL.sub("emit 1;", ASSUME.sub(r"if !(\1) { emit 0; }", text))
+        self.module = language.parse(text)
+
+    def failing(self) -> List[Heading]:
+        """The headings of the handlers that may fail."""
+        parts = HEADING.split(COMMENT.sub("", self.source))
+        return [(parts[at], parts[at + 1]) for at in range(1, len(parts), 4) if FAIL.search(parts[at + 3])]
+
+    def broken_at(self, items: List[str]) -> Optional[int]:
+        """The first item that breaks it, before the first `forged`."""
+        cells: Dict[str, List[int]] = first_cells(self.module)
+        for number, it in enumerate(items, 1):
+            if it.startswith("forged "):
+                return None
+            heading = heading_of(it)
+            if heading not in self.headings:
+                continue
+            value = int(it.rpartition(" ")[2]) if heading[0] in VALUED else 0
+            acts = react(self.module, f"h{self.headings.index(heading)}", value, cells)
+            if acts:
+                return number if acts[0][2] else None
+        return None
+
+
+def broken_at(context: Context, head: bytes, source: str, items: List[str]) -> Optional[int]:
+    """The first item of a trace that breaks a property."""
+    sink, trace = Collected(), "".join(f"{it}\n" for it in ["trace", *items, "end"])
+    text = head + b"%%\n" + source.encode() + b"%%\n" + trace.encode()
+    ran = context.program.ran_of(["watch"], text, sink)
+    if ran.status == USAGE:
+        context.voice.say("the program that is started has no command `watch`, so the front end itself judges")
+        return Watched(source).broken_at(items)
+    found = re.match(rb"broken ([0-9]+)\n", sink.data())
+    return int(found[1]) if found else None
