@@ -24,6 +24,7 @@ class Desk {
     const lacks = missing();
     if (lacks) return this.refuse(lacks);
     this.runner = new Runner(busy => byId("do-stop").disabled = !busy);
+    this.lesson = new Lesson(this);
     this.listen();
     this.begin();
   }
@@ -81,7 +82,8 @@ class Desk {
     this.sources ??= new Sources(JSON.parse(new TextDecoder().decode(await unpacked("examples"))));
     const asked = new URLSearchParams(location.hash.slice(1)), held = page.texts, {sources} = this;
     const word = COMMANDS.includes(asked.get("do")) ? asked.get("do") : null;
-    const before = history.state?.name;
+    const before = history.state?.name, lesson = asked.get("lesson");
+    if (lesson !== null) return this.inLesson(Number(lesson), before ? sources.text(before) : null, before);
     if (before && sources.text(before) !== null) return this.take(sources.text(before), before, word);
     if (asked.has("z")) return this.takeLinked(asked.get("z"), word);
     if (held.output && !this.turn) return this.hold(held);
@@ -89,6 +91,12 @@ class Desk {
     const name = sources.examples[wanted] ? wanted : sources.lastDraft ?? "readings";
     await this.take(sources.text(name), name, word);
     page.followAddress();
+  }
+
+  // A lesson, with what was written in it before the page was loaded again.
+  inLesson(number, text, name) {
+    if (text !== null) this.put(text, name);
+    this.lesson.open(number, text);
   }
 
   async takeLinked(letters, word) {
@@ -183,6 +191,8 @@ class Desk {
     if (!isNow()) return;
     if (job.run?.trace) this.last = job.run;
     if (texts.length) this.drawn(texts);
+    if (word === "run" || word === "drive") await this.lesson.ran(text, ended);
+    if (!isNow()) return;
     document.documentElement.dataset.done = turn;
   }
 

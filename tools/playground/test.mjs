@@ -387,7 +387,7 @@ async function testKeys(test) {
   expect("Ctrl+Enter runs what is written", (await test.said()).includes("D3"), await test.said());
   expect("and the text keeps the keys", await test.value("document.activeElement.id") === "text");
   const order = [],
-        wanted = ["do-run", "do-drive", "do-check", "do-explain", "do-snap", "do-link", "do-save", "text"];
+        wanted = ["do-run", "do-drive", "do-check", "do-explain", "do-snap", "do-link", "do-save", "do-lessons", "text"];
   await test.value(act(`${element("example")}.focus()`));
   for (let k = 0; k < wanted.length; k++) {
     await test.browser.press("Tab");
