@@ -231,8 +231,7 @@ The program runs as the lines are written, so packets, boots and pieces are thos
         (
             Option("--drive", "draws the honest run of readings"),
             Option("--page", "writes the page there, by default beside the last file: day.html, or pump.day.html", "PAGE"),
-            Option("--beside", "draws two runs of the deployment INPUT side by side, one of each FILE, and marks the first "
-                   "item in which they differ"),
+            Option("--beside", "draws the runs of two FILEs side by side, and marks the first item in which they differ"),
             Option("--empty", "writes the page without a run, which opens files by itself"),
             FORCE,
         ),
@@ -304,8 +303,12 @@ The program runs as the lines are written, so packets, boots and pieces are thos
         (
             Argument("PACKET", ONE, "`event`, `set-key` or `answer`", False),
             Argument("DEPLOYMENT", ONE, "the deployment, whose `secret` and keys of nodes are used"),
-            Argument("NAME", MANY, "of an event the connection; of a set-key packet the connection, and `from` or `to`; "
-                     "of an answer the module", False),
+            Argument(
+                "NAME",
+                MANY,
+                "of an event the connection; of a set-key packet the connection, and `from` or `to`; of an answer the module",
+                False,
+            ),
         ),
         (
             Option("--epoch", "event, set-key: the connection's epoch", "N"),

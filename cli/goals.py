@@ -93,7 +93,7 @@ def goal_named(top: Path, name: str) -> Goal:
     return names[name]
 
 
-# --- A player's lines --------------------------------------------------------------------------------------------------
+# --- A player's lines ------------------------------------------------------------------------------------------------
 
 
 @dataclass
@@ -129,9 +129,9 @@ def not_allowed(goal: Goal, seen: Inspected) -> str:
 
 
 def touched(goal: Goal) -> str:
-    said = {"packets": "packets that you make up"}
-    parts = [said.get(it, it.replace("code ", "code on node ").replace("reset ", "resets of node ")) for it in goal.touch]
-    return ", ".join(["what is on its way", *parts])
+    said = {"packets": "packets that you make up", "code": "code on node ", "reset": "resets of node "}
+    parts = [it.partition(" ") for it in goal.touch]
+    return ", ".join(["what is on its way", *(said[what] + node for what, _, node in parts)])
 
 
 def readings_said(goal: Goal) -> str:
@@ -171,7 +171,7 @@ def missing(goal: Goal, made: Played) -> str:
     return f"no {wanted} came"
 
 
-# --- Answers -----------------------------------------------------------------------------------------------------------
+# --- Answers ---------------------------------------------------------------------------------------------------------
 
 
 def listed(context: Context) -> int:

@@ -9,7 +9,8 @@ from test_viewer import BROWSER, PATIENCE, Browser
 LIGHTING = EXAMPLES / "lighting.txt"
 DAY = "deploy all\nsample eye 120\ncarry eye logic\n"
 CARRIED, DROPPED = DAY + "carry logic lamp\n", DAY
-MARKED = '[...document.querySelectorAll("iframe")].map(it => it.contentDocument.querySelector(".row.differs")?.textContent)'
+ROW = 'it.contentDocument.querySelector(".row.differs")?.textContent'
+MARKED = f'[...document.querySelectorAll("iframe")].map(it => {ROW})'
 
 
 @needs_program

@@ -1,4 +1,4 @@
-"""`sancus goal`: each goal is reached by its solution, and by no honest run; nobody reaches those that can't be reached."""
+"""`sancus goal`: each goal is reached by its solution and by no honest run, or can't be reached."""
 
 import unittest
 

@@ -2,7 +2,8 @@
 
 // A line in which what stands between ` is code and between * is stressed.
 function inWords(line) {
-  const made = part => part[0] === "`" ? html("code", "", part.slice(1, -1)) : part[0] === "*" ? html("em", "", part.slice(1, -1)) : part;
+  const names = {"`": "code", "*": "em"};
+  const made = part => names[part[0]] ? html(names[part[0]], "", part.slice(1, -1)) : part;
   return line.split(/(`[^`]*`|\*[^*]*\*)/).filter(it => it).map(made);
 }
 
@@ -93,13 +94,16 @@ class Lesson {
     byId("lesson-told").replaceChildren();
     const {choices, right, because, task} = this.now, {number} = this;
     if (!this.isAsked) return this.tell("", "First say what you expect, above.");
-    const said = Number(byId("lesson-choices").querySelector(":checked").value);
-    this.tell(said === right ? "right" : "wrong", `You said: ${choices[said]}. ${said === right ? "So it is." : `It is: ${choices[right]}.`} ${because}`);
+    const said = Number(byId("lesson-choices").querySelector(":checked").value), isRight = said === right;
+    const verdict = isRight ? "So it is." : `It is: ${choices[right]}.`;
+    this.tell(isRight ? "right" : "wrong", `You said: ${choices[said]}. ${verdict} ${because}`);
     const item = await this.reached(headOf(text), ended.text);
     if (number !== this.number) return;
     if (!item) return this.tell("task", `Your turn. ${task}`);
-    this.tell("reached", `Done, by item ${item.number}: \`${item.text}\`.${number < LESSONS.length ? "" : " That was the last lesson; examples/goals has harder ones."}`);
-    byId("lesson-next").focus();
+    const isLast = number === LESSONS.length;
+    this.tell("reached", `Done, by item ${item.number}: \`${item.text}\`.`);
+    if (isLast) this.tell("", "That was the last lesson; `examples/goals` has harder tasks.");
+    byId(isLast ? "lesson-close" : "lesson-next").focus();
   }
 
   // The item by which the task is done. The program's `watch` tells, if it has that command.

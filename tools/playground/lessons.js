@@ -4,8 +4,8 @@
 const LESSONS = [
   {
     title: "An honest run",
-    text: `Three modules switch a lamp: \`eye\` reads a light sensor, \`logic\` compares the reading with 100, and \`lamp\` writes the bulb. They share
-no memory: what one sends, somebody must carry to the next. Here that is you.
+    text: `Three modules switch a lamp: \`eye\` reads a light sensor, \`logic\` compares the reading with 100, and \`lamp\` writes the bulb. They
+share no memory: what one sends, somebody must carry to the next. Here that is you.
 
 \`deploy all\` loads the modules, asks each whether it is what it should be, and hands over their keys. \`sample eye 120\` is a reading of 120, and
 each \`carry\` takes an event from one module to another.`,
@@ -60,8 +60,8 @@ call lamp 2
   },
   {
     title: "Code beside a module",
-    text: `Now you run code on node b, beside \`lamp\`: \`asm\` puts an instruction at 0x800, \`set\` points the processor at it, and \`run\` takes one step.
-The instruction writes 1 to the word 0x1000, which is the bulb.`,
+    text: `Now you run code on node b, beside \`lamp\`: \`asm\` puts an instruction at 0x800, \`set\` points the processor at it, and \`run\` takes
+one step. The instruction writes 1 to the word 0x1000, which is the bulb.`,
     lines: `deploy all
 asm b 0x800 mov #1, &0x1000
 set b pc 0x800
@@ -70,14 +70,14 @@ run b 1
     question: "What will happen?",
     choices: ["the bulb is lit", "nothing", "node b is reset"],
     right: 2,
-    because: "The bulb's word is `lamp`'s own while lamp is loaded. Other code that writes it breaks a rule, and the node is reset: `reset b write`.",
+    because: "The bulb's word is `lamp`'s own while lamp is loaded. Code beside it that writes there resets the node: `reset b write`.",
     task: "Light the bulb by code of your own. When isn't it lamp's? (The trace will have `raw bulb 1`.)",
     property: "on raw bulb(v) { if v == 1 { fail; } }",
   },
   {
     title: "A reset and renewal",
-    text: `Anybody can reset a node. Its modules are gone then, and are loaded and asked again; \`take a 24 as late\` keeps an event that was sent before,
-to be given after.`,
+    text: `Anybody can reset a node. Its modules are gone then, and are loaded and asked again; \`take a 24 as late\` keeps an event that was sent
+before, to be given after.`,
     lines: `deploy all
 sample eye 120
 carry eye logic
@@ -90,14 +90,14 @@ call lamp 2
     question: "What will the new lamp do with the event from before the reset?",
     choices: ["write 1", "refuse it", "reset its node again"],
     right: 1,
-    because: "With `deploy lamp` the connection got a new key, of the next epoch: `open lamp down to 1`. What was made under the old one is refused.",
+    because: "With `deploy lamp` the connection got a key of the next epoch: `open lamp down to 1`. What is of an earlier one is refused.",
     task: "Make the lamp write 1 after the reset of node b.",
     property: "var gone; on reset b { gone = 1; } on out lamp(v) { if gone & (v == 1) { fail; } }",
   },
   {
     title: "A forged tag",
-    text: `A packet that nobody made: \`forge\` makes these bytes a packet, which claims to be event 0 for lamp, with the value 1. Its tag, the last 16
-bytes, is right for a deployment without a \`secret\`, whose keys anybody can work out. This deployment has one.`,
+    text: `A packet that nobody made: \`forge\` makes these bytes a packet, which claims to be event 0 for lamp, with the value 1. Its tag, the last
+16 bytes, is right for a deployment without a \`secret\`, whose keys anybody can work out. This deployment has one.`,
     lines: `deploy all
 forge 0300010000007c23ef3f44421e58e9dcce1bc2e29744f06c as made
 give made b
@@ -107,12 +107,13 @@ call lamp 2
     choices: ["write 1", "refuse the packet", "reset its node"],
     right: 1,
     because: "Without the key nobody makes the right tag, but for a guess among 2 to the 128: `done lamp 7 0`.",
-    task: "Now put `#` before the first line of the deployment, `secret = ..`, so that its keys are public, and run again. The item `forged lamp` will say what that means.",
+    task: "Put `#` before the first line of the deployment, `secret = ..`, so that its keys are public: `forged lamp` says what that means.",
     item: "forged lamp",
   },
   {
     title: "A property and its proof",
-    text: `A run shows one schedule. What about all of them? A *property* watches the items of a run and says \`fail\` where something happens that must not:
+    text: `A run shows one schedule. What about all of them? A *property* watches the items of a run and says \`fail\` where something happens that
+must not:
 
 \`var bright; on sense light(v) { if v > 100 { bright = 1; } } on out lamp(v) { if (v == 1) & !bright { fail; } }\`
 
@@ -126,7 +127,7 @@ sample eye 20
     question: "Is there a schedule that switches the lamp on though no reading was ever above 100?",
     choices: ["yes, if the network is clever", "yes, with code on both nodes", "no"],
     right: 2,
-    because: "No legal run of these sources does it, and so no attack, up to a forged tag: that is a theorem, and `./sancus holds` proves this case of it.",
+    because: "No legal run of these sources does it, and so no attack, up to a forged tag: that is what `./sancus holds` proves.",
     task: "But the *last* reading may be dark. Go on from these lines, and make lamp write 1 after the reading 20.",
     property: "var bright; on sense light(v) { bright = v > 100; } on out lamp(v) { if (v == 1) & !bright { fail; } }",
   },

@@ -17,7 +17,12 @@ const SET_UP = "deploy all\nsample eye 120\ncarry eye logic\n";
 const lines = added => text => `${text.split("%%\n")[0]}%%\n${added}`;
 const more = added => text => text + added;
 const STUDENT = [
-  {right: 1, seen: "out lamp 1", fails: text => text.replace("sample eye 120", "sample eye 101"), does: text => text.replace("sample eye 120", "sample eye 100")},
+  {
+    right: 1,
+    seen: "out lamp 1",
+    fails: text => text.replace("sample eye 120", "sample eye 101"),
+    does: text => text.replace("sample eye 120", "sample eye 100"),
+  },
   {
     right: 1,
     seen: "out lamp 1",
