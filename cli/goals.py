@@ -2,6 +2,7 @@
 
 from __future__ import annotations
 
+import re
 from dataclasses import dataclass, field
 from pathlib import Path
 from typing import List, Optional
@@ -12,7 +13,7 @@ from cli.commands import Given, Usage, near
 from cli.context import Context
 from cli.deployment import plan_of
 from cli.inspection import Inspected, inspected
-from cli.judging import Watched, broken_at, heading_of
+from cli.judging import Watched, heading_of
 from cli.numbers import counted, number
 from cli.output import print_lines
 from cli.program import Collected
@@ -148,6 +149,19 @@ def played(context: Context, goal: Goal, file: str) -> Played:
     if ran.last.startswith("fault "):
         raise Ended(BAD_TEXT, *made.seen.fault_told(ran.last))
     return made
+
+
+def broken_at(context: Context, head: bytes, source: str, items: List[str]) -> Optional[int]:
+    """The first item of a trace that breaks a property."""
+    sink, trace = Collected(), "".join(f"{it}\n" for it in ["trace", *items, "end"])
+    ran = context.program.ran_of(["watch"], head + b"%%\n" + source.encode() + b"%%\n" + trace.encode(), sink)
+    if ran.status == USAGE:
+        context.voice.say("the program that is started has no command `watch`, so the front end itself judges")
+        return Watched(source).broken_at(items)
+    if ran.last.startswith("fault "):
+        raise Ended(BAD_TEXT, f"the goal can't be judged: {ran.last}")
+    found = re.match(rb"broken ([0-9]+)\n", sink.data())
+    return int(found[1]) if found else None
 
 
 def reached_at(context: Context, goal: Goal, made: Played) -> Optional[int]:

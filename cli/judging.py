@@ -1,6 +1,4 @@
-"""Judges a trace by a property (docs/PROPERTIES.md): by the program's `watch`, or here if the program that is started
-has no such command.
-"""
+"""Judges a trace by a property, where the program that is started has no command `watch`."""
 
 from __future__ import annotations
 
@@ -9,10 +7,7 @@ from dataclasses import dataclass
 from typing import Dict, List, Optional, Tuple
 
 from cli import language
-from cli.context import Context
 from cli.meaning import first_cells, react
-from cli.program import Collected
-from cli.status import USAGE
 
 VALUED = ("sense", "raw", "read", "out", "take")
 COMMENT = re.compile(r"//[^\n]*")
@@ -63,15 +58,3 @@ class Watched:
             if acts:
                 return number if acts[0][2] else None
         return None
-
-
-def broken_at(context: Context, head: bytes, source: str, items: List[str]) -> Optional[int]:
-    """The first item of a trace that breaks a property."""
-    sink, trace = Collected(), "".join(f"{it}\n" for it in ["trace", *items, "end"])
-    text = head + b"%%\n" + source.encode() + b"%%\n" + trace.encode()
-    ran = context.program.ran_of(["watch"], text, sink)
-    if ran.status == USAGE:
-        context.voice.say("the program that is started has no command `watch`, so the front end itself judges")
-        return Watched(source).broken_at(items)
-    found = re.match(rb"broken ([0-9]+)\n", sink.data())
-    return int(found[1]) if found else None

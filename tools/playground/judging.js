@@ -1,5 +1,5 @@
-// Judges a trace by a property (docs/PROPERTIES.md), where the program has no command `watch`: a property is a module of
-// which each handler is one of an input, `fail` emits 1, and `assume` of what is 0 emits 0. What comes first decides.
+// Judges a trace by a property, where the program has no command `watch`: a property is a module of which each handler is
+// one of an input, `fail` emits 1, and `assume` of what is 0 emits 0. What comes first decides.
 
 const VALUED = ["sense", "raw", "read", "out", "take"];
 const HEADING = /\bon\s+([a-z]+)\s+([a-z][a-z0-9_]*)\s*(?:\(\s*([a-z][a-z0-9_]*)\s*\))?\s*\{/g;

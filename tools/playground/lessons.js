@@ -1,5 +1,5 @@
 // The lessons: of each its text, the lines that stand in the editor after the lighting application's deployment, a question
-// that is asked before they are run, and a task: an item, or what breaks a property (docs/PROPERTIES.md).
+// that is asked before they are run, and a task: an item, or what breaks a property.
 
 const LESSONS = [
   {
