@@ -5,9 +5,9 @@ import unittest
 
 from support import LIGHTING, SANCUS, TOP, Room, sancus, one_by_one
 
-from cli import manual
-from cli.commands import BY_NAME, COMMANDS
-from cli.schedule import FORMS
+from sancus.cli import manual
+from sancus.cli.commands import BY_NAME, COMMANDS
+from sancus.model.schedule import FORMS
 
 
 class Help(unittest.TestCase):

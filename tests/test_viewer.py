@@ -17,14 +17,14 @@ from xml.etree import ElementTree
 
 from support import EXAMPLES, LIGHTING as LIGHTING_BYTES, PROGRAM, TOP, Room, needs_program, program, sancus
 
-from cli.builds import Builds
-from cli.context import Context
-from cli.marks import marked_lines, marked_run
-from cli.program import Program
-from cli.say import Voice
-from cli.texts import Input
-from cli.view import of_readings, of_run, page_of, without_lines
-from cli.viewer.join import joined
+from sancus.builds import Builds
+from sancus.cli.context import Context
+from sancus.model.marks import marked_lines, marked_run
+from sancus.cli.program import Program
+from sancus.cli.say import Voice
+from sancus.model.texts import Input
+from sancus.cli.view import of_readings, of_run, page_of, without_lines
+from sancus.viewer.join import joined
 
 BROWSER = next(
     (found for name in ("chromium", "chromium-browser", "google-chrome") if (found := shutil.which(name))), ""
@@ -568,9 +568,9 @@ class Words(unittest.TestCase):
     """What the page says of an item, by its scripts alone."""
 
     def said(self, texts):
-        folder = TOP / "cli" / "viewer"
+        folder = TOP / "src" / "sancus" / "viewer"
         scripts = [(folder / f"{it}.js").read_text() for it in VALUED]
-        words = "const WORDS = " + (TOP / "cli" / "faults.json").read_text() + ";"
+        words = "const WORDS = " + (TOP / "src" / "sancus" / "faults.json").read_text() + ";"
         ran = subprocess.run(
             [NODE, "-e", "\n".join([words, *scripts, FORGED])], input=json.dumps(texts), capture_output=True, text=True
         )

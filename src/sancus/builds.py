@@ -7,6 +7,7 @@ set back.
 3. release/sancus.wasm, which is made from that one, where it doesn't start, by a host on the path that runs it.
 4. `rt try`: a build without its proof, made anew at each call.
 
+An installed package has no sources: it starts the released build that it holds, or that one's WebAssembly.
 tools/release.sh writes stamp and note, and defines the sum of the sources.
 """
 
@@ -22,12 +23,20 @@ from dataclasses import dataclass, field
 from pathlib import Path
 from typing import Dict, Iterator, List, Optional, Tuple
 
-from cli.status import NO_ANSWER, Ended
+from sancus.status import NO_ANSWER, Ended
 
 SOURCES = (".rt", ".antt")
 FIRST = ("crates.txt", "HANDLES")
-# What runs release/sancus.wasm, each with the words before that file.
-HOSTS = (("node", ("tools/wasm/run.mjs",)), ("wasmtime", ()))
+# What runs sancus.wasm, each with the script that comes before that file.
+HOSTS = (("node", "run.mjs"), ("wasmtime", ""))
+# The package, and the folder in it that holds the program where it is installed.
+PACKAGE = Path(__file__).resolve().parent
+INSTALLED = PACKAGE / "_program"
+
+
+def home() -> Path:
+    """The checkout of which this package is, or the folder in it that holds the program."""
+    return INSTALLED if INSTALLED.is_dir() else PACKAGE.parent.parent
 
 
 def sum_of(data: bytes) -> str:
@@ -126,9 +135,14 @@ def keep(path: Path, text: str) -> None:
         pass
 
 
+def cache() -> Path:
+    """Where an installed package keeps what it found out."""
+    return Path(os.environ.get("XDG_CACHE_HOME") or os.path.expanduser("~/.cache")) / "sancus"
+
+
 @dataclass
 class Builds:
-    """The builds of one checkout."""
+    """The builds of one checkout, or of an installed package."""
 
     top: Path
     program: Optional[str] = None
@@ -137,9 +151,11 @@ class Builds:
         self.crate = self.top / "crates" / "sancus_run"
         self.built = self.crate / "out" / "sancus_run"
         self.stamp = self.crate / "out" / "sancus_run.proved"
-        self.released = self.top / "release" / "sancus_run"
-        self.wasm = self.top / "release" / "sancus.wasm"
-        self.note = self.top / "release" / "RELEASE"
+        self.is_installed = self.top == INSTALLED
+        release = self.top if self.is_installed else self.top / "release"
+        self.released, self.wasm, self.note = (release / it for it in ("sancus_run", "sancus.wasm", "RELEASE"))
+        self.scripts = self.top if self.is_installed else self.top / "tools" / "wasm"
+        self.kept = cache() if self.is_installed else self.top / "out"
         self.sources = Sources(self.top)
 
     def choose(self) -> Build:
@@ -147,11 +163,13 @@ class Builds:
         if self.program:
             return Build(self.named_command(self.program), "named")
         reasons = []
-        for choice in (self.proved, self.by_release):
+        for choice in (self.installed,) if self.is_installed else (self.proved, self.by_release):
             build, why = choice()
             if build:
                 return build
             reasons += why
+        if self.is_installed:
+            raise Ended(NO_ANSWER, *reasons)
         return self.tried(reasons)
 
     def named_command(self, program: str) -> List[str]:
@@ -186,6 +204,18 @@ class Builds:
             return {}
         return dict(it.split(" ", 1) for it in body.split("\n") if " " in it)
 
+    def installed(self) -> Tuple[Optional[Build], List[str]]:
+        """The released build that an installed package holds, or its WebAssembly alone."""
+        noted = self.notes_of_release()
+        if not noted:
+            return None, ["the installed package is damaged: its note isn't as it was written"]
+        if not self.released.is_file():
+            return self.by_host(noted, "this package holds the program as WebAssembly")
+        if noted["sha256"] != sum_of_file(self.released):
+            return None, ["the installed package is damaged: its program isn't the one that its note names"]
+        why = self.why_not_native(noted)
+        return self.by_host(noted, why) if why else (Build([str(self.released)], "released"), [])
+
     def by_release(self) -> Tuple[Optional[Build], List[str]]:
         if not self.note.is_file() or not self.released.is_file():
             return None, []
@@ -205,7 +235,8 @@ class Builds:
         if platform.system() != "Linux" or platform.machine() != "x86_64":
             return f"the released build is for Linux on x86-64, and this is {platform.system()} on {platform.machine()}"
         if not os.access(self.released, os.X_OK):
-            return "release/sancus_run has no right to be executed (`chmod +x release/sancus_run` gives it)"
+            name = self.shown(self.released)
+            return f"{name} has no right to be executed (`chmod +x {name}` gives it)"
         if not self.answers([str(self.released)], noted["sha256"]):
             return f"the released build doesn't start here: it needs {noted.get('needs', 'another system')}"
         return ""
@@ -213,14 +244,19 @@ class Builds:
     def by_host(self, noted: Dict[str, str], why: str) -> Tuple[Optional[Build], List[str]]:
         """The released build as WebAssembly, by the first host that runs it."""
         if noted.get("wasm-of") != noted["sha256"] or noted.get("wasm-sha256") != sum_of_file(self.wasm):
-            return None, [why, "and release/sancus.wasm isn't the one that is made from it"]
-        for name, words in HOSTS:
+            return None, [why, f"and {self.shown(self.wasm)} isn't the one that is made from it"]
+        for name, script in HOSTS:
             found = shutil.which(name)
-            command = [found or name, *(str(self.top / it) for it in words), str(self.wasm)]
+            command = [found or name, *([str(self.scripts / script)] if script else []), str(self.wasm)]
             if found and self.answers(command, noted["wasm-sha256"]):
-                told = f"{why}; {name} runs release/sancus.wasm, which is made from it, and isn't proved itself"
+                told = f"{why}; {name} runs {self.shown(self.wasm)}, which is made from it, and isn't proved itself"
                 return Build(command, "hosted", [told]), []
-        return None, [why, "release/sancus.wasm would run in its place with node (18 or newer) or wasmtime on the path"]
+        hosts = "node (18 or newer) or wasmtime"
+        return None, [why, f"{self.shown(self.wasm)} would run in its place with {hosts} on the path"]
+
+    def shown(self, path: Path) -> str:
+        """A file as people know it: in a checkout by its path from there."""
+        return path.name if self.is_installed else str(path.relative_to(self.top))
 
     def changed_since_release(self) -> str:
         """The first source that isn't as it was when the note was committed, as far as git tells."""
@@ -241,7 +277,7 @@ class Builds:
 
     def answers(self, command: List[str], sum_: str) -> bool:
         """Whether a build answers here. That it did is kept."""
-        kept, text = self.top / "out" / "starts.kept", f"{sum_} {command[0]}\n"
+        kept, text = self.kept / "starts.kept", f"{sum_} {command[0]}\n"
         if text_of_file(kept) == text:
             return True
         try:

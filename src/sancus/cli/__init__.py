@@ -1,3 +1,1 @@
-"""The front end of the proved program: what ./sancus does for people around it. docs/FORMATS.md has what the program
-itself does.
-"""
+"""The command line: what `sancus` reads, prints and says. docs/FORMATS.md has what the program itself does."""

@@ -10,10 +10,10 @@ from dataclasses import dataclass
 from pathlib import Path
 from typing import Dict, List, Tuple
 
-from cli.builds import Builds, sum_of_file
-from cli.numbers import number, within
-from cli.say import Voice
-from cli.status import NO_ANSWER, Ended
+from sancus.builds import Builds, sum_of_file
+from sancus.model.numbers import number, within
+from sancus.cli.say import Voice
+from sancus.status import NO_ANSWER, Ended
 
 # How often it is looked how far the build is, and how often that is said at least, in seconds.
 LOOK_EVERY, SAY_EVERY = 5.0, 60.0

@@ -7,7 +7,7 @@ import re
 from dataclasses import dataclass, field
 from typing import Dict, List, NoReturn, Optional, Sequence, Tuple
 
-from cli.status import USAGE
+from sancus.status import USAGE
 
 ONE, MAYBE, MANY = None, "?", "*"
 

@@ -5,9 +5,9 @@ from __future__ import annotations
 from dataclasses import dataclass
 from pathlib import Path
 
-from cli.builds import Builds
-from cli.program import Program
-from cli.say import Voice
+from sancus.builds import Builds
+from sancus.cli.program import Program
+from sancus.cli.say import Voice
 
 
 @dataclass

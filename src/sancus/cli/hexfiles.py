@@ -9,14 +9,15 @@ from dataclasses import dataclass, field
 from pathlib import Path
 from typing import Callable, Dict, Iterator, List, Optional, Tuple
 
-from cli.context import Context
-from cli.deployment import Plan, plan_of
-from cli.output import print_lines, write
-from cli.say import plain
-from cli.status import BAD_TEXT, NO_FILE, Ended
-from cli.texts import Input, read_all
-from cli.commands import Given, Usage
-from cli.writing import must_be_free, write_file
+from sancus.cli.context import Context
+from sancus.model.deployment import Plan, plan_of
+from sancus.cli.output import print_lines, write
+from sancus.model.shown import plain
+from sancus.status import BAD_TEXT, NO_FILE, Ended
+from sancus.cli.reading import read_all
+from sancus.model.texts import Input
+from sancus.cli.commands import Given, Usage
+from sancus.cli.writing import must_be_free, write_file
 
 # How many bytes one `put` takes.
 PIECE = 1024

@@ -9,10 +9,10 @@ import re
 from dataclasses import dataclass
 from typing import List, Optional
 
-from cli.joining import Begun
-from cli.output import write
-from cli.program import Program
-from cli.texts import Part, can_be_read, file_part, is_regular, open_file
+from sancus.cli.joining import Begun
+from sancus.cli.output import write
+from sancus.cli.program import Program
+from sancus.cli.reading import Part, can_be_read, file_part, is_regular, open_file
 
 IMAGE = re.compile(rb"image [a-z][a-z0-9_]* ([0-9a-f]+)\r?\n?")
 HEX = re.compile(rb"[0-9A-Fa-f]*\r?\n?")

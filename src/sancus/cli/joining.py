@@ -7,8 +7,9 @@ from array import array
 from dataclasses import dataclass, field
 from typing import Callable, List, Optional
 
-from cli.say import Voice
-from cli.texts import MARK, MOST_HEAD, PIECE, Part, file_part, find_mark, text_part
+from sancus.cli.say import Voice
+from sancus.cli.reading import PIECE, Part, file_part, text_part
+from sancus.model.texts import MARK, MOST_HEAD, find_mark
 
 # The first line of a longer text isn't looked for further than this.
 MOST_LOOK = MOST_HEAD + PIECE

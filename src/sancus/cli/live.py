@@ -11,33 +11,22 @@ import re
 from dataclasses import dataclass, field
 from typing import Iterator, List, Optional
 
-from cli.acts import is_act
-from cli.commands import Given
-from cli.context import Context
-from cli.guesses import PEOPLE
-from cli.items import Item
-from cli.joining import may_have_mark
-from cli.people import Lines, are_for_people, begun, do_line, is_for_people, place
-from cli.program import Collected, Ran, Sink
-from cli.running import gathered, parts_of, run_parts
-from cli.say import text_of
-from cli.schedule import Writer
-from cli.session import Stopped
-from cli.snapping import snap
-from cli.status import BAD_TEXT, Ended
-from cli.texts import (
-    MARK,
-    Input,
-    Kept,
-    Origin,
-    Part,
-    file_part,
-    find_mark,
-    is_regular,
-    kept_of,
-    open_file,
-    without_return,
-)
+from sancus.model.acts import is_act
+from sancus.cli.commands import Given
+from sancus.cli.context import Context
+from sancus.model.guesses import PEOPLE
+from sancus.model.items import Item
+from sancus.cli.joining import may_have_mark
+from sancus.cli.people import Lines, begun, do_line, place
+from sancus.cli.program import Collected, Ran, Sink
+from sancus.cli.running import gathered, parts_of, run_parts
+from sancus.model.shown import text_of
+from sancus.model.schedule import Writer, are_for_people, is_for_people
+from sancus.model.session import Stopped
+from sancus.cli.snapping import snap
+from sancus.status import BAD_TEXT, Ended
+from sancus.cli.reading import Part, file_part, is_regular, open_file
+from sancus.model.texts import MARK, Input, Kept, Origin, find_mark, kept_of, without_return
 
 # In a larger file no lines for people are looked for.
 MOST_LOOKED = 1 << 24

@@ -4,35 +4,37 @@ from __future__ import annotations
 
 import os
 import subprocess
+import sys
 from pathlib import Path
-from typing import Callable, Dict, List, Optional, Sequence, Tuple
+from typing import Callable, Dict, List, NoReturn, Optional, Sequence, Tuple
 
-from cli import commands
-from cli.builds import Build, Builds
-from cli.context import Context
-from cli.output import print_lines, write
-from cli.program import Program
-from cli.say import Voice
-from cli.status import INTERRUPTED, NO_ANSWER, USAGE, Ended
-from cli.commands import BY_NAME, EVERYWHERE, COMMANDS, Given, Usage, Command
+from sancus import __version__
+from sancus.cli import commands
+from sancus.builds import Build, Builds, home
+from sancus.cli.context import Context
+from sancus.cli.output import print_lines, write
+from sancus.cli.program import Program
+from sancus.cli.say import Voice
+from sancus.status import INTERRUPTED, NO_ANSWER, USAGE, Ended
+from sancus.cli.commands import BY_NAME, EVERYWHERE, COMMANDS, Given, Usage, Command
 
 OUT_OF_MEMORY = 6
 
 
 def schedule(context: Context, given: Given) -> int:
-    from cli.people import answer
+    from sancus.cli.people import answer
 
     return answer(context, given)
 
 
 def marks(context: Context, given: Given) -> int:
-    from cli.people import print_marked
+    from sancus.cli.people import print_marked
 
     return print_marked(context, given)
 
 
 def view(context: Context, given: Given) -> int:
-    from cli.view import answer
+    from sancus.cli.view import answer
 
     return answer(context, given)
 
@@ -42,45 +44,48 @@ def files_of(given: Given) -> List[str]:
 
 
 def variables(context: Context, given: Given) -> int:
-    from cli.variables import answer
+    from sancus.cli.variables import answer
 
     return answer(context, given)
 
 
 def steps(context: Context, given: Given) -> int:
-    from cli import inspection, stepping
+    from sancus.cli.inspecting import inspected
+    from sancus.model import stepping
 
-    seen = inspection.inspected(files_of(given), given.has("drive"), context)
+    seen = inspected(files_of(given), given.has("drive"), context)
     print_lines(*stepping.told(seen, seen.line(given.text("LINE"))))
     return 0
 
 
 def why(context: Context, given: Given) -> int:
-    from cli.causes import answer
+    from sancus.cli.why import answer
 
     return answer(context, given)
 
 
 def hex_files(context: Context, given: Given) -> int:
-    from cli.hexfiles import answer
+    from sancus.cli.hexfiles import answer
 
     return answer(context, given)
 
 
 def build(context: Context, given: Given) -> int:
-    from cli.building import build
+    if context.builds.is_installed:
+        raise Ended(NO_ANSWER, "an installed package has no sources: `sancus build` is for a clone")
+    from sancus.cli.building import build
 
     return build(context.builds, context.voice, given.text("jobs"))
 
 
 def program_command(context: Context, given: Given) -> int:
-    from cli.running import answer
+    from sancus.cli.running import answer
 
     return answer(context, given)
 
 
 def help_(_context: Context, given: Given) -> int:
-    from cli import manual
+    from sancus.cli import manual
 
     if given.has("man"):
         write(manual.man_page().encode())
@@ -130,12 +135,15 @@ def version(context: Context, _given: Given) -> int:
         chosen: Optional[Build] = context.builds.choose()
     except Ended:
         chosen = None
+    builds = context.builds
+    kind = KINDS[chosen.kind] if chosen else "there is none here"
+    sources = f"sources: {builds.notes_of_release().get('sources', 'unknown')}"
     print_lines(
-        "sancus: Sancus applications, verified",
-        f"build: {KINDS[chosen.kind] if chosen else 'there is none here'}",
+        f"sancus {__version__}: Sancus applications, verified",
+        f"build: {kind.replace('release/', '') if builds.is_installed else kind}",
         *([f"program: {' '.join(chosen.command)}"] if chosen else []),
         f"kit: {kit_of(context, chosen)}",
-        f"commit: {commit_of(context.top)}",
+        sources if builds.is_installed else f"commit: {commit_of(context.top)}",
     )
     return 0
 
@@ -238,6 +246,11 @@ def answer(call: Sequence[str], top: Path, voice: Voice) -> int:
     context = Context(top, voice, builds, Program(builds, voice))
     voice.say(*waiting(given))
     return ANSWERS.get(given.command.name, program_command)(context, given)
+
+
+def main() -> NoReturn:
+    """The command `sancus`. (What was printed went straight out, so nothing is left to be written.)"""
+    os._exit(run(sys.argv[1:], home()))
 
 
 def run(call: Sequence[str], top: Path) -> int:

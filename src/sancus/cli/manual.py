@@ -4,7 +4,7 @@ from __future__ import annotations
 
 from typing import List, Tuple
 
-from cli.commands import EVERYWHERE, HEAD, COMMANDS, Command
+from sancus.cli.commands import EVERYWHERE, HEAD, COMMANDS, Command
 
 
 def escaped(text: str) -> str:

@@ -6,8 +6,8 @@ import errno
 import os
 import select
 
-from cli.say import plain
-from cli.status import WRITE_FAILED, Ended
+from sancus.model.shown import plain
+from sancus.status import WRITE_FAILED, Ended
 
 
 def write(data: bytes, fd: int = 1) -> None:

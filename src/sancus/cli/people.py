@@ -7,26 +7,23 @@ from dataclasses import dataclass, field
 from itertools import accumulate
 from typing import List, Optional, Tuple, Type, TypeVar
 
-from cli.acts import is_act
-from cli.context import Context
-from cli.deployment import plan_of
-from cli.faults import Teller
-from cli.guesses import PEOPLE
-from cli.joining import joined
-from cli.marks import MOST_LINES, CannotMark, marked_lines, marked_run
-from cli.output import print_lines, write
-from cli.program import Program
-from cli.running import gathered, parts_of
-from cli.say import plain, short, text_of
-from cli.schedule import Mistake, Writer
-from cli.session import Stopped, start
-from cli.status import BAD_TEXT, Ended
-from cli.sinks import is_image, short_image
-from cli.texts import MARK, Input, Kept, file_part, kept_of, split_lines
-from cli.commands import Given
+from sancus.cli.context import Context
+from sancus.model.deployment import plan_of
+from sancus.model.faults import Teller
+from sancus.cli.joining import joined
+from sancus.model.marks import MOST_LINES, CannotMark, marked_lines, marked_run
+from sancus.cli.output import print_lines, write
+from sancus.cli.program import Program
+from sancus.cli.running import gathered, parts_of
+from sancus.model.shown import plain, short, text_of
+from sancus.model.schedule import Mistake, Writer, are_for_people
+from sancus.model.session import Stopped, start
+from sancus.status import BAD_TEXT, Ended
+from sancus.cli.sinks import is_image, short_image
+from sancus.cli.reading import file_part
+from sancus.model.texts import MARK, Input, Kept, kept_of, split_lines
+from sancus.cli.commands import Given
 
-# The acts whose packet may get a name.
-NAMING = ("take", "forge", "ask")
 W = TypeVar("W", bound=Writer)
 
 
@@ -63,15 +60,6 @@ def place(kept: Kept, line: int) -> str:
 def lines_of(kept: Kept, data: Input) -> Lines:
     first = data.head.count(b"\n") + 1
     return Lines(data.head, [(place(kept, first + at), text_of(it)) for at, it in enumerate(data.schedule, 1)], kept)
-
-
-def are_for_people(data: Input) -> bool:
-    """Whether one of the lines after the mark is for `sancus schedule`."""
-    return any(is_for_people([text_of(word) for word in it.split()]) for it in data.schedule if is_act(it))
-
-
-def is_for_people(words: List[str]) -> bool:
-    return words[0] in PEOPLE or words[0] in NAMING and words[-2:-1] == ["as"]
 
 
 def as_schedule(kept: Kept, data: Input, context: Context) -> Tuple[Kept, Input, Optional[Ended]]:

@@ -12,11 +12,13 @@ import tempfile
 from dataclasses import dataclass, field
 from typing import IO, Any, List, Optional
 
-from cli import output
-from cli.builds import Build, Builds
-from cli.say import Voice
-from cli.status import INTERRUPTED, NO_ANSWER, Ended
-from cli.texts import Kept, Origin, Part, is_regular
+from sancus.cli import output
+from sancus.builds import Build, Builds
+from sancus.cli.say import Voice
+from sancus.model.asking import Answer
+from sancus.status import INTERRUPTED, NO_ANSWER, Ended
+from sancus.cli.reading import Part, is_regular
+from sancus.model.texts import Kept, Origin
 
 # How long a build that isn't proved may run, in seconds.
 SECONDS_AT_MOST = "86400"
@@ -135,11 +137,18 @@ class Program:
         seconds = os.environ.get("SANCUS_SECONDS", SECONDS_AT_MOST)
         return [*build.command, "--seconds", seconds, "--", *words]
 
-    def ask(self, words: List[str], text: bytes) -> bytes:
-        """What the program writes to a text, for questions that the front end has of its own."""
+    @property
+    def is_fast(self) -> bool:
+        return self.build().is_fast
+
+    def answer(self, words: List[str], text: bytes) -> Answer:
+        """What the program answers to a text, for questions that the front end has of its own."""
         sink = Collected()
-        self.ran_of(words, text, sink)
-        return sink.data()
+        ran = self.ran_of(words, text, sink)
+        return Answer(ran.status, sink.data())
+
+    def ask(self, words: List[str], text: bytes) -> bytes:
+        return self.answer(words, text).output
 
     def ran_of(self, words: List[str], text: bytes, sink: Sink) -> Ran:
         with tempfile.TemporaryFile() as file:
@@ -161,7 +170,7 @@ class Program:
         return self.run(words, None, parts, Kept(), sink)
 
     def run(self, words: List[str], fd: Optional[int], parts: List[Part], kept: Kept, sink: Sink) -> Ran:
-        if self.build().is_fast:
+        if self.is_fast:
             return self.pumped(self.command(words), fd, parts, kept, sink, None)
         held = Collected()
         with tempfile.TemporaryFile() as messages:
@@ -181,7 +190,7 @@ class Program:
         sink: Sink,
         messages: Optional[IO[Any]],
     ) -> Ran:
-        folder = None if self.build().is_fast else str(self.builds.crate)
+        folder = None if self.is_fast else str(self.builds.crate)
         try:
             process = subprocess.Popen(
                 command,
@@ -207,7 +216,7 @@ class Program:
             raise
         if status < 0:
             raise Ended(NO_ANSWER, f"the program was ended by signal {-status} ({signal.Signals(-status).name})")
-        if self.build().is_fast:
+        if self.is_fast:
             sink.close()
         return Ran(status, last, kept)
 

@@ -6,35 +6,23 @@ import os
 import re
 from typing import Callable, List, Optional, Tuple
 
-from cli import forged, images, warnings
-from cli.context import Context
-from cli.deployment import Plan, plan_of
-from cli.faults import Teller
-from cli.joining import explained, joined, snap_parts, with_mark
-from cli.marks import marked_run
-from cli.numbers import number, within
-from cli.output import print_lines
-from cli.program import Ran, Sink
-from cli.say import text_of
-from cli.session import Stopped, snapped
-from cli.sinks import ForgedSeen, NoImages, ScheduleOnly, ShortImages, TraceOnly
-from cli.status import NO_FILE, WITH_A_FAULT, Ended
-from cli.texts import (
-    MOST_HEAD,
-    MOST_INPUT,
-    Input,
-    Kept,
-    Origin,
-    Part,
-    can_be_read,
-    file_part,
-    find_mark,
-    is_regular,
-    kept_of,
-    look_at_standard_input,
-    open_file,
-)
-from cli.commands import Given, Usage
+from sancus.cli import images
+from sancus.model import forged, warnings
+from sancus.cli.context import Context
+from sancus.model.deployment import Plan, plan_of
+from sancus.model.faults import Teller
+from sancus.cli.joining import explained, joined, snap_parts, with_mark
+from sancus.model.marks import marked_run
+from sancus.model.numbers import number, within
+from sancus.cli.output import print_lines
+from sancus.cli.program import Ran, Sink
+from sancus.model.shown import text_of
+from sancus.model.session import Stopped, snapped
+from sancus.cli.sinks import ForgedSeen, NoImages, ScheduleOnly, ShortImages, TraceOnly
+from sancus.status import NO_FILE, WITH_A_FAULT, Ended
+from sancus.cli.reading import MOST_INPUT, Part, can_be_read, file_part, is_regular, look_at_standard_input, open_file
+from sancus.model.texts import MOST_HEAD, Input, Kept, Origin, find_mark, kept_of
+from sancus.cli.commands import Given, Usage
 
 
 def files_of(given: Given) -> List[str]:
@@ -98,7 +86,7 @@ def parts_of(given: Given, files: List[str], context: Context) -> Optional[List[
 def trace_of(files: List[str], context: Context) -> Part:
     """The trace of a call of `explain`, which may come in a pipe, or be the run of a schedule."""
     # (imported here, as it takes a while)
-    from cli.runs import trace_for
+    from sancus.cli.runs import trace_for
 
     return trace_for(files[0], files[1] if len(files) > 1 else "-", context)
 
@@ -126,9 +114,9 @@ def run_program(context: Context, given: Given, files: List[str], sink: Sink) ->
     if given.command.name == "gen":
         with open(os.devnull, "rb") as nothing:
             return context.program.run_file(words, nothing.fileno(), "-", sink)
-    if given.command.name in ("run", "snap") and context.program.build().is_fast:
+    if given.command.name in ("run", "snap") and context.program.is_fast:
         # (imported here, as other commands don't need it)
-        from cli.live import run_of_people
+        from sancus.cli.live import run_of_people
 
         return run_of_people(context, given, files, sink)
     return run_parts(context, given, files, parts_of(given, files, context), sink)
@@ -193,7 +181,7 @@ def about_forged(context: Context, kept: Kept) -> List[str]:
     """What the first `forged` of a run says, and the line that shows it."""
     data = Input(bytes(kept.first))
     plan = plan_of(data.head)
-    if not kept.is_whole() or not plan or not context.program.build().is_fast:
+    if not kept.is_whole() or not plan or not context.program.is_fast:
         return [f"the trace has an item `forged`, and `sancus explain --words` says what was accepted; {forged.AFTER}"]
     pairs = [(line, text_of(item)) for line, item in marked_run(data, context.program).items()]
     said, line = forged.notes(pairs, [text_of(it) for it in data.schedule], plan)
@@ -205,7 +193,7 @@ def after_finish(context: Context, data: Input, kept: Kept) -> List[str]:
     """The `finish` lines that end with PC in a section of a module that doesn't run there."""
     plan, lines = plan_of(data.head), [text_of(it) for it in data.schedule]
     ends = [(at, it.split()[1]) for at, it in enumerate(lines, 1) if it.split()[:1] == ["finish"]][:64]
-    if not plan or not context.program.build().is_fast:
+    if not plan or not context.program.is_fast:
         return []
     try:
         answers = snapped(context.program, data.head, lines, [f"regs {node} {at}" for at, node in ends])
@@ -239,7 +227,7 @@ def tell(context: Context, given: Given, ran: Ran) -> List[str]:
     """What a run that ended in a fault means, in words."""
     if ran.status not in WITH_A_FAULT and not ran.last.startswith("fault read"):
         return []
-    ask = context.program.ask if context.program.build().is_fast else (lambda _words, _text: b"")
+    ask = context.program.ask if context.program.is_fast else (lambda _words, _text: b"")
     return words_of(lambda: Teller(ran.kept, given.command.name, ask).told(ran.last))
 
 
@@ -248,7 +236,7 @@ def answer(context: Context, given: Given) -> int:
     files = files_of(given)
     if given.has("json"):
         # (imported here, as few calls need it)
-        from cli.asjson import as_json
+        from sancus.cli.asjson import as_json
 
         return as_json(context, given, files)
     if given.has("words"):
@@ -286,7 +274,8 @@ def list_code(context: Context, given: Given, files: List[str]) -> int:
 def explain_in_words(context: Context, given: Given, files: List[str]) -> int:
     if len(files) < 2 and not is_trace_in_pipe(files):
         raise Usage("`explain --words` takes DEPLOYMENT and TRACE", given.command)
-    from cli.causes import explain, in_words
+    from sancus.cli.why import explain
+    from sancus.model.causes import in_words
 
     made = explain(files[0], trace_of(files, context), context.program)
     print_lines(*in_words(made))

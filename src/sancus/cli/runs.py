@@ -4,19 +4,21 @@ from __future__ import annotations
 
 import os
 
-from cli.acts import ACTS, first_word, is_act
-from cli.context import Context
-from cli.deployment import plan_of
-from cli.faults import Teller
-from cli.guesses import PEOPLE
-from cli.inspection import are_readings
-from cli.joining import joined, trace_part
-from cli.people import as_schedule
-from cli.program import Collected
-from cli.running import gathered
-from cli.say import Voice, text_of
-from cli.sinks import TraceOnly
-from cli.texts import Input, Part, read_all, text_part
+from sancus.model.acts import ACTS, first_word, is_act
+from sancus.cli.context import Context
+from sancus.model.deployment import plan_of
+from sancus.model.faults import Teller
+from sancus.model.guesses import PEOPLE
+from sancus.model.inspection import are_readings
+from sancus.cli.joining import joined, trace_part
+from sancus.cli.people import as_schedule
+from sancus.cli.program import Collected
+from sancus.cli.running import gathered
+from sancus.cli.say import Voice
+from sancus.model.shown import text_of
+from sancus.cli.sinks import TraceOnly
+from sancus.cli.reading import Part, read_all, text_part
+from sancus.model.texts import Input
 
 
 def is_schedule(name: str, deployment: str) -> bool:

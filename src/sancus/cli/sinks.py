@@ -5,7 +5,7 @@ from __future__ import annotations
 from dataclasses import dataclass, field
 from typing import List
 
-from cli.program import Sink
+from sancus.cli.program import Sink
 
 # So many digits of an image are shown in short.
 FIRST_DIGITS = 32

@@ -4,13 +4,13 @@ from __future__ import annotations
 
 from typing import List
 
-from cli.acts import is_act
-from cli.context import Context
-from cli.numbers import number
-from cli.people import Written, lines_of, written
-from cli.program import Collected, Ran, Sink
-from cli.say import text_of
-from cli.texts import MARK, Input, Kept
+from sancus.model.acts import is_act
+from sancus.cli.context import Context
+from sancus.model.numbers import number
+from sancus.cli.people import Written, lines_of, written
+from sancus.cli.program import Collected, Ran, Sink
+from sancus.model.shown import text_of
+from sancus.model.texts import MARK, Input, Kept
 
 # As docs/FORMATS.md has them.
 MOST_LINES = 65536

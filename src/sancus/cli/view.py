@@ -8,20 +8,22 @@ from dataclasses import dataclass
 from pathlib import Path
 from typing import Dict, List, Optional
 
-from cli.context import Context
-from cli.deployment import plan_of
-from cli.faults import Teller
-from cli.inspection import are_readings, put_together
-from cli.marks import CannotMark, marked_lines, marked_run
-from cli.output import print_lines
-from cli.people import as_schedule
-from cli.program import Collected
-from cli.sinks import TraceOnly
-from cli.status import BAD_TEXT, Ended
-from cli.texts import Input, look_at, read_all
-from cli.viewer.join import joined
-from cli.writing import must_be_free, write_file
-from cli.commands import Given, Usage
+from sancus.cli.context import Context
+from sancus.model.deployment import plan_of
+from sancus.model.faults import Teller
+from sancus.cli.inspecting import put_together
+from sancus.model.inspection import are_readings
+from sancus.model.marks import CannotMark, marked_lines, marked_run
+from sancus.cli.output import print_lines
+from sancus.cli.people import as_schedule
+from sancus.cli.program import Collected
+from sancus.cli.sinks import TraceOnly
+from sancus.status import BAD_TEXT, Ended
+from sancus.cli.reading import look_at, read_all
+from sancus.model.texts import Input
+from sancus.viewer.join import joined
+from sancus.cli.writing import must_be_free, write_file
+from sancus.cli.commands import Given, Usage
 
 # A line that only the output of `run` or `drive` has.
 OUTPUT = re.compile(rb"(?m)^(trace\r?$|image [a-z]|> )")

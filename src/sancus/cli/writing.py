@@ -6,7 +6,7 @@ import os
 from pathlib import Path
 from typing import Callable, Iterable, Sequence
 
-from cli.status import NO_FILE, Ended
+from sancus.status import NO_FILE, Ended
 
 FORCE = "--force writes over it"
 

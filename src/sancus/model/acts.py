@@ -6,8 +6,8 @@ import re
 from dataclasses import dataclass
 from typing import Dict, List, Optional
 
-from cli.deployment import Plan
-from cli.numbers import number
+from sancus.model.deployment import Plan
+from sancus.model.numbers import number
 
 REGISTERS = ["pc", "sp", "sr", "r0", "r1", "r2", *(f"r{it}" for it in range(4, 16))]
 

@@ -7,9 +7,9 @@ from __future__ import annotations
 import re
 from typing import List, Optional, Tuple
 
-from cli.numbers import number
-from cli.say import MOST_SHOWN
-from cli.table import words
+from sancus.model.numbers import number
+from sancus.model.shown import MOST_SHOWN
+from sancus.model.table import words
 
 TWO = "mov add addc subc sub cmp bit bic bis xor and".split()
 ONE = "rrc rra push swpb sxt call".split()

@@ -2,29 +2,20 @@
 
 from __future__ import annotations
 
-import os
 from dataclasses import dataclass, field
-from typing import Dict, Iterator, List, Optional, Tuple
+from typing import Dict, Iterator, List, Optional
 
-from cli import forged, refusals
-from cli.commands import Given, Usage
-from cli.context import Context
-from cli.deployment import Plan, plan_of
-from cli.faults import Teller
-from cli.inspection import Inspected, inspected
-from cli.items import ITEMS, Item, say
-from cli.joining import explained, trace_part
-from cli.marks import CannotMark, marked_run
-from cli.model import reason
-from cli.numbers import number
-from cli.output import print_lines
-from cli.program import Collected, Program
-from cli.running import gathered
-from cli.runs import is_schedule
-from cli.say import Voice, text_of
-from cli.sinks import Kept as KeptLines
-from cli.status import BAD_TEXT, Ended
-from cli.texts import Input, Kept, Part, kept_of, look_at, look_at_standard_input
+from sancus.model import forged, refusals
+from sancus.model.asking import Program
+from sancus.model.deployment import Plan, plan_of
+from sancus.model.faults import Teller
+from sancus.model.inspection import Inspected
+from sancus.model.items import ITEMS, Item, say
+from sancus.model.legality import reason
+from sancus.model.numbers import number
+from sancus.model.shown import text_of
+from sancus.model.texts import Input, Kept
+from sancus.status import BAD_TEXT, Ended
 
 # How many items of a module are shown before an illegal one.
 BEFORE = 6
@@ -68,16 +59,11 @@ def items_of(lines: List[bytes]) -> List[Item]:
     return [Item(at, it) for at, it in enumerate((it for it in texts if it.split(" ")[0] in ITEMS), 1)]
 
 
-def explain(deployment: str, trace: Part, program: Program) -> Explained:
-    """Has the program judge a trace, and takes apart what it says."""
-    return judged(*gathered(explained(deployment, trace)), program)
-
-
 def judged(kept: Kept, data: Input, program: Program) -> Explained:
-    sink = KeptLines(Collected())
-    ran = program.ran_of(["explain"], data.data, sink)
-    made = Explained(items_of(data.schedule), status=ran.status, plan=plan_of(data.head))
-    for line in (text_of(it) for it in sink.lines):
+    """Has the program judge a trace, and takes apart what it says."""
+    answer = program.answer(["explain"], data.data)
+    made = Explained(items_of(data.schedule), status=answer.status, plan=plan_of(data.head))
+    for line in map(text_of, answer.lines):
         words = line.split(" ")
         if words[0] == "because":
             made.causes[int(words[1])] = int(words[2])
@@ -86,23 +72,6 @@ def judged(kept: Kept, data: Input, program: Program) -> Explained:
         made.last = line
     if made.last.startswith("fault "):
         made.about_fault = Teller(kept, "explain", program.ask).told(made.last)
-    return made
-
-
-def explain_run(files: List[str], context: Context) -> Explained:
-    """Runs the schedule, or lines for people, of some files, and has the trace judged."""
-    seen = inspected(files, False, context)
-    lines = "".join(f"{it}\n" for it in seen.lines).encode(errors="surrogateescape")
-    try:
-        run = marked_run(Input(seen.head + b"%%\n" + lines), context.program)
-    except CannotMark as error:
-        raise Ended(BAD_TEXT, f"the schedule isn't run: {error}") from None
-    if run.last != b"end":
-        context.voice.say(*seen.fault_told(text_of(run.last or b"")), "what came before is judged")
-    items = list(run.items())
-    text = seen.head + b"%%\n" + b"\n".join([b"trace", *(it for _, it in items), b"end", b""])
-    made = judged(kept_of(text, ""), Input(text), context.program)
-    made.seen, made.lines = seen, [at for at, _ in items]
     return made
 
 
@@ -146,7 +115,7 @@ def why_illegal(made: Explained, at: int) -> Iterator[str]:
     yield f"  {found}" if found else "  the sources don't allow it after the items before it"
 
 
-def chosen(made: Explained, words: str, voice: Voice) -> int:
+def chosen(made: Explained, words: str) -> int:
     """The item that is asked about: the one of this number, the last that begins with these words, the illegal one, or
     the last `out`."""
     if not words:
@@ -156,22 +125,29 @@ def chosen(made: Explained, words: str, voice: Voice) -> int:
         raise Ended(BAD_TEXT, "the trace has no `out`, and nothing illegal: say which item is meant")
     at = number(words)
     if at is None:
-        return last_that_begins(made, words.split(), voice)
+        found = all_that_begin(made, words)
+        if not found:
+            raise Ended(BAD_TEXT, f"no item begins with `{words}`{others(made, words.split())}")
+        return found[-1]
     if not at or at > len(made.items):
         raise Ended(BAD_TEXT, f"{words} is no item: the trace has {len(made.items)}, counted from 1 after `trace`")
     return at
 
 
-def last_that_begins(made: Explained, words: List[str], voice: Voice) -> int:
-    """The last item that begins with some words, as `out alarm`."""
-    found = [it.number for it in made.items if it.words[: len(words)] == words]
-    if not found:
-        raise Ended(BAD_TEXT, f"no item begins with `{' '.join(words)}`{others(made, words)}")
-    if len(found) > 1:
-        shown = " ".join(map(str, found[-MOST_NAMED:]))
-        more = "" if len(found) <= MOST_NAMED else ".. "
-        voice.say(f"{len(found)} items begin with `{' '.join(words)}`, and this is the last of them: {more}{shown}")
-    return found[-1]
+def all_that_begin(made: Explained, words: str) -> List[int]:
+    """The items that begin with some words, as `out alarm`."""
+    wanted = words.split()
+    return [it.number for it in made.items if it.words[: len(wanted)] == wanted]
+
+
+def others_named(made: Explained, words: str) -> List[str]:
+    """Which further items words name, of which the last is the one that is asked about."""
+    found = all_that_begin(made, words) if words and number(words) is None else []
+    if len(found) < 2:
+        return []
+    shown = " ".join(map(str, found[-MOST_NAMED:]))
+    more = "" if len(found) <= MOST_NAMED else ".. "
+    return [f"{len(found)} items begin with `{words}`, and this is the last of them: {more}{shown}"]
 
 
 def others(made: Explained, words: List[str]) -> str:
@@ -253,40 +229,3 @@ def in_words(made: Explained) -> Iterator[str]:
         yield f"forged: {told(made, made.forged)}; what comes after it isn't judged"
     if made.last.startswith("fault "):
         yield made.last
-
-
-# --- The command ---
-
-
-def is_file(word: str) -> bool:
-    return word == "-" or os.path.exists(word) and not os.path.isdir(word)
-
-
-def files_and_item(given: Given) -> Tuple[List[str], str]:
-    """The files of a call after the deployment, and the item that is asked about."""
-    words = [*given.texts("TRACE"), *given.texts("ITEM")]
-    is_item = bool(words) and (number(words[0]) is not None or words[0].split(" ")[0] in ITEMS)
-    files = words[:1] if words and (is_file(words[0]) or not is_item) else []
-    while files and words[len(files) :] and is_file(words[len(files)]):
-        files.append(words[len(files)])
-    return files, " ".join(words[len(files) :])
-
-
-def explained_of(deployment: str, files: List[str], context: Context, given: Given) -> Explained:
-    """What is asked about: a trace, which comes on standard input if no file is named, or a schedule, which may be behind
-    the deployment's own mark."""
-    if len(files) > 1 or files and is_schedule(files[0], deployment):
-        return explain_run([deployment, *files], context)
-    if not files and not look_at_standard_input():
-        if is_file(deployment) and deployment != "-" and Input(look_at(deployment)).schedule:
-            return explain_run([deployment], context)
-        raise Usage("`why` takes SCHEDULE or TRACE, or a trace in a pipe", given.command)
-    return explain(deployment, trace_part(files[0] if files else "-", context.voice), context.program)
-
-
-def answer(context: Context, given: Given) -> int:
-    files, words = files_and_item(given)
-    made = explained_of(given.text("DEPLOYMENT"), files, context, given)
-    must_be_judged(made)
-    print_lines(*why(made, chosen(made, words, context.voice)))
-    return 0

@@ -7,7 +7,7 @@ from __future__ import annotations
 from dataclasses import dataclass
 from typing import Any, Dict, List, Optional
 
-from cli import language, toml
+from sancus.model import language, toml
 
 Entry = Dict[str, Any]
 NODE_BY_DEFAULT: Entry = {"name": "n", "key": "00" * 16}

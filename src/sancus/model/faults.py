@@ -1,6 +1,6 @@
 """Says in words what a fault line of the program means, and shows the line in the file that it is about.
 
-It says less if it finds less. The program alone judges; docs/FORMATS.md has the rules, cli/faults.json the words.
+It says less if it finds less. The program alone judges; docs/FORMATS.md has the rules, src/sancus/faults.json the words.
 """
 
 from __future__ import annotations
@@ -9,12 +9,12 @@ import re
 from dataclasses import dataclass
 from typing import Callable, Dict, List, Optional, Tuple
 
-from cli import acts, assembly, guesses, language, rules, tables, toml
-from cli.acts import ACTS, QUERIES, Field, Word, words_at
-from cli.deployment import KINDS, Plan, plan_of
-from cli.say import MOST_SHOWN, short, text_of
-from cli.table import words as table_words
-from cli.texts import Kept, find_mark, split_lines
+from sancus.model import acts, assembly, guesses, language, rules, tables, toml
+from sancus.model.acts import ACTS, QUERIES, Field, Word, words_at
+from sancus.model.deployment import KINDS, Plan, plan_of
+from sancus.model.shown import MOST_SHOWN, short, text_of
+from sancus.model.table import words as table_words
+from sancus.model.texts import Kept, find_mark, split_lines
 
 Lines = List[str]
 Ask = Callable[[List[str], bytes], bytes]

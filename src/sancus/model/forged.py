@@ -8,9 +8,9 @@ from __future__ import annotations
 
 from typing import List, Optional, Sequence, Tuple
 
-from cli.deployment import Plan
-from cli.items import Item, connection_said
-from cli.numbers import number
+from sancus.model.deployment import Plan
+from sancus.model.items import Item, connection_said
+from sancus.model.numbers import number
 
 # How long the packet is that each item accepts.
 LENGTHS = {"attested": 16, "open": 38, "take": 24}

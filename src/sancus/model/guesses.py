@@ -5,12 +5,12 @@ from __future__ import annotations
 import re
 from typing import Dict, List, Optional
 
-from cli.acts import ACTS, QUERIES
-from cli.deployment import KINDS, Plan
-from cli.items import ITEMS
-from cli.language import COMPARED, END, MULTIPLIED, NAMED, NUMBER, SUMMED, UNARY, NotInGrammar
-from cli.say import text_of
-from cli.table import words
+from sancus.model.acts import ACTS, QUERIES
+from sancus.model.deployment import KINDS, Plan
+from sancus.model.items import ITEMS
+from sancus.model.language import COMPARED, END, MULTIPLIED, NAMED, NUMBER, SUMMED, UNARY, NotInGrammar
+from sancus.model.shown import text_of
+from sancus.model.table import words
 
 OPERATORS = {*COMPARED, *SUMMED, *MULTIPLIED}
 STATEMENT = {"let", "send", "emit", "if", "repeat", NAMED}
@@ -133,7 +133,7 @@ def for_people(act: str) -> str:
 
 def of_act(act: str, line: bytes, command: str, plan: Optional[Plan]) -> List[str]:
     """What a line is that is no line of a schedule."""
-    from cli.rules import near
+    from sancus.model.rules import near
 
     text = line.strip()
     if text == b"%%" and command == "run":

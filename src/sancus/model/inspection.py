@@ -7,21 +7,16 @@ import re
 from dataclasses import dataclass, field
 from typing import List, Optional, Tuple
 
-from cli.acts import is_act
-from cli.context import Context
-from cli.deployment import Plan, plan_of
-from cli.faults import Teller
-from cli.joining import joined
-from cli.numbers import number
-from cli.people import are_for_people, lines_of, written_so_far
-from cli.program import Collected, Program
-from cli.rules import near
-from cli.running import gathered
-from cli.say import plain, text_of
-from cli.schedule import spelled
-from cli.sinks import Kept as KeptLines
-from cli.status import BAD_TEXT, Ended
-from cli.texts import Input, Kept, file_part, kept_of
+from sancus.model.acts import is_act
+from sancus.model.asking import Program
+from sancus.model.deployment import Plan
+from sancus.model.faults import Teller
+from sancus.model.numbers import number
+from sancus.model.rules import near
+from sancus.model.shown import plain, text_of
+from sancus.model.schedule import spelled
+from sancus.status import BAD_TEXT, Ended
+from sancus.model.texts import Input, Kept, kept_of
 
 
 @dataclass(frozen=True)
@@ -113,18 +108,6 @@ def marked_lines(lines: List[str]) -> List[Line]:
     return [Line(it[1], it[2], at, end) for (at, it), end in zip(found, ends)]
 
 
-def must_be_accepted(kept: Kept, data: Input, name: str, program: Program) -> Plan:
-    if not data.has_mark:
-        raise Ended(
-            BAD_TEXT, f"{name} has no line %%, so there is no schedule; a schedule of its own file comes after {name}"
-        )
-    plan = plan_of(data.head)
-    answer = program.ask(["check"], data.head + b"%%\n").decode(errors="replace").strip()
-    if plan is None or not answer.endswith("end"):
-        raise Ended(BAD_TEXT, f"{name} has no deployment that is accepted: {answer}", *Teller(kept, "run").told(answer))
-    return plan
-
-
 def are_readings(plan: Plan, data: Input) -> bool:
     """Whether the lines after the mark are readings, and not lines of a schedule."""
     first = next((it for it in data.schedule if is_act(it)), b"").split()
@@ -133,12 +116,11 @@ def are_readings(plan: Plan, data: Input) -> bool:
 
 def driven(kept: Kept, data: Input, program: Program) -> List[str]:
     """The schedule that `drive` makes of readings."""
-    sink = KeptLines(Collected())
-    program.ran_of(["drive"], data.data, sink)
-    last = text_of(sink.lines[-1]) if sink.lines else ""
+    lines = program.answer(["drive"], data.data).lines
+    last = text_of(lines[-1]) if lines else ""
     if last.startswith("fault reading"):
         raise Ended(BAD_TEXT, last, *Teller(kept, "drive", program.ask).told(last))
-    return [text_of(it[2:]) for it in sink.lines if it.startswith(b"> ")]
+    return [text_of(it[2:]) for it in lines if it.startswith(b"> ")]
 
 
 def readings_of(lines: List[Tuple[str, str]], schedule: List[str]) -> List[Line]:
@@ -151,40 +133,6 @@ def readings_of(lines: List[Tuple[str, str]], schedule: List[str]) -> List[Line]
         made.append(Line(place, text.strip(), begins[which] if is_reading else end + 1, end))
         which += is_reading
     return made
-
-
-def put_together(files: List[str], context: Context) -> Tuple[Kept, Input]:
-    """The input of one file, or of a deployment and what comes after its mark."""
-    return gathered(joined(files, context.voice) if len(files) > 1 else [file_part(files[0])])
-
-
-def inspected(files: List[str], is_driven: bool, context: Context) -> Inspected:
-    """The input of some files. Of readings the schedule is the one that `drive` makes, and of lines for people the one
-    that they become."""
-    kept, data = put_together(files, context)
-    plan = must_be_accepted(kept, data, files[0], context.program)
-    seen = Inspected(files[0], data.head, plan, [], [], context.program)
-    seen.is_driven = is_driven or are_readings(plan, data)
-    if seen.is_driven:
-        if not is_driven:
-            context.voice.say(f"{files[-1]} has readings: the lines are those that `drive` makes of them")
-        seen.lines = driven(kept, data, context.program)
-        seen.given = [Line("", it, at, at) for at, it in enumerate(seen.lines, 1)]
-        seen.marked = readings_of(lines_of(kept, data).lines, seen.lines)
-        return seen
-    given = lines_of(kept, data)
-    if are_for_people(data):
-        made = written_so_far(given, context)
-        context.voice.say(*made.notes)
-        if made.refusal:
-            context.voice.must_say(*made.refusal.lines, "the lines before it are looked into")
-        spans, seen.lines, seen.is_for_people = made.spans, made.lines, True
-    else:
-        seen.kept, seen.lines = kept, [text for _, text in given.lines]
-        spans = [(at, at) for at in range(1, len(seen.lines) + 1)]
-        seen.marked = marked_lines(seen.lines)
-    seen.given = [Line(at, text.strip(), *span) for (at, text), span in zip(given.lines, spans)]
-    return seen
 
 
 def broken(seen: Inspected, fault: str) -> Ended:

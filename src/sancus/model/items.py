@@ -5,8 +5,8 @@ from __future__ import annotations
 from dataclasses import dataclass
 from typing import Any, Callable, Dict, List, Optional, Tuple
 
-from cli.deployment import Plan
-from cli.table import words as table_words
+from sancus.model.deployment import Plan
+from sancus.model.table import words as table_words
 
 EPOCH = 65536
 ITEMS: Dict[str, Tuple[str, ...]] = {

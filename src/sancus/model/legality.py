@@ -9,10 +9,10 @@ from __future__ import annotations
 from dataclasses import dataclass, field
 from typing import Any, Callable, Dict, List, Optional, Tuple
 
-from cli.deployment import Plan, port_of
-from cli.items import Item
-from cli.meaning import first_cells, react
-from cli.numbers import counted
+from sancus.model.deployment import Plan, port_of
+from sancus.model.items import Item
+from sancus.model.meaning import first_cells, react
+from sancus.model.numbers import counted
 
 MOST_SENT, LAST_EPOCH = 65535, 255
 

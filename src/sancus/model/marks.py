@@ -12,11 +12,10 @@ from __future__ import annotations
 from dataclasses import dataclass, field
 from typing import Dict, Iterator, List, Optional, Tuple
 
-from cli.acts import first_word, is_act
-from cli.deployment import Plan, plan_of
-from cli.program import Collected, Program
-from cli.sinks import Kept as KeptLines
-from cli.texts import Input
+from sancus.model.acts import first_word, is_act
+from sancus.model.deployment import Plan, plan_of
+from sancus.model.asking import Program
+from sancus.model.texts import Input
 
 MOST_LINES = 65536
 NO_PACKET = "4294967295"
@@ -109,10 +108,9 @@ def marked_run(data: Input, program: Program) -> Marked:
     marker = marker_of(data.head, plan)
     if marker.is_added:
         # (what is refused must be the deployment itself, and not the one with the module for the marks)
-        sink = KeptLines(Collected())
-        checked = program.ran_of(["check"], data.head + b"%%\n", sink)
+        checked = program.answer(["check"], data.head + b"%%\n")
         if checked.status:
-            return Marked(last=sink.lines[-1] if sink.lines else None, status=checked.status)
+            return Marked(last=checked.lines[-1] if checked.lines else None, status=checked.status)
     made = Marked()
     while marked_further(made, acts, marker, program):
         pass
@@ -126,9 +124,8 @@ def marked_further(made: Marked, acts: List[Tuple[int, bytes]], marker: Marker, 
     # (what the last line gives needs no mark)
     some = [it for _, it in acts[:done]] + [line for _, it in acts[done:end] for line in (it, marker.line)]
     text = marker.head + b"%%\n" + b"".join(it + b"\n" for it in some[:MOST_LINES])
-    lines = KeptLines(Collected())
-    ran = program.ran_of(["run"], text, lines)
-    taken_apart(made, lines.lines, acts[:end], marker, ran.status)
+    answer = program.answer(["run"], text)
+    taken_apart(made, answer.lines, acts[:end], marker, answer.status)
     is_last_run = end == len(acts) or made.last != b"end"
     if not is_last_run:
         made.rest, made.last = [], None

@@ -7,8 +7,8 @@ from __future__ import annotations
 from dataclasses import dataclass, field
 from typing import Callable, Dict, List, Optional, Tuple
 
-from cli.language import Applied, Constant, Element, Emit, Expression, If, Let, Module, Repeat, Send
-from cli.language import Statement, Store, Variable
+from sancus.model.language import Applied, Constant, Element, Emit, Expression, If, Let, Module, Repeat, Send
+from sancus.model.language import Statement, Store, Variable
 
 WORD = 0xFFFF
 COMBINED: Dict[str, Callable[[int, int], int]] = {

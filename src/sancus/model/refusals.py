@@ -9,14 +9,14 @@ import re
 from dataclasses import dataclass
 from typing import Callable, Dict, Iterator, List, Optional, Set, Tuple
 
-from cli import stepping
-from cli.deployment import Bounds
-from cli.forged import presented_by
-from cli.inspection import Inspected, broken
-from cli.items import Item
-from cli.model import LAST_EPOCH, Fails, Model
-from cli.numbers import number
-from cli.session import Stopped, snapped
+from sancus.model import stepping
+from sancus.model.deployment import Bounds
+from sancus.model.forged import presented_by
+from sancus.model.inspection import Inspected, broken
+from sancus.model.items import Item
+from sancus.model.legality import LAST_EPOCH, Fails, Model
+from sancus.model.numbers import number
+from sancus.model.session import Stopped, snapped
 
 IN_WINDOW, OUT_WINDOW, TOP = 40, 384, 0x10000
 # Packets by their first word; the entries 0, 1 and 2 take them in this order.

@@ -7,9 +7,9 @@ from __future__ import annotations
 from dataclasses import dataclass
 from typing import Iterator, List, Set
 
-from cli import language
-from cli.language import Element, Emit, Expression, Handler, Let, Module, Repeat, Send, Statement, Store
-from cli.language import Variable
+from sancus.model import language
+from sancus.model.language import Element, Emit, Expression, Handler, Let, Module, Repeat, Send, Statement, Store
+from sancus.model.language import Variable
 
 
 @dataclass(frozen=True)

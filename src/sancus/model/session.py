@@ -7,11 +7,11 @@ from dataclasses import dataclass, field
 from threading import Thread
 from typing import List, Optional, Sequence, Tuple
 
-from cli.acts import is_act
-from cli.deployment import Plan
-from cli.marks import MOST_LINES, Marker, marker_of
-from cli.program import Program
-from cli.status import NO_ANSWER, Ended
+from sancus.model.acts import is_act
+from sancus.model.deployment import Plan
+from sancus.model.marks import MOST_LINES, Marker, marker_of
+from sancus.model.asking import Program
+from sancus.status import NO_ANSWER, Ended
 
 # `snap` keeps a copy of the run after so many lines, and performs the lines after it again for each query.
 BETWEEN_COPIES = 8192
@@ -174,7 +174,7 @@ def as_act(line: str) -> bytes:
 
 def start(program: Program, head: bytes, plan: Plan) -> Session:
     """A run of a deployment whose schedule is still to come."""
-    if not program.build().is_fast:
+    if not program.is_fast:
         raise Ended(NO_ANSWER, "this runs the program line by line, and needs a fast build: `./sancus build` makes one")
     marker = marker_of(head, plan)
     answer = program.ask(["check"], head + b"%%\n").decode(errors="replace").strip() if marker.is_added else "end"

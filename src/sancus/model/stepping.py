@@ -9,12 +9,12 @@ from __future__ import annotations
 from dataclasses import dataclass, field
 from typing import Dict, Iterator, List
 
-from cli.acts import ACTS, is_act, suits
-from cli.inspection import Inspected, Line, broken
-from cli.numbers import number
-from cli.say import plain
-from cli.session import Stopped, snapped, start
-from cli.status import BAD_TEXT, Ended
+from sancus.model.acts import ACTS, is_act, suits
+from sancus.model.inspection import Inspected, Line, broken
+from sancus.model.numbers import number
+from sancus.model.shown import plain
+from sancus.model.session import Stopped, snapped, start
+from sancus.status import BAD_TEXT, Ended
 
 # More steps than this aren't shown: a schedule has room for 65,536 lines.
 MOST_STEPS = 20_000

@@ -1,4 +1,4 @@
-"""The one table of words for faults, statuses and causes: cli/faults.json, which the pages read too."""
+"""The one table of words for faults, statuses and causes: src/sancus/faults.json, which the pages read too."""
 
 from __future__ import annotations
 
@@ -7,7 +7,7 @@ from functools import lru_cache
 from pathlib import Path
 from typing import Any, Dict
 
-FILE = Path(__file__).resolve().parent / "faults.json"
+FILE = Path(__file__).resolve().parent.parent / "faults.json"
 
 
 @lru_cache(maxsize=1)

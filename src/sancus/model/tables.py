@@ -8,8 +8,8 @@ import re
 from dataclasses import dataclass
 from typing import Any, Dict, List, Optional
 
-from cli.deployment import KINDS, Entry, Plan, module_of, port_of
-from cli.rules import near
+from sancus.model.deployment import KINDS, Entry, Plan, module_of, port_of
+from sancus.model.rules import near
 
 LOWEST, HIGHEST = 0x0200, 0xFFE0
 # Below this place are the windows to which lines for people have packets written.

@@ -5,6 +5,7 @@ use.
 from __future__ import annotations
 
 import re
+from importlib import import_module
 from typing import Any, Dict, List, Optional
 
 
@@ -16,16 +17,27 @@ class NoToml(ValueError):
         self.what, self.line, self.column = what, line, column
 
 
+def standard_reader() -> Any:
+    """The library that reads TOML: Python has it from 3.11 on, and an installed package before that; None in a clone on
+    3.10."""
+    for name in ("tomllib", "tomli"):
+        try:
+            return import_module(name)
+        except ImportError:
+            continue
+    return None
+
+
 def read(text: str) -> Dict[str, Any]:
-    try:
-        import tomllib
-    except ImportError:
+    library = standard_reader()
+    if not library:
         return Reader(text).document()
     try:
-        return tomllib.loads(text)
+        document: Dict[str, Any] = library.loads(text)
+        return document
     except RecursionError:
         raise NoToml("arrays and tables are nested too deep") from None
-    except tomllib.TOMLDecodeError as error:
+    except library.TOMLDecodeError as error:
         found = re.search(r" \(at (?:line (\d+), column (\d+)|end of document)\)$", str(error))
         if found and found[1]:
             raise NoToml(str(error)[: found.start()], int(found[1]), int(found[2])) from None
@@ -90,8 +102,9 @@ class Reader:
         rows = table.setdefault(names[-1], [])
         if not isinstance(rows, list):
             raise self.fail(f"`{names[-1]}` is no array of tables")
-        rows.append({})
-        return rows[-1]
+        row: Dict[str, Any] = {}
+        rows.append(row)
+        return row
 
     def into(self, table: Dict[str, Any], name: str) -> Dict[str, Any]:
         found = table.setdefault(name, {})

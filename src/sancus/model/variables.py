@@ -6,20 +6,14 @@ docs/PROTOCOL.md has the section's form: from 512 on a slot for each end, then t
 
 from __future__ import annotations
 
-import os
-import re
 from dataclasses import dataclass
 from typing import Dict, Iterator, List, Optional, Tuple
 
-from cli.commands import Given, Usage
-from cli.context import Context
-from cli.deployment import Bounds
-from cli.inspection import Inspected, Line, broken, inspected
-from cli.marks import CannotMark, marked_run
-from cli.numbers import number
-from cli.output import print_lines
-from cli.session import Stopped, snapped
-from cli.texts import Input
+from sancus.model.deployment import Bounds
+from sancus.model.inspection import Inspected, Line, broken
+from sancus.model.marks import CannotMark, marked_run
+from sancus.model.session import Stopped, snapped
+from sancus.model.texts import Input
 
 SLOTS, SLOT = 512, 24
 MOST_BYTES = 64
@@ -229,26 +223,3 @@ def came_or_went(node: str, found: Seen, cells: List[Cells]) -> str:
     if found.since is None:
         return f"not protected any more: {node} was reset"
     return "; ".join([f"protected, boot {found.boot}", *(it.told() for it in cells)])
-
-
-# --- The command ---
-
-
-def ends_with_line(words: List[str]) -> bool:
-    """Whether the last of some words is LINE, and not MODULE: it is a number or FILE:LINE, or a module's name comes
-    before it."""
-    if number(words[-1]) is not None or re.search(r":[0-9]+$", words[-1]):
-        return True
-    return bool(words[1:] and re.fullmatch(r"[a-z][a-z0-9_]*", words[-2])) and not os.path.exists(words[-2])
-
-
-def answer(context: Context, given: Given) -> int:
-    words = [*given.texts("SCHEDULE"), *given.texts("MODULE")]
-    line = words.pop() if ends_with_line(words) else ""
-    if not words:
-        raise Usage("missing: MODULE", given.command)
-    module = words.pop()
-    seen = inspected([given.text("INPUT"), *words], given.has("drive"), context)
-    asked = seen.line(line) if line else seen.end()
-    print_lines(*(changes if given.has("changes") else told)(seen, seen.module(module), asked))
-    return 0

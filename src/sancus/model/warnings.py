@@ -4,11 +4,11 @@ from __future__ import annotations
 
 from typing import Dict, Iterator, List, Tuple
 
-from cli import language
-from cli.deployment import Plan, module_of, port_of
-from cli.faults import Teller
-from cli.language import Applied, Combined, Constant, Element, Expression, Module, Statement, Store
-from cli.rules import subexpressions, walk
+from sancus.model import language
+from sancus.model.deployment import Plan, module_of, port_of
+from sancus.model.faults import Teller
+from sancus.model.language import Applied, Combined, Constant, Element, Expression, Module, Statement, Store
+from sancus.model.rules import subexpressions, walk
 
 WORD = 65536
 # More places of one module aren't told.

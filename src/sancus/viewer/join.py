@@ -1,4 +1,4 @@
-"""Joins the parts of the viewer to one page. Fault words and statuses come from cli/faults.json, as everywhere."""
+"""Joins the parts of the viewer to one page. Fault words and statuses come from src/sancus/faults.json, as everywhere."""
 
 from __future__ import annotations
 
