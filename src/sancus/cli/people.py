@@ -9,7 +9,7 @@ from typing import List, Optional, Tuple, Type, TypeVar
 
 from sancus.cli.context import Context
 from sancus.model.deployment import plan_of
-from sancus.model.faults import Teller
+from sancus.model.faults import Teller, of_line
 from sancus.cli.joining import joined
 from sancus.model.marks import MOST_LINES, CannotMark, marked_lines, marked_run
 from sancus.cli.output import print_lines, write
@@ -86,17 +86,9 @@ def read_lines(files: List[str], context: Context) -> Lines:
     return lines_of(kept, data)
 
 
-def refused(error: Stopped, made: Lines, at: str, text: str, command: Program) -> Ended:
+def refused(error: Stopped, made: Lines, at: str, text: str, program: Program) -> Ended:
     """A plain line that breaks a rule of a schedule, told with the people's own place."""
-    fault = error.fault.split()
-    lines = [f"{at}: {short(text)}"]
-    if fault[:2] == ["fault", "schedule"]:
-        whole = kept_of(made.head + b"%%\n" + text.encode(errors="surrogateescape"), "")
-        told = Teller(whole, "schedule", command.ask).told(f"fault schedule {fault[2]} 1")
-        lines += [told[0], *(it for it in told[1:] if not it.startswith((":", "line ")) and it.strip(" ^"))]
-    else:
-        lines.append(error.fault)
-    return Ended(BAD_TEXT, *lines)
+    return Ended(BAD_TEXT, f"{at}: {short(text)}", *of_line(made.head, error.fault, text, program.ask))
 
 
 def noted(writer: Writer, at: str, text: str) -> List[str]:

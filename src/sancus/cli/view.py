@@ -2,95 +2,26 @@
 
 from __future__ import annotations
 
-import base64
 import re
-from dataclasses import dataclass
 from pathlib import Path
-from typing import Dict, List, Optional
+from typing import List, Optional
 
+from sancus.cli.commands import Given, Usage
 from sancus.cli.context import Context
-from sancus.model.deployment import plan_of
-from sancus.model.faults import Teller
 from sancus.cli.inspecting import put_together
-from sancus.model.inspection import are_readings
-from sancus.model.marks import CannotMark, marked_lines, marked_run
 from sancus.cli.output import print_lines
 from sancus.cli.people import as_schedule
-from sancus.cli.program import Collected
-from sancus.cli.sinks import TraceOnly
-from sancus.status import BAD_TEXT, Ended
 from sancus.cli.reading import look_at, read_all
-from sancus.model.texts import Input
-from sancus.viewer.join import joined
 from sancus.cli.writing import must_be_free, write_file
-from sancus.cli.commands import Given, Usage
+from sancus.model.deployment import plan_of
+from sancus.model.faults import Teller
+from sancus.model.inspection import are_readings
+from sancus.status import BAD_TEXT, Ended
+from sancus.viewer.join import joined
+from sancus.viewer.pages import Drawn, Texts, is_page, of_readings, of_run, page_of
 
 # A line that only the output of `run` or `drive` has.
 OUTPUT = re.compile(rb"(?m)^(trace\r?$|image [a-z]|> )")
-SLOT = '<script type="text/plain" id="data">'
-Texts = Dict[str, bytes]
-
-
-@dataclass
-class Drawn:
-    """A run to draw: the program's output, and how it ended."""
-
-    texts: Texts
-    last: str
-    status: int
-
-
-def without_lines(text: bytes) -> bytes:
-    """The items of a marked run alone, with images and the last line."""
-    return b"".join(it + b"\n" for it in text.split(b"\n")[:-1] if not it.startswith(b"> "))
-
-
-def causes_of(context: Context, head: bytes, trace: bytes) -> bytes:
-    """What `explain` says of a trace, if it says anything."""
-    sink = Collected()
-    ran = context.program.ran_of(["explain"], head + b"%%\n" + trace, sink)
-    return sink.data() if ran.status in (0, 8) else b""
-
-
-def of_run(context: Context, data: Input) -> Drawn:
-    """A run, with the lines of its schedule if these are certain, and its causes."""
-    text, sink = data.data, Collected()
-    ran = context.program.ran_of(["run"], text, sink)
-    output = sink.data()
-    plain = output
-    # (a run that ended in a fault of its schedule has a trace too)
-    has_trace = b"\ntrace\n" in b"\n" + plain
-    try:
-        lines = b"".join(it + b"\n" for it in marked_lines(data, marked_run(data, context.program)))
-        if without_lines(lines) == plain:
-            output = lines
-    except CannotMark as error:
-        if has_trace:
-            context.voice.say(f"no marked run, so the page matches items and lines: {error}")
-    causes = causes_of(context, data.head, plain) if has_trace else b""
-    return Drawn({"input": text, "output": output, "causes": causes}, ran.last, ran.status)
-
-
-def of_readings(context: Context, data: Input) -> Drawn:
-    """An honest run of readings, whose output has the lines of its schedule."""
-    text, sink = data.data, Collected()
-    ran = context.program.ran_of(["drive"], text, sink)
-    trace = Collected()
-    only = TraceOnly(trace)
-    only.write(sink.data())
-    causes = causes_of(context, data.head, trace.data())
-    return Drawn({"input": text, "output": sink.data(), "causes": causes}, ran.last, ran.status)
-
-
-def page_of(texts: Texts) -> str:
-    """The page, with texts that it holds in base64, so that none can end the script element."""
-    held = "\n".join(f"{name} {base64.b64encode(text).decode()}" for name, text in texts.items() if text)
-    return joined().replace(SLOT, SLOT + held, 1)
-
-
-def is_page(text: str) -> bool:
-    """Whether a file is such a page, which `view` or the page itself wrote."""
-    return text.startswith("<!doctype html>") and SLOT in text
 
 
 def page_for(given: Given, names: List[str], inputs: List[str]) -> Path:
@@ -122,7 +53,8 @@ def run_drawn(context: Context, given: Given, files: List[str]) -> Drawn:
     refusal: Optional[Ended] = None
     if plan and not is_driven:
         kept, data, refusal = as_schedule(kept, data, context)
-    drawn = (of_readings if is_driven else of_run)(context, data)
+    drawn = (of_readings if is_driven else of_run)(data, context.program)
+    context.voice.say(*([drawn.note] if drawn.note else []))
     if drawn.last.startswith("fault "):
         lines = Teller(kept, "drive" if is_driven else "run", context.program.ask).told(drawn.last)
         if drawn.last.startswith("fault deployment") or drawn.last == "fault read":
@@ -150,7 +82,7 @@ def answer(context: Context, given: Given) -> int:
     if has_output and len(files) > 3:
         raise Usage("after what `run` wrote `view` takes only what `explain` wrote of it", given.command)
     page = page_for(given, named[:2] if has_output else named, files)
-    drawn = Drawn(given_texts(files), "", 0) if has_output else run_drawn(context, given, files)
+    drawn = Drawn(given_texts(files)) if has_output else run_drawn(context, given, files)
     title = ", ".join(Path(it).name for it in dict.fromkeys([named[-1], named[0]]))
     write_file(page, page_of({**drawn.texts, "name": title.encode(errors="surrogateescape")}))
     print_lines(str(page))

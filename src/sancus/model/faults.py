@@ -14,7 +14,7 @@ from sancus.model.acts import ACTS, QUERIES, Field, Word, words_at
 from sancus.model.deployment import KINDS, Plan, plan_of
 from sancus.model.shown import MOST_SHOWN, short, text_of
 from sancus.model.table import words as table_words
-from sancus.model.texts import Kept, find_mark, split_lines
+from sancus.model.texts import Kept, find_mark, kept_of, split_lines
 
 Lines = List[str]
 Ask = Callable[[List[str], bytes], bytes]
@@ -416,3 +416,13 @@ class Teller:
             "trace": self.trace,
         }
         return by_line[what](rule, int(place[0])) if place[0].isdigit() else []
+
+
+def of_line(head: bytes, fault: str, line: str, ask: Ask) -> Lines:
+    """What a fault of a schedule says of its line alone, wherever that stands."""
+    words = fault.split()
+    if words[:2] != ["fault", "schedule"]:
+        return [fault]
+    kept = kept_of(head + b"%%\n" + line.encode(errors="surrogateescape"), "")
+    told = Teller(kept, "schedule", ask).told(f"fault schedule {words[2]} 1")
+    return [told[0], *(it for it in told[1:] if not it.startswith((":", "line ")) and it.strip(" ^"))]

@@ -134,7 +134,7 @@ def executed(moment: Moment, node: str) -> Optional[Executed]:
 
 def said_at(seen: Inspected, node: str, pc: int, texts: Dict[int, str]) -> str:
     module = stepping.module_at(seen, node, pc)
-    where = "outside the deployed modules" if module == "-" else f"in {module}"
+    where = "outside the deployed modules" if module is None else f"in {module}"
     return f"`{texts.get(pc, '?')}` at 0x{pc:04x}, {where}"
 
 
@@ -189,7 +189,7 @@ def entered(moment: Moment, node: str, pc: int, cause: str) -> Iterator[str]:
             yield f"0x{pc:04x} is in {it.told()}{more}"
 
 
-def met(moment: Moment, node: str, own: str, addresses: List[int], cause: str) -> Iterator[str]:
+def met(moment: Moment, node: str, own: Optional[str], addresses: List[int], cause: str) -> Iterator[str]:
     """Which sections of others, or devices, have some addresses."""
     for at in dict.fromkeys(addresses):
         for it in moment.places(node):
@@ -217,7 +217,7 @@ def of_busy(moment: Moment) -> Iterator[str]:
     node = moment.item.fields()["node"]
     pc = moment.registers(node)[0]
     module = stepping.module_at(moment.seen, node, pc)
-    yield f"at {moment.said()} PC is 0x{pc:04x}, in {module}, which isn't done: `finish {node}` lets it go on"
+    yield f"at {moment.said()} PC is 0x{pc:04x}, in {module or 'other code'}, which isn't done: `finish {node}` lets it go on"
 
 
 def of_skip(moment: Moment) -> Iterator[str]:

@@ -589,16 +589,22 @@ class Writer:
         """Does a line for people, or a plain one, and marks what was made of it. A plain line that stays as it is has a
         mark only after other marks, which end there."""
         words, begin, self.place = text.split(), len(self.lines), place
+        self.do(text)
         if not words or words[0].startswith("#"):
-            self.lines.append(text)
             return
-        if words[0] == "asm":
-            self.put(text)
-        else:
-            self.act(words)
         if self.is_marked or self.lines[begin:] not in ([text], [" ".join(words)]):
             self.is_marked = True
             self.lines.insert(begin, mark_of(place, words))
+
+    def do(self, text: str) -> None:
+        """Does a line, without a mark."""
+        words = text.split()
+        if not words or words[0].startswith("#"):
+            self.lines.append(text)
+        elif words[0] == "asm":
+            self.put(text)
+        else:
+            self.act(words)
 
     def act(self, words: List[str]) -> None:
         """Does a line by its words."""

@@ -7,7 +7,7 @@ The line is taken apart into steps (`run NODE 1`), which the program runs and `s
 from __future__ import annotations
 
 from dataclasses import dataclass, field
-from typing import Dict, Iterator, List
+from typing import Dict, Iterator, List, Optional
 
 from sancus.model.acts import ACTS, is_act, suits
 from sancus.model.inspection import Inspected, Line, broken
@@ -36,13 +36,35 @@ class Parts:
     note: str = ""
 
 
-@dataclass
+@dataclass(frozen=True)
 class Step:
-    """A step: the registers before and after it, and its items."""
+    """A step: its instruction, the module in whose public section that lies, the registers before and after it, and
+    its items."""
 
     before: List[int]
     after: List[int]
     items: List[str]
+    text: str = "?"
+    module: Optional[str] = None
+
+    @property
+    def pc(self) -> int:
+        return self.before[0]
+
+    @property
+    def registers(self) -> Dict[str, int]:
+        """The registers that it changed, but PC."""
+        three = list(zip(NAMES, self.before, self.after))[1:]
+        return {name: new for name, old, new in three if old != new}
+
+
+@dataclass
+class Stepped:
+    """The steps of a line, with what was set before them, and what else is to be said."""
+
+    steps: List[Step] = field(default_factory=list)
+    before: List[str] = field(default_factory=list)
+    note: str = ""
 
 
 def parts_of(seen: Inspected, line: str) -> Parts:
@@ -163,25 +185,23 @@ def disassembled(seen: Inspected, memory: Dict[int, int], addresses: List[int]) 
 def changes(step: Step) -> str:
     """The registers that a step changed, but PC."""
     made = []
-    for name, old, new in list(zip(NAMES, step.before, step.after))[1:]:
-        if old != new:
-            flags = " ".join(flag for bit, flag in FLAGS if new & bit)
-            made.append(f"{name}=0x{new:04x}" + (f" ({flags})" if name == "sr" and flags else ""))
+    for name, new in step.registers.items():
+        flags = " ".join(flag for bit, flag in FLAGS if new & bit)
+        made.append(f"{name}=0x{new:04x}" + (f" ({flags})" if name == "sr" and flags else ""))
     return " ".join(made)
 
 
-def module_at(seen: Inspected, node: str, pc: int) -> str:
+def module_at(seen: Inspected, node: str, pc: int) -> Optional[str]:
     for it in seen.plan.modules:
         bounds = seen.plan.bounds(it)
         if bounds and it.get("node") == node and bounds.text <= pc < bounds.text_end:
             return str(it.get("name"))
-    return "-"
+    return None
 
 
-def rows(seen: Inspected, node: str, steps: List[Step], texts: Dict[int, str]) -> Iterator[str]:
+def rows(steps: List[Step]) -> Iterator[str]:
     for at, step in enumerate(steps, 1):
-        pc = step.before[0]
-        row = f"{at:5} 0x{pc:04x} {module_at(seen, node, pc):<10} {texts.get(pc, '?'):<28} {changes(step)}"
+        row = f"{at:5} 0x{step.pc:04x} {step.module or '-':<10} {step.text:<28} {changes(step)}"
         yield row.rstrip()
         for it in step.items:
             yield f"      {it}"
@@ -222,30 +242,43 @@ def must_be_an_act(seen: Inspected, line: str, at: int) -> None:
 
 
 def told_line(seen: Inspected, at: int, most: int) -> List[str]:
+    """The steps of a line of the schedule, so many at most, as lines."""
+    made = steps_of(seen, at, most)
+    return [*map(shortened, made.before), *rows(made.steps), *([made.note] if made.note else [])]
+
+
+def steps_of(seen: Inspected, at: int, most: int = MOST_STEPS) -> Stepped:
     """The steps of a line of the schedule, so many at most."""
     line = seen.lines[at - 1]
     must_be_an_act(seen, line, at)
     parts = parts_of(seen, line)
     if parts.note:
-        return [parts.note]
+        return Stepped(note=parts.note)
     parts.most = min(parts.most, most)
-    act, module = line.split()[0], line.split()[1]
-    if act == "load":
+    if line.split()[0] == "load":
+        module = line.split()[1]
         parts.before = load_parts(seen, module, image_of(seen, module))
     walk = walked(seen, at, parts)
     if walk.is_busy:
-        return [f"refused, since a module runs on {parts.node}: no instruction is executed"]
-    first = at - 1 + len(parts.before)
-    values = registers(seen, parts.node, walk.lines, first, len(walk.items) + 1)
-    steps = [Step(values[it], values[it + 1], items) for it, items in enumerate(walk.items)]
+        return Stepped(note=f"refused, since a module runs on {parts.node}: no instruction is executed")
+    steps = with_texts(seen, parts.node, walk, at - 1 + len(parts.before))
+    note = "and perhaps more: a schedule has no room for further steps" if walk.is_cut else ""
+    if not note and len(walk.items) == most:
+        note = f"and more: {MOST_STEPS:,} steps are shown at most"
+    return Stepped(steps, parts.before, note)
+
+
+def with_texts(seen: Inspected, node: str, walk: Walk, first: int) -> List[Step]:
+    """The steps of a walk, with the registers after each of its lines, and the texts of the instructions."""
+    values = registers(seen, node, walk.lines, first, len(walk.items) + 1)
     places: Dict[int, int] = {}
-    for number_, step in enumerate(steps):
-        places.setdefault(step.before[0], first + number_)
-    texts = disassembled(seen, code_at(seen, parts.node, walk.lines, places), list(places))
-    lines = [*(shortened(it) for it in parts.before), *rows(seen, parts.node, steps, texts)]
-    if walk.is_cut:
-        return [*lines, "and perhaps more: a schedule has no room for further steps"]
-    return lines + ([f"and more: {MOST_STEPS:,} steps are shown at most"] if len(walk.items) == most else [])
+    for which in range(len(walk.items)):
+        places.setdefault(values[which][0], first + which)
+    texts = disassembled(seen, code_at(seen, node, walk.lines, places), list(places))
+    return [
+        Step(old, new, items, texts.get(old[0], "?"), module_at(seen, node, old[0]))
+        for old, new, items in zip(values, values[1:], walk.items)
+    ]
 
 
 def shortened(line: str) -> str:

@@ -6,8 +6,8 @@ docs/PROTOCOL.md has the section's form: from 512 on a slot for each end, then t
 
 from __future__ import annotations
 
-from dataclasses import dataclass
-from typing import Dict, Iterator, List, Optional, Tuple
+from dataclasses import dataclass, field
+from typing import Dict, Iterator, List, Optional, Tuple, Union
 
 from sancus.model.deployment import Bounds
 from sancus.model.inspection import Inspected, Line, broken
@@ -83,19 +83,6 @@ def words_of(data: bytes) -> List[int]:
     return [int.from_bytes(data[at : at + 2], "little") for at in range(0, len(data), 2)]
 
 
-def end_lines(seen: Inspected, module: str, data: bytes) -> List[str]:
-    lines = []
-    for at, end in enumerate(seen.plan.ends(module)):
-        field, event, is_open = words_of(data[SLOT * at : SLOT * at + 6])
-        way = "sends" if end.side == "from" else "takes"
-        other = seen.plan.receiver(end.connection) if end.side == "from" else seen.plan.sender(end.connection)
-        said = f"open in epoch {field >> 8}, next event {event}" if is_open else "not open"
-        lines.append(
-            f"end {end.connection} {end.side}: {said} ({way} {'to' if end.side == 'from' else 'from'} {other})"
-        )
-    return lines
-
-
 @dataclass(frozen=True)
 class Cells:
     """A variable or an array, with its values."""
@@ -125,13 +112,44 @@ def cells_of(seen: Inspected, module: str, data: bytes) -> List[Cells]:
     return cells
 
 
-def pc_line(seen: Inspected, node: str, registers: List[str]) -> str:
-    pc = int(registers[0], 16)
-    for it in seen.plan.modules:
-        bounds = seen.plan.bounds(it)
-        if bounds and it.get("node") == node and bounds.text <= pc < bounds.text_end:
-            return f"pc of {node} 0x{pc:04x}, in the public section of {it.get('name')}"
-    return f"pc of {node} 0x{pc:04x}, outside the deployed modules"
+@dataclass(frozen=True)
+class State:
+    """A module after a line of the schedule: the boot of its node, since which line it is protected if it is, its cells,
+    the epoch and the next event of each end that is open, and PC of its node."""
+
+    module: str
+    line: int
+    boot: int
+    since: Optional[int] = None
+    cells: List[Cells] = field(default_factory=list)
+    ends: Dict[Tuple[str, str], Optional[Tuple[int, int]]] = field(default_factory=dict)
+    pc: int = 0
+
+    @property
+    def is_protected(self) -> bool:
+        return self.since is not None
+
+    @property
+    def variables(self) -> Dict[str, Union[int, List[int]]]:
+        """Variables and arrays by their names."""
+        return {it.name: it.values if it.kind == "array" else it.values[0] for it in self.cells}
+
+
+def state_of(seen: Inspected, module: str, line: int) -> State:
+    """A module after a line of the schedule."""
+    found = looked_up(seen, module, line)
+    if found.since is None:
+        return State(module, line, found.boot)
+    try:
+        data, registers = private_bytes(seen, seen.plan.node_of(module), bounds_of(seen, module), line)
+    except Stopped as error:
+        raise broken(seen, str(error)) from None
+    ends = {}
+    for at, end in enumerate(seen.plan.ends(module)):
+        number, event, is_open = words_of(data[SLOT * at : SLOT * at + 6])
+        ends[end.connection, end.side] = (number >> 8, event) if is_open else None
+    cells = cells_of(seen, module, data[SLOT * len(ends) :])
+    return State(module, line, found.boot, found.since, cells, ends, int(registers[0], 16))
 
 
 def bounds_of(seen: Inspected, module: str) -> Bounds:
@@ -141,27 +159,36 @@ def bounds_of(seen: Inspected, module: str) -> Bounds:
     return bounds
 
 
+def end_lines(seen: Inspected, state: State) -> Iterator[str]:
+    for (connection, side), is_open in state.ends.items():
+        said = f"open in epoch {is_open[0]}, next event {is_open[1]}" if is_open else "not open"
+        other = f"sends to {seen.plan.receiver(connection)}" if side == "from" else f"takes from {seen.plan.sender(connection)}"
+        yield f"end {connection} {side}: {said} ({other})"
+
+
+def pc_line(seen: Inspected, node: str, pc: int) -> str:
+    for it in seen.plan.modules:
+        bounds = seen.plan.bounds(it)
+        if bounds and it.get("node") == node and bounds.text <= pc < bounds.text_end:
+            return f"pc of {node} 0x{pc:04x}, in the public section of {it.get('name')}"
+    return f"pc of {node} 0x{pc:04x}, outside the deployed modules"
+
+
 def told(seen: Inspected, module: str, asked: Line) -> List[str]:
     """A module after a line, as lines."""
-    line = asked.last
     node, bounds = seen.plan.node_of(module), bounds_of(seen, module)
-    lines = [seen.headed(asked)]
-    found = looked_up(seen, module, line)
+    state = state_of(seen, module, asked.last)
+    head = f"module {module} on node {node}, boot {state.boot}"
     where = f"text 0x{bounds.text:04x} to 0x{bounds.text_end:04x}, data 0x{bounds.data:04x} to 0x{bounds.data_end:04x}"
-    if found.since is None:
-        return [*lines, f"module {module} on node {node}, boot {found.boot}: not protected after this line; {where}"]
-    since = f" since {seen.said(found.since)}" if found.since else ""
-    try:
-        data, registers = private_bytes(seen, node, bounds, line)
-    except Stopped as error:
-        raise broken(seen, str(error)) from None
-    lines.append(f"module {module} on node {node}, boot {found.boot}: protected{since}; {where}")
-    slots = SLOT * len(seen.plan.ends(module))
+    if not state.is_protected:
+        return [seen.headed(asked), f"{head}: not protected after this line; {where}"]
+    since = f" since {seen.said(state.since)}" if state.since else ""
     return [
-        *lines,
-        *(it.told() for it in cells_of(seen, module, data[slots:])),
-        *end_lines(seen, module, data),
-        pc_line(seen, node, registers),
+        seen.headed(asked),
+        f"{head}: protected{since}; {where}",
+        *(it.told() for it in state.cells),
+        *end_lines(seen, state),
+        pc_line(seen, node, state.pc),
     ]
 
 
