@@ -1,7 +1,7 @@
 // What statuses, causes of resets and items say, in the words of docs/FORMATS.md and docs/PROTOCOL.md.
 
 const ENTRIES = ["set key", "attest", "input", "sample"];
-// The table of src/sancus/faults.json, which the page holds.
+// The table of words for faults, statuses and causes, faults.json, which the page holds.
 const STATUSES = WORDS.statuses;
 const CAUSES = WORDS.causes;
 
