@@ -23,15 +23,16 @@ sys.path.insert(0, str(TOP / "src"))
 import importlib  # noqa: E402
 import pkgutil  # noqa: E402
 
-import sancus as package  # noqa: E402
+from sancus import cli, model  # noqa: E402
 from sancus.builds import Builds  # noqa: E402
 from sancus.cli.main import run  # noqa: E402
 from sancus.status import Ended  # noqa: E402
-from sancus.model.texts import Input# noqa: E402
+from sancus.model.texts import Input  # noqa: E402
 
 # (so that a fork has them)
-for found in pkgutil.walk_packages(package.__path__, "sancus."):
-    importlib.import_module(found.name)
+for package in (cli, model):
+    for found in pkgutil.iter_modules(package.__path__, f"{package.__name__}."):
+        importlib.import_module(found.name)
 
 SANCUS = TOP / "sancus"
 EXAMPLES = TOP / "examples"
