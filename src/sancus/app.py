@@ -8,6 +8,7 @@ from typing import TYPE_CHECKING, Dict, Iterable, List, Optional, Tuple, Union
 
 from sancus.errors import Fault
 from sancus.model import warnings
+from sancus.model.asking import Program
 from sancus.model.deployment import Plan, plan_of
 from sancus.model.faults import Teller
 from sancus.model.schedule import are_for_people
@@ -34,10 +35,12 @@ class Bounds:
 class App:
     """A deployment that the program accepted. What it refuses is a Fault."""
 
-    def __init__(self, head: bytes, name: str = "", schedule: bytes = b"") -> None:
+    def __init__(
+        self, head: bytes, name: str = "", schedule: bytes = b"", program: Optional[Program] = None
+    ) -> None:
         self.head = head if head.endswith(b"\n") or not head else head + b"\n"
         self.name, self.own_schedule = name, schedule
-        self.program = runner()
+        self.program: Program = program or runner()
         lines = [text_of(it) for it in self.program.answer(["check"], self.input(b"")).lines]
         self.must_be_accepted(lines[-1] if lines else "")
         plan = plan_of(self.head)

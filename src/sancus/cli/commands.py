@@ -279,6 +279,25 @@ The program runs as the lines are written, so packets, boots and pieces are thos
         "prints by which line and instruction a node was reset, and why a line, an answer or a call was refused.",
     ),
     Command(
+        "test",
+        "runs schedules that say what they expect, and compares",
+        (Argument("FILE", MANY, "files, or folders in which test_*.sancus are looked for; absent, this folder"),),
+        (
+            Option("--update", "writes the items of each line that has expectations in their place"),
+            Option("--junit", "writes the results there too, as servers for tests read them", "XML"),
+        ),
+        "sancus test examples",
+        "A file has lines of a schedule, for people too. Its expectations are comments, so `run` takes it as well:",
+        table=(
+            ("#: deployment FILE", "the deployment, if the file has none of its own; a path from the file's folder"),
+            ("#> ITEM", "the line above gives an item that begins so, after those of the `#>` before"),
+            ("#> !ITEM, #> -", "it gives no item that begins so; it gives nothing"),
+            ("#: never ITEM", "no line gives an item that begins so"),
+            ("#: legal", "the sources allow the whole run"),
+        ),
+        after="With pytest, test_*.sancus are collected where the package is installed.",
+    ),
+    Command(
         "hex",
         "turns programs of other tools into schedule lines, and images into files for them",
         (

@@ -64,6 +64,12 @@ def why(context: Context, given: Given) -> int:
     return answer(context, given)
 
 
+def test(context: Context, given: Given) -> int:
+    from sancus.cli.testing import answer
+
+    return answer(context, given)
+
+
 def hex_files(context: Context, given: Given) -> int:
     from sancus.cli.hexfiles import answer
 
@@ -155,6 +161,7 @@ ANSWERS: Dict[str, Callable[[Context, Given], int]] = {
     "vars": variables,
     "steps": steps,
     "why": why,
+    "test": test,
     "hex": hex_files,
     "build": build,
     "version": version,
