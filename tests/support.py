@@ -18,20 +18,21 @@ from pathlib import Path
 from typing import Callable, Iterable, List, NoReturn, Optional, Tuple, Union
 
 TOP = Path(__file__).resolve().parent.parent
-sys.path.insert(0, str(TOP))
+sys.path.insert(0, str(TOP / "src"))
 
 import importlib  # noqa: E402
 import pkgutil  # noqa: E402
 
-import cli  # noqa: E402
-from cli.builds import Builds  # noqa: E402
-from cli.main import run  # noqa: E402
-from cli.status import Ended  # noqa: E402
-from cli.texts import Input  # noqa: E402
+from sancus import cli, model  # noqa: E402
+from sancus.builds import Builds  # noqa: E402
+from sancus.cli.main import run  # noqa: E402
+from sancus.status import Ended  # noqa: E402
+from sancus.model.texts import Input  # noqa: E402
 
 # (so that a fork has them)
-for found in pkgutil.iter_modules(cli.__path__):
-    importlib.import_module(f"cli.{found.name}")
+for package in (cli, model):
+    for found in pkgutil.iter_modules(package.__path__, f"{package.__name__}."):
+        importlib.import_module(found.name)
 
 SANCUS = TOP / "sancus"
 EXAMPLES = TOP / "examples"

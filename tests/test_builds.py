@@ -13,9 +13,9 @@ from unittest.mock import patch
 
 from support import EXAMPLES, LIGHTING, PROGRAM, SANCUS, TOP, Room, needs_program
 
-from cli import builds
-from cli.builds import Sources, sum_of
-from cli.status import Ended
+from sancus import builds
+from sancus.builds import Sources, sum_of
+from sancus.status import Ended
 
 
 class Builds(Room):
@@ -31,7 +31,7 @@ class Builds(Room):
             (self.top / name).write_text(text)
         (self.crate / "src" / "main.rt").write_text("fn main() {}\n")
         shutil.copy(TOP / "sancus", self.top)
-        shutil.copytree(TOP / "cli", self.top / "cli", ignore=shutil.ignore_patterns("__pycache__"))
+        shutil.copytree(TOP / "src", self.top / "src", ignore=shutil.ignore_patterns("__pycache__"))
 
     def rt(self, script):
         path = self.room / "bin" / "rt"

@@ -5,9 +5,10 @@ import unittest
 
 from support import LIGHTING, SANCUS, TOP, Room, sancus, one_by_one
 
-from cli import manual
-from cli.commands import BY_NAME, COMMANDS
-from cli.schedule import FORMS
+from sancus import __version__
+from sancus.cli import manual
+from sancus.cli.commands import BY_NAME, COMMANDS
+from sancus.model.schedule import FORMS
 
 
 class Help(unittest.TestCase):
@@ -34,7 +35,7 @@ class Help(unittest.TestCase):
         for words in (["--version"], ["version"], ["-V"]):
             ran = sancus(*words, program="/bin/cat")
             self.assertEqual(ran.status, 0)
-            self.assertEqual([it.split(":")[0] for it in ran.lines], ["sancus", "build", "program", "kit", "commit"])
+            self.assertEqual([it.split(":")[0] for it in ran.lines], [f"sancus {__version__}", "build", "program", "kit", "commit"])
 
     def test_man_page_and_completion_are_current(self):
         self.assertEqual(

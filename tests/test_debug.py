@@ -6,13 +6,13 @@ from unittest.mock import patch
 
 from support import EXAMPLES, HEAD, LIGHTING, PROGRAM, TOP, Room, needs_program, program, sancus
 
-from cli import forged, marks, session
-from cli.builds import Builds
-from cli.deployment import plan_of
-from cli.items import Item
-from cli.program import Program
-from cli.say import Voice
-from cli.texts import Input
+from sancus.model import forged, marks, session
+from sancus.builds import Builds
+from sancus.model.deployment import plan_of
+from sancus.model.items import Item
+from sancus.cli.program import Program
+from sancus.cli.say import Voice
+from sancus.model.texts import Input
 
 LIGHTING_FILE = EXAMPLES / "lighting.txt"
 EASY = "deploy all\nsample eye 120\ncarry eye logic\nput a 0x900 00\n# at last\ncarry logic lamp\n"

@@ -6,10 +6,10 @@ import unittest
 
 from support import EXAMPLES, HEAD, LIGHTING, PROGRAM, Room, needs_program, program, sancus, one_by_one, whole_examples
 
-from cli import language, tables, toml, warnings
-from cli.deployment import plan_of
-from cli.faults import Teller
-from cli.texts import Input, kept_of
+from sancus.model import language, tables, toml, warnings
+from sancus.model.deployment import plan_of
+from sancus.model.faults import Teller
+from sancus.model.texts import Input, kept_of
 
 # What is changed in the lighting example, the command, the fault line, and words of what is told.
 CASES = [

@@ -11,8 +11,8 @@ from unittest.mock import patch
 
 from support import EXAMPLES, HEAD, LIGHTING, PROGRAM, SANCUS, Room, needs_program, program, sancus, usual_signals
 
-from cli.commands import BY_NAME, parse
-from cli.main import waiting
+from sancus.cli.commands import BY_NAME, parse
+from sancus.cli.main import waiting
 
 SCHEDULE = LIGHTING.partition(b"\n%%\n")[2]
 

@@ -4,8 +4,8 @@ import unittest
 
 from support import PROGRAM, TOP, Room, needs_program, program, sancus
 
-from cli.goals import all_goals
-from cli.judging import Watched
+from sancus.cli.goals import all_goals
+from sancus.model.judging import Watched
 
 GOALS = all_goals(TOP)
 REACHABLE = [it for it in GOALS if it.is_reachable]

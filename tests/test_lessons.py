@@ -9,8 +9,8 @@ from pathlib import Path
 
 from support import EXAMPLES, TOP, Room, needs_program, sancus
 
-from cli.judging import Watched
-from cli.viewer import join
+from sancus.model.judging import Watched
+from sancus.viewer import join
 
 NODE = shutil.which("node") or shutil.which("nodejs")
 VIEWER, PAGE = Path(join.__file__).parent, TOP / "tools" / "playground"

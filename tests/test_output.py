@@ -21,9 +21,9 @@ from support import (
     whole_examples,
 )
 
-from cli.program import Collected
-from cli.sinks import NoImages, ScheduleOnly, ShortImages, TraceOnly
-from cli.texts import Input
+from sancus.cli.program import Collected
+from sancus.cli.sinks import NoImages, ScheduleOnly, ShortImages, TraceOnly
+from sancus.model.texts import Input
 
 READINGS = EXAMPLES / "readings.txt"
 

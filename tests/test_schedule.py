@@ -5,7 +5,8 @@ from unittest.mock import patch
 
 from support import HEAD, LIGHTING, TOP, Room, needs_program, program, sancus, one_by_one
 
-from cli import people, schedule, session
+from sancus.cli import people
+from sancus.model import schedule, session
 
 DEPLOYMENT = HEAD.decode() + "%%\n"
 READING = "deploy all\nsample eye 120\ncarry eye logic\ncarry logic lamp\n"

@@ -17,14 +17,13 @@ from xml.etree import ElementTree
 
 from support import EXAMPLES, LIGHTING as LIGHTING_BYTES, PROGRAM, TOP, Room, needs_program, program, sancus
 
-from cli.builds import Builds
-from cli.context import Context
-from cli.marks import marked_lines, marked_run
-from cli.program import Program
-from cli.say import Voice
-from cli.texts import Input
-from cli.view import of_readings, of_run, page_of, without_lines
-from cli.viewer.join import joined
+from sancus.builds import Builds
+from sancus.model.marks import marked_lines, marked_run
+from sancus.cli.program import Program
+from sancus.cli.say import Voice
+from sancus.model.texts import Input
+from sancus.viewer.pages import of_readings, of_run, page_of, without_lines
+from sancus.viewer.join import joined
 
 BROWSER = next(
     (found for name in ("chromium", "chromium-browser", "google-chrome") if (found := shutil.which(name))), ""
@@ -45,9 +44,8 @@ ACTS = {"open": "page.show()", "end": "page.select(page.run.shown.length - 1)", 
 }
 
 
-def context():
-    builds = Builds(TOP, PROGRAM)
-    return Context(TOP, Voice(True), builds, Program(builds, Voice(True)))
+def started():
+    return Program(Builds(TOP, PROGRAM), Voice(True))
 
 
 class Browser:
@@ -294,7 +292,7 @@ class Viewer(unittest.TestCase):
     @needs_program
     def test_two_thousand_readings_of_the_program(self):
         lines, items = readings(2000, PACKETS)
-        texts = of_run(context(), Input((SET_UP + "\n".join(lines) + "\n").encode())).texts
+        texts = of_run(Input((SET_UP + "\n".join(lines) + "\n").encode()), started()).texts
         self.assertIn(b"> sense light 37\nsense light 37\n", texts["output"])
         self.assertIn("\n".join(items[-10:]), without_lines(b"%%\n" + texts["output"]).decode())
         self.show(texts)
@@ -366,7 +364,7 @@ class Viewer(unittest.TestCase):
             with self.subTest(file.name):
                 plain = program("run", text=text).out
                 lines = b"".join(
-                    it + b"\n" for it in marked_lines(Input(text), marked_run(Input(text), context().program))
+                    it + b"\n" for it in marked_lines(Input(text), marked_run(Input(text), started()))
                 )
                 self.assertEqual(without_lines(lines), plain)
                 split = "page.run.rows.filter(row => row.kind === 'act').map(row => [row.line.text.trim(), row.line.isUnsure ? null : row.line.items.map(item => item.text)])"
@@ -382,7 +380,7 @@ class Viewer(unittest.TestCase):
 
     @needs_program
     def test_readings(self):
-        texts = of_readings(context(), Input((EXAMPLES / "readings.txt").read_bytes())).texts
+        texts = of_readings(Input((EXAMPLES / "readings.txt").read_bytes()), started()).texts
         self.show(texts)
         self.assertEqual(self.texts("#notes div"), [])
         rows = self.browser.value("page.run.rows.filter(row => row.kind === 'act').map(row => row.line.text)")
@@ -390,7 +388,7 @@ class Viewer(unittest.TestCase):
 
     @needs_program
     def test_causes_of_the_program(self):
-        texts = of_run(context(), Input(LIGHTING_BYTES)).texts
+        texts = of_run(Input(LIGHTING_BYTES), started()).texts
         self.show(texts, "#item=42")
         self.browser.shoot("explained")
         chain = "42 out lamp 1 ← 41 take lamp down 0 1 ← 38 take logic up 0 120 ← 35 read eye 120 ← 34 sense light 120"
@@ -407,7 +405,7 @@ class Viewer(unittest.TestCase):
 
     @needs_program
     def test_the_set_up_is_folded(self):
-        self.show(of_run(context(), Input(LIGHTING_BYTES)).texts)
+        self.show(of_run(Input(LIGHTING_BYTES), started()).texts)
         self.browser.shoot("opened")
         here = "(() => { const row = page.run.shown[page.at]; return row.kind + ' ' + (row.text ?? row.line.text); })()"
         self.assertTrue(self.browser.value(here).startswith("note 3. It gets bright"), self.browser.value(here))
@@ -428,7 +426,7 @@ class Viewer(unittest.TestCase):
             + b"%%\n"
             + (folder / "day.readings").read_bytes().partition(b"%%\n")[2]
         )
-        self.show(of_readings(context(), Input(text)).texts)
+        self.show(of_readings(Input(text), started()).texts)
         self.browser.shoot("parking")
         self.assertEqual(self.texts("#notes div"), [])
         shown = self.browser.value("page.run.shown[page.at].line.text")
@@ -487,7 +485,7 @@ class Viewer(unittest.TestCase):
         set_up, reading = (it.splitlines() for it in LIGHTING.partition("%%\n")[2].split("sense light", 1))
         acts = [it for it in set_up if not it.startswith("#")]
         lines = ["# my day", "#= x:2 deploy all", *acts, "#= x:3 sample eye 120", f"sense light{reading[0]}"]
-        self.show(of_run(context(), Input((DEPLOYMENT + "\n".join([*lines, *reading[1:]]) + "\n").encode())).texts)
+        self.show(of_run(Input((DEPLOYMENT + "\n".join([*lines, *reading[1:]]) + "\n").encode()), started()).texts)
         groups = self.browser.value("page.run.groups.slice(0, 3).map(it => [it.title, it.isFolded])")
         self.assertEqual(groups, [["my day", False], ["deploy all", True], ["sample eye 120", False]])
         self.assertEqual(self.browser.value("page.run.shown[page.at].text"), "sample eye 120  (x:3)")
@@ -517,7 +515,7 @@ class Viewer(unittest.TestCase):
         names = ("parking.toml", "set-up.schedule", "renewal.schedule")
         text = b"".join((parking / it).read_bytes() for it in names)
         (self.room / "renewal.txt").write_bytes(text)
-        self.show(of_run(context(), Input(text)).texts)
+        self.show(of_run(Input(text), started()).texts)
         count = len(Input(text).schedule)
         for module in ("p1", "vio", "agg"):
             for line in range(85, count, 25):
@@ -568,9 +566,9 @@ class Words(unittest.TestCase):
     """What the page says of an item, by its scripts alone."""
 
     def said(self, texts):
-        folder = TOP / "cli" / "viewer"
+        folder = TOP / "src" / "sancus" / "viewer"
         scripts = [(folder / f"{it}.js").read_text() for it in VALUED]
-        words = "const WORDS = " + (TOP / "cli" / "faults.json").read_text() + ";"
+        words = "const WORDS = " + (TOP / "src" / "sancus" / "faults.json").read_text() + ";"
         ran = subprocess.run(
             [NODE, "-e", "\n".join([words, *scripts, FORGED])], input=json.dumps(texts), capture_output=True, text=True
         )
@@ -592,7 +590,7 @@ class Words(unittest.TestCase):
             ),
         ):
             text = (EXAMPLES / f"{name}.txt").read_bytes()
-            drawn = of_run(context(), Input(text)).texts
+            drawn = of_run(Input(text), started()).texts
             said = self.said({it: drawn[it].decode() for it in drawn})
             self.assertIn(f"{begin} hadn't made{end} up to here the trace is a legal run", said)
 

@@ -37,7 +37,7 @@ from pathlib import Path
 
 from slow import EXAMPLES, TOP, needs_program
 
-from cli.items import ITEMS
+from sancus.model.items import ITEMS
 
 # The front end's own statuses if it gets no answer from the program, and bash's if there is no such command.
 NO_ANSWER = (121, 122, 125, 126, 127)

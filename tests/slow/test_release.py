@@ -37,7 +37,7 @@ class Repository(Room):
             self.write(f"tools/{name}.py", "")
         for name in ("sancus", "tools/release.sh", "tools/after_gate.sh"):
             shutil.copy(TOP / name, self.top / name)
-        for name in (".ci", "cli"):
+        for name in (".ci", "src"):
             shutil.copytree(TOP / name, self.top / name, ignore=shutil.ignore_patterns("__pycache__"))
         self.command("../bin/rt", RT)
 

@@ -37,7 +37,8 @@ def loaded(name, path):
     return made
 
 
-VIEWER = loaded("join", TOP / "cli" / "viewer" / "join.py")
+PACKAGE = TOP / "src" / "sancus"
+VIEWER = loaded("join", PACKAGE / "viewer" / "join.py")
 
 
 def examples():
@@ -77,7 +78,7 @@ def held(name, text):
 def worker():
     """What runs the program: its host, and what makes a schedule of lines for people."""
     host = (TOP / "tools" / "wasm" / "host.js").read_text()
-    shared = [(TOP / "cli" / "viewer" / f"{it}.js").read_text() for it in ("toml", "texts", "language")]
+    shared = [(PACKAGE / "viewer" / f"{it}.js").read_text() for it in ("toml", "texts", "language")]
     own = [part(f"{it}.js") for it in ("guesses", "deployment", "people", "worker")]
     return "\n".join([VIEWER.words(), host, *shared, *own])
 

@@ -1,0 +1,127 @@
+"""Applications: a deployment that the program accepted, from which runs are made."""
+
+from __future__ import annotations
+
+from dataclasses import dataclass
+from pathlib import Path
+from typing import TYPE_CHECKING, Dict, Iterable, List, Optional, Tuple, Union
+
+from sancus.errors import Fault
+from sancus.model import warnings
+from sancus.model.asking import Program
+from sancus.model.deployment import Plan, plan_of
+from sancus.model.faults import Teller
+from sancus.model.schedule import are_for_people
+from sancus.model.shown import text_of
+from sancus.model.texts import MARK, Input, kept_of
+from sancus.model.traces import of_drive
+from sancus.run import Run
+from sancus.runner import runner
+
+if TYPE_CHECKING:
+    from sancus.schedule import Schedule
+
+Lines = Union[str, bytes, Iterable[str]]
+
+
+@dataclass(frozen=True)
+class Bounds:
+    """The addresses of a module's public and private section."""
+
+    text: range
+    data: range
+
+
+class App:
+    """A deployment that the program accepted. What it refuses is a Fault."""
+
+    def __init__(
+        self, head: bytes, name: str = "", schedule: bytes = b"", program: Optional[Program] = None
+    ) -> None:
+        self.head = head if head.endswith(b"\n") or not head else head + b"\n"
+        self.name, self.own_schedule = name, schedule
+        self.program: Program = program or runner()
+        lines = [text_of(it) for it in self.program.answer(["check"], self.input(b"")).lines]
+        self.must_be_accepted(lines[-1] if lines else "")
+        plan = plan_of(self.head)
+        assert plan
+        self.plan: Plan = plan
+        self.bounds: Dict[str, Bounds] = dict(map(bounds_of, lines[:-1]))
+
+    def input(self, schedule: bytes) -> bytes:
+        """The input of a run, as the program reads it."""
+        return self.head + MARK + b"\n" + schedule
+
+    def must_be_accepted(self, last: str) -> None:
+        if last != "end":
+            raise Fault(last, Teller(kept_of(self.input(b""), self.name), "check", self.program.ask).told(last))
+
+    def __repr__(self) -> str:
+        of = f"{len(self.plan.nodes)} nodes, {len(self.modules)} modules, {len(self.plan.connections)} connections"
+        return f"<App {self.name}: {of}>" if self.name else f"<App: {of}>"
+
+    @property
+    def modules(self) -> List[str]:
+        """The names of its modules, in order."""
+        return self.plan.names("module")
+
+    @property
+    def warnings(self) -> List[str]:
+        """What the rules allow and hardly anybody wants."""
+        teller = Teller(kept_of(self.input(b""), self.name), "check")
+        return [*warnings.of_deployment(self.plan), *warnings.of_values(teller)]
+
+    def schedule(self) -> "Schedule":
+        """A schedule of it that is still empty: the program runs beside it."""
+        from sancus.schedule import Schedule
+
+        return Schedule(self)
+
+    def run(self, lines: Optional[Lines] = None) -> Run:
+        """A run of a schedule, whose lines may be for people; without lines, of the one that came with the
+        deployment."""
+        text = self.own_schedule if lines is None else bytes_of(lines)
+        if are_for_people(Input(self.input(text))):
+            with self.schedule() as made:
+                for it in Input(self.input(text)).schedule:
+                    made.line(text_of(it))
+                return made.run()
+        return Run(self, text, self.program.answer(["run"], self.input(text)))
+
+    def drive(self, readings: Iterable[Tuple[str, int]]) -> Run:
+        """The honest run of readings: a device and its value each."""
+        text = "".join(f"{device} {value}\n" for device, value in readings).encode()
+        answer = self.program.answer(["drive"], self.input(text))
+        last = text_of(answer.lines[-1]) if answer.lines else ""
+        if last.startswith("fault reading "):
+            raise Fault(last, Teller(kept_of(self.input(text), ""), "drive", self.program.ask).told(last))
+        return Run(self, *of_drive(answer))
+
+
+def bytes_of(lines: Lines) -> bytes:
+    """A schedule as the program reads it."""
+    match lines:
+        case bytes():
+            return lines
+        case str():
+            return lines.encode(errors="surrogateescape")
+        case _:
+            return "".join(f"{it}\n" for it in lines).encode(errors="surrogateescape")
+
+
+def bounds_of(line: str) -> Tuple[str, Bounds]:
+    """A module's line of `check`: `module M text A B data C D`."""
+    words = line.split(" ")
+    text, text_end, data, data_end = (int(words[at], 16) for at in (3, 4, 6, 7))
+    return words[1], Bounds(range(text, text_end), range(data, data_end))
+
+
+def loads(text: Union[str, bytes], name: str = "") -> App:
+    """The application of a text: a deployment, perhaps with a line %% and a schedule."""
+    data = Input(text.encode() if isinstance(text, str) else text)
+    return App(data.head, name, data.rest)
+
+
+def load(path: Union[str, Path]) -> App:
+    """The application of a file."""
+    return loads(Path(path).read_bytes(), str(path))

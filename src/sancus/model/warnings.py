@@ -1,0 +1,118 @@
+"""Warns of what the rules of a deployment allow, and hardly anybody wants."""
+
+from __future__ import annotations
+
+from typing import Dict, Iterator, List, Tuple
+
+from sancus.model import language
+from sancus.model.deployment import Plan, module_of, port_of
+from sancus.model.faults import Teller
+from sancus.model.language import Applied, Combined, Constant, Element, Expression, Module, Statement, Store
+from sancus.model.rules import subexpressions, walk
+
+WORD = 65536
+# More places of one module aren't told.
+MOST_PLACES = 4
+Place = Tuple[int, int, str]
+
+
+def of_keys(plan: Plan) -> List[str]:
+    lines = []
+    seen: Dict[str, str] = {}
+    for node in plan.nodes:
+        key, name = str(node.get("key")).lower(), str(node.get("name"))
+        if key in seen:
+            lines.append(
+                f"warning: nodes {seen[key]} and {name} have one key, so modules with the same places and text on both "
+                "can pass for one another: an item `forged` may come without a tag that was guessed"
+            )
+        seen.setdefault(key, name)
+    if plan.connections and "secret" not in plan.toml:
+        lines.append(
+            "warning: the deployment has connections and no `secret`, so their keys come from sixteen zero bytes, "
+            "which anybody knows and can forge events with"
+        )
+    return lines
+
+
+def of_ports(plan: Plan) -> List[str]:
+    """Inputs and outputs that lead nowhere: mostly a connection or a handler was forgotten."""
+    lines = []
+    sent = {(module_of(it.get("from")), port_of(it.get("from"))) for it in plan.connections}
+    taken = {(module_of(it.get("to")), port_of(it.get("to"))) for it in plan.connections}
+    for name in plan.names("module"):
+        tree = plan.tree(name)
+        if not tree:
+            continue
+        for port in tree.names("output"):
+            if (name, port) not in sent:
+                lines.append(f"warning: no connection leads from the output {name}.{port}: what it sends is lost")
+        for port in tree.names("input"):
+            if (name, port) not in taken:
+                lines.append(f"warning: no connection leads to the input {name}.{port}")
+            if not tree.handler_of(port):
+                lines.append(f"warning: {name} has no handler `on {port}(..)`: what comes there changes nothing")
+        if "sensor" in [it.kind for it in tree.declared] and not tree.handler_of(None):
+            lines.append(f"warning: {name} has a sensor and no handler `sample(..)`: a reading changes nothing")
+    return lines
+
+
+def below_zero(it: Expression) -> int:
+    """The number that was meant, if this is one below 0; else 0."""
+    if isinstance(it, Applied) and it.sign == "-" and isinstance(it.operand, Constant):
+        return -it.operand.value
+    if isinstance(it, Combined) and it.sign == "-" and isinstance(it.left, Constant) and isinstance(it.right, Constant):
+        return min(0, it.left.value - it.right.value)
+    return 0
+
+
+# Comparisons with a number that hold always or never, since a word is from 0 to 65,535.
+ALWAYS = {(">=", 0): "always", ("<", 0): "never", ("<=", WORD - 1): "always", (">", WORD - 1): "never"}
+MIRRORED = {"<": ">", ">": "<", "<=": ">=", ">=": "<="}
+
+
+def of_comparison(it: Combined) -> Iterator[Place]:
+    if it.sign not in MIRRORED:
+        return
+    for sign, side in ((it.sign, it.right), (MIRRORED[it.sign], it.left)):
+        meant = below_zero(side)
+        if meant:
+            what = f"comparisons have no sign, and {meant} is {meant % WORD:,} here: add an offset to both sides"
+            yield it.at, len(it.sign), what
+        elif isinstance(side, Constant) and (sign, side.value) in ALWAYS:
+            yield it.at, len(it.sign), f"this {ALWAYS[sign, side.value]} holds, since a value is from 0 to 65,535"
+
+
+def of_index(tree: Module, name: str, index: Expression, at: int, effect: str) -> Iterator[Place]:
+    array = tree.named(name)
+    if array and array.kind == "array" and isinstance(index, Constant) and index.value >= array.value:
+        last = f"the last element of `{name}` is {name}[{array.value - 1}]"
+        yield at, len(name), f"{last}, and past it {effect}"
+
+
+def of_statement(tree: Module, it: Statement) -> Iterator[Place]:
+    if isinstance(it, Store):
+        yield from of_index(tree, it.name, it.index, it.at, "nothing is stored")
+    for whole in language.expressions_of(it):
+        for part in subexpressions(whole):
+            if isinstance(part, Combined):
+                yield from of_comparison(part)
+            elif isinstance(part, Element):
+                yield from of_index(tree, part.name, part.index, part.at, "0 is read")
+
+
+def of_values(teller: Teller) -> List[str]:
+    """Comparisons with a number below 0, those that are always or never true, and elements past an array's end."""
+    lines: List[str] = []
+    for index, module in enumerate(teller.plan.modules if teller.plan else []):
+        tree = teller.plan.tree(str(module.get("name"))) if teller.plan else None
+        statements = [it for handler in (tree.handlers if tree else []) for it in walk(handler.body)]
+        found = [place for it in statements for place in of_statement(tree, it)] if tree else []
+        for at, length, what in found[:MOST_PLACES]:
+            line, column = language.place_of(str(module["source"]), at)
+            lines += [f"warning: {what}", *teller.in_source(index, line, column, length)]
+    return lines
+
+
+def of_deployment(plan: Plan) -> List[str]:
+    return of_keys(plan) + of_ports(plan)

@@ -1,0 +1,1 @@
+"""The page that holds a run and draws it."""
