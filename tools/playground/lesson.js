@@ -97,6 +97,7 @@ class Lesson {
     const said = Number(byId("lesson-choices").querySelector(":checked").value), isRight = said === right;
     const verdict = isRight ? "So it is." : `It is: ${choices[right]}.`;
     this.tell(isRight ? "right" : "wrong", `You said: ${choices[said]}. ${verdict} ${because}`);
+    if (this.now.proved) this.tell("", await this.proof(headOf(text)));
     const item = await this.reached(headOf(text), ended.text);
     if (number !== this.number) return;
     if (!item) return this.tell("task", `Your turn. ${task}`);
@@ -104,6 +105,13 @@ class Lesson {
     this.tell("reached", `Done, by item ${item.number}: \`${item.text}\`.`);
     if (isLast) this.tell("", "That was the last lesson; `examples/goals` has harder tasks.");
     byId(isLast ? "lesson-close" : "lesson-next").focus();
+  }
+
+  // What the program's `holds` says of the lesson's property, if it has that command.
+  async proof(head) {
+    const {status, text} = await this.desk.runner.start("holds", `${head}%%\n${this.now.proved}\n%%\n`);
+    if (status === 2) return "The program of this page has no command `holds` to show it.";
+    return `The program's command \`holds\` answers here: \`${splitLines(text ?? "")[0] ?? "nothing"}\`.`;
   }
 
   // The item by which the task is done. The program's `watch` tells, if it has that command.

@@ -1,5 +1,7 @@
 // The lessons: of each its text, the lines that stand in the editor after the lighting application's deployment, a question
-// that is asked before they are run, and a task: an item, or what breaks a property.
+// that is asked before they are run, and a task: an item, or what breaks a property. Of what is proved the program is asked too.
+
+const BRIGHT = "var bright; on sense light(v) { if v > 100 { bright = 1; } } on out lamp(v) { if (v == 1) & !bright { fail; } }";
 
 const LESSONS = [
   {
@@ -115,7 +117,7 @@ call lamp 2
     text: `A run shows one schedule. What about all of them? A *property* watches the items of a run and says \`fail\` where something happens that
 must not:
 
-\`var bright; on sense light(v) { if v > 100 { bright = 1; } } on out lamp(v) { if (v == 1) & !bright { fail; } }\`
+\`${BRIGHT}\`
 
 It says: lamp is switched on only if some reading was above 100 before. \`./sancus holds\` asks whether any schedule breaks it.`,
     lines: `deploy all
@@ -128,6 +130,7 @@ sample eye 20
     choices: ["yes, if the network is clever", "yes, with code on both nodes", "no"],
     right: 2,
     because: "No legal run of these sources does it, and so no attack, up to a forged tag: that is what `./sancus holds` proves.",
+    proved: BRIGHT,
     task: "But the *last* reading may be dark. Go on from these lines, and make lamp write 1 after the reading 20.",
     property: "var bright; on sense light(v) { bright = v > 100; } on out lamp(v) { if (v == 1) & !bright { fail; } }",
   },

@@ -191,6 +191,8 @@ def missing(goal: Goal, made: Played) -> str:
 
 def listed(context: Context) -> int:
     goals = all_goals(context.top)
+    if not goals:
+        raise Ended(BAD_TEXT, f"there are no goals here: {FOLDER} of the repository has them")
     width = max(len(it.name) for it in goals)
     print_lines(*(f"{it.level}  {it.name:<{width}}  {it.title}" for it in goals))
     return 0
