@@ -16,7 +16,8 @@ from sancus.cli.output import print_lines, write
 from sancus.cli.program import Program
 from sancus.cli.running import gathered, parts_of
 from sancus.model.shown import plain, short, text_of
-from sancus.model.schedule import Mistake, Writer, are_for_people
+from sancus.model.schedule import Mistake, Writer
+from sancus.model.people import are_for_people
 from sancus.model.session import Stopped, start
 from sancus.status import BAD_TEXT, Ended
 from sancus.cli.sinks import is_image, short_image

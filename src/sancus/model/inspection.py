@@ -7,7 +7,7 @@ import re
 from dataclasses import dataclass, field
 from typing import List, Optional, Tuple
 
-from sancus.model.acts import is_act
+from sancus.model.texts import Input, Kept, is_act, kept_of
 from sancus.model.asking import Program
 from sancus.model.deployment import Plan
 from sancus.model.faults import Teller
@@ -16,7 +16,6 @@ from sancus.model.rules import near
 from sancus.model.shown import plain, text_of
 from sancus.model.schedule import spelled
 from sancus.status import BAD_TEXT, Ended
-from sancus.model.texts import Input, Kept, kept_of
 
 
 @dataclass(frozen=True)

@@ -7,7 +7,7 @@ from dataclasses import dataclass, field
 from threading import Thread
 from typing import List, Optional, Sequence, Tuple
 
-from sancus.model.acts import is_act
+from sancus.model.texts import is_act
 from sancus.model.deployment import Plan
 from sancus.model.marks import MOST_LINES, Marker, marker_of
 from sancus.model.asking import Program

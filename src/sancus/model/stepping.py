@@ -9,7 +9,8 @@ from __future__ import annotations
 from dataclasses import dataclass, field
 from typing import Dict, Iterator, List, Optional
 
-from sancus.model.acts import ACTS, is_act, suits
+from sancus.model.acts import ACTS, suits
+from sancus.model.texts import is_act
 from sancus.model.inspection import Inspected, Line, broken
 from sancus.model.numbers import number
 from sancus.model.shown import plain
