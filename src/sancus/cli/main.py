@@ -64,6 +64,18 @@ def why(context: Context, given: Given) -> int:
     return answer(context, given)
 
 
+def new(context: Context, given: Given) -> int:
+    from sancus.cli.starting import answer
+
+    return answer(context, given)
+
+
+def place(context: Context, given: Given) -> int:
+    from sancus.cli.placing import answer
+
+    return answer(context, given)
+
+
 def test(context: Context, given: Given) -> int:
     from sancus.cli.testing import answer
 
@@ -161,6 +173,8 @@ ANSWERS: Dict[str, Callable[[Context, Given], int]] = {
     "vars": variables,
     "steps": steps,
     "why": why,
+    "new": new,
+    "place": place,
     "test": test,
     "hex": hex_files,
     "build": build,
