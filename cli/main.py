@@ -61,6 +61,18 @@ def why(context: Context, given: Given) -> int:
     return answer(context, given)
 
 
+def watch(context: Context, given: Given) -> int:
+    from cli.holds import watch
+
+    return watch(context, given)
+
+
+def holds(context: Context, given: Given) -> int:
+    from cli.holds import holds
+
+    return holds(context, given)
+
+
 def hex_files(context: Context, given: Given) -> int:
     from cli.hexfiles import answer
 
@@ -147,6 +159,8 @@ ANSWERS: Dict[str, Callable[[Context, Given], int]] = {
     "vars": variables,
     "steps": steps,
     "why": why,
+    "watch": watch,
+    "holds": holds,
     "hex": hex_files,
     "build": build,
     "version": version,
