@@ -168,11 +168,12 @@ class Moves:
             cells, verdict = self.property.see(cells, it)
             if verdict is not None:
                 return Step(None, verdict != 0, items[:at])
-        return Step(state if cells is state.seen else state._replace(seen=cells), False, items)
+        if cells is not state.seen:
+            state = State(state.modules, state.readings, state.queues, cells)
+        return Step(state, False, items)
 
-    def module_changed(self, state: State, module: str, **changes: object) -> State:
-        at = self.index[module]
-        return state._replace(modules=put(state.modules, at, state.modules[at]._replace(**changes)))
+    def with_module(self, state: State, module: str, standing: Standing) -> State:
+        return State(put(state.modules, self.index[module], standing), state.readings, state.queues, state.seen)
 
     def standing(self, state: State, module: str) -> Standing:
         return state.modules[self.index[module]]
@@ -191,9 +192,11 @@ class Moves:
     def handled(self, state: State, item: Watched, module: str, event: Optional[str]) -> Step:
         """A module's handler runs at an item: what it sends is on its way, what it emits is owed, or written at
         once."""
-        cells, acts = self.reaction(module, event, item.value, self.standing(state, module).cells)
+        it = self.standing(state, module)
+        cells, acts = self.reaction(module, event, item.value, it.cells)
         emitted = tuple(value for kind, _, value in acts if kind == "emit") if self.is_watched_out(module) else ()
-        state = self.module_changed(state, module, cells=cells, owed=() if self.is_whole else emitted)
+        owed = () if self.is_whole else emitted
+        state = self.with_module(state, module, Standing(True, it.is_attested, it.is_known, it.is_late, cells, owed))
         for kind, output, value in acts:
             if kind == "send":
                 state = self.sent(state, module, output, value)
@@ -204,12 +207,14 @@ class Moves:
         """Lost is what is sent without a key, for a receiver without one that had one, and what finds no room."""
         if self.attests(module) and not self.standing(state, module).is_attested:
             return state
+        queues = state.queues
         for at, it in enumerate(self.links):
-            receiver, words = self.standing(state, it.receiver), state.queues[at]
-            is_lost = receiver.is_known and not receiver.is_attested
-            if (it.sender, it.output) == (module, output) and not is_lost and len(words) < self.room:
-                state = state._replace(queues=put(state.queues, at, (*words, value)))
-        return state
+            if (it.sender, it.output) != (module, output) or len(queues[at]) == self.room:
+                continue
+            receiver = self.standing(state, it.receiver)
+            if receiver.is_attested or not receiver.is_known:
+                queues = put(queues, at, (*queues[at], value))
+        return State(state.modules, state.readings, queues, state.seen)
 
     def is_idle(self, state: State, module: str) -> bool:
         it = self.standing(state, module)
@@ -217,17 +222,19 @@ class Moves:
 
 
 def protect(moves: Moves, state: State, move: Move) -> Optional[Step]:
-    if moves.standing(state, move.name).is_present:
+    it = moves.standing(state, move.name)
+    if it.is_present:
         return None
-    return moves.shown(moves.module_changed(state, move.name, is_present=True), Watched("protect", move.name))
+    loaded = Standing(True, it.is_attested, it.is_known, it.is_late, it.cells, it.owed)
+    return moves.shown(moves.with_module(state, move.name, loaded), Watched("protect", move.name))
 
 
 def attested(moves: Moves, state: State, move: Move) -> Optional[Step]:
     it = moves.standing(state, move.name)
     if not moves.is_idle(state, move.name) or it.is_attested:
         return None
-    changed = moves.module_changed(state, move.name, is_attested=True, is_known=True, is_late=False)
-    return moves.shown(changed, Watched("attested", move.name))
+    now = Standing(True, True, True, False, it.cells, it.owed)
+    return moves.shown(moves.with_module(state, move.name, now), Watched("attested", move.name))
 
 
 def late(moves: Moves, state: State, move: Move) -> Optional[Step]:
@@ -235,11 +242,16 @@ def late(moves: Moves, state: State, move: Move) -> Optional[Step]:
     it = moves.standing(state, move.name)
     if not it.is_late or it.is_attested:
         return None
-    return moves.shown(moves.module_changed(state, move.name, is_known=True), Watched("attested", move.name))
+    now = Standing(it.is_present, False, True, True, it.cells, it.owed)
+    return moves.shown(moves.with_module(state, move.name, now), Watched("attested", move.name))
+
+
+def with_reading(state: State, at: int, value: Optional[int]) -> State:
+    return State(state.modules, put(state.readings, at, value), state.queues, state.seen)
 
 
 def sense(moves: Moves, state: State, move: Move) -> Optional[Step]:
-    changed = state._replace(readings=put(state.readings, moves.reading_index[move.name], move.value))
+    changed = with_reading(state, moves.reading_index[move.name], move.value)
     return moves.shown(changed, Watched("sense", move.name, move.value))
 
 
@@ -252,7 +264,7 @@ def drain(moves: Moves, state: State, move: Move) -> Optional[Step]:
     at = moves.reading_index[move.name]
     if state.readings[at] is None or is_driven(moves, state, move.name):
         return None
-    return moves.shown(state._replace(readings=put(state.readings, at, None)), Watched("drain", move.name))
+    return moves.shown(with_reading(state, at, None), Watched("drain", move.name))
 
 
 def raw(moves: Moves, state: State, move: Move) -> Optional[Step]:
@@ -267,8 +279,7 @@ def read(moves: Moves, state: State, move: Move) -> Optional[Step]:
     value = state.readings[at] if sensor else None
     if value is None or not moves.is_idle(state, move.name):
         return None
-    fresh = state._replace(readings=put(state.readings, at, None))
-    return moves.handled(fresh, Watched("read", move.name, value), move.name, None)
+    return moves.handled(with_reading(state, at, None), Watched("read", move.name, value), move.name, None)
 
 
 def take(moves: Moves, state: State, move: Move) -> Optional[Step]:
@@ -277,15 +288,16 @@ def take(moves: Moves, state: State, move: Move) -> Optional[Step]:
     it = moves.standing(state, link.receiver)
     if not moves.is_idle(state, link.receiver) or not it.is_attested or len(words) <= move.value:
         return None
-    left = state._replace(queues=put(state.queues, at, words[move.value + 1 :]))
+    left = State(state.modules, state.readings, put(state.queues, at, words[move.value + 1 :]), state.seen)
     return moves.handled(left, Watched("take", move.name, words[move.value]), link.receiver, link.input)
 
 
 def out(moves: Moves, state: State, move: Move) -> Optional[Step]:
-    owed = moves.standing(state, move.name).owed
-    if not owed:
+    it = moves.standing(state, move.name)
+    if not it.owed:
         return None
-    return moves.shown(moves.module_changed(state, move.name, owed=owed[1:]), Watched("out", move.name, owed[0]))
+    now = Standing(True, it.is_attested, it.is_known, it.is_late, it.cells, it.owed[1:])
+    return moves.shown(moves.with_module(state, move.name, now), Watched("out", move.name, it.owed[0]))
 
 
 def reset(moves: Moves, state: State, move: Move) -> Optional[Step]:

@@ -15,8 +15,10 @@ from cli.values import Values, of_actuator
 
 # What is done at once: moves that a search takes as one.
 Stride = Tuple[Move, ...]
-# A stride's last part: all words on their way are taken, each connection's in order.
+# A stride's last part: the words that it sent over connections which had none are taken, and so on with what those send.
 DELIVER = Move("deliver", "")
+# A stride of its own: all words are taken, each connection's in order.
+DELIVER_ALL = Move("deliver", "all")
 # No more words are taken so.
 MOST_DELIVERED = 24
 # How many strides are tried in the first round of each kind of search, and how many times as many in the next.
@@ -26,7 +28,7 @@ FIRST_ROUND, GROWTH = 2000, 4
 @dataclass(frozen=True)
 class Kind:
     """A kind of search: from where on; whether strides are long (a sample is read at once, a node deployed again at
-    once), and words taken all at once; whether calls are whole; whether words may be lost; and with how many
+    once), and what is sent may be taken at once; whether calls are whole; whether words may be lost; and with how many
     readings."""
 
     is_deployed: bool = True
@@ -122,11 +124,11 @@ class Frontier:
 
     def takings(self, state: State) -> Iterator[Stride]:
         if self.kind.is_prompt:
-            yield (DELIVER,)
-            return
+            yield (DELIVER_ALL,)
         for link, words in zip(self.moves.links, state.queues):
             for lost in range(len(words) if self.kind.is_lossy else min(1, len(words))):
-                yield (Move("take", link.name, lost),)
+                taken = Move("take", link.name, lost)
+                yield (taken, DELIVER) if self.kind.is_prompt else (taken,)
 
     def resets(self) -> Iterator[Stride]:
         """A reset, and what makes a module good again."""
@@ -161,7 +163,7 @@ class Frontier:
     def takes(self, state: State, stride: Stride) -> bool:
         """Tries a stride, and tells whether it breaks the property."""
         now, done = state, []
-        for it in self.expanded(stride, lambda: now):
+        for it in self.expanded(stride, state, lambda: now):
             made = self.moves.step(now, it)
             done.append(it)
             if made is None:
@@ -178,21 +180,24 @@ class Frontier:
             self.left.append(now)
         return False
 
-    def expanded(self, stride: Stride, now: Callable[[], State]) -> Iterator[Move]:
+    def expanded(self, stride: Stride, before: State, now: Callable[[], State]) -> Iterator[Move]:
         """The moves of a stride, each asked for after the one before is done."""
+        empty = [link for link, words in zip(self.moves.links, before.queues) if not words]
         for it in stride:
-            if it != DELIVER:
+            if it.kind != "deliver":
                 yield it
                 continue
+            links = self.moves.links if it == DELIVER_ALL else empty
             for _ in range(MOST_DELIVERED):
-                ready = next((link for link in self.moves.links if self.is_ready(link, now())), None)
+                ready = next((link for link in links if self.is_ready(link, now())), None)
                 if not ready:
                     break
                 yield Move("take", ready.name)
 
     def is_ready(self, link: Link, state: State) -> bool:
         receiver = self.moves.standing(state, link.receiver)
-        return bool(state.queues[self.moves.link_index[link.name]]) and receiver.is_attested and not receiver.owed
+        words = state.queues[self.moves.link_index[link.name]]
+        return bool(words) and receiver.is_present and receiver.is_attested and not receiver.owed
 
     def way(self, state: State) -> List[Move]:
         strides: List[Stride] = []
@@ -218,16 +223,23 @@ class Shortening:
         return self.moves.replay(self.start, run) is not None
 
     def shorter(self, run: List[Move]) -> List[Move]:
-        """Leaves out moves, two and one at a time, until none can be spared."""
+        """Leaves out moves, three, two and one at a time, until none can be spared."""
         for size in (3, 2, 1):
             at = 0
             while at + size <= len(run):
-                tried = run[:at] + run[at + size :]
-                if self.breaks(tried):
-                    run, at = tried, 0
-                else:
-                    at += 1
+                shorter = next((it for it in self.without(run, at, size) if self.breaks(it)), None)
+                run, at = (shorter, 0) if shorter else (run, at + 1)
         return run
+
+    def without(self, run: List[Move], at: int, size: int) -> Iterator[List[Move]]:
+        """A run without some moves; a word that isn't taken may be lost before the next one."""
+        rest = run[at + size :]
+        yield run[:at] + rest
+        left_out = run[at]
+        later = next((i for i, it in enumerate(rest) if (it.kind, it.name) == ("take", left_out.name)), None)
+        if size == 1 and left_out.kind == "take" and later is not None:
+            lost = rest[later].value + left_out.value + 1
+            yield run[:at] + rest[:later] + [Move("take", left_out.name, lost)] + rest[later + 1 :]
 
     def smaller(self, run: List[Move]) -> List[Move]:
         for at, it in enumerate(run):
