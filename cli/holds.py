@@ -8,7 +8,7 @@ import time
 from dataclasses import dataclass, field
 from typing import Any, Dict, List, Optional
 
-from cli import warnings
+from cli import solvers, warnings
 from cli.commands import Given, Usage
 from cli.context import Context
 from cli.counterexample import moves_said
@@ -24,6 +24,8 @@ from cli.status import NO_FILE, Ended
 from cli.vacuity import unreached
 
 SECONDS, SCHEDULE = 20, "counterexample.txt"
+# How long the front end's own search takes before other engines are asked, where they are installed.
+SECONDS_BEFORE = 5.0
 # What the comment of a schedule begins with that `holds` wrote, and may write again.
 BEGUN = "# A run that breaks "
 PROGRESS_AFTER, PROGRESS_EVERY = 1.0, 5.0
@@ -39,6 +41,8 @@ class Answer:
     found: Optional[Found] = None
     shown: Optional[Shown] = None
     schedule: str = ""
+    # what another engine says of its proof
+    how: str = ""
     notes: List[str] = field(default_factory=list)
 
     @property
@@ -119,26 +123,45 @@ def line_of(found: Found) -> Optional[int]:
     return found.property.judged(it for step in found.steps for it in step.items)
 
 
-def searched(question: Question, seconds: float, most_moves: int, path: str) -> Answer:
-    """Looks for a run that breaks the property, and has the program show it."""
-    assert question.plan
-    search = Search(question.plan, question.property(), most_moves)
-    found = search.run(seconds, Progress(question.context))
-    if not found:
-        return Answer("unknown", "search")
+def of_found(question: Question, found: Found, by: str, path: str) -> Answer:
+    """A run that breaks the property: the program shows it, or the sources alone allow it."""
     made = shown(question, found)
     if made.item is None:
-        return Answer("unconfirmed", "search", found=found, shown=made)
+        return Answer("unconfirmed", by, found=found, shown=made)
     write_schedule(question, made, line_of(found), path)
-    return Answer("fails", "search", found=found, shown=made, schedule=path)
+    return Answer("fails", by, found=found, shown=made, schedule=path)
+
+
+def searched(question: Question, seconds: float, most_moves: int, path: str) -> Answer:
+    """Looks for a run that breaks the property by the front end's own search."""
+    assert question.plan
+    found = Search(question.plan, question.property(), most_moves).run(seconds, Progress(question.context))
+    return of_found(question, found, "search", path) if found else Answer("unknown", "search")
+
+
+def solved(question: Question, seconds: float, path: str) -> Answer:
+    """Asks the engines that are installed."""
+    plan, property = question.plan, question.property()
+    assert plan
+    question.context.voice.say(f"asking {solvers.ABC} and {solvers.CADICAL}, for {seconds:.0f} s at most")
+    proof = solvers.proof(plan, property, seconds)
+    if proof.is_proved:
+        return Answer("holds", solvers.ABC, how=proof.told())
+    found = solvers.refutation(plan, property, seconds) if proof.is_broken else None
+    return of_found(question, found, solvers.ABC, path) if found else Answer("unknown", solvers.ABC, how=proof.told())
 
 
 def answered(question: Question, seconds: float, most_moves: int, path: str) -> Answer:
     began = time.monotonic()
+    has_solvers = solvers.are_there() and not most_moves
     if question.is_proved():
         made = Answer("holds", "proved", notes=[f"note: {question.name}: {it}" for it in unreached(question)])
     else:
-        made = searched(question, seconds, most_moves, path)
+        made = searched(question, min(seconds, SECONDS_BEFORE) if has_solvers else seconds, most_moves, path)
+        if made.kind == "unknown" and has_solvers:
+            made = solved(question, seconds, path)
+        elif made.kind == "unknown" and not solvers.are_there():
+            made.notes.append(f"note: {solvers.INSTALL}")
     made.seconds = time.monotonic() - began
     return made
 
@@ -160,9 +183,11 @@ def told(question: Question, answer: Answer) -> List[str]:
             f"holds ({answer.by})",
             f"{question.name}: no legal run breaks it, so no schedule does before its first `forged`",
             f"for all readings, and any number of events on their way {took}",
+            *([answer.how] if answer.how else []),
         ]
     if answer.kind == "unknown":
-        return ["unknown", f"{question.name}: it isn't proved, and no run was found that breaks it {took}"]
+        known = f"; {answer.how}" if answer.how else ""
+        return ["unknown", f"{question.name}: it isn't proved, and no run was found that breaks it{known} {took}"]
     assert answer.found and answer.shown
     if answer.kind == "unconfirmed":
         why = "the sources allow a run that breaks it, and no schedule was found that shows one"

@@ -8,7 +8,7 @@ import unittest
 
 from support import EXAMPLES, PROGRAM, Room, needs_program, program, sancus
 
-from cli import language, vacuity
+from cli import language, solvers, vacuity
 from cli.deployment import plan_of
 from cli.property import Property, watched_of
 from cli.search import Search
@@ -142,8 +142,18 @@ class Answers(Room):
             "var left;\non read eye(v) { if v > 100 { left = left + 1; assume left < 1000; } }\n"
             "on out lamp(v) { if v == 1 { if left == 0 { fail; } left = left - 1; } }\n",
         )
-        ran = self.holds(LAMP, counts, "--seconds", "1")
+        ran = self.holds(LAMP, counts, "--seconds", "1", "--moves", "30")
         self.assertEqual((ran.status, ran.lines[0]), (13, "unknown"))
+
+    @unittest.skipUnless(solvers.are_there(), "there is no berkeley-abc and no cadical")
+    def test_another_engine_is_named(self):
+        order = self.file(
+            "order.property",
+            "var dark; var off;\non sense light(v) { if v > 100 { assume !dark; } else { dark = 1; } }\n"
+            "on out lamp(v) { if v == 0 { off = 1; } else { if off { fail; } } }\n",
+        )
+        ran = self.holds(LAMP, order, "--seconds", "60")
+        self.assertEqual((ran.status, ran.lines[0]), (0, "holds (berkeley-abc)"))
 
     def test_what_no_legal_run_reaches(self):
         ran = self.holds(LAMP, self.file("it.property", "on out lamp(v) { if v > 1 { let x = v; } }\n"))
