@@ -15,7 +15,8 @@ from cli.values import Values, of_actuator
 
 # What is done at once: moves that a search takes as one.
 Stride = Tuple[Move, ...]
-# A stride's last part: the words that it sent over connections which had none are taken, and so on with what those send.
+# A stride's last part: the words that it sent over connections which had none are taken, and so on with what those
+# send.
 DELIVER = Move("deliver", "")
 # A stride of its own: all words are taken, each connection's in order.
 DELIVER_ALL = Move("deliver", "all")
@@ -83,7 +84,8 @@ class Frontier:
 
     def __post_init__(self) -> None:
         self.nodes = self.nodes_to_reset()
-        self.deploying = [it for m in self.moves.modules for it in self.moves.deploys(m)] if self.kind.is_deployed else []
+        modules = self.moves.modules if self.kind.is_deployed else []
+        self.deploying = [it for m in modules for it in self.moves.deploys(m)]
         state: Optional[State] = self.moves.start()
         for it in self.deploying:
             made = self.moves.step(state, it) if state else None

@@ -253,7 +253,8 @@ def started(system: System, state: State) -> Dict[Tuple[object, ...], int]:
     """A state of the moves as that of the system."""
     made: Dict[Tuple[object, ...], int] = {}
     for name, it in zip(system.moves.modules, state.modules):
-        made.update({("present", name): it.is_present, ("attested", name): it.is_attested, ("known", name): it.is_known})
+        made["present", name] = it.is_present
+        made["attested", name] = made["known", name] = it.is_attested
     tree = system.property.module.cells()
     for declared, values in zip(tree, state.seen):
         made.update({("seen", declared.name, i): value for i, value in enumerate(values)})
