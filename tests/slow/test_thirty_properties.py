@@ -1,23 +1,18 @@
 """Thirty properties of seven applications, with the answers that an earlier engine of tables and of SAT gave.
 
-    python3 -m unittest discover -s tests/slow        takes some minutes; not a part of the gate
-
 Of each false property a schedule shows it: at which item of its run the property is broken, and what that is. The true
 ones that a table proves the program proves too; the others `holds` mustn't refute.
 """
 
-import sys
 import unittest
 from pathlib import Path
 
-HERE = Path(__file__).resolve().parent
-sys.path.insert(0, str(HERE.parent))
+from slow import EXAMPLES, PROGRAM, Room, program
+from support import sancus
 
-from support import EXAMPLES, PROGRAM, Room, program, sancus  # noqa: E402
+from cli.texts import Input
 
-from cli.texts import Input  # noqa: E402
-
-PROPERTIES = HERE / "properties"
+PROPERTIES = Path(__file__).resolve().parent / "properties"
 KNOWS = bool(PROGRAM) and program("holds").out != b"fault usage\n"
 LIGHTING, PARKING = EXAMPLES / "lighting.txt", EXAMPLES / "parking" / "parking.toml"
 OTHERS = {
@@ -70,7 +65,7 @@ class Thirty(Room):
                 self.assertEqual(trace.split(b"\n")[trace.split(b"\n").index(b"trace") + number], item.encode())
 
     def test_each_false_one_is_found(self):
-        for name, number, _ in BROKEN:
+        for name, _, _ in BROKEN:
             with self.subTest(name):
                 ran = self.answer(name, "--seconds", "60")
                 self.assertEqual((ran.status, ran.lines[0]), (12, "fails"))
