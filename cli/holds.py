@@ -172,8 +172,10 @@ def answered(question: Question, seconds: float, most_moves: int, path: str) -> 
 def of_run(question: Question, answer: Answer) -> List[str]:
     """A run that breaks the property, a move a line."""
     found = answer.found
-    assert found
-    return ["after `deploy all`:" if found.deploying else "from power-on:", *(f"    {it}" for it in moves_said(found))]
+    assert found and question.plan
+    names = "all" if found.names == question.plan.names("module") else " ".join(found.names)
+    first = f"after `deploy {names}`:" if found.deploying else "from power-on:"
+    return [first, *(f"    {it}" for it in moves_said(found))]
 
 
 def told(question: Question, answer: Answer) -> List[str]:
@@ -205,7 +207,7 @@ def as_object(question: Question, answer: Answer) -> Dict[str, Any]:
     made: Dict[str, Any] = {"kind": answer.kind, "by": answer.by, "property": question.name}
     if answer.found and answer.shown:
         words = [it.split(" ") for it in moves_said(answer.found)]
-        made["deployed"] = bool(answer.found.deploying)
+        made["deployed"] = answer.found.names if answer.found.deploying else []
         made["moves"] = [
             {"kind": it[0], "name": it[1], **({"value": int(it[2])} if it[2:] else {})} for it in words
         ]

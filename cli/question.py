@@ -60,7 +60,7 @@ class Question:
 
     def property(self) -> Property:
         """The property, which the program has accepted."""
-        return Property(self.name, text_of(self.text))
+        return Property(self.name, text_of(self.text.replace(b"\r\n", b"\n")))
 
     def told(self, ran: Ran, command: str) -> List[str]:
         return Teller(self.kept, command, self.context.program.ask).told(ran.last)

@@ -24,6 +24,8 @@ DELIVER_ALL = Move("deliver", "all")
 MOST_DELIVERED = 24
 # How many strides are tried in the first round of each kind of search, and how many times as many in the next.
 FIRST_ROUND, GROWTH = 2000, 4
+# No more states are kept in all.
+MOST_STATES = 400_000
 
 
 @dataclass(frozen=True)
@@ -244,9 +246,13 @@ class Shortening:
             yield run[:at] + rest[:later] + [Move("take", left_out.name, lost)] + rest[later + 1 :]
 
     def smaller(self, run: List[Move]) -> List[Move]:
-        for at, it in enumerate(run):
-            if it.kind in ("sense", "raw"):
-                run = self.with_least(run, at)
+        """Makes each value as small as the others let it be, until none gets smaller."""
+        before: List[Move] = []
+        while run != before:
+            before = run
+            for at, it in enumerate(run):
+                if it.kind in ("sense", "raw"):
+                    run = self.with_least(run, at)
         return run
 
     def with_least(self, run: List[Move], at: int) -> List[Move]:
@@ -281,13 +287,18 @@ class Search:
         """A run that breaks the property, if one is found in this time."""
         end = time.monotonic() + seconds
         frontiers = [self.frontier(it) for it in KINDS]
+
+        def is_late() -> bool:
+            states = sum(len(it.came) for it in frontiers)
+            progress(states)
+            return time.monotonic() > end or states > MOST_STATES
+
         most = FIRST_ROUND
-        while time.monotonic() < end and any(it.left for it in frontiers):
+        while any(it.left for it in frontiers) and not is_late():
             for it in frontiers:
-                it.advance(most, lambda: time.monotonic() > end)
+                it.advance(most, is_late)
                 if it.found is not None:
                     return self.shortened(it)
-                progress(sum(len(known.came) for known in frontiers))
             most *= GROWTH
         return None
 
