@@ -200,7 +200,6 @@ class Heading:
 
     kind: str
     name: str
-    kind_at: int
     at: int
 
     @property
@@ -316,7 +315,7 @@ class Parser:
         self.advance()
         kind = self.watched_kind()
         name = self.take(NAMED)
-        heading, parameter = Heading(kind.text, name.text, kind.at, name.at), Token(NAMED, "", name.at)
+        heading, parameter = Heading(kind.text, name.text, name.at), Token(NAMED, "", name.at)
         if kind.text in VALUED:
             self.take("(")
             parameter = self.take(NAMED)
