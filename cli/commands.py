@@ -300,13 +300,14 @@ The program runs as the lines are written, so packets, boots and pieces are thos
         (
             Option("--schedule", "writes a run that breaks it there, by default counterexample.txt", "FILE"),
             Option("--moves", "looks at runs of fewer moves alone", "N"),
-            Option("--seconds", "looks no longer than this, by default 20", "N"),
+            Option("--seconds", "gives each engine so many seconds, by default 20", "N"),
             JSON,
         ),
         "sancus holds examples/lighting.txt examples/properties/bright.property",
         "Its first word is the answer:",
         table=(
             ("holds (proved)", "no legal run breaks it: the proved program says so"),
+            ("holds (berkeley-abc)", "the same, by engines of others where they are installed"),
             ("fails", "a run breaks it, which the program ran and judged; its schedule is written"),
             ("unknown", "neither was found"),
             ("unconfirmed", "the sources allow a run that breaks it, and no schedule was found that shows one"),
