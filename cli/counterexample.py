@@ -5,7 +5,7 @@ from __future__ import annotations
 
 import os
 from dataclasses import dataclass, field
-from typing import Dict, Iterator, List, Optional, Tuple, Union
+from typing import Dict, Iterator, List, Optional, Set, Tuple, Union
 
 from cli.deployment import End, Plan
 from cli.language import VALUED
@@ -285,8 +285,8 @@ class Telling:
     writer: Writer
     # how many outputs of a module that stopped in the middle are still to come
     begun: Dict[str, int] = field(default_factory=dict)
-    # outputs that came with their call
-    is_done: Dict[int, bool] = field(default_factory=dict)
+    # moves that came with an earlier one
+    done: Set[int] = field(default_factory=set)
 
     @property
     def moves(self) -> List[Move]:
@@ -329,7 +329,7 @@ class Telling:
         owed = self.owed_after(at, module)
         ahead = self.moves[at + 1 : at + 1 + owed]
         if not owed or all(it.kind == "out" and it.name == module for it in ahead):
-            self.is_done.update({at + 1 + further: True for further in range(owed)})
+            self.done.update(range(at + 1, at + 1 + owed))
             return False
         self.begun[module] = owed
         return True
@@ -342,7 +342,7 @@ class Telling:
 
     def tell_out(self, at: int) -> None:
         module = self.moves[at].name
-        if self.is_done.get(at):
+        if at in self.done:
             return
         self.begun[module] -= 1
         node = self.writer.plan.node_of(module)

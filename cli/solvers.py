@@ -12,7 +12,7 @@ import shutil
 import subprocess
 import tempfile
 import time
-from dataclasses import dataclass, field
+from dataclasses import dataclass
 from pathlib import Path
 from typing import Dict, Iterator, List, Optional, Tuple
 
@@ -268,7 +268,6 @@ class Refuter:
     plan: Plan
     property: Property
     deadline: Deadline
-    known: List[Found] = field(default_factory=list)
 
     def found(self) -> Optional[Found]:
         for is_whole, is_deployed in ((True, True), (True, False), (False, True), (False, False)):

@@ -7,7 +7,7 @@ from typing import Dict, Iterator, List, Optional, Set, Tuple
 
 from cli import language
 from cli.language import COMPARED, Combined, Constant, Element, Expression, If, Module, Statement
-from cli.meaning import Reaction
+from cli.meaning import Reaction, first_cells
 from cli.moves import Moves
 from cli.rules import subexpressions, walk
 
@@ -62,7 +62,7 @@ class Values:
         self.numbers = sorted(it for it in found if 0 <= it <= GREATEST)
 
     def traced(self, module: Module, event: Optional[str], value: int) -> Traced:
-        made = Traced({it.name: [0] * it.value if it.kind == "array" else [it.value] for it in module.cells()})
+        made = Traced(first_cells(module))
         handler = module.handler_of(event)
         if handler:
             made.local[handler.parameter] = value
