@@ -242,7 +242,7 @@ def late(moves: Moves, state: State, move: Move) -> Optional[Step]:
     it = moves.standing(state, move.name)
     if not it.is_late or it.is_attested:
         return None
-    now = Standing(it.is_present, False, True, True, it.cells, it.owed)
+    now = Standing(it.is_present, False, True, False, it.cells, it.owed)
     return moves.shown(moves.with_module(state, move.name, now), Watched("attested", move.name))
 
 
