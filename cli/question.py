@@ -63,7 +63,7 @@ class Question:
         return Property(self.name, text_of(self.text.replace(b"\r\n", b"\n")))
 
     def told(self, ran: Ran, command: str) -> List[str]:
-        return Teller(self.kept, command, self.context.program.ask).told(ran.last)
+        return words_of(lambda: Teller(self.kept, command, self.context.program.ask).told(ran.last))
 
     def is_proved(self) -> bool:
         """Whether the program proves it."""
