@@ -6,27 +6,19 @@ after the items of the lines before it.
 
 from __future__ import annotations
 
-import os
-import re
 from dataclasses import dataclass, field
-from typing import Iterator, List, Optional
+from typing import Iterator, List
 
-from sancus.model.texts import MARK, Input, Kept, Origin, find_mark, is_act, kept_of, without_return
-from sancus.cli.commands import Given
 from sancus.cli.context import Context
-from sancus.model.people import PEOPLE
-from sancus.model.items import Item
-from sancus.cli.joining import may_have_mark
 from sancus.cli.people import Lines, begun, do_line, place
 from sancus.cli.program import Collected, Ran, Sink
-from sancus.cli.running import gathered, parts_of, run_parts
-from sancus.model.shown import text_of
+from sancus.cli.reading import Part
+from sancus.model.items import Item
 from sancus.model.schedule import Writer
-from sancus.model.people import are_for_people, is_for_people
 from sancus.model.session import Stopped
-from sancus.cli.snapping import snap
+from sancus.model.shown import text_of
+from sancus.model.texts import MARK, Kept, Origin, kept_of, without_return
 from sancus.status import BAD_TEXT, Ended
-from sancus.cli.reading import Part, file_part, is_regular, open_file
 
 
 @dataclass

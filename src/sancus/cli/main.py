@@ -9,14 +9,14 @@ from pathlib import Path
 from typing import Callable, Dict, List, NoReturn, Optional, Sequence, Tuple
 
 from sancus import __version__
-from sancus.cli import commands
 from sancus.builds import Build, Builds, home
+from sancus.cli import commands
+from sancus.cli.commands import BY_NAME, COMMANDS, EVERYWHERE, Command, Given, Usage
 from sancus.cli.context import Context
 from sancus.cli.output import print_lines, write
 from sancus.cli.program import Program
 from sancus.cli.say import Voice
 from sancus.status import INTERRUPTED, NO_ANSWER, USAGE, Ended
-from sancus.cli.commands import BY_NAME, EVERYWHERE, COMMANDS, Given, Usage, Command
 
 OUT_OF_MEMORY = 6
 

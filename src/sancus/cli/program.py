@@ -11,13 +11,13 @@ import subprocess
 from dataclasses import dataclass, field
 from typing import IO, Any, List, Optional
 
-from sancus.cli import output
 from sancus.builds import Build, Builds
+from sancus.cli import output
+from sancus.cli.reading import Part, is_regular
 from sancus.cli.say import Voice
 from sancus.model.asking import Answer
-from sancus.status import INTERRUPTED, NO_ANSWER, Ended
-from sancus.cli.reading import Part, is_regular
 from sancus.model.texts import Kept, Origin
+from sancus.status import INTERRUPTED, NO_ANSWER, Ended
 
 # How long a build that isn't proved may run, in seconds.
 SECONDS_AT_MOST = "86400"

@@ -10,15 +10,13 @@ from collections import deque
 from dataclasses import dataclass, field
 from typing import Callable, Deque, Dict, List, Optional, Tuple
 
-from sancus.model.texts import Input, is_act
+from sancus.model.asking import Program
 from sancus.model.deployment import End, Plan, port_of
-from sancus.model.people import PEOPLE
 from sancus.model.items import Item, say
 from sancus.model.numbers import counted, number, within
-from sancus.model.asking import Program
 from sancus.model.rules import near
-from sancus.model.shown import plain, text_of
 from sancus.model.session import Session, snapped
+from sancus.model.shown import plain
 from sancus.model.table import words as table_words
 
 EVENT, ANSWER = 24, 16
