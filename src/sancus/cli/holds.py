@@ -8,20 +8,20 @@ import time
 from dataclasses import dataclass, field
 from typing import Any, Dict, List, Optional
 
-from sancus.model import solvers, warnings
 from sancus.cli.commands import Given, Usage
 from sancus.cli.context import Context
+from sancus.cli.output import print_lines
+from sancus.cli.question import BROKEN, HELD, UNCONFIRMED, UNKNOWN, Question, Refused, asked, refused
+from sancus.cli.question import watch as watch_trace
+from sancus.cli.showing import Shown, shown
+from sancus.cli.vacuity import unreached
+from sancus.model import solvers, warnings
 from sancus.model.counterexample import moves_said
 from sancus.model.deployment import Plan
 from sancus.model.numbers import number
-from sancus.cli.output import print_lines
 from sancus.model.property import Property
-from sancus.cli.question import BROKEN, HELD, UNCONFIRMED, UNKNOWN, Question, Refused, asked, refused
-from sancus.cli.question import watch as watch_trace
 from sancus.model.search import Found, Search
-from sancus.cli.showing import Shown, shown
 from sancus.status import NO_FILE, Ended
-from sancus.cli.vacuity import unreached
 
 SECONDS, SCHEDULE = 20, "counterexample.txt"
 # How long the front end's own search takes before other engines are asked, where they are installed.

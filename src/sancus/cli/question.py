@@ -7,19 +7,19 @@ from dataclasses import dataclass
 from typing import List, Optional
 
 from sancus.cli.context import Context
-from sancus.model.deployment import Plan, plan_of
-from sancus.model.faults import Teller
 from sancus.cli.joining import deployment_alone, trace_part
 from sancus.cli.output import print_lines
 from sancus.cli.program import Collected, Ran, Sink
-from sancus.model.property import Property, watched_of
-from sancus.cli.running import gathered
-from sancus.cli.telling import words_of
-from sancus.cli.say import Voice
-from sancus.model.shown import text_of
-from sancus.status import NO_ANSWER, USAGE, Ended
-from sancus.model.texts import MARK, Input, Kept
 from sancus.cli.reading import Part, file_part, text_part
+from sancus.cli.running import gathered
+from sancus.cli.say import Voice
+from sancus.cli.telling import words_of
+from sancus.model.deployment import Plan, plan_of
+from sancus.model.faults import Teller
+from sancus.model.property import Property, watched_of
+from sancus.model.shown import text_of
+from sancus.model.texts import MARK, Input, Kept
+from sancus.status import NO_ANSWER, USAGE, Ended
 
 HELD, BROKEN, UNKNOWN, UNCONFIRMED = 0, 12, 13, 14
 

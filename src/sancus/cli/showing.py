@@ -5,8 +5,8 @@ from __future__ import annotations
 from dataclasses import dataclass
 from typing import List, Optional, Tuple
 
-from sancus.model.counterexample import Line, Unwritten, lines_of, numbered, text_of
 from sancus.cli.question import Question, item
+from sancus.model.counterexample import Line, Unwritten, lines_of, numbered, text_of
 from sancus.model.search import Found
 
 # A handler's cost is at most 262,144 steps.

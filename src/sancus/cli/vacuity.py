@@ -8,9 +8,9 @@ from __future__ import annotations
 import time
 from typing import Iterator, List, NamedTuple
 
+from sancus.cli.question import Question
 from sancus.model import language
 from sancus.model.language import Fail, Handler, If, Parser, Statement
-from sancus.cli.question import Question
 from sancus.model.rules import walk
 
 # No more places are asked about, nor for longer, in seconds.
