@@ -18,7 +18,7 @@ NO_ANSWER = 125
 INTERRUPTED = 130
 
 # The statuses that a fault line of the program comes with, and those after which nothing was wrong with the input.
-WITH_A_FAULT = (1, 3, 8, 9, 10, 11)
+WITH_A_FAULT = (1, 3, 7, 8, 9, 10, 11)
 
 
 class Ended(Exception):

@@ -280,6 +280,42 @@ The program runs as the lines are written, so packets, boots and pieces are thos
         "prints by which line and instruction a node was reset, and why a line, an answer or a call was refused.",
     ),
     Command(
+        "watch",
+        "judges a trace by a property, and names the first item that breaks it",
+        (
+            Argument("DEPLOYMENT", ONE, "the deployment"),
+            Argument("PROPERTY", ONE, "the property (docs/PROPERTIES.md)"),
+            Argument("TRACE", MAYBE, "what `run` or `drive` wrote; absent or -, standard input"),
+        ),
+        (),
+        "sancus run examples/lighting.txt | sancus watch examples/lighting.txt examples/properties/bright.property",
+        "It prints `broken N`, or `kept N` up to the end or the first `forged`.",
+        typed="a trace",
+    ),
+    Command(
+        "holds",
+        "proves that no attack breaks a property, or shows one that does",
+        (
+            Argument("DEPLOYMENT", ONE, "the deployment"),
+            Argument("PROPERTY", ONE, "the property (docs/PROPERTIES.md)"),
+        ),
+        (
+            Option("--schedule", "writes a run that breaks it there, by default counterexample.txt", "FILE"),
+            Option("--moves", "looks at runs of fewer moves alone", "N"),
+            Option("--seconds", "gives each engine so many seconds, by default 20", "N"),
+            JSON,
+        ),
+        "sancus holds examples/lighting.txt examples/properties/bright.property",
+        "Its first word is the answer:",
+        table=(
+            ("holds (proved)", "no legal run breaks it: the proved program says so"),
+            ("holds (berkeley-abc)", "the same, by engines of others where they are installed"),
+            ("fails", "a run breaks it, which the program ran and judged; its schedule is written"),
+            ("unknown", "neither was found"),
+            ("unconfirmed", "the sources allow a run that breaks it, and no schedule was found that shows one"),
+        ),
+    ),
+    Command(
         "new",
         "writes a small application with a schedule and a test",
         (Argument("FOLDER", ONE, "where the files are written; none that is there is written over", False),),

@@ -82,6 +82,18 @@ def test(context: Context, given: Given) -> int:
     return answer(context, given)
 
 
+def watch(context: Context, given: Given) -> int:
+    from sancus.cli.holds import watch
+
+    return watch(context, given)
+
+
+def holds(context: Context, given: Given) -> int:
+    from sancus.cli.holds import holds
+
+    return holds(context, given)
+
+
 def hex_files(context: Context, given: Given) -> int:
     from sancus.cli.hexfiles import answer
 
@@ -185,6 +197,8 @@ ANSWERS: Dict[str, Callable[[Context, Given], int]] = {
     "vars": variables,
     "steps": steps,
     "why": why,
+    "watch": watch,
+    "holds": holds,
     "new": new,
     "place": place,
     "test": test,

@@ -364,6 +364,58 @@ class Teller:
             "the bytes pass 0xffff"
         ]
 
+    # --- Properties ---
+
+    def property_text(self) -> str:
+        """The property of an input: what is between the first two marks."""
+        end = self.line_after(b"%%", self.mark) or self.kept.lines_so_far() + 1
+        lines = [self.kept.line(it) or b"" for it in range(self.mark + 1, end)]
+        return text_of(b"".join(it + b"\n" for it in lines))
+
+    def property(self, rule: str, place: List[str]) -> Lines:
+        """What is wrong with a property, and where."""
+        lines = [f"{rule}: {table_words()['property'][rule]}"]
+        if rule == "P5":
+            return lines + self.property_rule(place[0])
+        if rule == "P1" or len(place) < 2:
+            return lines
+        line, column = int(place[0]), int(place[1])
+        if rule == "P2":
+            return lines + self.shown(self.mark + line, column) + self.property_grammar(line, column)
+        words = self.heading(line, column)
+        lines += self.shown(self.mark + line, column, len(words[1]) if words else 1)
+        return lines + (guesses.of_heading(*words, self.plan) if words and rule == "P3" and self.plan else [])
+
+    def property_grammar(self, line: int, column: int) -> Lines:
+        source = self.property_text()
+        try:
+            language.parse_property(source)
+        except language.NotInGrammar as error:
+            if language.place_of(source, error.token.at) == (line, column):
+                found = guesses.in_property(error)
+                return guesses.expected(error) + (
+                    found or guesses.hints(source.encode(errors="surrogateescape"), error.token.at)
+                )
+        return []
+
+    def heading(self, line: int, column: int) -> Optional[Tuple[str, str]]:
+        """The kind and the name of the heading whose name is at a place."""
+        before = text_of((self.kept.line(self.mark + line) or b"")[: column - 1]).split()
+        name = re.match(rb"[a-z0-9_]+", (self.kept.line(self.mark + line) or b"")[column - 1 :])
+        return (before[-1], name[0].decode()) if before and name else None
+
+    def property_rule(self, rule: str) -> Lines:
+        """Which name of a property breaks a rule of the language, and where."""
+        from sancus.model.property import plain
+
+        lines = [f"rule {rule} of the language, {table_words()['language'].get(rule, '')}"]
+        source = self.property_text()
+        for it in rules.places(plain(language.parse_property(source), source), rule):
+            line, column = language.place_of(source, it.at)
+            lines += [it.what] + (self.shown(self.mark + line, column, it.length) if it.at else [])
+            lines += guesses.of_name(it.what)
+        return lines
+
     def second_mark(self) -> Optional[int]:
         """The second line `%%`; looked for from the end, since a long schedule isn't kept whole."""
         last = self.kept.lines_so_far() + 1
@@ -408,6 +460,8 @@ class Teller:
         what, rule, place = words[1], words[2], words[3:]
         if what == "deployment":
             return self.deployment(rule, place)
+        if what == "property":
+            return self.property(rule, place)
         if what in ("asm", "hex"):
             return (self.asm if what == "asm" else self.hex)(rule, place[0])
         by_line: Dict[str, Callable[[str, int], Lines]] = {

@@ -8,13 +8,14 @@ from typing import Dict, List, Optional
 from sancus.model.acts import ACTS, QUERIES
 from sancus.model.deployment import KINDS, Plan
 from sancus.model.items import ITEMS
-from sancus.model.language import COMPARED, END, MULTIPLIED, NAMED, NUMBER, SUMMED, UNARY, NotInGrammar
+from sancus.model.language import COMPARED, END, MULTIPLIED, NAMED, NUMBER, SUMMED, UNARY, VALUED, WATCHED, NotInGrammar
 from sancus.model.people import PEOPLE
 from sancus.model.shown import text_of
 from sancus.model.table import words
 
 OPERATORS = {*COMPARED, *SUMMED, *MULTIPLIED}
 STATEMENT = {"let", "send", "emit", "if", "repeat", NAMED}
+IN_PROPERTY = {"let", "fail", "assume", "if", "repeat", NAMED}
 
 
 def expected(error: NotInGrammar) -> List[str]:
@@ -26,6 +27,9 @@ def expected(error: NotInGrammar) -> List[str]:
     if STATEMENT <= left:
         left -= STATEMENT
         said.append("a statement (`let x = ..;`, `x = ..;`, `if`, `repeat`, `send`, `emit`)")
+    if IN_PROPERTY <= left:
+        left -= IN_PROPERTY
+        said.append("a statement (`let x = ..;`, `x = ..;`, `if`, `repeat`, `fail;`, `assume ..;`)")
     if {NUMBER, NAMED, "("} <= left:
         left -= {NUMBER, NAMED, "(", *UNARY}
         said.append("a value (a number, a name, brackets)")
@@ -36,6 +40,46 @@ def expected(error: NotInGrammar) -> List[str]:
     found = error.token
     seen = "the end of the text" if found.kind == END else f"`{found.text}`"
     return [f"expected {', '.join(said[:-1]) + ' or ' if said[1:] else ''}{said[-1]}, and found {seen}"] if said else []
+
+
+def in_property(error: NotInGrammar) -> List[str]:
+    """What a property has in place of what was tried."""
+    from sancus.model.rules import near
+
+    found = error.token.text
+    if "drain" in error.expected:
+        return [near(found, list(WATCHED)).lstrip("; ")] if near(found, list(WATCHED)) else []
+    if found in ("send", "emit"):
+        return [f"a property changes nothing but its own variables, so it has no `{found}`: `fail;` breaks it"]
+    if found in ("sensor", "actuator", "input", "output", "sample"):
+        return [f"a property is no module, so it has no `{found}`: its handlers stand at items, as `on sense light(v)`"]
+    if error.expected == {"("}:
+        return [f"these items have a value, which needs a name, as `(v)`: {' '.join(VALUED)}"]
+    if "(" == found and error.expected == {"{"}:
+        return [f"these items have no value, so no brackets: {' '.join(it for it in WATCHED if it not in VALUED)}"]
+    return []
+
+
+# Of the kinds of items that need one: what a device is, or what a module drives.
+NEEDED = {"sense": "sensor", "drain": "sensor", "raw": "actuator", "read": "sensor", "out": "actuator"}
+
+
+def of_heading(kind: str, name: str, plan: Plan) -> List[str]:
+    """Why a deployment has no items of this kind and name."""
+    from sancus.model.rules import a, near
+
+    what, needed = WATCHED.get(kind, ""), NEEDED.get(kind)
+    if not what:
+        return []
+    entry = plan.named(what, name)
+    if not entry:
+        other = next((it for it in ("node", "device", "module", "connection") if plan.named(it, name)), None)
+        more = f"; `{name}` is {a(other)}" if other else ""
+        known = plan.names(what)
+        return [f"`{kind}` takes {a(what)}{more}: {' '.join(known) or 'there is none'}{near(name, known)}"]
+    if what == "device":
+        return [f"`{name}` is {a(str(entry.get('kind')))}, and `{kind}` is of {a(str(needed))}"]
+    return [f"`{name}` drives no {needed}, so no `{kind}` of it comes"]
 
 
 def hints(source: bytes, at: int) -> List[str]:

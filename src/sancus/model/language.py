@@ -1,5 +1,5 @@
-"""Reads a module's source as docs/LANGUAGE.md has it: tokens, tree and sizes, and at a fault what could have stood
-there.
+"""Reads a module's source as docs/LANGUAGE.md has it, and a property as docs/PROPERTIES.md has it: tokens, tree and
+sizes, and at a fault what could have stood there.
 
 The program alone judges a source. This finds words for its answer.
 """
@@ -8,9 +8,24 @@ from __future__ import annotations
 
 import re
 from dataclasses import dataclass, field
-from typing import List, Optional, Set, Tuple, Union
+from typing import FrozenSet, List, Optional, Set, Tuple, Union
 
 WORDS = frozenset("sensor actuator input output var array on sample let if else repeat send emit".split())
+# A property has these words too. Its handlers stand at items: of these kinds, each with what its name is of.
+PROPERTY_WORDS = WORDS | {"fail", "assume"}
+WATCHED = {
+    "sense": "device",
+    "drain": "device",
+    "raw": "device",
+    "read": "module",
+    "out": "module",
+    "protect": "module",
+    "attested": "module",
+    "take": "connection",
+    "reset": "node",
+}
+# The kinds whose items have a value.
+VALUED = ("sense", "raw", "read", "out", "take")
 SPACE = re.compile(rb"(?:[ \t\n]|//[^\n]*)*")
 NAME = re.compile(rb"[a-z][a-z0-9_]{0,15}")
 DIGITS = re.compile(rb"0x[0-9A-Fa-f]+|[0-9]+")
@@ -44,7 +59,7 @@ def number_end(data: bytes, at: int, end: int) -> int:
     return stop
 
 
-def next_token(data: bytes, at: int) -> Token:
+def next_token(data: bytes, at: int, words: FrozenSet[str] = WORDS) -> Token:
     at = SPACE.match(data, at).end()  # type: ignore[union-attr]
     if at == len(data):
         return Token(END, "", at)
@@ -54,7 +69,7 @@ def next_token(data: bytes, at: int) -> Token:
     found = NAME.match(data, at)
     if found:
         text = found.group().decode()
-        return Token(text if text in WORDS else NAMED, text, at)
+        return Token(text if text in words else NAMED, text, at)
     found = SIGN.match(data, at)
     if found:
         return Token(found.group().decode(), found.group().decode(), at)
@@ -151,7 +166,22 @@ class Emit:
     at: int
 
 
-Statement = Union[Let, Assign, Store, If, Repeat, Send, Emit]
+@dataclass(frozen=True)
+class Fail:
+    """`fail;` of a property: it is broken here."""
+
+    at: int
+
+
+@dataclass(frozen=True)
+class Assume:
+    """`assume TEST;` of a property: if the test is 0, nothing is asked from here on."""
+
+    test: Expression
+    at: int
+
+
+Statement = Union[Let, Assign, Store, If, Repeat, Send, Emit, Fail, Assume]
 
 
 @dataclass(frozen=True)
@@ -165,14 +195,29 @@ class Declared:
 
 
 @dataclass(frozen=True)
+class Heading:
+    """Where a handler of a property stands: at the items of a kind, of what is named."""
+
+    kind: str
+    name: str
+    at: int
+
+    @property
+    def words(self) -> str:
+        return f"{self.kind} {self.name}"
+
+
+@dataclass(frozen=True)
 class Handler:
-    """A handler of an input, or of the samples if that is None."""
+    """A handler of an input, or of the samples if that is None. That of a property has a heading, whose words are its
+    input; without a value it has the parameter that no name is."""
 
     input: Optional[str]
     parameter: str
     body: List[Statement]
     at: int
     parameter_at: int
+    heading: Optional[Heading] = None
 
 
 @dataclass
@@ -205,18 +250,22 @@ class NotInGrammar(Exception):
 
 
 class Parser:
-    """Reads one module. What was looked for at the next token is kept, to be told if none of it is there."""
+    """Reads one module, or one property. What was looked for at the next token is kept, to be told if none of it is
+    there."""
 
-    def __init__(self, data: bytes) -> None:
-        self.data = data
-        self.token = next_token(data, 0)
+    def __init__(self, data: bytes, is_property: bool = False) -> None:
+        self.data, self.is_property = data, is_property
+        self.words = PROPERTY_WORDS if is_property else WORDS
+        self.token = next_token(data, 0, self.words)
         self.looked: Set[str] = set()
         self.open = 0
+        # the word before each block with the place behind its brace, and `assume` with the place behind its `;`
+        self.places: List[Tuple[str, int]] = []
 
     def advance(self) -> Token:
         token = self.token
         end = token.at + max(1, len(token.text.encode()))
-        self.token, self.looked = next_token(self.data, end), set()
+        self.token, self.looked = next_token(self.data, end, self.words), set()
         return token
 
     def sees(self, *kinds: str) -> bool:
@@ -252,6 +301,34 @@ class Parser:
         self.take(END)
         return module
 
+    def property(self) -> Module:
+        module = Module()
+        while self.sees("var", "array"):
+            module.declared.append(self.declaration())
+        while self.sees("on"):
+            module.handlers.append(self.watching())
+        self.take(END)
+        return module
+
+    def watching(self) -> Handler:
+        """A handler of a property."""
+        self.advance()
+        kind = self.watched_kind()
+        name = self.take(NAMED)
+        heading, parameter = Heading(kind.text, name.text, name.at), Token(NAMED, "", name.at)
+        if kind.text in VALUED:
+            self.take("(")
+            parameter = self.take(NAMED)
+            self.take(")")
+        return Handler(heading.words, parameter.text, self.block("on"), name.at, parameter.at, heading)
+
+    def watched_kind(self) -> Token:
+        """The kind of the items at which a handler stands: a name that is one of these."""
+        self.looked.update(WATCHED)
+        if self.token.kind != NAMED or self.token.text not in WATCHED:
+            raise self.fail()
+        return self.advance()
+
     def declaration(self) -> Declared:
         first = self.advance()
         name, value = "", 0
@@ -275,11 +352,11 @@ class Parser:
         self.take("(")
         parameter = self.take(NAMED)
         self.take(")")
-        body = self.block()
+        body = self.block("on")
         return Handler(name.text if name else None, parameter.text, body, (name or first).at, parameter.at)
 
-    def block(self) -> List[Statement]:
-        self.begin("{")
+    def block(self, of: str) -> List[Statement]:
+        self.places.append((of, self.begin("{").at + 1))
         found = []
         while not self.sees("}"):
             found.append(self.statement())
@@ -292,22 +369,28 @@ class Parser:
         if self.sees("repeat"):
             first = self.advance()
             count = number_of(self.take(NUMBER))
-            return Repeat(count, self.block(), first.at)
+            return Repeat(count, self.block("repeat"), first.at)
         made = self.simple()
-        self.take(";")
+        end = self.take(";")
+        if isinstance(made, Assume):
+            self.places.append(("assume", end.at + 1))
         return made
 
     def choice(self) -> If:
         first = self.advance()
-        test, then = self.expression(), self.block()
+        test, then = self.expression(), self.block("if")
         other: List[Statement] = []
         if self.sees("else"):
             self.advance()
-            other = self.block()
+            other = self.block("else")
         return If(test, then, other, first.at)
 
     def simple(self) -> Statement:
-        first = self.take("let", "send", "emit", NAMED)
+        first = self.take("let", *(("fail", "assume") if self.is_property else ("send", "emit")), NAMED)
+        if first.kind == "fail":
+            return Fail(first.at)
+        if first.kind == "assume":
+            return Assume(self.expression(), first.at)
         if first.kind == "emit":
             return Emit(self.expression(), first.at)
         if first.kind == "send":
@@ -382,6 +465,11 @@ def parse(source: str) -> Module:
     return Parser(source.encode(errors="surrogateescape")).module()
 
 
+def parse_property(source: str) -> Module:
+    """The tree of a property; NotInGrammar tells why it is none."""
+    return Parser(source.encode(errors="surrogateescape"), is_property=True).property()
+
+
 def place_of(source: str, at: int) -> Tuple[int, int]:
     """Line and byte column, from 1, of a place in a source."""
     data = source.encode(errors="surrogateescape")
@@ -400,11 +488,11 @@ def parts_of(it: Expression) -> List[Expression]:
 
 
 def expressions_of(it: Statement) -> List[Expression]:
-    if isinstance(it, If):
+    if isinstance(it, (If, Assume)):
         return [it.test]
     if isinstance(it, Store):
         return [it.index, it.value]
-    return [] if isinstance(it, Repeat) else [it.value]
+    return [] if isinstance(it, (Repeat, Fail)) else [it.value]
 
 
 def blocks_of(it: Statement) -> List[List[Statement]]:

@@ -7,7 +7,7 @@ from __future__ import annotations
 from dataclasses import dataclass, field
 from typing import Callable, Dict, List, Optional, Tuple
 
-from sancus.model.language import Applied, Constant, Element, Emit, Expression, If, Let, Module, Repeat, Send
+from sancus.model.language import Applied, Assign, Constant, Element, Emit, Expression, If, Let, Module, Repeat, Send
 from sancus.model.language import Statement, Store, Variable
 
 WORD = 0xFFFF
@@ -79,7 +79,7 @@ class Reaction:
             value = self.value(it.value)
             if index < len(cells):
                 cells[index] = value
-        else:
+        elif isinstance(it, (Let, Assign)):
             self.assign(it.name, self.value(it.value), isinstance(it, Let))
 
     def assign(self, name: str, value: int, is_new: bool) -> None:

@@ -1,0 +1,69 @@
+"""What of a property that holds no legal run reaches: a property may hold since it asks nothing.
+
+`fail;` is put where a run would have to come by: if the program proves that property too, none does.
+"""
+
+from __future__ import annotations
+
+import time
+from typing import Iterator, List, NamedTuple
+
+from sancus.cli.question import Question
+from sancus.model import language
+from sancus.model.language import Fail, Handler, If, Parser, Statement
+from sancus.model.rules import walk
+
+# No more places are asked about, nor for longer, in seconds.
+MOST_PLACES, MOST_SECONDS = 32, 5.0
+
+
+class Place(NamedTuple):
+    """A place of a property that a run may come by, and what is said if none does."""
+
+    at: int
+    what: str
+
+
+def has_fail(block: List[Statement]) -> bool:
+    return any(isinstance(it, Fail) for it in walk(block))
+
+
+def line_of(source: str, at: int) -> int:
+    return language.place_of(source, at)[0]
+
+
+def places(source: str) -> Iterator[Place]:
+    """Handlers, branches and assumptions, but those of which the property says itself that nothing comes by."""
+    parser = Parser(source.encode(errors="surrogateescape"), is_property=True)
+    tree = parser.property()
+    handlers = iter(tree.handlers)
+    branches: "Iterator[If]" = iter([])
+    for word, at in parser.places:
+        line = line_of(source, at)
+        if word == "on":
+            handler = next(handlers)
+            branches = iter(sorted((it for it in walk(handler.body) if isinstance(it, If)), key=lambda it: it.at))
+            if not any(isinstance(it, Fail) for it in handler.body):
+                yield Place(at, f"no legal run has an item `{named(handler)}`")
+        elif word == "if":
+            if not has_fail(next(branches).then):
+                yield Place(at, f"line {line}: this test is never true in a legal run")
+        elif word == "assume":
+            yield Place(at, f"line {line}: this assumption fails whenever it is reached")
+
+
+def named(handler: Handler) -> str:
+    return str(handler.input)
+
+
+def unreached(question: Question) -> List[str]:
+    """What no legal run reaches, of a property that the program has proved."""
+    source = question.property().source
+    data, end = source.encode(errors="surrogateescape"), time.monotonic() + MOST_SECONDS
+    said = []
+    for it in list(places(source))[:MOST_PLACES]:
+        if time.monotonic() > end:
+            break
+        if question.proves(data[: it.at] + b" fail; " + data[it.at :]):
+            said.append(it.what)
+    return said
