@@ -26,8 +26,8 @@ import pkgutil  # noqa: E402
 from sancus import cli, model  # noqa: E402
 from sancus.builds import Builds  # noqa: E402
 from sancus.cli.main import run  # noqa: E402
-from sancus.status import Ended  # noqa: E402
 from sancus.model.texts import Input  # noqa: E402
+from sancus.status import Ended  # noqa: E402
 
 # (so that a fork has them)
 for package in (cli, model):

@@ -161,7 +161,7 @@ class Hosted(Room):
     def chosen(self, machine="x86_64"):
         if not (self.top / "release" / "RELEASE").exists():
             self.note()
-        with patch.dict(os.environ, PATH=str(self.top / "bin")), patch("platform.machine", return_value=machine):
+        with patch.dict(os.environ, PATH=str(self.top / "bin")), patch("sancus.builds.machine", return_value=("Linux", machine)):
             return builds.Builds(self.top).choose()
 
     def is_hosted(self, why, machine="x86_64"):

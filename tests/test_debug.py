@@ -6,12 +6,12 @@ from unittest.mock import patch
 
 from support import EXAMPLES, HEAD, LIGHTING, PROGRAM, TOP, Room, needs_program, program, sancus
 
-from sancus.model import forged, marks, session
 from sancus.builds import Builds
-from sancus.model.deployment import plan_of
-from sancus.model.items import Item
 from sancus.cli.program import Program
 from sancus.cli.say import Voice
+from sancus.model import forged, marks, session
+from sancus.model.deployment import plan_of
+from sancus.model.items import Item
 from sancus.model.texts import Input
 
 LIGHTING_FILE = EXAMPLES / "lighting.txt"

@@ -18,12 +18,12 @@ from xml.etree import ElementTree
 from support import EXAMPLES, LIGHTING as LIGHTING_BYTES, PROGRAM, TOP, Room, needs_program, program, sancus
 
 from sancus.builds import Builds
-from sancus.model.marks import marked_lines, marked_run
 from sancus.cli.program import Program
 from sancus.cli.say import Voice
+from sancus.model.marks import marked_lines, marked_run
 from sancus.model.texts import Input
-from sancus.viewer.pages import of_readings, of_run, page_of, without_lines
 from sancus.viewer.join import joined
+from sancus.viewer.pages import of_readings, of_run, page_of, without_lines
 
 BROWSER = next(
     (found for name in ("chromium", "chromium-browser", "google-chrome") if (found := shutil.which(name))), ""

@@ -11,7 +11,7 @@ from sancus.model import warnings
 from sancus.model.asking import Program
 from sancus.model.deployment import Plan, plan_of
 from sancus.model.faults import Teller
-from sancus.model.schedule import are_for_people
+from sancus.model.people import are_for_people
 from sancus.model.shown import text_of
 from sancus.model.texts import MARK, Input, kept_of
 from sancus.model.traces import of_drive

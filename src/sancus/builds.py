@@ -15,10 +15,8 @@ from __future__ import annotations
 
 import hashlib
 import os
-import platform
-import shlex
-import shutil
 import subprocess
+from array import array
 from dataclasses import dataclass, field
 from pathlib import Path
 from typing import Dict, Iterator, List, Optional, Tuple
@@ -32,6 +30,19 @@ HOSTS = (("node", "run.mjs"), ("wasmtime", ""))
 # The package, and the folder in it that holds the program where it is installed.
 PACKAGE = Path(__file__).resolve().parent
 INSTALLED = PACKAGE / "_program"
+
+
+def machine() -> Tuple[str, str]:
+    """The system and the processor."""
+    seen = os.uname()
+    return seen.sysname, seen.machine
+
+
+def found(command: str) -> Optional[str]:
+    """A command's path. (Imported here, as most calls need none.)"""
+    from shutil import which
+
+    return which(command)
 
 
 def home() -> Path:
@@ -70,6 +81,11 @@ class Build:
         return self.kind != "tried"
 
 
+def take(numbers: "array[int]", seen: os.stat_result) -> None:
+    """What tells a file that is as it was. (A text of it would be half of what a call takes.)"""
+    numbers.extend((seen.st_size, seen.st_ino, seen.st_ctime_ns))
+
+
 @dataclass
 class Sources:
     """The sources below a folder, and their sum. A sum that was worked out before is kept, by places, sizes and times
@@ -83,10 +99,10 @@ class Sources:
             try:
                 with os.scandir(folders.pop()) as found:
                     for it in found:
-                        if it.is_dir(follow_symlinks=False):
-                            folders += [it.path] if it.name != "out" else []
-                        elif it.name.endswith(SOURCES) and it.is_file(follow_symlinks=False):
+                        if it.name.endswith(SOURCES) and it.is_file(follow_symlinks=False):
                             yield it
+                        elif it.name != "out" and it.is_dir(follow_symlinks=False):
+                            folders.append(it.path)
             except OSError:
                 continue
 
@@ -101,18 +117,16 @@ class Sources:
 
     def look(self) -> str:
         """What a sum is kept by. (The time of change can't be set back.)"""
-        rows = []
-        cut = len(str(self.top)) + 1
+        paths, numbers = [], array("Q")
+        try:
+            for name in FIRST:
+                take(numbers, os.stat(self.top / name))
+        except OSError:
+            return ""
         for it in self.entries():
-            seen = it.stat(follow_symlinks=False)
-            rows.append(f"{it.path[cut:]} {seen.st_size} {seen.st_ino} {seen.st_ctime_ns}")
-        for name in FIRST:
-            try:
-                seen = os.stat(self.top / name)
-            except OSError:
-                return ""
-            rows.append(f"{name} {seen.st_size} {seen.st_ino} {seen.st_ctime_ns}")
-        return sum_of("\n".join(sorted(rows)).encode(errors="surrogateescape"))
+            paths.append(it.path)
+            take(numbers, it.stat(follow_symlinks=False))
+        return sum_of("\n".join(paths).encode(errors="surrogateescape") + numbers.tobytes())
 
     def sum(self) -> str:
         kept, look = self.top / "out" / "sources.kept", self.look()
@@ -173,11 +187,13 @@ class Builds:
         return self.tried(reasons)
 
     def named_command(self, program: str) -> List[str]:
-        words = [program] if os.path.exists(program) else shlex.split(program)
-        found = shutil.which(words[0]) if words else None
-        if not found:
+        from shlex import split
+
+        words = [program] if os.path.exists(program) else split(program)
+        path = found(words[0]) if words else None
+        if not path:
             raise Ended(NO_ANSWER, f"{program} is no program that can be started")
-        return [os.path.abspath(found), *words[1:]]
+        return [os.path.abspath(path), *words[1:]]
 
     def proved(self) -> Tuple[Optional[Build], List[str]]:
         if not os.access(self.built, os.X_OK):
@@ -232,8 +248,9 @@ class Builds:
 
     def why_not_native(self, noted: Dict[str, str]) -> str:
         """Why the released build can't run here; nothing if it can."""
-        if platform.system() != "Linux" or platform.machine() != "x86_64":
-            return f"the released build is for Linux on x86-64, and this is {platform.system()} on {platform.machine()}"
+        system, processor = machine()
+        if (system, processor) != ("Linux", "x86_64"):
+            return f"the released build is for Linux on x86-64, and this is {system} on {processor}"
         if not os.access(self.released, os.X_OK):
             name = self.shown(self.released)
             return f"{name} has no right to be executed (`chmod +x {name}` gives it)"
@@ -246,9 +263,9 @@ class Builds:
         if noted.get("wasm-of") != noted["sha256"] or noted.get("wasm-sha256") != sum_of_file(self.wasm):
             return None, [why, f"and {self.shown(self.wasm)} isn't the one that is made from it"]
         for name, script in HOSTS:
-            found = shutil.which(name)
-            command = [found or name, *([str(self.scripts / script)] if script else []), str(self.wasm)]
-            if found and self.answers(command, noted["wasm-sha256"]):
+            path = found(name)
+            command = [path or name, *([str(self.scripts / script)] if script else []), str(self.wasm)]
+            if path and self.answers(command, noted["wasm-sha256"]):
                 told = f"{why}; {name} runs {self.shown(self.wasm)}, which is made from it, and isn't proved itself"
                 return Build(command, "hosted", [told]), []
         hosts = "node (18 or newer) or wasmtime"
@@ -293,7 +310,7 @@ class Builds:
 
     def tried(self, reasons: List[str]) -> Build:
         """A build without its proof."""
-        if not shutil.which("rt"):
+        if not found("rt"):
             told = reasons or ["there is no build of the program here"]
             raise Ended(
                 NO_ANSWER,

@@ -180,7 +180,7 @@ class Run:
     def frame(self) -> Any:
         """The items as a DataFrame of pandas, which has to be installed."""
         try:
-            import pandas  # type: ignore[import]
+            import pandas
         except ImportError:
             raise ImportError("a frame needs pandas: pip install 'sancus-verified[frame]'") from None
         return pandas.DataFrame([it.as_dict() for it in self.items]).set_index("item")

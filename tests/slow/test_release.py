@@ -40,6 +40,8 @@ class Repository(Room):
         for name in (".ci", "src"):
             shutil.copytree(TOP / name, self.top / name, ignore=shutil.ignore_patterns("__pycache__"))
         self.command("../bin/rt", RT)
+        for name in ("mypy", "ruff"):
+            self.command(f"../bin/{name}", "")
 
     def write(self, name, text):
         path = self.top / name
@@ -103,6 +105,11 @@ class Notes(Repository):
         self.change(self.released, "ran", "rxn")
         self.command("../bin/rt", "echo '0 passed, 1 failed'; exit 7")
         self.ends(self.call(self.top / ".ci/run"), 7, "0 passed, 1 failed\n", "")
+
+    def test_a_checker_that_finds_something(self):
+        self.release()
+        self.command("../bin/mypy", "echo wrong type; exit 1")
+        self.ends(self.call(self.top / ".ci/run"), 1, "1 passed, 0 failed\n", "wrong type")
 
     def test_tests_that_fail_after_the_gate(self):
         self.release()

@@ -6,17 +6,18 @@ import os
 from typing import List, Optional
 
 from sancus.cli import jsonlines
-from sancus.model import marks
+from sancus.cli.commands import Given
 from sancus.cli.context import Context
-from sancus.model.deployment import plan_of
-from sancus.model.faults import Teller
 from sancus.cli.people import as_schedule
 from sancus.cli.program import Sink
-from sancus.cli.running import gathered, parts_of, run_program, tell, words_for_program
-from sancus.model.shown import text_of
 from sancus.cli.reading import file_part, is_regular, read_all
+from sancus.cli.running import gathered, parts_of, run_program, words_for_program
+from sancus.cli.telling import tell
+from sancus.model import marks
+from sancus.model.deployment import plan_of
+from sancus.model.faults import Teller
+from sancus.model.shown import text_of
 from sancus.model.texts import find_mark
-from sancus.cli.commands import Given
 
 
 def head_of(files: List[str]) -> Optional[bytes]:

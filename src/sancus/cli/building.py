@@ -11,8 +11,8 @@ from pathlib import Path
 from typing import Dict, List, Tuple
 
 from sancus.builds import Builds, sum_of_file
-from sancus.model.numbers import number, within
 from sancus.cli.say import Voice
+from sancus.model.numbers import number, within
 from sancus.status import NO_ANSWER, Ended
 
 # How often it is looked how far the build is, and how often that is said at least, in seconds.

@@ -280,6 +280,23 @@ The program runs as the lines are written, so packets, boots and pieces are thos
         "prints by which line and instruction a node was reset, and why a line, an answer or a call was refused.",
     ),
     Command(
+        "new",
+        "writes a small application with a schedule and a test",
+        (Argument("FOLDER", ONE, "where the files are written; none that is there is written over", False),),
+        (),
+        "sancus new lighting",
+        "The files are app.toml, day.schedule and test_app.sancus. Its keys are drawn at random.",
+    ),
+    Command(
+        "place",
+        "fills in addresses that modules of a deployment lack",
+        (Argument("DEPLOYMENT", MAYBE, "a deployment whose [[module]] may lack `text` and `data`"),),
+        (),
+        "sed '/^text/d; /^data/d' examples/lighting.txt | sancus place",
+        "It prints the deployment, and on standard error what is where on each node, and what is free.",
+        typed="a deployment",
+    ),
+    Command(
         "test",
         "runs schedules that say what they expect, and compares",
         (Argument("FILE", MANY, "files, or folders in which test_*.sancus are looked for; absent, this folder"),),

@@ -9,15 +9,15 @@ from dataclasses import dataclass, field
 from pathlib import Path
 from typing import Callable, Dict, Iterator, List, Optional, Tuple
 
-from sancus.cli.context import Context
-from sancus.model.deployment import Plan, plan_of
-from sancus.cli.output import print_lines, write
-from sancus.model.shown import plain
-from sancus.status import BAD_TEXT, NO_FILE, Ended
-from sancus.cli.reading import read_all
-from sancus.model.texts import Input
 from sancus.cli.commands import Given, Usage
+from sancus.cli.context import Context
+from sancus.cli.output import print_lines, write
+from sancus.cli.reading import read_all
 from sancus.cli.writing import must_be_free, write_file
+from sancus.model.deployment import Plan, plan_of
+from sancus.model.shown import plain
+from sancus.model.texts import Input
+from sancus.status import BAD_TEXT, NO_FILE, Ended
 
 # How many bytes one `put` takes.
 PIECE = 1024

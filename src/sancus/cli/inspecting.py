@@ -13,7 +13,7 @@ from sancus.model.asking import Program
 from sancus.model.deployment import Plan, plan_of
 from sancus.model.faults import Teller
 from sancus.model.inspection import Inspected, Line, are_readings, driven, marked_lines, readings_of
-from sancus.model.schedule import are_for_people
+from sancus.model.people import are_for_people
 from sancus.model.texts import Input, Kept
 from sancus.status import BAD_TEXT, Ended
 

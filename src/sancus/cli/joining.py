@@ -7,8 +7,8 @@ from array import array
 from dataclasses import dataclass, field
 from typing import Callable, List, Optional
 
-from sancus.cli.say import Voice
 from sancus.cli.reading import PIECE, Part, file_part, text_part
+from sancus.cli.say import Voice
 from sancus.model.texts import MARK, MOST_HEAD, find_mark
 
 # The first line of a longer text isn't looked for further than this.

@@ -6,71 +6,19 @@ after the items of the lines before it.
 
 from __future__ import annotations
 
-import os
-import re
 from dataclasses import dataclass, field
-from typing import Iterator, List, Optional
+from typing import Iterator, List
 
-from sancus.model.acts import is_act
-from sancus.cli.commands import Given
 from sancus.cli.context import Context
-from sancus.model.guesses import PEOPLE
-from sancus.model.items import Item
-from sancus.cli.joining import may_have_mark
 from sancus.cli.people import Lines, begun, do_line, place
 from sancus.cli.program import Collected, Ran, Sink
-from sancus.cli.running import gathered, parts_of, run_parts
-from sancus.model.shown import text_of
-from sancus.model.schedule import Writer, are_for_people, is_for_people
+from sancus.cli.reading import Part
+from sancus.model.items import Item
+from sancus.model.schedule import Writer
 from sancus.model.session import Stopped
-from sancus.cli.snapping import snap
+from sancus.model.shown import text_of
+from sancus.model.texts import MARK, Kept, Origin, kept_of, without_return
 from sancus.status import BAD_TEXT, Ended
-from sancus.cli.reading import Part, file_part, is_regular, open_file
-from sancus.model.texts import MARK, Input, Kept, Origin, find_mark, kept_of, without_return
-
-# In a larger file no lines for people are looked for.
-MOST_LOOKED = 1 << 24
-# What a text has that has lines for people.
-LIKE_PEOPLE = re.compile(rb"(?m)^[ \t]*(?:%s)(?:[ \t\r]|$)|[ \t]as[ \t]" % "|".join(PEOPLE).encode())
-
-
-def has_lines_for_people(name: str) -> bool:
-    """Whether a file has a line for people, after its deployment if it has one."""
-    if name != "-" and not os.path.isfile(name):
-        return False
-    fd = open_file(name)
-    try:
-        if not is_regular(fd) or os.fstat(fd).st_size > MOST_LOOKED:
-            return False
-        text = os.pread(fd, MOST_LOOKED, os.lseek(fd, 0, os.SEEK_CUR))
-    finally:
-        if fd:
-            os.close(fd)
-    if not LIKE_PEOPLE.search(text):
-        return False
-    return are_for_people(Input(text if may_have_mark(text) and find_mark(text) else b"%%\n" + text))
-
-
-def begins_for_people(part: Part) -> bool:
-    """Whether the first line of a part that does something, as far as it was read ahead, is for people."""
-    first = next((it for it in part.ahead().split(b"\n") if is_act(it)), b"")
-    return bool(first) and is_for_people([text_of(it) for it in first.split()])
-
-
-def run_of_people(context: Context, given: Given, files: List[str], sink: Sink) -> Ran:
-    """Answers `run` or `snap`: line by line if lines are typed, or if some are for people. Of a pipe only the first line
-    is known."""
-    is_typed = "-" in files and os.isatty(0)
-    # (looked at before parts of files are read)
-    has_people = any(map(has_lines_for_people, files[1:] or files))
-    parts = parts_of(given, files, context)
-    if given.command.name == "snap":
-        if not has_people:
-            return run_parts(context, given, files, parts, sink)
-        return snap(context, *gathered(parts or [file_part(files[0])]), sink)
-    if is_typed or has_people or any(map(begins_for_people, (parts or [])[1:])):
-        return run_live(context, parts or [file_part(files[0])], is_typed, sink)
-    return run_parts(context, given, files, parts, sink)
 
 
 @dataclass

@@ -9,14 +9,14 @@ from pathlib import Path
 from typing import Callable, Dict, List, NoReturn, Optional, Sequence, Tuple
 
 from sancus import __version__
-from sancus.cli import commands
 from sancus.builds import Build, Builds, home
+from sancus.cli import commands
+from sancus.cli.commands import BY_NAME, COMMANDS, EVERYWHERE, Command, Given, Usage
 from sancus.cli.context import Context
 from sancus.cli.output import print_lines, write
 from sancus.cli.program import Program
 from sancus.cli.say import Voice
 from sancus.status import INTERRUPTED, NO_ANSWER, USAGE, Ended
-from sancus.cli.commands import BY_NAME, EVERYWHERE, COMMANDS, Given, Usage, Command
 
 OUT_OF_MEMORY = 6
 
@@ -60,6 +60,18 @@ def steps(context: Context, given: Given) -> int:
 
 def why(context: Context, given: Given) -> int:
     from sancus.cli.why import answer
+
+    return answer(context, given)
+
+
+def new(context: Context, given: Given) -> int:
+    from sancus.cli.starting import answer
+
+    return answer(context, given)
+
+
+def place(context: Context, given: Given) -> int:
+    from sancus.cli.placing import answer
 
     return answer(context, given)
 
@@ -173,6 +185,8 @@ ANSWERS: Dict[str, Callable[[Context, Given], int]] = {
     "vars": variables,
     "steps": steps,
     "why": why,
+    "new": new,
+    "place": place,
     "test": test,
     "hex": hex_files,
     "tag": tag,

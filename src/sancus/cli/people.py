@@ -7,22 +7,23 @@ from dataclasses import dataclass, field
 from itertools import accumulate
 from typing import List, Optional, Tuple, Type, TypeVar
 
+from sancus.cli.commands import Given
 from sancus.cli.context import Context
-from sancus.model.deployment import plan_of
-from sancus.model.faults import Teller, of_line
 from sancus.cli.joining import joined
-from sancus.model.marks import MOST_LINES, CannotMark, marked_lines, marked_run
 from sancus.cli.output import print_lines, write
 from sancus.cli.program import Program
-from sancus.cli.running import gathered, parts_of
-from sancus.model.shown import plain, short, text_of
-from sancus.model.schedule import Mistake, Writer, are_for_people
-from sancus.model.session import Stopped, start
-from sancus.status import BAD_TEXT, Ended
-from sancus.cli.sinks import is_image, short_image
 from sancus.cli.reading import file_part
+from sancus.cli.running import gathered, parts_of
+from sancus.cli.sinks import is_image, short_image
+from sancus.model.deployment import plan_of
+from sancus.model.faults import Teller, of_line
+from sancus.model.marks import MOST_LINES, CannotMark, marked_lines, marked_run
+from sancus.model.people import are_for_people
+from sancus.model.schedule import Mistake, Writer
+from sancus.model.session import Stopped, start
+from sancus.model.shown import plain, short, text_of
 from sancus.model.texts import MARK, Input, Kept, kept_of, split_lines
-from sancus.cli.commands import Given
+from sancus.status import BAD_TEXT, Ended
 
 W = TypeVar("W", bound=Writer)
 

@@ -8,17 +8,16 @@ import os
 import select
 import signal
 import subprocess
-import tempfile
 from dataclasses import dataclass, field
 from typing import IO, Any, List, Optional
 
-from sancus.cli import output
 from sancus.builds import Build, Builds
+from sancus.cli import output
+from sancus.cli.reading import Part, is_regular
 from sancus.cli.say import Voice
 from sancus.model.asking import Answer
-from sancus.status import INTERRUPTED, NO_ANSWER, Ended
-from sancus.cli.reading import Part, is_regular
 from sancus.model.texts import Kept, Origin
+from sancus.status import INTERRUPTED, NO_ANSWER, Ended
 
 # How long a build that isn't proved may run, in seconds.
 SECONDS_AT_MOST = "86400"
@@ -151,7 +150,9 @@ class Program:
         return self.answer(words, text).output
 
     def ran_of(self, words: List[str], text: bytes, sink: Sink) -> Ran:
-        with tempfile.TemporaryFile() as file:
+        from tempfile import TemporaryFile
+
+        with TemporaryFile() as file:
             file.write(text)
             file.seek(0)
             return self.run_file(words, file.fileno(), "-", sink)
@@ -172,8 +173,10 @@ class Program:
     def run(self, words: List[str], fd: Optional[int], parts: List[Part], kept: Kept, sink: Sink) -> Ran:
         if self.is_fast:
             return self.pumped(self.command(words), fd, parts, kept, sink, None)
+        from tempfile import TemporaryFile
+
         held = Collected()
-        with tempfile.TemporaryFile() as messages:
+        with TemporaryFile() as messages:
             ran = self.pumped(self.command(words), fd, parts, kept, held, messages)
             messages.seek(0)
             text = messages.read().decode(errors="surrogateescape")

@@ -4,25 +4,19 @@ from __future__ import annotations
 
 import os
 import re
-from typing import Callable, List, Optional, Tuple
+from typing import List, Optional, Tuple
 
-from sancus.cli import images
-from sancus.model import forged, warnings
+from sancus.cli.commands import Given, Usage
 from sancus.cli.context import Context
-from sancus.model.deployment import Plan, plan_of
-from sancus.model.faults import Teller
 from sancus.cli.joining import explained, joined, snap_parts, with_mark
-from sancus.model.marks import marked_run
-from sancus.model.numbers import number, within
 from sancus.cli.output import print_lines
 from sancus.cli.program import Ran, Sink
-from sancus.model.shown import text_of
-from sancus.model.session import Stopped, snapped
-from sancus.cli.sinks import ForgedSeen, NoImages, ScheduleOnly, ShortImages, TraceOnly
-from sancus.status import NO_FILE, WITH_A_FAULT, Ended
 from sancus.cli.reading import MOST_INPUT, Part, can_be_read, file_part, is_regular, look_at_standard_input, open_file
-from sancus.model.texts import MOST_HEAD, Input, Kept, Origin, find_mark, kept_of
-from sancus.cli.commands import Given, Usage
+from sancus.cli.sinks import ForgedSeen, NoImages, ScheduleOnly, ShortImages, TraceOnly
+from sancus.cli.spotting import begins_for_people, has_lines_for_people
+from sancus.model.numbers import number, within
+from sancus.model.texts import MOST_HEAD, Input, Kept, Origin, find_mark
+from sancus.status import NO_FILE, Ended
 
 
 def files_of(given: Given) -> List[str]:
@@ -85,7 +79,6 @@ def parts_of(given: Given, files: List[str], context: Context) -> Optional[List[
 
 def trace_of(files: List[str], context: Context) -> Part:
     """The trace of a call of `explain`, which may come in a pipe, or be the run of a schedule."""
-    # (imported here, as it takes a while)
     from sancus.cli.runs import trace_for
 
     return trace_for(files[0], files[1] if len(files) > 1 else "-", context)
@@ -115,11 +108,28 @@ def run_program(context: Context, given: Given, files: List[str], sink: Sink) ->
         with open(os.devnull, "rb") as nothing:
             return context.program.run_file(words, nothing.fileno(), "-", sink)
     if given.command.name in ("run", "snap") and context.program.is_fast:
-        # (imported here, as other commands don't need it)
-        from sancus.cli.live import run_of_people
-
         return run_of_people(context, given, files, sink)
     return run_parts(context, given, files, parts_of(given, files, context), sink)
+
+
+def run_of_people(context: Context, given: Given, files: List[str], sink: Sink) -> Ran:
+    """Answers `run` or `snap`: line by line if lines are typed, or if some are for people. Of a pipe only the first line
+    is known."""
+    is_typed = "-" in files and os.isatty(0)
+    # (looked at before parts of files are read)
+    has_people = any(map(has_lines_for_people, files[1:] or files))
+    parts = parts_of(given, files, context)
+    if given.command.name == "snap":
+        if not has_people:
+            return run_parts(context, given, files, parts, sink)
+        from sancus.cli.snapping import snap
+
+        return snap(context, *gathered(parts or [file_part(files[0])]), sink)
+    if is_typed or has_people or any(map(begins_for_people, (parts or [])[1:])):
+        from sancus.cli.live import run_live
+
+        return run_live(context, parts or [file_part(files[0])], is_typed, sink)
+    return run_parts(context, given, files, parts, sink)
 
 
 def run_parts(context: Context, given: Given, files: List[str], parts: Optional[List[Part]], sink: Sink) -> Ran:
@@ -133,109 +143,10 @@ def run_parts(context: Context, given: Given, files: List[str], parts: Optional[
     return context.program.run_parts(words, [file_part(files[0])], sink)
 
 
-def warn(context: Context, given: Given, files: List[str], ran: Ran) -> None:
-    """Says what the rules allow and hardly anybody wants, unless the deployment broke a rule, which comes first."""
-    if context.voice.is_quiet or given.command.name not in ("run", "check", "drive") or ran.status == 1:
-        return
-    if files[0] == "-":
-        if not os.isatty(0) and find_mark(bytes(ran.kept.first)):
-            warn_of(context, ran.kept)
-        return
-    fd = open_file(files[0])
-    if is_regular(fd):
-        warn_of(context, kept_of(os.pread(fd, 1 << 19, 0), files[0]))
-    os.close(fd)
-
-
-def words_of(words: Callable[[], List[str]]) -> List[str]:
-    """Words about an input, or none if finding them fails: however odd an input is, the program's answer is kept."""
-    try:
-        return words()
-    except Ended:
-        raise
-    except Exception:  # noqa: BLE001
-        if os.environ.get("SANCUS_TRACEBACK"):
-            raise
-        return []
-
-
-def warn_of(context: Context, kept: Kept) -> None:
-    teller = Teller(kept, "check")
-    plan = teller.plan if len(teller.head) < MOST_HEAD else None
-    if plan:
-        known = plan
-        context.voice.say(*words_of(lambda: warnings.of_deployment(known) + warnings.of_values(teller)))
-
-
-def warn_after(context: Context, given: Given, ran: Ran) -> None:
-    """Says what only a run shows: a `finish` after which the next instruction breaks a rule."""
-    if given.command.name != "run" or ran.status != 0 or not ran.kept.is_whole() or context.voice.is_quiet:
-        return
-    data = Input(bytes(ran.kept.first))
-    if not any(it.split()[:1] == [b"finish"] for it in data.schedule):
-        return
-    context.voice.say(*after_finish(context, data, ran.kept))
-
-
-def about_forged(context: Context, kept: Kept) -> List[str]:
-    """What the first `forged` of a run says, and the line that shows it."""
-    data = Input(bytes(kept.first))
-    plan = plan_of(data.head)
-    if not kept.is_whole() or not plan or not context.program.is_fast:
-        return [f"the trace has an item `forged`, and `sancus explain --words` says what was accepted; {forged.AFTER}"]
-    pairs = [(line, text_of(item)) for line, item in marked_run(data, context.program).items()]
-    said, line = forged.notes(pairs, [text_of(it) for it in data.schedule], plan)
-    teller = Teller(kept, "run")
-    return [said, *(teller.shown(teller.mark + line) if line else []), forged.AFTER]
-
-
-def after_finish(context: Context, data: Input, kept: Kept) -> List[str]:
-    """The `finish` lines that end with PC in a section of a module that doesn't run there."""
-    plan, lines = plan_of(data.head), [text_of(it) for it in data.schedule]
-    ends = [(at, it.split()[1]) for at, it in enumerate(lines, 1) if it.split()[:1] == ["finish"]][:64]
-    if not plan or not context.program.is_fast:
-        return []
-    try:
-        answers = snapped(context.program, data.head, lines, [f"regs {node} {at}" for at, node in ends])
-    except Stopped:
-        return []
-    teller, made = Teller(kept, "run"), []
-    for (at, node), answer in zip(ends, answers):
-        pc = int(answer.split(" ")[3], 16)
-        module = inside(plan, node, pc)
-        if module:
-            made += [
-                f"warning: this `finish` ends before code outside runs an instruction of {module}, at 0x{pc:04x}: that "
-                f"is the one which breaks a rule (`run {node} 1` shows it)",
-                *teller.shown(teller.mark + at),
-            ]
-    return made
-
-
-def inside(plan: Plan, node: str, pc: int) -> Optional[str]:
-    """The module in whose sections an address lies, but at its entry."""
-    for it in plan.modules:
-        bounds = plan.bounds(it)
-        if it.get("node") != node or not bounds:
-            continue
-        if bounds.text < pc < bounds.text_end or bounds.data <= pc < bounds.data_end:
-            return str(it.get("name"))
-    return None
-
-
-def tell(context: Context, given: Given, ran: Ran) -> List[str]:
-    """What a run that ended in a fault means, in words."""
-    if ran.status not in WITH_A_FAULT and not ran.last.startswith("fault read"):
-        return []
-    ask = context.program.ask if context.program.is_fast else (lambda _words, _text: b"")
-    return words_of(lambda: Teller(ran.kept, given.command.name, ask).told(ran.last))
-
-
 def answer(context: Context, given: Given) -> int:
     """Answers a word of the program, and returns the program's own status."""
     files = files_of(given)
     if given.has("json"):
-        # (imported here, as few calls need it)
         from sancus.cli.asjson import as_json
 
         return as_json(context, given, files)
@@ -245,16 +156,19 @@ def answer(context: Context, given: Given) -> int:
         return list_code(context, given, files)
     watch = ForgedSeen(sink_of(given))
     ran = run_program(context, given, files, watch)
-    context.voice.say(*tell(context, given, ran))
-    warn(context, given, files, ran)
-    warn_after(context, given, ran)
-    if watch.is_seen and given.command.name == "run":
-        context.voice.say(*words_of(lambda: about_forged(context, ran.kept)))
+    if not context.voice.is_quiet:
+        # (imported where it is needed, here and elsewhere, since imports are most of what a call takes)
+        from sancus.cli.telling import say_of
+
+        say_of(context, given, files, ran, watch.is_seen)
     return ran.status
 
 
 def list_code(context: Context, given: Given, files: List[str]) -> int:
     """Lists bytes as code, among them an image's line."""
+    from sancus.cli import images
+    from sancus.cli.telling import tell
+
     words = words_for_program(given)
     looked = images.look(files[0])
     lines = images.listing(context.program, number(words[1]) or 0, looked.code) if looked.code else None

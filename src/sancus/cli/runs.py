@@ -4,21 +4,21 @@ from __future__ import annotations
 
 import os
 
-from sancus.model.acts import ACTS, first_word, is_act
 from sancus.cli.context import Context
-from sancus.model.deployment import plan_of
-from sancus.model.faults import Teller
-from sancus.model.guesses import PEOPLE
-from sancus.model.inspection import are_readings
 from sancus.cli.joining import joined, trace_part
 from sancus.cli.people import as_schedule
 from sancus.cli.program import Collected
+from sancus.cli.reading import Part, read_all, text_part
 from sancus.cli.running import gathered
 from sancus.cli.say import Voice
-from sancus.model.shown import text_of
 from sancus.cli.sinks import TraceOnly
-from sancus.cli.reading import Part, read_all, text_part
-from sancus.model.texts import Input
+from sancus.model.acts import ACTS
+from sancus.model.deployment import plan_of
+from sancus.model.faults import Teller
+from sancus.model.inspection import are_readings
+from sancus.model.people import PEOPLE
+from sancus.model.shown import text_of
+from sancus.model.texts import Input, first_word, is_act
 
 
 def is_schedule(name: str, deployment: str) -> bool:

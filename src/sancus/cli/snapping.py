@@ -4,13 +4,12 @@ from __future__ import annotations
 
 from typing import List
 
-from sancus.model.acts import is_act
 from sancus.cli.context import Context
-from sancus.model.numbers import number
 from sancus.cli.people import Written, lines_of, written
 from sancus.cli.program import Collected, Ran, Sink
+from sancus.model.numbers import number
 from sancus.model.shown import text_of
-from sancus.model.texts import MARK, Input, Kept
+from sancus.model.texts import MARK, Input, Kept, is_act
 
 # As docs/FORMATS.md has them.
 MOST_LINES = 65536

@@ -106,12 +106,3 @@ def told(field: Field, plan: Optional[Plan]) -> str:
 
 def fields_told(first: str, table: Dict[str, List[Field]]) -> str:
     return " ".join([first, *(it.name for it in table.get(first, []))])
-
-
-def first_word(line: bytes) -> bytes:
-    return (line.split() or [b""])[0]
-
-
-def is_act(line: bytes) -> bool:
-    """Whether a line does something: it is neither blank nor a comment."""
-    return bool(first_word(line)) and not first_word(line).startswith(b"#")

@@ -12,6 +12,7 @@ from typing import Callable, Dict, List, Optional, Tuple
 from sancus.model import acts, assembly, guesses, language, rules, tables, toml
 from sancus.model.acts import ACTS, QUERIES, Field, Word, words_at
 from sancus.model.deployment import KINDS, Plan, plan_of
+from sancus.model.people import PEOPLE
 from sancus.model.shown import MOST_SHOWN, short, text_of
 from sancus.model.table import words as table_words
 from sancus.model.texts import Kept, find_mark, kept_of, split_lines
@@ -319,14 +320,14 @@ class Teller:
                     f"`{words[0].text}` is a line of a schedule: `sancus run` takes those, and `drive` makes them "
                     "of readings"
                 )
-            if words[0].text in guesses.PEOPLE:
+            if words[0].text in PEOPLE:
                 more = guesses.for_people(words[0].text)
             return lines + self.shown(line, words[0].column, len(words[0].text)) + [more]
         if rule == "Q5" and len(words) > 1:
             return lines + self.shown(line, words[1].column, len(words[1].text))
         if rule == "Q3" and words and words[0].text in ACTS:
             return [*lines, *self.shown(line), f"`{words[0].text}` is a line of a schedule: `sancus run` takes those"]
-        if rule == "Q3" and words and words[0].text in guesses.PEOPLE:
+        if rule == "Q3" and words and words[0].text in PEOPLE:
             return [*lines, *self.shown(line), guesses.for_people(words[0].text)]
         return lines + self.shown(line)
 

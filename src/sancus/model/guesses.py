@@ -9,12 +9,12 @@ from sancus.model.acts import ACTS, QUERIES
 from sancus.model.deployment import KINDS, Plan
 from sancus.model.items import ITEMS
 from sancus.model.language import COMPARED, END, MULTIPLIED, NAMED, NUMBER, SUMMED, UNARY, NotInGrammar
+from sancus.model.people import PEOPLE
 from sancus.model.shown import text_of
 from sancus.model.table import words
 
 OPERATORS = {*COMPARED, *SUMMED, *MULTIPLIED}
 STATEMENT = {"let", "send", "emit", "if", "repeat", NAMED}
-PEOPLE = ("deploy", "sample", "carry", "flow", "settle", "windows", "packets", "boots")
 
 
 def expected(error: NotInGrammar) -> List[str]:

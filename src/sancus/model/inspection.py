@@ -7,16 +7,15 @@ import re
 from dataclasses import dataclass, field
 from typing import List, Optional, Tuple
 
-from sancus.model.acts import is_act
 from sancus.model.asking import Program
 from sancus.model.deployment import Plan
 from sancus.model.faults import Teller
 from sancus.model.numbers import number
 from sancus.model.rules import near
-from sancus.model.shown import plain, text_of
 from sancus.model.schedule import spelled
+from sancus.model.shown import plain, text_of
+from sancus.model.texts import Input, Kept, is_act, kept_of
 from sancus.status import BAD_TEXT, Ended
-from sancus.model.texts import Input, Kept, kept_of
 
 
 @dataclass(frozen=True)

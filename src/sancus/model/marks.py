@@ -12,10 +12,9 @@ from __future__ import annotations
 from dataclasses import dataclass, field
 from typing import Dict, Iterator, List, Optional, Tuple
 
-from sancus.model.acts import first_word, is_act
-from sancus.model.deployment import Plan, plan_of
 from sancus.model.asking import Program
-from sancus.model.texts import Input
+from sancus.model.deployment import Plan, plan_of
+from sancus.model.texts import Input, first_word, is_act
 
 MOST_LINES = 65536
 NO_PACKET = "4294967295"

@@ -10,17 +10,14 @@ from collections import deque
 from dataclasses import dataclass, field
 from typing import Callable, Deque, Dict, List, Optional, Tuple
 
-from sancus.model.acts import is_act
+from sancus.model.asking import Program
 from sancus.model.deployment import End, Plan, port_of
-from sancus.model.guesses import PEOPLE
 from sancus.model.items import Item, say
 from sancus.model.numbers import counted, number, within
-from sancus.model.asking import Program
 from sancus.model.rules import near
-from sancus.model.shown import plain, text_of
 from sancus.model.session import Session, snapped
+from sancus.model.shown import plain
 from sancus.model.table import words as table_words
-from sancus.model.texts import Input
 
 EVENT, ANSWER = 24, 16
 SET_KEY, ATTEST, EVENT_IN, SAMPLE = 0, 1, 2, 3
@@ -29,17 +26,6 @@ EVENT_KIND = 3
 MOST_CARRIED = 4096
 # A mark has no more letters of a line, and no longer name of a file, so that it is no longer than a line may be.
 MOST_MARKED, LONGEST_PLACE = 200, 2000
-# The acts whose packet may get a name.
-NAMING = ("take", "forge", "ask")
-
-
-def are_for_people(data: Input) -> bool:
-    """Whether one of the lines after the mark is for `sancus schedule`."""
-    return any(is_for_people([text_of(word) for word in it.split()]) for it in data.schedule if is_act(it))
-
-
-def is_for_people(words: List[str]) -> bool:
-    return words[0] in PEOPLE or words[0] in NAMING and words[-2:-1] == ["as"]
 
 
 class Mistake(Exception):

@@ -9,11 +9,12 @@ from __future__ import annotations
 from dataclasses import dataclass, field
 from typing import Dict, Iterator, List, Optional
 
-from sancus.model.acts import ACTS, is_act, suits
+from sancus.model.acts import ACTS, suits
 from sancus.model.inspection import Inspected, Line, broken
 from sancus.model.numbers import number
-from sancus.model.shown import plain
 from sancus.model.session import Stopped, snapped, start
+from sancus.model.shown import plain
+from sancus.model.texts import is_act
 from sancus.status import BAD_TEXT, Ended
 
 # More steps than this aren't shown: a schedule has room for 65,536 lines.

@@ -43,6 +43,15 @@ def find_mark(data: bytes) -> Optional[Tuple[int, int]]:
         at = found + 1
 
 
+def first_word(line: bytes) -> bytes:
+    return (line.split() or [b""])[0]
+
+
+def is_act(line: bytes) -> bool:
+    """Whether a line does something: it is neither blank nor a comment."""
+    return bool(first_word(line)) and not first_word(line).startswith(b"#")
+
+
 @dataclass
 class Origin:
     """Where lines of the input come from: from this line on, those of a file from its own line on."""
