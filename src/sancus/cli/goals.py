@@ -13,12 +13,12 @@ from sancus.cli.inspecting import inspected
 from sancus.cli.output import print_lines
 from sancus.cli.program import Collected
 from sancus.model import toml
-from sancus.model.acts import is_act
 from sancus.model.deployment import plan_of
 from sancus.model.inspection import Inspected
 from sancus.model.judging import Watched, heading_of
 from sancus.model.numbers import counted, number
 from sancus.model.shown import text_of
+from sancus.model.texts import is_act
 from sancus.status import BAD_TEXT, NOT_REACHED, USAGE, Ended
 
 FOLDER = "examples/goals"
