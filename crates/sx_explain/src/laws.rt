@@ -1,8 +1,10 @@
 //! What holds of what a judge says. Each law is a function that does nothing: its contract is the
 //! law.
 
+ghost use Rattle.sx_explain.specs.Finished.{InOrderFinishes};
 ghost use Rattle.sx_explain.specs.Laws.{LegalHasCauses};
 ghost use Rattle.sx_explain.specs.Laws.{IllegalIsRefused, JudgesLegal, LegalIsExplained};
+ghost use Rattle.sx_explain.specs.Sending.{InOrderTakesBehind};
 
 /// In a legal trace each reading, taking and output has its cause before it, and from each output
 /// causes lead to a sensor's value.
@@ -25,4 +27,16 @@ pub fn judges_legal()
 /// before it.
 pub fn illegal_is_refused()
     ensures { IllegalIsRefused }
+{}
+
+/// In a trace that is legal with acts in their order, each word that is taken was sent by an event,
+/// and what its handler emits before the sending was put out since that event began.
+pub fn in_order_takes_behind()
+    ensures { InOrderTakesBehind }
+{}
+
+/// Where besides a node shows one event at a time, an event is finished, with all that its handler
+/// emits put out in order, before its node shows anything else, unless the node is reset.
+pub fn in_order_finishes()
+    ensures { InOrderFinishes }
 {}
