@@ -26,7 +26,8 @@ use Rattle.sx_model.specs.order.Step.{step, idle, absent_at, is_nothing, state_i
 use Rattle.sx_model.specs.order.Legal.{after, LegalInOrder}
 use Rattle.sx_explain.specs.Sending.{EventOf, acts_of}
 use Rattle.sx_model.specs.order.Turns.{is_at_node, begins, ends, goes_on, OneAtATime}
-use Rattle.sx_explain.specs.Finished.{resets, IsFinished, InOrderFinishes}
+use Rattle.sx_explain.specs.Finished.{resets, IsFinished}
+use Rattle.sx_explain.specs.Laws.{InOrderFinishes}
 use Rattle.sx_model.proofs.order.Idle.{idle_is}
 use Rattle.sx_model.proofs.order.Steps.{Cases, by_step}
 use Rattle.sx_explain.proofs.Origins.{Holds, later_event, here, first_part, emitted, emits_append, outs_last}

@@ -20,7 +20,8 @@ use Rattle.sx_model.specs.order.State.{Model, Pending, Present, Standing, power_
 use Rattle.sx_model.specs.Step.{◌>>?◌, changed_views}
 use Rattle.sx_model.specs.order.Step.{step, idle, state_if}
 use Rattle.sx_model.specs.order.Legal.{after, LegalInOrder}
-use Rattle.sx_explain.specs.Sending.{SentBehind, TakenBehind, InOrderTakesBehind}
+use Rattle.sx_explain.specs.Sending.{SentBehind, TakenBehind}
+use Rattle.sx_explain.specs.Laws.{InOrderTakesBehind}
 use Rattle.sx_model.proofs.order.Idle.{idle_is}
 use Rattle.sx_model.proofs.order.Steps.{Cases, by_step}
 use Rattle.sx_explain.proofs.Origins.{Origin, Words, Owing, Holds, later_words, still, changed, settled, kept, absent, begun_words, begun_owing, out_words, out_owing}

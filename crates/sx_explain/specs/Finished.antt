@@ -7,9 +7,8 @@ use Rattle.sx_trace.specs.declared.items.Item.TheVariants.{Reset, Done}
 use Rattle.sx_mean.specs.Application.{AppTree, PartTree}
 use Rattle.sx_model.specs.Consequences.{begins_event, is_part_at}
 use Rattle.sx_explain.specs.Causes.{emits_of, outs_of}
-use Rattle.sx_model.specs.order.Legal.{LegalInOrder}
 use Rattle.sx_explain.specs.Sending.{EventOf, acts_of}
-use Rattle.sx_model.specs.order.Turns.{is_at_node, goes_on, OneAtATime}
+use Rattle.sx_model.specs.order.Turns.{is_at_node, goes_on}
 
 -- the module's node is reset
 abbrev pub resets : AppTree → ℕ → Item → Bool
@@ -37,8 +36,3 @@ EventsAreFinished app items =
     → begins_event m first ≡ true → is_at_node app q.node item ≡ true → goes_on m item ≡ false
     → list_any (resets app m) between ≡ false
     → IsFinished app before first between m
-
--- so it is in every run in order that shows one event of a node at a time
-abbrev pub InOrderFinishes : Type 0
-InOrderFinishes = (app : AppTree) (items : List Item) → LegalInOrder app items
-    → OneAtATime app items → EventsAreFinished app items

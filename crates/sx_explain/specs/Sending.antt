@@ -1,6 +1,6 @@
 -- What a reader may take from a run in order: what a handler emits before it sends was put out
 -- before the word is taken.
-use Rattle.std.specs.Prelude.{◌≡◌, ℕ, ◌≤◌, true, List, ◌∷◌, ◌++◌, length, slice_get, Some}
+use Rattle.std.specs.Prelude.{◌≡◌, ℕ, true, List, ◌∷◌, ◌++◌, slice_get, Some}
 use Rattle.sx_mean.specs.declared.apps.Link.{Link}
 use Rattle.sx_mean.specs.declared.events.Act.{Act}
 use Rattle.sx_mean.specs.declared.events.Act.TheVariants.{Send}
@@ -12,7 +12,7 @@ use Rattle.sx_trace.specs.declared.items.Item.TheVariants.{Take}
 use Rattle.sx_model.specs.Consequences.{begins_event}
 use Rattle.sx_explain.specs.Causes.{event_of, emits_of, outs_of}
 use Rattle.sx_model.specs.order.State.{Model, Present, Standing, power_on}
-use Rattle.sx_model.specs.order.Legal.{after, LegalInOrder}
+use Rattle.sx_model.specs.order.Legal.{after}
 
 -- an event of a module among items: where it began, what came since, and to which acts its handler
 -- reacts
@@ -53,8 +53,3 @@ abbrev pub TakenBehind : AppTree → List Item → Type 0
 TakenBehind app items =
     (before behind : List Item) (m c i v : ℕ) → items ≡ before ++ Take m c i v ∷ behind
     → (l : Link) × (slice_get app.links c ≡ Some l) × SentBehind app before l.from l.output v
-
--- so it is in every run in order
-abbrev pub InOrderTakesBehind : Type 0
-InOrderTakesBehind = (app : AppTree) (items : List Item) → length app.links ≤ 256
-    → LegalInOrder app items → TakenBehind app items

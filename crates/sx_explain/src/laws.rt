@@ -1,10 +1,9 @@
 //! What holds of what a judge says. Each law is a function that does nothing: its contract is the
 //! law.
 
-ghost use Rattle.sx_explain.specs.Finished.{InOrderFinishes};
 ghost use Rattle.sx_explain.specs.Laws.{LegalHasCauses};
 ghost use Rattle.sx_explain.specs.Laws.{IllegalIsRefused, JudgesLegal, LegalIsExplained};
-ghost use Rattle.sx_explain.specs.Sending.{InOrderTakesBehind};
+ghost use Rattle.sx_explain.specs.Laws.{InOrderFinishes, InOrderTakesBehind};
 
 /// In a legal trace each reading, taking and output has its cause before it, and from each output
 /// causes lead to a sensor's value.

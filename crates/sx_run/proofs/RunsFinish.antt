@@ -3,7 +3,7 @@ use Rattle.std.proofs.Common.{ℕ}
 use Rattle.sx_model.specs.Legal.{before}
 use Rattle.sx_run.specs.State.{switched_on}
 use Rattle.sx_run.specs.Run.{run}
-use Rattle.sx_run.specs.Law.{RunsFinish}
+use Rattle.sx_run.specs.OrderLaw.{RunsFinish}
 use Rattle.sx_run.proofs.RunsInOrder.{runs_in_order}
 use Rattle.sx_run.proofs.turns.RunsTakeTurns.{runs_take_turns}
 use Rattle.sx_explain.proofs.Finishes.{in_order_finishes}

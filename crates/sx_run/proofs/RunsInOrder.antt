@@ -5,7 +5,8 @@ use Rattle.sx_model.specs.order.State.{Model, power_on}
 use Rattle.sx_run.specs.Setting.{Setting}
 use Rattle.sx_run.specs.State.{switched_on}
 use Rattle.sx_run.specs.Run.{run}
-use Rattle.sx_run.specs.Law.{IsSoundSetting, RunsInOrder}
+use Rattle.sx_run.specs.Law.{IsSoundSetting}
+use Rattle.sx_run.specs.OrderLaw.{RunsInOrder}
 use Rattle.sx_run.proofs.tie.Verdicts.{legal_of}
 use Rattle.sx_run.proofs.tie.Tied.{Tied}
 use Rattle.sx_run.proofs.tie.Start.{starts_tied}

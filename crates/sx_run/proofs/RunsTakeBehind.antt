@@ -3,7 +3,7 @@ use Rattle.std.proofs.Common.{ℕ, ◌≤◌, length, arith}
 use Rattle.sx_model.specs.Legal.{before}
 use Rattle.sx_run.specs.State.{switched_on}
 use Rattle.sx_run.specs.Run.{run}
-use Rattle.sx_run.specs.Law.{RunsTakeBehind}
+use Rattle.sx_run.specs.OrderLaw.{RunsTakeBehind}
 use Rattle.sx_run.proofs.RunsInOrder.{runs_in_order}
 use Rattle.sx_explain.proofs.TakesBehind.{in_order_takes_behind}
 

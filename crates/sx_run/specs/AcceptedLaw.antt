@@ -22,19 +22,23 @@ abbrev pub AreLines : NameLists → List Line → Type 0
 AreLines names [] = Unit {0}
 AreLines names (line ∷ lines) = IsLine names line × AreLines names lines
 
--- From text to trace: so it is, for every text that is accepted, every lawful tag, all images that
--- realize its modules and every schedule of at most 65,536 lines, of the items before the first
--- forged one.
+-- From text to trace: for every text that is accepted, every lawful tag, all images that realize
+-- its modules and every schedule of at most 65,536 lines, the items before the first forged one are
+-- a legal run of the source.
+abbrev pub AcceptedRunsLegal : Type 0
+AcceptedRunsLegal = (text : List ℕ) (d : Deployed) → IsRead text (Ok d)
+    → (mac : Mac) (texts : List (List ℕ)) → IsTag mac → AreImages mac d texts
+    → (lines : List Line) → length lines ≤ 65536 → AreLines d.names lines
+    → Legal d.app (before (run (setting_of mac d texts) (switched_on (setting_of mac d texts))
+    lines).items)
+
+-- What else is so of these items.
 abbrev pub OfAcceptedRuns : (AppTree → List Item → Type 0) → Type 0
 OfAcceptedRuns Holds = (text : List ℕ) (d : Deployed) → IsRead text (Ok d)
     → (mac : Mac) (texts : List (List ℕ)) → IsTag mac → AreImages mac d texts
     → (lines : List Line) → length lines ≤ 65536 → AreLines d.names lines
     → Holds d.app (before (run (setting_of mac d texts) (switched_on (setting_of mac d texts))
     lines).items)
-
--- they are a legal run of the source
-abbrev pub AcceptedRunsLegal : Type 0
-AcceptedRunsLegal = OfAcceptedRuns Legal
 
 -- each act comes in the order in which its handler does it
 abbrev pub AcceptedRunsInOrder : Type 0

@@ -1,7 +1,6 @@
--- What holds of every run up to the first item that is forged: it is a legal run of the source, its
--- nodes show one event at a time, and acts come in the order of their handlers.
+-- What holds of every run: it is a legal run of the source, up to the first item that is forged.
 use Rattle.std.specs.Prelude.{◌≡◌, ℕ, ◌+◌, ◌<◌, ◌≤◌, ◌⊎◌, List, [], ◌∷◌, length, slice_get, Some}
-use Rattle.std.specs.Prelude.{None, true, All}
+use Rattle.std.specs.Prelude.{None, true}
 use Rattle.sx_lang.specs.Sizes.{module_data_size}
 use Rattle.sx_mean.specs.Application.{declared_kind, AppTree, PartTree, is_sensor}
 use Rattle.sx_mean.specs.declared.apps.AppDevice.{AppDevice}
@@ -18,11 +17,6 @@ use Rattle.sx_invoke.specs.Devices.{HasDevices}
 use Rattle.sx_mean.specs.Ends.{ends_of}
 use Rattle.sx_model.specs.Step.{kind_is}
 use Rattle.sx_model.specs.Legal.{Legal, before}
-use Rattle.sx_model.specs.order.Legal.{LegalInOrder}
-use Rattle.sx_model.specs.order.Turns.{OneAtATime}
-use Rattle.sx_model.specs.order.Given.{IsGiven}
-use Rattle.sx_explain.specs.Sending.{TakenBehind}
-use Rattle.sx_explain.specs.Finished.{EventsAreFinished}
 use Rattle.sx_trace.specs.declared.items.Item.{Item}
 use Rattle.sx_run.specs.Setting.{Site, Setting, windows_at}
 use Rattle.sx_run.specs.State.{switched_on}
@@ -113,23 +107,3 @@ OfRuns Holds = (set : Setting) → IsSoundSetting set → (lines : List Line) �
 -- every run is legal up to its first forged item
 abbrev pub RunsLegal : Type 0
 RunsLegal = OfRuns Legal
-
--- and each act comes in the order in which its handler does it
-abbrev pub RunsInOrder : Type 0
-RunsInOrder = OfRuns LegalInOrder
-
--- a node shows one event at a time
-abbrev pub RunsTakeTurns : Type 0
-RunsTakeTurns = OfRuns OneAtATime
-
--- what is given from outside, and what is written, is in range
-abbrev pub RunsAreGiven : Type 0
-RunsAreGiven = OfRuns (λ app items. All IsGiven items)
-
--- each event is finished before its node shows anything else
-abbrev pub RunsFinish : Type 0
-RunsFinish = OfRuns EventsAreFinished
-
--- what a handler emits before it sends was put out before the word is taken
-abbrev pub RunsTakeBehind : Type 0
-RunsTakeBehind = OfRuns TakenBehind

@@ -3,8 +3,9 @@
 ghost use Rattle.sx_run.specs.AcceptedLaw.{AcceptedRunsAreGiven, AcceptedRunsFinish};
 ghost use Rattle.sx_run.specs.AcceptedLaw.{AcceptedRunsInOrder, AcceptedRunsLegal};
 ghost use Rattle.sx_run.specs.AcceptedLaw.{AcceptedRunsTakeBehind, AcceptedRunsTakeTurns};
-ghost use Rattle.sx_run.specs.Law.{RunsAreGiven, RunsFinish, RunsInOrder, RunsLegal};
-ghost use Rattle.sx_run.specs.Law.{RunsTakeBehind, RunsTakeTurns};
+ghost use Rattle.sx_run.specs.Law.{RunsLegal};
+ghost use Rattle.sx_run.specs.OrderLaw.{RunsAreGiven, RunsFinish, RunsInOrder};
+ghost use Rattle.sx_run.specs.OrderLaw.{RunsTakeBehind, RunsTakeTurns};
 ghost use Rattle.sx_run.specs.Renewed.{RenewsAsTheModel};
 
 /// Every run of lines in form is a legal run of the source, up to its first forged item.

@@ -34,7 +34,7 @@ use Rattle.sx_run.proofs.tie.Tied.{Tied, NodeTied}
 use Rattle.sx_run.proofs.tie.Start.{starts_tied}
 use Rattle.sx_run.proofs.acts.Counting.{counts_lines}
 use Rattle.sx_model.specs.order.Given.{IsGiven}
-use Rattle.sx_run.specs.Law.{RunsAreGiven}
+use Rattle.sx_run.specs.OrderLaw.{RunsAreGiven}
 use Rattle.sx_run.proofs.acts.Walks.{Walks, all_before}
 use Rattle.sx_run.proofs.acts.Compose.{ActsWalk, keeps_run}
 use Rattle.sx_run.proofs.ActsKeep.{are_wordly}

@@ -57,7 +57,7 @@ use Rattle.sx_run.proofs.steps.Nodes.{device_here}
 use Rattle.sx_run.proofs.steps.Steps.{DriversFit, nonzero, bounds_of, runner_of}
 use Rattle.sx_run.proofs.steps.Fits.{drivers_fit}
 use Rattle.sx_run.proofs.steps.UnderWay.{Behind, Still, Out, watched_next, stepped_on, rest_of, under_way_sections}
-use Rattle.sx_run.specs.Law.{RunsTakeTurns}
+use Rattle.sx_run.specs.OrderLaw.{RunsTakeTurns}
 use Rattle.sx_run.proofs.acts.Walks.{Walks, walks_then}
 use Rattle.sx_run.proofs.acts.Compose.{ActsWalk, keeps_run}
 use Rattle.sx_run.proofs.ActsWalk.{each_walks, acts_walk, refused_each}

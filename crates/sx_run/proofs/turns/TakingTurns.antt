@@ -19,6 +19,8 @@ use Rattle.sx_rules.proofs.Placing.{placed_found}
 use Rattle.sx_bus.specs.declared.devices.Window.{Window}
 use Rattle.sx_bus.specs.Devices.{cleared}
 use Rattle.sx_mean.specs.declared.apps.AppDevice.{AppDevice}
+use Rattle.sx_mean.specs.declared.events.Act.{Act}
+use Rattle.sx_mean.specs.declared.events.Act.TheVariants.{Send, Emit}
 use Rattle.sx_mean.specs.Application.{AppTree, PartTree, is_sensor}
 use Rattle.sx_mean.specs.Ends.{ends_of}
 use Rattle.sx_machine.specs.declared.kinds.Touch.{Touch}
@@ -75,7 +77,6 @@ use Rattle.sx_run.proofs.steps.Foreign.{strangers}
 use Rattle.sx_run.proofs.steps.Fits.{drivers_fit}
 use Rattle.sx_run.proofs.steps.UnderWay.{Behind, Still, Out, stepped_on, rest_of, under_way_sections}
 use Rattle.sx_model.specs.order.Turns.{is_at_node, begins, ends, goes_on}
-use Rattle.sx_run.specs.Law.{RunsTakeTurns}
 use Rattle.sx_run.proofs.acts.Walks.{Unless, Walks, walks_then}
 use Rattle.sx_run.proofs.acts.Compose.{ActsWalk, keeps_run}
 use Rattle.sx_run.proofs.ActsWalk.{Each, each_append, each_walks, Always, Easy, acts_walk, refused_each, unless_so, if_some_so}
@@ -307,14 +308,15 @@ module _ (set : Setting) (m : ℕ) (q : PartTree) (boot : ℕ) (part : slice_get
       begun mark rest result (Samples k w own fresh h) =
           let seen : read_item app (Some m) (device_number app q.node k) w.value ≡ item.Read m w.value = rw (driver_here (device_number app q.node k) own.device) refl in
           subst (λ i. V mo (i ∷ [])) (sym seen) (walk_one app mo (item.Read m w.value) (free_turn app mo q.node (item.Read m w.value) free own_only))
-  mark_turn mo x pr ledger devices mark rest result there present alone (Now emits pieces pend h) = settled mark emits h
+  mark_turn mo x pr ledger devices mark rest result there present alone (Now acts pieces pend own h) = settled mark acts h
     where
-      settled : (mark : Mark) (emits : List ℕ) → Settles app q.node m q.device pr.cells pr.ends mo.sent pieces result (mark ∷ rest) emits → V mo (mark_seen app q.node m boot mark ledger).items
-      settled (Wrapped header body own) emits h = event_wrapped mo header body own ledger h.1
-      settled (Unwrapped header body own) emits h = absurd h
-      settled (Sampled k v) emits h = absurd h
+      settled : (mark : Mark) (acts : List Act) → Settles app q.node m q.device pr.cells pr.ends mo.sent pieces result (mark ∷ rest) acts → V mo (mark_seen app q.node m boot mark ledger).items
+      settled (Wrapped header body own) acts h = event_wrapped mo header body own ledger h.1
+      settled (Unwrapped header body own) acts h = absurd h
+      settled (Sampled k v) acts h = absurd h
       settled (Actuated k v) [] h = absurd h
-      settled (Actuated k v) (e ∷ emits) h =
+      settled (Actuated k v) (Send output w ∷ acts) h = absurd h
+      settled (Actuated k v) (Emit e ∷ acts) h =
           let seen : write_item app (Some m) (device_number app q.node k) v ≡ item.Out m v = rw (driver_here (device_number app q.node k) h.0) refl in
           subst (λ i. V mo (i ∷ [])) (sym seen) (walk_one app mo (item.Out m v) (own_turn app mo q.node m (item.Out m v) alone own_only (eq-eqb m m refl)))
 

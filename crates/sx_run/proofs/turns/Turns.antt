@@ -92,7 +92,7 @@ module _ (app : AppTree) (m : ℕ) where
     vouch = λ k a q x p boot _ e i _ f. idle_pends s.modules m h k x _ p e i;
     opened = λ k c side epoch q x p boot views _ e i _ _ _ f. idle_pends s.modules m h k x _ p e i;
     take = λ k c i v q x p l views _ e j _ _ f. idle_pends s.modules m h k x _ p e j;
-    out = λ k v x p owed left e ep eo el f. set_pends s.modules m h k x _ e (λ same. (_, left, refl, refl));
+    out = λ k v x p owed left e ep eo el f. set_pends s.modules m h k x _ e (λ same. (_, _, refl, refl));
     raw = λ d v f. h;
     done = λ k status n x p e ep f. set_pends_other k x _ e f;
     refused = λ k status n x p e ep none f. h;
