@@ -1,6 +1,6 @@
 -- Events are finished.
-use Rattle.std.proofs.Common.{◌≡◌, ℕ, zero, suc, inl, inr, ◌==◌, ◌&&◌, ◌||◌, Bool, true, false, if◌then◌else◌, List, [], ◌∷◌, ◌++◌, length, Option, Some, None, refl, sym, ◌∙◌, ap, subst, append_assoc}
-use Rattle.std.specs.Prelude.{slice_get, slice_set, IfSome, IsSome, is_none, nat_le, not}
+use Rattle.std.proofs.Common.{◌≡◌, ℕ, zero, suc, inl, inr, ◌==◌, ◌&&◌, ◌||◌, Bool, true, false, if◌then◌else◌, List, [], ◌∷◌, ◌++◌, Option, Some, None, refl, sym, ◌∙◌, ap, subst, append_assoc}
+use Rattle.std.specs.Prelude.{slice_get, slice_set, IsSome, is_none, nat_le, not}
 use Rattle.std.specs.List.{list_any}
 use Rattle.std.proofs.lemmas.Bool.{true≢false, and_parts, cases_eq, eq-eqb, eqb-true, ne_eqb, or_parts, cases_Bool}
 use Rattle.std.proofs.lemmas.List.{append-nil}
@@ -8,7 +8,7 @@ use Rattle.std.proofs.lemmas.Option.{same_Some, none-some}
 use Rattle.sx_lists.proofs.Lists.{get_same}
 use Rattle.sx_mean.specs.declared.apps.Link.{Link}
 use Rattle.sx_mean.specs.declared.events.Act.{Act}
-use Rattle.sx_mean.specs.declared.events.Act.TheVariants.{Send, Emit}
+use Rattle.sx_mean.specs.declared.events.Act.TheVariants.{Emit}
 use Rattle.sx_mean.specs.declared.events.SourceEvent.{SourceEvent}
 use Rattle.sx_mean.specs.declared.events.SourceEvent.TheVariants as event
 use Rattle.sx_mean.specs.Application.{AppTree, PartTree}
@@ -25,8 +25,8 @@ use Rattle.sx_model.specs.Step.{◌>>?◌, waits}
 use Rattle.sx_model.specs.order.Step.{step, idle, absent_at, is_nothing, state_if, with_present}
 use Rattle.sx_model.specs.order.Legal.{after, LegalInOrder}
 use Rattle.sx_explain.specs.Sending.{EventOf, acts_of}
-use Rattle.sx_model.specs.order.Turns.{is_at_node, begins, ends, goes_on, OneAtATime}
-use Rattle.sx_explain.specs.Finished.{resets, IsFinished}
+use Rattle.sx_model.specs.order.Turns.{begins, ends}
+use Rattle.sx_explain.specs.Finished.{resets}
 use Rattle.sx_explain.specs.Laws.{InOrderFinishes}
 use Rattle.sx_model.proofs.order.Idle.{idle_is}
 use Rattle.sx_model.proofs.order.Steps.{Cases, by_step}

@@ -1,34 +1,29 @@
 -- Where each word that was sent comes from.
-use Rattle.std.proofs.Common.{◌≡◌, ℕ, zero, suc, ◌+◌, ◌*◌, ◌/◌, ◌%◌, ◌<◌, ◌≤◌, ◌⊎◌, inl, inr, ◌==◌, ◌&&◌, Bool, true, false, if◌then◌else◌, List, [], ◌∷◌, ◌++◌, length, replicate, Option, Some, None, refl, sym, ◌∙◌, ap, subst, arith, append_assoc}
-use Rattle.std.specs.Prelude.{slice_get, slice_set, is_some, IfSome, map}
-use Rattle.std.proofs.lemmas.Bool.{true≢false, and_parts, cases_eq, eq-eqb, eqb-true, ne_eqb}
+use Rattle.std.proofs.Common.{◌≡◌, ℕ, zero, suc, inl, inr, ◌==◌, Bool, true, false, if◌then◌else◌, List, [], ◌∷◌, ◌++◌, Option, Some, None, refl, sym, ◌∙◌, ap, subst, append_assoc}
+use Rattle.std.specs.Prelude.{slice_get, slice_set}
+use Rattle.std.proofs.lemmas.Bool.{eq-eqb, eqb-true, ne_eqb}
 use Rattle.std.proofs.lemmas.List.{append-nil}
-use Rattle.std.proofs.lemmas.Option.{same_Some, slice_get_within, none-some}
-use Rattle.sx_lang.specs.declared.sides.Side.TheVariants.{To}
-use Rattle.sx_mean.specs.declared.apps.Link.{Link}
+use Rattle.std.proofs.lemmas.Option.{same_Some, none-some}
 use Rattle.sx_mean.specs.declared.events.Act.{Act}
 use Rattle.sx_mean.specs.declared.events.Act.TheVariants.{Send, Emit}
 use Rattle.sx_mean.specs.declared.events.End.{End}
 use Rattle.sx_mean.specs.declared.events.SourceEvent.{SourceEvent}
-use Rattle.sx_mean.specs.declared.events.SourceEvent.TheVariants as event
 use Rattle.sx_mean.specs.Application.{AppTree, PartTree}
 use Rattle.sx_mean.specs.Ends.{ends_of}
 use Rattle.sx_mean.specs.React.{react}
 use Rattle.sx_trace.specs.declared.items.Item.{Item}
-use Rattle.sx_trace.specs.declared.items.Item.TheVariants.{Reset, Protect, Sense, Read, Drain, Ask, Attested, Denied, Vouch, Open, Take, Out, Raw, Done, Packet, Forged, Busy, Skip, Budget}
+use Rattle.sx_trace.specs.declared.items.Item.TheVariants.{Out}
 use Rattle.sx_model.specs.Reaction.{Flow, sent_to}
-use Rattle.sx_model.specs.Changes.{is_from}
 use Rattle.sx_model.specs.Consequences.{begins_event}
 use Rattle.sx_model.proofs.Written.{at_set}
-use Rattle.sx_explain.specs.Causes.{Among, word_of, event_of, emits_of, out_of, outs_of}
-use Rattle.sx_explain.proofs.Words.{SendsAt, SentBy, Grows, grows_none, grows_on, grows_weaker, grows_acts}
-use Rattle.sx_model.specs.State.{EndView, FIELDS}
+use Rattle.sx_explain.specs.Causes.{word_of, event_of, emits_of, out_of, outs_of}
+use Rattle.sx_explain.proofs.Words.{SendsAt, Grows, grows_none, grows_on, grows_weaker, grows_acts}
+use Rattle.sx_model.specs.State.{EndView}
 use Rattle.sx_model.specs.order.State.{Model, Pending, Present, Standing, power_on}
 use Rattle.sx_model.specs.order.Reaction.{sent_first, from_emit, flowing}
-use Rattle.sx_model.specs.order.Step.{step, idle, absent_at, behind_emit, goes_on}
+use Rattle.sx_model.specs.order.Step.{absent_at, behind_emit}
 use Rattle.sx_model.specs.order.Legal.{after}
 use Rattle.sx_explain.specs.Sending.{EventOf, acts_of, SentBehind}
-use Rattle.sx_model.proofs.order.Steps.{Cases, by_step}
 
 -- what is sent before the first emit
 pub record FirstSent (es : List End) (views : List EndView) (acts : List Act) (field v : ℕ) : Type 0 where

@@ -1,6 +1,6 @@
 -- What a handler emits before it sends was put out before the word is taken.
-use Rattle.std.proofs.Common.{◌≡◌, ℕ, zero, suc, ◌+◌, ◌*◌, ◌/◌, ◌%◌, ◌<◌, ◌≤◌, ◌==◌, ◌&&◌, Bool, true, false, if◌then◌else◌, List, [], ◌∷◌, ◌++◌, length, replicate, Option, Some, None, refl, sym, ◌∙◌, ap, subst, arith, append_assoc}
-use Rattle.std.specs.Prelude.{slice_get, is_some, IfSome, IsSome, map, option_and_then}
+use Rattle.std.proofs.Common.{◌≡◌, ℕ, zero, suc, ◌+◌, ◌*◌, ◌/◌, ◌%◌, ◌<◌, ◌≤◌, ◌==◌, ◌&&◌, Bool, true, false, List, [], ◌∷◌, ◌++◌, length, replicate, Option, Some, None, refl, sym, ◌∙◌, ap, subst, arith, append_assoc}
+use Rattle.std.specs.Prelude.{slice_get, is_some, IfSome, IsSome, map}
 use Rattle.std.proofs.lemmas.Bool.{and_parts, eq-eqb, eqb-true}
 use Rattle.std.proofs.lemmas.List.{append-nil}
 use Rattle.std.proofs.lemmas.Option.{same_Some, slice_get_within, none-some}
@@ -10,7 +10,7 @@ use Rattle.sx_mean.specs.declared.events.SourceEvent.TheVariants as event
 use Rattle.sx_mean.specs.Application.{AppTree, PartTree}
 use Rattle.sx_mean.specs.Ends.{ends_of}
 use Rattle.sx_trace.specs.declared.items.Item.{Item}
-use Rattle.sx_trace.specs.declared.items.Item.TheVariants.{Reset, Protect, Sense, Read, Drain, Ask, Attested, Denied, Vouch, Open, Take, Out, Raw, Done, Packet, Forged, Busy, Skip, Budget}
+use Rattle.sx_trace.specs.declared.items.Item.TheVariants.{Reset, Protect, Sense, Read, Drain, Ask, Attested, Denied, Vouch, Open, Take, Raw, Done, Packet, Forged, Busy, Skip, Budget}
 use Rattle.sx_model.specs.Changes.{is_from}
 use Rattle.sx_model.specs.Renewal.{takes}
 use Rattle.sx_explain.specs.Causes.{word_of, out_of}
@@ -20,11 +20,11 @@ use Rattle.sx_model.specs.order.State.{Model, Pending, Present, Standing, power_
 use Rattle.sx_model.specs.Step.{◌>>?◌, changed_views}
 use Rattle.sx_model.specs.order.Step.{step, idle, state_if}
 use Rattle.sx_model.specs.order.Legal.{after, LegalInOrder}
-use Rattle.sx_explain.specs.Sending.{SentBehind, TakenBehind}
+use Rattle.sx_explain.specs.Sending.{SentBehind}
 use Rattle.sx_explain.specs.Laws.{InOrderTakesBehind}
 use Rattle.sx_model.proofs.order.Idle.{idle_is}
 use Rattle.sx_model.proofs.order.Steps.{Cases, by_step}
-use Rattle.sx_explain.proofs.Origins.{Origin, Words, Owing, Holds, later_words, still, changed, settled, kept, absent, begun_words, begun_owing, out_words, out_owing}
+use Rattle.sx_explain.proofs.Origins.{Origin, Words, Owing, Holds, later_words, still, settled, kept, absent, begun_words, begun_owing, out_words, out_owing}
 
 pub some_of : {A : Type 0} → (o : Option A) (x : A) (Q : A → Type 0) → IfSome o Q → o ≡ Some x → Q x
 some_of None x Q h e = absurd cc

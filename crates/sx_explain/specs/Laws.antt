@@ -1,7 +1,6 @@
 -- In a legal trace each reading, each taking and each output gets its cause; and what holds of one
 -- with acts in their order.
 use Rattle.std.specs.Prelude.{◌≡◌, ℕ, true, Bool, false, List, ◌∷◌, ◌++◌, ◌≤◌, length, Some, None}
-use Rattle.std.specs.Prelude.{◌+◌}
 use Rattle.sx_mean.specs.Application.{AppTree}
 use Rattle.sx_mean.specs.Validity.{is_valid}
 use Rattle.sx_trace.specs.declared.items.Item.{Item}

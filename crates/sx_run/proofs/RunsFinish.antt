@@ -1,5 +1,4 @@
 -- In every run each event is finished before its node shows anything else.
-use Rattle.std.proofs.Common.{ℕ}
 use Rattle.sx_model.specs.Legal.{before}
 use Rattle.sx_run.specs.State.{switched_on}
 use Rattle.sx_run.specs.Run.{run}

@@ -1,5 +1,5 @@
 -- Every run is legal, with its acts in order.
-use Rattle.std.proofs.Common.{ℕ, ◌+◌, ◌<◌, List, arith}
+use Rattle.std.proofs.Common.{List, arith}
 use Rattle.sx_trace.specs.declared.items.Item.{Item}
 use Rattle.sx_model.specs.order.State.{Model, power_on}
 use Rattle.sx_run.specs.Setting.{Setting}

@@ -1,5 +1,5 @@
 -- Every run is legal.
-use Rattle.std.proofs.Common.{ℕ, ◌≤◌, length, arith}
+use Rattle.std.proofs.Common.{arith}
 use Rattle.sx_model.specs.Legal.{before}
 use Rattle.sx_model.proofs.order.Sides.{in_order_is_legal}
 use Rattle.sx_run.specs.State.{switched_on}

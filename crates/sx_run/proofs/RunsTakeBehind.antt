@@ -1,5 +1,5 @@
 -- In every run what handlers emit before they send was put out before the word is taken.
-use Rattle.std.proofs.Common.{ℕ, ◌≤◌, length, arith}
+use Rattle.std.proofs.Common.{arith}
 use Rattle.sx_model.specs.Legal.{before}
 use Rattle.sx_run.specs.State.{switched_on}
 use Rattle.sx_run.specs.Run.{run}

@@ -1,6 +1,6 @@
 -- From each act to the run: every act forges, or goes on to a tied state, and each of its items is so
 -- where it stands.
-use Rattle.std.proofs.Common.{◌≤◌, ◌≡◌, ℕ, zero, suc, ◌+◌, ◌/◌, ◌<◌, ◌==◌, ◌||◌, Bool, true, false, if◌then◌else◌, List, [], ◌∷◌, length, take, drop, Option, Some, None, refl, arith}
+use Rattle.std.proofs.Common.{◌≡◌, ℕ, zero, suc, ◌+◌, ◌/◌, ◌<◌, ◌==◌, ◌||◌, Bool, true, false, if◌then◌else◌, List, [], ◌∷◌, length, take, drop, Option, Some, None, refl, arith}
 use Rattle.std.specs.Prelude.{slice_get}
 use Rattle.sx_trace.specs.declared.items.Item.{Item}
 use Rattle.sx_trace.specs.declared.items.Item.TheVariants as item
@@ -9,12 +9,12 @@ use Rattle.sx_sched.specs.Lines.{Line, Blank, Run, Finish, Put, Set, Take, Give,
 use Rattle.sx_mean.specs.declared.apps.AppDevice.{AppDevice}
 use Rattle.sx_machine.specs.State.{State, reset as restarted}
 use Rattle.sx_mean.specs.Application.{is_sensor}
-use Rattle.sx_model.specs.order.State.{power_on, Model}
+use Rattle.sx_model.specs.order.State.{Model}
 use Rattle.sx_machine.specs.Step.{step as stepped_node}
 use Rattle.sx_machine.specs.Acts.{put as put_at, set as set_register, take as take_from, sense as sense_on, irq as interrupt}
 use Rattle.sx_model.specs.Step.{kind_is}
 use Rattle.sx_run.specs.Setting.{Site, Setting}
-use Rattle.sx_run.specs.State.{World, Acted, switched_on}
+use Rattle.sx_run.specs.State.{World, Acted}
 use Rattle.sx_run.specs.Acts.{only, then_, with_node, at_node, after_step, done_on, new_packet, after_take, after_interrupt, ask as asks, after_answer}
 use Rattle.sx_run.specs.Run.{is_reset, steps_of, FINISH_STEPS, finish, put_on, set_on, give}
 use Rattle.sx_run.specs.Run.{place_at, sense_at, put_pieces, Register, set_all, register}

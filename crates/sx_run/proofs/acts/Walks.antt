@@ -1,12 +1,12 @@
 -- Items of which each is so where it stands, up to the first that is forged.
-use Rattle.std.proofs.Common.{◌≡◌, Bool, true, false, List, [], ◌∷◌, ◌++◌, Option, Some, None, refl, subst, sym, ap}
-use Rattle.std.specs.Prelude.{IfSome, if◌then◌else◌, All, IsSome}
+use Rattle.std.proofs.Common.{Bool, true, false, List, [], ◌∷◌, ◌++◌, Option, Some, None}
+use Rattle.std.specs.Prelude.{IfSome, if◌then◌else◌, All}
 use Rattle.std.proofs.lemmas.List.Elements.{All-cons, All-nil}
 use Rattle.sx_trace.specs.declared.items.Item.{Item}
 use Rattle.sx_mean.specs.Application.{AppTree}
 use Rattle.sx_model.specs.order.State.{Model}
 use Rattle.sx_model.specs.order.Step.{step}
-use Rattle.sx_model.specs.Legal.{before, after, is_forged}
+use Rattle.sx_model.specs.Legal.{before, is_forged}
 use Rattle.sx_run.proofs.tie.Verdicts.{Verdict, Over, judge_on, judge, Fares}
 
 abbrev pub Unless : Bool → Type 0 → Type 0

@@ -21,7 +21,7 @@ use Rattle.sx_mean.specs.Ends.{is_sending}
 use Rattle.sx_mean.specs.Application.{PartTree, AppTree}
 use Rattle.sx_mean.specs.Ends.{ends_of}
 use Rattle.sx_model.specs.State.{EndView}
-use Rattle.sx_model.specs.Reaction.{Flow, MOST_SENT, field_at, field_of, sent_over, sends, sent_to, all_done}
+use Rattle.sx_model.specs.Reaction.{Flow, MOST_SENT, field_at, field_of, sent_over, sends, sent_to}
 use Rattle.sx_model.specs.Changes.{is_from}
 use Rattle.sx_model.specs.order.Reaction.{sent_first, from_emit, flowing}
 use Rattle.sx_run.specs.Setting.{device_number}

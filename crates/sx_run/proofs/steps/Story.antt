@@ -32,7 +32,7 @@ use Rattle.sx_invoke.specs.Invocation.{returns_inside, is_sensor_driver, is_no_e
 use Rattle.sx_mean.specs.Ends.{ends_of}
 use Rattle.sx_model.specs.State.{EndView}
 use Rattle.sx_model.specs.Reaction.{Flow}
-use Rattle.sx_model.specs.order.Reaction.{flow_of, sent_first, from_emit, flowing}
+use Rattle.sx_model.specs.order.Reaction.{flow_of, from_emit}
 use Rattle.sx_wire.specs.Headers.{begins, is_ask, is_set_key_header, value_in}
 use Rattle.sx_wire.proofs.Fields.{field_low}
 use Rattle.sx_run.specs.Observation.{side_in}

@@ -1,12 +1,9 @@
 -- Every run shows values in range.
-use Rattle.std.proofs.Common.{◌≡◌, ℕ, ◌+◌, ◌*◌, ◌<◌, ◌≤◌, ◌==◌, ◌&&◌, Bool, true, false, if◌then◌else◌, List, [], ◌∷◌, ◌++◌, length, Option, Some, None, Result, Ok, Err, refl, arith, subst, sym}
-use Rattle.std.specs.Prelude.{slice_get, nat_lt, slice_index, unwrap_or}
-use Rattle.std.proofs.lemmas.Bool.{and_parts, ltb-true}
+use Rattle.std.proofs.Common.{◌≡◌, ℕ, ◌<◌, ◌==◌, ◌&&◌, Bool, true, false, if◌then◌else◌, List, [], ◌∷◌, ◌++◌, length, Option, Some, None, arith}
+use Rattle.std.specs.Prelude.{slice_get, unwrap_or}
 use Rattle.sx_lists.proofs.Lists.{get_some}
 use Rattle.sx_trace.specs.declared.items.Item.{Item}
 use Rattle.sx_trace.specs.declared.items.Item.TheVariants as item
-use Rattle.sx_sched.specs.Lines.{Line}
-use Rattle.sx_mean.specs.Application.{AppTree, PartTree}
 use Rattle.sx_ledger.specs.declared.entry.Maker.TheVariants as maker
 use Rattle.sx_machine.specs.declared.kinds.Touch.{Touch}
 use Rattle.sx_machine.specs.declared.kinds.Touch.TheVariants as touch
@@ -22,20 +19,20 @@ use Rattle.sx_machine.specs.Step.{start, Shown}
 use Rattle.sx_machine.specs.Node.{IsNode}
 use Rattle.sx_model.specs.order.State.{Model, power_on}
 use Rattle.sx_wire.specs.Headers.{challenge_in, is_ask, is_set_key_header, is_event_header}
-use Rattle.sx_run.specs.Setting.{Site, Setting, module_of, device_number}
+use Rattle.sx_run.specs.Setting.{Setting, module_of, device_number}
 use Rattle.sx_run.specs.Ledger.{Made, header_of, body_of, made_entry, NO_TARGET}
 use Rattle.sx_run.specs.State.{World, switched_on}
 use Rattle.sx_run.specs.Observation.{is_driver, touch_items, event_seen, observed, has_wrapped, has_unwrapped, unless_made, has_end, side_in, with_items}
-use Rattle.sx_run.specs.Acts.{after_step, after_interrupt, done_on, or_refused}
+use Rattle.sx_run.specs.Acts.{after_step, after_interrupt, done_on}
 use Rattle.sx_run.specs.Run.{run, place_at}
 use Rattle.sx_run.specs.Law.{IsSoundSetting}
 use Rattle.sx_run.proofs.tie.Lists.{get_within}
-use Rattle.sx_run.proofs.tie.Tied.{Tied, NodeTied}
+use Rattle.sx_run.proofs.tie.Tied.{Tied}
 use Rattle.sx_run.proofs.tie.Start.{starts_tied}
 use Rattle.sx_run.proofs.acts.Counting.{counts_lines}
 use Rattle.sx_model.specs.order.Given.{IsGiven}
 use Rattle.sx_run.specs.OrderLaw.{RunsAreGiven}
-use Rattle.sx_run.proofs.acts.Walks.{Walks, all_before}
+use Rattle.sx_run.proofs.acts.Walks.{all_before}
 use Rattle.sx_run.proofs.acts.Compose.{ActsWalk, keeps_run}
 use Rattle.sx_run.proofs.ActsKeep.{are_wordly}
 use Rattle.sx_run.proofs.ActsWalk.{Each, each_append, each_walks, Always, Easy, acts_walk, refused_each}

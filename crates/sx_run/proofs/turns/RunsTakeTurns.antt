@@ -1,9 +1,9 @@
 -- Every run shows one event of a node at a time.
-use Rattle.std.proofs.Common.{◌≡◌, ◌≢◌, ℕ, ◌+◌, ◌<◌, ◌⊎◌, inl, inr, ◌==◌, Bool, true, false, if◌then◌else◌, List, [], ◌∷◌, ◌++◌, length, Option, Some, None, refl, sym, ◌∙◌, ap, subst, arith}
+use Rattle.std.proofs.Common.{◌≡◌, ◌≢◌, ℕ, inl, inr, true, List, [], ◌∷◌, ◌++◌, Option, Some, None, refl, sym, ◌∙◌, ap, subst, arith}
 use Rattle.std.specs.Prelude.{slice_get, slice_set, slice_index}
-use Rattle.std.proofs.lemmas.Bool.{true≢false, and_parts, eqb-true, eq-eqb, cases_eq}
+use Rattle.std.proofs.lemmas.Bool.{true≢false, eq-eqb}
 use Rattle.std.proofs.lemmas.List.{append-nil}
-use Rattle.sx_lists.proofs.Lists.{get_some, get_same}
+use Rattle.sx_lists.proofs.Lists.{get_some}
 use Rattle.sx_trace.specs.declared.items.Item.{Item}
 use Rattle.sx_trace.specs.declared.items.Item.TheVariants as item
 use Rattle.sx_rules.specs.declared.access.Violation.{Violation}
@@ -14,7 +14,7 @@ use Rattle.sx_rules.specs.Admission.{apart}
 use Rattle.sx_rules.proofs.Placing.{placed_found}
 use Rattle.sx_bus.specs.declared.devices.Window.{Window}
 use Rattle.sx_mean.specs.declared.apps.AppDevice.{AppDevice}
-use Rattle.sx_mean.specs.Application.{AppTree, PartTree}
+use Rattle.sx_mean.specs.Application.{PartTree}
 use Rattle.sx_mean.specs.Ends.{ends_of}
 use Rattle.sx_machine.specs.declared.kinds.Event.{Event}
 use Rattle.sx_machine.specs.declared.kinds.Event.TheVariants as event
@@ -62,7 +62,7 @@ use Rattle.sx_run.proofs.acts.Walks.{Walks, walks_then}
 use Rattle.sx_run.proofs.acts.Compose.{ActsWalk, keeps_run}
 use Rattle.sx_run.proofs.ActsWalk.{each_walks, acts_walk, refused_each}
 use Rattle.sx_run.proofs.ActsKeep.{are_wordly}
-use Rattle.sx_run.proofs.turns.Turns.{Pends, InTurn, turning, one_at_a_time}
+use Rattle.sx_run.proofs.turns.Turns.{InTurn, turning, one_at_a_time}
 use Rattle.sx_run.proofs.turns.TakingTurns.{Turn, easy, false_true, Alone, free_turn, own_turn, walk_one, device_only, part_only, foreign_turn, pends_runs, free_idle, free_stranger, marks_turn, alone_set}
 
 module _ (set : Setting) (w : World) (mo : Model) (m : ℕ) (q : PartTree) (site : Site) (s : State)

@@ -1,87 +1,55 @@
 -- In each act of a tied world each item is in turn.
 use Rattle.std.proofs.Common.{◌≡◌, ◌≢◌, ℕ, ◌+◌, ◌*◌, ◌<◌, ◌≤◌, ◌⊎◌, inl, inr, ◌==◌, ◌&&◌, Bool, true, false, if◌then◌else◌, List, [], ◌∷◌, ◌++◌, length, Option, Some, None, Result, Ok, Err, refl, sym, ◌∙◌, ap, subst, arith}
-use Rattle.std.specs.Prelude.{slice_get, slice_set, slice_index, nat_lt, unwrap_or, IfSome}
-use Rattle.std.proofs.lemmas.Bool.{true≢false, and_parts, eqb-true, eq-eqb, ne_eqb, cases_eq, cases_Bool}
-use Rattle.std.proofs.lemmas.Option.{same_Some, none-some}
-use Rattle.std.proofs.lemmas.List.{append-nil}
-use Rattle.sx_lists.proofs.Lists.{get_some, get_same}
+use Rattle.std.specs.Prelude.{slice_get, slice_set, IfSome}
+use Rattle.std.proofs.lemmas.Bool.{true≢false, eqb-true, eq-eqb, ne_eqb, cases_eq}
+use Rattle.std.proofs.lemmas.Option.{none-some}
+use Rattle.sx_lists.proofs.Lists.{get_some}
 use Rattle.sx_trace.specs.declared.items.Item.{Item}
 use Rattle.sx_trace.specs.declared.items.Item.TheVariants as item
-use Rattle.sx_trace.specs.declared.items.Cause.{Cause}
 use Rattle.sx_lang.specs.declared.sides.Side.TheVariants.{To}
 use Rattle.sx_ledger.specs.declared.entry.Maker.TheVariants as maker
-use Rattle.sx_rules.specs.declared.access.Violation.{Violation}
 use Rattle.sx_rules.specs.declared.section.Section.{Section}
-use Rattle.sx_rules.specs.declared.section.Layout.{Layout}
-use Rattle.sx_rules.specs.Access.{Lives, section_of}
-use Rattle.sx_rules.specs.Admission.{apart}
-use Rattle.sx_rules.proofs.Placing.{placed_found}
 use Rattle.sx_bus.specs.declared.devices.Window.{Window}
 use Rattle.sx_bus.specs.Devices.{cleared}
 use Rattle.sx_mean.specs.declared.apps.AppDevice.{AppDevice}
 use Rattle.sx_mean.specs.declared.events.Act.{Act}
 use Rattle.sx_mean.specs.declared.events.Act.TheVariants.{Send, Emit}
 use Rattle.sx_mean.specs.Application.{AppTree, PartTree, is_sensor}
-use Rattle.sx_mean.specs.Ends.{ends_of}
 use Rattle.sx_machine.specs.declared.kinds.Touch.{Touch}
 use Rattle.sx_machine.specs.declared.kinds.Touch.TheVariants as touch
 use Rattle.sx_machine.specs.declared.kinds.Event.{Event}
 use Rattle.sx_machine.specs.declared.kinds.Event.TheVariants as event
-use Rattle.sx_machine.specs.declared.kinds.Refused.{Refused}
 use Rattle.sx_machine.specs.declared.kinds.Seen.{Seen}
 use Rattle.sx_machine.specs.State.{State}
-use Rattle.sx_machine.specs.Step.{Shown, step, own_of, start}
-use Rattle.sx_machine.specs.Run.{Outcome, Finished, Violated, Module, exec, untouched}
-use Rattle.sx_machine.specs.Acts.{irq, irq_refusal, sense as sense_on, busy, unless, interrupt, interrupted}
+use Rattle.sx_machine.specs.Step.{own_of}
 use Rattle.sx_machine.specs.Touches.{Replays}
-use Rattle.sx_machine.proofs.Touches.{TracedBy}
-use Rattle.sx_machine.proofs.Sparse.{interrupt_traced}
-use Rattle.sx_machine.proofs.Stays.{irq_idle, busy_idle}
 use Rattle.sx_machine.proofs.Devices.{cleared_shapes}
 use Rattle.sx_invoke.specs.Marks.{Mark, Wrapped, Unwrapped, Sampled, Actuated}
-use Rattle.sx_invoke.specs.ModuleState.{state_of}
 use Rattle.sx_invoke.specs.Progress.{Invoked}
-use Rattle.sx_image.specs.Watched.{violation_of, marks_of}
-use Rattle.sx_image.specs.Image.{private_bytes, setup_at, call_at}
-use Rattle.sx_image.specs.Realizes.{Exited}
-use Rattle.sx_model.specs.State.{Reading, FIELDS}
-use Rattle.sx_model.specs.order.State.{Model, Standing, Present, Pending, power_on}
+use Rattle.sx_model.specs.State.{FIELDS}
+use Rattle.sx_model.specs.order.State.{Model, Standing, Present}
 use Rattle.sx_model.specs.Step.{kind_is}
 use Rattle.sx_model.specs.order.Step.{step as source_step, state_if, with_device, is_undriven}
 use Rattle.sx_model.specs.Legal.{is_forged}
 use Rattle.sx_model.specs.Consequences.{is_part_at, is_device_at}
 use Rattle.sx_wire.specs.Headers.{is_ask, is_set_key_header, is_event_header, challenge_in, link_in, epoch_in, last_in, value_in}
-use Rattle.sx_run.specs.Setting.{Site, Setting, module_of, device_number, is_at_site, windows_at}
+use Rattle.sx_run.specs.Setting.{Site, Setting, module_of, device_number, windows_at}
 use Rattle.sx_run.specs.Ledger.{Made, made_entry, NO_TARGET, is_made}
-use Rattle.sx_run.specs.State.{World, switched_on}
-use Rattle.sx_run.specs.Observation.{Observed, observed, event_seen, touch_items, has_wrapped, has_unwrapped, unless_made, with_items, has_end, side_in, sender_of, cause_of, is_driver, read_item, write_item}
-use Rattle.sx_run.specs.Acts.{after_step, after_interrupt, done_on}
-use Rattle.sx_run.specs.Run.{run, place_at}
-use Rattle.sx_run.specs.Law.{IsSoundSetting, IsDeployedModule}
+use Rattle.sx_run.specs.State.{World}
+use Rattle.sx_run.specs.Observation.{observed, event_seen, touch_items, has_wrapped, has_unwrapped, unless_made, with_items, has_end, side_in, sender_of, cause_of, is_driver, read_item, write_item}
+use Rattle.sx_run.specs.Law.{IsSoundSetting}
 use Rattle.sx_run.proofs.tie.Lists.{get_other, get_within, some_inj}
-use Rattle.sx_run.proofs.tie.Verdicts.{judge, Fares}
-use Rattle.sx_run.proofs.tie.Tied.{SameState, NodeTied, IsModule, IsUnderWay, ModuleTied, Absent, Rests, Runs, Tied, Owes, Yet, Now, Begun, Refuses, Breaks, Opens, Vouches, Takes, Samples, OwnSensor, Known, IsSane, Settles, shapes}
-use Rattle.sx_run.proofs.tie.Start.{starts_tied}
+use Rattle.sx_run.proofs.tie.Tied.{NodeTied, IsModule, ModuleTied, Absent, Rests, Runs, Tied, Owes, Yet, Now, Begun, Opens, Vouches, Takes, Samples, Known, IsSane, Settles, shapes}
 use Rattle.sx_run.proofs.tie.Moves.{same_module}
-use Rattle.sx_run.proofs.acts.Counting.{counts_lines}
-use Rattle.sx_run.proofs.steps.Machine.{MachineLaws, machine_laws, violates}
 use Rattle.sx_run.proofs.steps.Judged.{mark_seen, Next, Readings, mark_fares}
-use Rattle.sx_run.proofs.steps.Stretch.{marks_seen, Nexts, marks_fares, done_items, seen_as_marks, IsPlain}
-use Rattle.sx_run.proofs.steps.Events.{plain_events}
-use Rattle.sx_run.proofs.steps.Entry.{at_site, under_way_at_entry}
-use Rattle.sx_run.proofs.steps.Bystanders.{one_section, apart_self}
-use Rattle.sx_run.proofs.steps.Story.{story}
+use Rattle.sx_run.proofs.steps.Stretch.{marks_seen}
 use Rattle.sx_run.proofs.steps.Nodes.{device_here}
-use Rattle.sx_run.proofs.steps.Steps.{DriversFit, nonzero, bounds_of, Runner, runner_of}
+use Rattle.sx_run.proofs.steps.Steps.{nonzero}
 use Rattle.sx_run.proofs.steps.Foreign.{strangers}
-use Rattle.sx_run.proofs.steps.Fits.{drivers_fit}
-use Rattle.sx_run.proofs.steps.UnderWay.{Behind, Still, Out, stepped_on, rest_of, under_way_sections}
-use Rattle.sx_model.specs.order.Turns.{is_at_node, begins, ends, goes_on}
-use Rattle.sx_run.proofs.acts.Walks.{Unless, Walks, walks_then}
-use Rattle.sx_run.proofs.acts.Compose.{ActsWalk, keeps_run}
-use Rattle.sx_run.proofs.ActsWalk.{Each, each_append, each_walks, Always, Easy, acts_walk, refused_each, unless_so, if_some_so}
-use Rattle.sx_run.proofs.ActsKeep.{are_wordly}
-use Rattle.sx_run.proofs.turns.Turns.{Pends, InTurn, turning, one_at_a_time}
+use Rattle.sx_model.specs.order.Turns.{is_at_node, goes_on}
+use Rattle.sx_run.proofs.acts.Walks.{Walks, walks_then}
+use Rattle.sx_run.proofs.ActsWalk.{Easy, unless_so, if_some_so}
+use Rattle.sx_run.proofs.turns.Turns.{Pends, InTurn}
 
 abbrev pub Turn : Setting → Model → Item → Type 0
 Turn set s i = InTurn set.app s i

@@ -1,5 +1,5 @@
 -- What is written to a device is a word: the executor's touches, as sx_machine/proofs/Ranged has its registers and memory.
-use Rattle.std.proofs.Common.{◌≡◌, ℕ, ◌+◌, ◌-◌, ◌<◌, ◌==◌, ◌&&◌, Bool, true, false, cond, if◌then◌else◌, List, [], ◌∷◌, Option, Some, None, Result, Ok, Err, refl, ◌∙◌, arith, subst, sym}
+use Rattle.std.proofs.Common.{◌≡◌, ℕ, ◌+◌, ◌-◌, ◌<◌, ◌==◌, ◌&&◌, Bool, true, false, cond, if◌then◌else◌, List, [], ◌∷◌, Option, Some, None, Result, Ok, Err, refl, ◌∙◌, arith}
 use Rattle.sx_rules.specs.declared.access.Access.TheVariants.{Read, Write}
 use Rattle.sx_rules.specs.declared.access.Violation.{Violation}
 use Rattle.sx_rules.specs.declared.access.Violation.TheVariants as bad
@@ -16,7 +16,6 @@ use Rattle.sx_bus.proofs.Changed.{HaveSamples-cleared}
 use Rattle.sx_tag.specs.Mac.{Mac}
 use Rattle.sx_machine.specs.declared.kinds.Touch.{Touch}
 use Rattle.sx_machine.specs.declared.kinds.Touch.TheVariants.{Quiet, DeviceRead, DeviceWrite}
-use Rattle.sx_machine.specs.declared.kinds.Seen.{Seen}
 use Rattle.sx_machine.specs.State.{State}
 use Rattle.sx_machine.specs.Given.{Given, own_section, untouched_with}
 use Rattle.sx_machine.specs.Memory.{bytes_from, put_bytes, word}
@@ -29,13 +28,12 @@ use Rattle.sx_machine.specs.Run.{Moment, Outcome, Finished, Violated, Module, ma
 use Rattle.sx_machine.specs.Run.{read_place, load, write_device, write_place, store, fetch_place, fetch, after_read, after_write, after_fetch, exec}
 use Rattle.sx_machine.specs.Step.{attempt, instruction, is_module_word, ordered, own_of, pc_of, given_at_pc, start, step, settled_step, word_outside}
 use Rattle.sx_machine.specs.Acts.{interrupt, interrupted}
-use Rattle.sx_machine.specs.Node.{AreRegisters, IsNode}
+use Rattle.sx_machine.specs.Node.{IsNode}
 use Rattle.sx_machine.specs.NodeLaws.{shapes}
 use Rattle.sx_machine.proofs.Registers.{word_small, read_small, write_bytes, put_small}
 use Rattle.sx_machine.proofs.Devices.{device_there, sample_small, cleared_shapes, by_sample}
 use Rattle.sx_machine.proofs.Ranged.{Ranged, ranged_program, ranged_interrupt}
 use Rattle.sx_machine.proofs.Stays.{ranged_module, entered_small}
-use Rattle.sx_machine.specs.Registers as registers
 use Rattle.sx_rules.specs.Access as rules
 
 -- what is written is a word

@@ -1,4 +1,3 @@
-use Rattle.std.proofs.Common.{List}
 use Rattle.std.specs.Prelude.{All}
 use Rattle.sx_model.specs.order.Given.{IsGiven}
 use Rattle.sx_run.proofs.turns.RunsAreGiven.{runs_are_given}
