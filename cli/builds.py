@@ -4,7 +4,8 @@ set back.
 1. The proved build of this checkout, crates/sancus_run/out/sancus_run, if the stamp beside it names the sources
    that are here and the build itself.
 2. The released one, release/sancus_run, if its note, release/RELEASE, does, and it starts here.
-3. `rt try`: a build without its proof, made anew at each call.
+3. release/sancus.wasm, which is made from that one, where it doesn't start, by a host on the path that runs it.
+4. `rt try`: a build without its proof, made anew at each call.
 
 tools/release.sh writes stamp and note, and defines the sum of the sources.
 """
@@ -25,6 +26,8 @@ from cli.status import NO_ANSWER, Ended
 
 SOURCES = (".rt", ".antt")
 FIRST = ("crates.txt", "HANDLES")
+# What runs release/sancus.wasm, each with the words before that file.
+HOSTS = (("node", ("tools/wasm/run.mjs",)), ("wasmtime", ()))
 
 
 def sum_of(data: bytes) -> str:
@@ -135,6 +138,7 @@ class Builds:
         self.built = self.crate / "out" / "sancus_run"
         self.stamp = self.crate / "out" / "sancus_run.proved"
         self.released = self.top / "release" / "sancus_run"
+        self.wasm = self.top / "release" / "sancus.wasm"
         self.note = self.top / "release" / "RELEASE"
         self.sources = Sources(self.top)
 
@@ -183,10 +187,8 @@ class Builds:
         return dict(it.split(" ", 1) for it in body.split("\n") if " " in it)
 
     def by_release(self) -> Tuple[Optional[Build], List[str]]:
-        if not self.note.is_file() or not os.access(self.released, os.X_OK):
+        if not self.note.is_file() or not self.released.is_file():
             return None, []
-        if platform.system() != "Linux" or platform.machine() != "x86_64":
-            return None, ["the released build is for Linux on x86-64"]
         noted = self.notes_of_release()
         if noted.get("sha256") != sum_of_file(self.released):
             return None, [
@@ -195,9 +197,30 @@ class Builds:
         if noted.get("sources") != self.sources.sum():
             first = self.changed_since_release()
             return None, ["the released build is of other sources" + (f": {first} differs" if first else "")]
-        if not self.starts(noted["sha256"]):
-            return None, [f"the released build doesn't start here: it needs {noted.get('needs', 'another system')}"]
-        return Build([str(self.released)], "released"), []
+        why = self.why_not_native(noted)
+        return self.by_host(noted, why) if why else (Build([str(self.released)], "released"), [])
+
+    def why_not_native(self, noted: Dict[str, str]) -> str:
+        """Why the released build can't run here; nothing if it can."""
+        if platform.system() != "Linux" or platform.machine() != "x86_64":
+            return f"the released build is for Linux on x86-64, and this is {platform.system()} on {platform.machine()}"
+        if not os.access(self.released, os.X_OK):
+            return "release/sancus_run has no right to be executed (`chmod +x release/sancus_run` gives it)"
+        if not self.answers([str(self.released)], noted["sha256"]):
+            return f"the released build doesn't start here: it needs {noted.get('needs', 'another system')}"
+        return ""
+
+    def by_host(self, noted: Dict[str, str], why: str) -> Tuple[Optional[Build], List[str]]:
+        """The released build as WebAssembly, by the first host that runs it."""
+        if noted.get("wasm-of") != noted["sha256"] or noted.get("wasm-sha256") != sum_of_file(self.wasm):
+            return None, [why, "and release/sancus.wasm isn't the one that is made from it"]
+        for name, words in HOSTS:
+            found = shutil.which(name)
+            command = [found or name, *(str(self.top / it) for it in words), str(self.wasm)]
+            if found and self.answers(command, noted["wasm-sha256"]):
+                told = f"{why}; {name} runs release/sancus.wasm, which is made from it, and isn't proved itself"
+                return Build(command, "hosted", [told]), []
+        return None, [why, "release/sancus.wasm would run in its place with node (18 or newer) or wasmtime on the path"]
 
     def changed_since_release(self) -> str:
         """The first source that isn't as it was when the note was committed, as far as git tells."""
@@ -216,20 +239,20 @@ class Builds:
             return ""
         return ran.stdout.strip() if ran.returncode == 0 else ""
 
-    def starts(self, sum_: str) -> bool:
-        """Whether the released build answers here. That it did is kept."""
-        kept = self.top / "out" / "starts.kept"
-        if text_of_file(kept) == f"{sum_}\n":
+    def answers(self, command: List[str], sum_: str) -> bool:
+        """Whether a build answers here. That it did is kept."""
+        kept, text = self.top / "out" / "starts.kept", f"{sum_} {command[0]}\n"
+        if text_of_file(kept) == text:
             return True
         try:
             ran = subprocess.run(
-                [str(self.released), "check"], input=b"%%\n", stdout=subprocess.PIPE, stderr=subprocess.DEVNULL
+                [*command, "check"], input=b"%%\n", stdout=subprocess.PIPE, stderr=subprocess.DEVNULL
             )
         except OSError:
             return False
         if ran.stdout != b"end\n":
             return False
-        keep(kept, f"{sum_}\n")
+        keep(kept, text)
         return True
 
     def tried(self, reasons: List[str]) -> Build:
@@ -239,8 +262,7 @@ class Builds:
             raise Ended(
                 NO_ANSWER,
                 *told,
-                "and the command `rt` of the Rattle kit, which makes one, isn't on the path: README.md says where "
-                "to get it",
+                "and the command `rt` of the Rattle kit, which makes one, isn't on the path",
             )
         notes = [
             *reasons,

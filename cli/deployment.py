@@ -122,6 +122,6 @@ class Plan:
 def plan_of(head: bytes) -> Optional[Plan]:
     """The deployment of a text, or None if it can't be read here (as TOML 1.0)."""
     try:
-        return Plan(toml.read(head.decode()))
+        return Plan(toml.read(head.decode("utf-8-sig")))
     except (ValueError, RecursionError):
         return None

@@ -59,6 +59,11 @@ class Teller:
         return f"line {number} of the input" if name in ("-", "") else f"{name}:{number}"
 
     def shown(self, line: int, column: Optional[int] = None, length: int = 1) -> Lines:
+        """A line of the input, and what its encoding is, if that isn't read."""
+        encoded = guesses.of_encoding(self.kept.line(line) or b"", line <= self.mark)
+        return self.with_caret(line, None if encoded else column, length) + encoded
+
+    def with_caret(self, line: int, column: Optional[int], length: int) -> Lines:
         """A line of the input, and below it a caret at the byte column, if there is one."""
         whole = self.kept.line(line)
         if whole is None:
@@ -160,7 +165,7 @@ class Teller:
             column = error.start - self.head.rfind(b"\n", 0, error.start)
             return [*lines, "these bytes are no UTF-8", *self.shown(line, column)]
         try:
-            toml.read(text)
+            toml.read(text.replace("\ufeff", " ", 1) if text.startswith("\ufeff") else text)
         except toml.NoToml as error:
             if error.line and error.column:
                 # (columns there are characters)

@@ -80,10 +80,21 @@ def of_head(command: str, first: bytes) -> List[str]:
     return []
 
 
+def of_encoding(text: bytes, is_deployment: bool = False) -> List[str]:
+    """That a text is in an encoding that isn't read, by the byte order mark at its beginning."""
+    if text.startswith((b"\xff\xfe", b"\xfe\xff")):
+        return ["this is UTF-16: save it as UTF-8 without a byte order mark"]
+    if text.startswith(b"\xef\xbb\xbf") and not is_deployment:
+        return ["it begins with a byte order mark, which only a deployment may have: save it as UTF-8 without one"]
+    return []
+
+
 def without_mark(command: str, name: str, first: bytes) -> List[str]:
     """What to do about an input without `%%`."""
     if not first:
         return ["the input is empty"]
+    if of_encoding(first, True):
+        return of_encoding(first, True)
     file = "FILE" if name == "-" else name
     words = [it.split() for it in first.split(b"\n")]
     begun = next((text_of(it[0]) for it in words if it and not it[0].startswith(b"#")), "")

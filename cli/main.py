@@ -116,6 +116,7 @@ def help_(_context: Context, given: Given) -> int:
 KINDS = {
     "proved": "the proved build, crates/sancus_run/out/sancus_run",
     "released": "the released build, release/sancus_run",
+    "hosted": "the released build as WebAssembly, release/sancus.wasm",
     "named": "the program that is named",
     "tried": "none: each call makes one without its proof",
 }
@@ -137,7 +138,7 @@ def commit_of(top: Path) -> str:
 def kit_of(context: Context, chosen: Optional[Build]) -> str:
     """The kit of a build: of the released one as its note names it, else the one that is here."""
     noted = context.builds.notes_of_release().get("kit", "")
-    if chosen and chosen.kind == "released":
+    if chosen and chosen.kind in ("released", "hosted"):
         return noted
     if chosen and chosen.kind in ("proved", "tried"):
         return said_by("rt", "version") or "unknown"

@@ -197,7 +197,7 @@ class Program:
             last = self.pump(process, parts, kept, sink)
             status = process.wait()
         except KeyboardInterrupt:
-            process.terminate()
+            process.kill()
             process.wait()
             raise Ended(INTERRUPTED) from None
         except Ended:

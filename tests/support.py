@@ -1,12 +1,13 @@
 """What the tests share: the program, calls of ./sancus, and the lighting application.
 
-The program is SANCUS_PROGRAM, else the build that ./sancus would start. If that is one without proof, which takes
-minutes a call, what needs a program is passed over, with a word on standard error.
+The program is SANCUS_PROGRAM, else the build that ./sancus would start. If that isn't a native program (a build without
+proof takes minutes a call), what needs a program is passed over, with a word on standard error.
 """
 
 from __future__ import annotations
 
 import os
+import signal
 import subprocess
 import sys
 import tempfile
@@ -39,6 +40,15 @@ HEAD = Input(LIGHTING).head
 FAKE = """#!/bin/sh
 echo "ran $*"; cat; echo '{last}'; exit {status}
 """
+# Runs a command, and says its peak of memory in KiB, children's not counted.
+MEASURE = """
+import os, resource, sys
+pid = os.posix_spawn(sys.argv[1], sys.argv[1:], os.environ)
+_, status, used = os.wait4(pid, 0)
+sys.stderr.write(f"peak {used.ru_maxrss}")
+sys.stderr.flush()
+os._exit(os.waitstatus_to_exitcode(status))
+"""
 
 
 def found_program() -> str:
@@ -46,16 +56,16 @@ def found_program() -> str:
         build = Builds(TOP, os.environ.get("SANCUS_PROGRAM")).choose()
     except Ended:
         return ""
-    return build.command[0] if build.is_fast else ""
+    return build.command[0] if len(build.command) == 1 else ""
 
 
 PROGRAM = found_program()
 if not PROGRAM:
     print(
-        "tests: there is no fast program (SANCUS_PROGRAM, or a build), so what needs one is passed over",
+        "tests: there is no native program (SANCUS_PROGRAM, or a build), so what needs one is passed over",
         file=sys.stderr,
     )
-needs_program = unittest.skipUnless(PROGRAM, "there is no fast program")
+needs_program = unittest.skipUnless(PROGRAM, "there is no native program")
 
 
 @dataclass
@@ -122,6 +132,13 @@ def hand_over(write: int, data: bytes) -> None:
     except BrokenPipeError:
         pass
     os.close(write)
+
+
+def usual_signals(*ignored: int) -> None:
+    """For a process that is started: signals end it, but for those that it is to ignore, although this process may
+    ignore them, as all do that a script starts with `&`."""
+    for it in (signal.SIGINT, signal.SIGTERM, signal.SIGHUP, signal.SIGPIPE):
+        signal.signal(it, signal.SIG_IGN if it in ignored else signal.SIG_DFL)
 
 
 def program(*words: str, text: Text = b"") -> Result:

@@ -1,6 +1,7 @@
 """Builds without proof, and `sancus build`, by a command rt that only prints; its lines are those of the real one.
 
-Which build is started, by sums, is tried by tools/test_release.sh.
+Which build is started, by sums, is tried by tests/slow/test_release.py; here, what is started where the released one can't
+run.
 """
 
 import os
@@ -8,10 +9,13 @@ import shutil
 import subprocess
 import unittest
 from pathlib import Path
+from unittest.mock import patch
 
-from support import TOP, Room
+from support import EXAMPLES, LIGHTING, PROGRAM, SANCUS, TOP, Room, needs_program
 
+from cli import builds
 from cli.builds import Sources, sum_of
+from cli.status import Ended
 
 
 class Builds(Room):
@@ -130,6 +134,111 @@ class Builds(Room):
         self.assertEqual(status, 125)
         self.assertIn("fn sancus_run::main: not proved", said)
         self.assertIn("not built", said)
+
+
+class Hosted(Room):
+    """A release whose native program may be unable to run, and commands of the names of hosts."""
+
+    def setUp(self):
+        super().setUp()
+        self.top = self.room / "repository"
+        for name in ("release/sancus.wasm", "crates.txt", "HANDLES", "bin/none"):
+            (self.top / name).parent.mkdir(parents=True, exist_ok=True)
+            (self.top / name).write_text(name)
+        self.program("release/sancus_run", "echo end")
+
+    def program(self, name, text):
+        path = self.top / name
+        path.write_text(f"#!/bin/sh\n{text}\n")
+        path.chmod(0o755)
+
+    def note(self):
+        native, wasm = (sum_of((self.top / "release" / it).read_bytes()) for it in ("sancus_run", "sancus.wasm"))
+        lines = ["needs glibc 9.9", f"sources {Sources(self.top).sum()}", f"sha256 {native}", f"wasm-of {native}"]
+        text = "".join(f"{it}\n" for it in [*lines, f"wasm-sha256 {wasm}"])
+        (self.top / "release" / "RELEASE").write_text(f"{text}note {sum_of(text.encode())}\n")
+
+    def chosen(self, machine="x86_64"):
+        if not (self.top / "release" / "RELEASE").exists():
+            self.note()
+        with patch.dict(os.environ, PATH=str(self.top / "bin")), patch("platform.machine", return_value=machine):
+            return builds.Builds(self.top).choose()
+
+    def is_hosted(self, why, machine="x86_64"):
+        build = self.chosen(machine)
+        wasm = str(self.top / "release" / "sancus.wasm")
+        self.assertEqual(build.command, [str(self.top / "bin/node"), str(self.top / "tools/wasm/run.mjs"), wasm])
+        self.assertTrue(build.is_fast)
+        [said] = build.notes
+        self.assertIn(why, said)
+        self.assertIn("; node runs release/sancus.wasm", said)
+
+    def test_the_native_one_where_it_runs(self):
+        self.program("bin/node", "echo end")
+        self.assertEqual(self.chosen().command, [str(self.top / "release/sancus_run")])
+
+    def test_another_processor(self):
+        self.program("bin/node", "echo end")
+        self.is_hosted("is for Linux on x86-64, and this is Linux on riscv64", "riscv64")
+
+    def test_an_older_library(self):
+        self.program("bin/node", "echo end")
+        self.program("release/sancus_run", "echo 'version GLIBC_9.9 not found' >&2; exit 1")
+        self.is_hosted("doesn't start here: it needs glibc 9.9")
+
+    def test_no_right_to_execute(self):
+        self.program("bin/node", "echo end")
+        (self.top / "release/sancus_run").chmod(0o644)
+        self.is_hosted("has no right to be executed (`chmod +x release/sancus_run` gives it)")
+
+    def test_another_host(self):
+        self.program("bin/node", "echo 'an old node' >&2; exit 1")
+        self.program("bin/wasmtime", "echo end")
+        wasm = str(self.top / "release" / "sancus.wasm")
+        self.assertEqual(self.chosen("arm64").command, [str(self.top / "bin/wasmtime"), wasm])
+
+    def refused(self, *words):
+        with self.assertRaises(Ended) as ended:
+            self.chosen("arm64")
+        self.assertEqual(ended.exception.status, 125)
+        for it in words:
+            self.assertIn(it, " ".join(ended.exception.lines))
+
+    def test_no_host(self):
+        self.refused("Linux on arm64", "with node (18 or newer) or wasmtime on the path")
+
+    def test_another_module(self):
+        self.note()
+        (self.top / "release/sancus.wasm").write_text("other")
+        self.program("bin/node", "echo end")
+        self.refused("release/sancus.wasm isn't the one that is made from it")
+
+
+@needs_program
+@unittest.skipUnless(shutil.which("node"), "there is no node")
+class UnderNode(Room):
+    """release/sancus.wasm by tools/wasm/run.mjs, which reads when the program asks."""
+
+    def ended(self, words, **streams):
+        env = {**os.environ, "SANCUS_PROGRAM": f"node {TOP}/tools/wasm/run.mjs {TOP}/release/sancus.wasm"}
+        return subprocess.run([SANCUS, *words], capture_output=True, env=env, timeout=60, **streams)
+
+    def test_line_by_line(self):
+        parking = EXAMPLES / "parking"
+        files = [parking / "parking.toml", parking / "set-up.schedule"]
+        native = subprocess.run(
+            [SANCUS, "schedule", *files], capture_output=True, env={**os.environ, "SANCUS_PROGRAM": PROGRAM}
+        )
+        ran = self.ended(["schedule", *files])
+        self.assertEqual((ran.returncode, ran.stdout), (native.returncode, native.stdout), ran.stderr)
+
+    def test_streams(self):
+        native = subprocess.run([PROGRAM, "run"], input=LIGHTING, capture_output=True)
+        self.assertEqual(self.ended(["run"], input=LIGHTING).stdout, native.stdout)
+        script = f"node '{TOP}/tools/wasm/run.mjs' '{TOP}/release/sancus.wasm' run"
+        for streams, status, out in (("<.", 4, b"fault read\n"), (f"<'{EXAMPLES}/lighting.txt' >/dev/full", 5, b"")):
+            ran = subprocess.run(["bash", "-c", f"{script} {streams}"], cwd=self.room, capture_output=True)
+            self.assertEqual((ran.returncode, ran.stdout, ran.stderr), (status, out, b""))
 
 
 class Sums(Room):

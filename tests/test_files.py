@@ -3,17 +3,28 @@
 import os
 import pty
 import select
+import signal
 import subprocess
-import time
 import unittest
+from contextlib import contextmanager
 from unittest.mock import patch
 
-from support import EXAMPLES, HEAD, LIGHTING, PROGRAM, SANCUS, Room, needs_program, program, sancus
+from support import EXAMPLES, HEAD, LIGHTING, PROGRAM, SANCUS, Room, needs_program, program, sancus, usual_signals
 
 from cli.commands import BY_NAME, parse
 from cli.main import waiting
 
 SCHEDULE = LIGHTING.partition(b"\n%%\n")[2]
+
+
+@contextmanager
+def handled(number, how):
+    """Handles a signal so, for a while."""
+    before = signal.signal(number, how)
+    try:
+        yield
+    finally:
+        signal.signal(number, before)
 
 
 class Joined(Room):
@@ -209,23 +220,24 @@ class Streams(Room):
         self.assertEqual(ran.stderr, b"")
 
     def test_interrupt(self):
-        import signal
-
-        process = subprocess.Popen(
-            [SANCUS, "run"],
-            stdin=subprocess.PIPE,
-            stdout=subprocess.PIPE,
-            stderr=subprocess.PIPE,
-            env={**os.environ, "SANCUS_PROGRAM": PROGRAM},
-        )
-        process.stdin.write(b"%%\nreset n\n")
-        process.stdin.flush()
-        process.stdout.readline()
-        begun = time.monotonic()
-        process.send_signal(signal.SIGINT)
-        _, said = process.communicate()
-        self.assertEqual((process.returncode, said), (130, b""))
-        self.assertLess(time.monotonic() - begun, 10)
+        """Also where a script started these tests with `&`, so that they ignore it; and where the program ignores to be
+        ended."""
+        for here, ignoring in ((signal.SIG_DFL, ()), (signal.SIG_IGN, ()), (signal.SIG_DFL, (signal.SIGTERM,))):
+            with self.subTest(here=here, ignoring=ignoring), handled(signal.SIGINT, here):
+                process = subprocess.Popen(
+                    [SANCUS, "run"],
+                    stdin=subprocess.PIPE,
+                    stdout=subprocess.PIPE,
+                    stderr=subprocess.PIPE,
+                    env={**os.environ, "SANCUS_PROGRAM": PROGRAM},
+                    preexec_fn=lambda: usual_signals(*ignoring),
+                )
+                process.stdin.write(b"%%\nreset n\n")
+                process.stdin.flush()
+                process.stdout.readline()
+                process.send_signal(signal.SIGINT)
+                _, said = process.communicate(timeout=60)
+                self.assertEqual((process.returncode, said), (130, b""))
 
     def test_the_program_reads_what_it_needs(self):
         self.assertEqual(sancus("check", text=LIGHTING).out, program("check", text=LIGHTING).out)

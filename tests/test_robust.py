@@ -11,6 +11,7 @@ from support import (
     EXAMPLES,
     HEAD,
     LIGHTING,
+    MEASURE,
     PROGRAM,
     SANCUS,
     Room,
@@ -127,6 +128,31 @@ class Files(Room):
 
 
 @needs_program
+class Encodings(Room):
+    """A byte order mark, which some editors write."""
+
+    MARK = "\ufeff".encode()
+
+    def test_a_deployment_may_begin_with_one(self):
+        file = self.file("a.txt", self.MARK + LIGHTING)
+        self.assertEqual(sancus("marks", file).status, 0)
+        self.assertIn("module eye on node a", sancus("vars", file, "eye", "4").lines[1])
+        wrong = sancus("check", self.file("wrong.toml", self.MARK + b"secret = 5\n%%\n"))
+        self.assertNotIn("byte order mark", wrong.said)
+
+    def test_nothing_else_may(self):
+        deployment = self.file("a.toml", HEAD)
+        for word, text in (("run", b"reset a\n"), ("schedule", b"reset a\n"), ("drive", b"light 1\n")):
+            ran = sancus(word, deployment, self.file("more", self.MARK + text))
+            self.says(ran, "it begins with a byte order mark, which only a deployment may have")
+
+    def test_utf_16(self):
+        self.says(sancus("run", self.file("a.txt", LIGHTING.decode().encode("utf-16"))), "this is UTF-16")
+        ran = sancus("run", self.file("a.toml", HEAD), self.file("s", "reset a\n".encode("utf-16")))
+        self.says(ran, "this is UTF-16: save it as UTF-8")
+
+
+@needs_program
 class Unreadable(Room):
     def test_standard_input_that_can_not_be_read(self):
         for how in ("< .", "<&-"):
@@ -184,17 +210,6 @@ class Bounded(Room):
     def test_a_long_line(self):
         self.bounded(["run"], HEAD + b"%%\n" + b"x" * 5_000_000)
         self.bounded(["dis", "0"], b"a" * 5_000_000)
-
-
-# Runs a command, and says its peak of memory in KiB, children's not counted.
-MEASURE = """
-import os, resource, sys
-pid = os.posix_spawn(sys.argv[1], sys.argv[1:], os.environ)
-_, status, used = os.wait4(pid, 0)
-sys.stderr.write(f"peak {used.ru_maxrss}")
-sys.stderr.flush()
-os._exit(os.waitstatus_to_exitcode(status))
-"""
 
 
 @needs_program

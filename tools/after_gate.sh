@@ -9,6 +9,9 @@ fi
 python3 -c 'import sys; sys.exit(sys.version_info < (3, 9))' 2>/dev/null || exit 0
 python3 tools/try_wrong_bodies.py --applies && python3 tools/try_wrong_systems.py --applies || exit
 python3 tools/crate_lists.py || exit
-said="$(python3 -m unittest discover -s tests 2>&1)" && exit
-printf '%s\n' "$said"
+said="$(mktemp)" || exit
+# (tests that are ended early end)
+trap 'jobs -p | xargs -r kill; rm -f -- "$said"' EXIT
+python3 -m unittest discover -s tests >"$said" 2>&1 && exit
+cat -- "$said"
 exit 1

@@ -1,5 +1,4 @@
-#!/usr/bin/env python3
-"""Tests tools/gate_times.py with a command rt and a prover that only sleep. Not a part of the gate."""
+"""tools/gate_times.py with a command rt and a prover that only sleep."""
 
 import os
 import subprocess
@@ -8,7 +7,9 @@ import tempfile
 import unittest
 from pathlib import Path
 
-TOOL = Path(__file__).resolve().parent / "gate_times.py"
+from slow import TOOLS, with_commands
+
+TOOL = TOOLS / "gate_times.py"
 # A prover that uses a processor for a second, and rt's three kinds of calls of it. $0 is the crate's folder.
 PROVER = "#!/bin/bash\nend=$((SECONDS + 2)); while [[ $SECONDS -lt $end ]]; do :; done\n"
 RT = """#!/bin/bash
@@ -32,8 +33,7 @@ class GateTimes(unittest.TestCase):
                 Path(room, name).write_text(text)
                 Path(room, name).chmod(0o755)
             words = [sys.executable, TOOL, "run", "--every", "0.2", "--times", "times.json", "--", "--anew"]
-            where = {**os.environ, "PATH": f"{room}:{os.environ['PATH']}"}
-            ran = subprocess.run(words, cwd=room, env=where, capture_output=True, text=True)
+            ran = subprocess.run(words, cwd=room, env=with_commands(room), capture_output=True, text=True)
             self.assertEqual(ran.returncode, 3)
             self.assertIn("[0:00] rt: begun ci --anew\n", ran.stderr)
             self.assertIn("1 passed, 0 failed\n", ran.stderr)
@@ -49,4 +49,5 @@ class GateTimes(unittest.TestCase):
         self.assertEqual((ran.returncode, ran.stderr), (1, "gate_times: there is no process 999999999\n"))
 
 
-unittest.main()
+if __name__ == "__main__":
+    unittest.main()

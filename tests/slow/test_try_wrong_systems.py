@@ -1,15 +1,12 @@
-#!/usr/bin/env python3
-"""Tests tools/try_wrong_systems.py in a small repository, with a prover that only looks for a text. Not a part of the gate."""
+"""tools/try_wrong_systems.py in a small repository, with a prover that only looks for a text."""
 
-import os
 import shutil
 import subprocess
 import sys
-import tempfile
 import unittest
-from pathlib import Path
 
-TOOLS = Path(__file__).resolve().parent
+from slow import TOOLS, Room, with_commands
+
 FILES = {
     "crates.txt": "sx_a:\nsx_b: sx_a\n",
     "crates/sx_a/specs/Lib.antt": "pub mod Key\npub mod Other\n",
@@ -38,10 +35,9 @@ exit 1
 """
 
 
-class TryWrongSystems(unittest.TestCase):
+class TryWrongSystems(Room):
     def setUp(self):
-        self.room = Path(tempfile.mkdtemp())
-        self.addCleanup(shutil.rmtree, self.room)
+        super().setUp()
         self.top = self.room / "repository"
         for file, text in {**FILES, "wrong-systems/cut_key.edit": EDIT}.items():
             self.write(self.top / file, text)
@@ -60,7 +56,7 @@ class TryWrongSystems(unittest.TestCase):
         path.write_text(text)
 
     def tried(self, *words, refused="sx_a_proofs_steps_OfKey.antt:3:1"):
-        where = {**os.environ, "PATH": f"{self.room}:{os.environ['PATH']}", "ROOM": str(self.room), "REFUSED": refused}
+        where = with_commands(self.room, ROOM=str(self.room), REFUSED=refused)
         tool = self.top / "tools/try_wrong_systems.py"
         return subprocess.run([sys.executable, tool, *words], env=where, capture_output=True, text=True)
 
@@ -125,4 +121,5 @@ class TryWrongSystems(unittest.TestCase):
         self.assertIn("none is no wrong system", ran.stderr)
 
 
-unittest.main()
+if __name__ == "__main__":
+    unittest.main()

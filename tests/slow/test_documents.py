@@ -1,10 +1,10 @@
 #!/usr/bin/env python3
-"""Runs what the documents show, and compares. Not a part of the gate.
+"""Runs what the documents show, and compares.
 
-    tools/test_documents.py [--program FILE] [--jobs N] [FILE..]     the documents and the examples, if none is named
+    python3 tests/slow/test_documents.py [FILE..]     the documents and the examples, if none is named
 
-Each document is tried in a folder of its own, with ./sancus, the examples and the tools as in the repository.
-The build that ./sancus finds is taken, and with --program FILE this one; without either each run takes a minute or two. The words after the three backquotes say what a fenced block is:
+Each document is tried in a folder of its own, with ./sancus, the examples and the tools as in the repository. The words
+after the three backquotes say what a fenced block is:
 
     console              a line `$ COMMAND` is run by bash; what it writes on standard output is the lines up to the
                          next one. A line `...` means any number of lines, and a line that ends in `..` for any
@@ -25,24 +25,22 @@ Of an example the run must end well, and show each item that its first lines nam
 for the readings of an example whose first line names `./sancus drive`.
 """
 
-import argparse
 import itertools
-import os
 import re
 import shutil
 import subprocess
 import sys
 import tempfile
+import unittest
 from concurrent.futures import ThreadPoolExecutor
 from pathlib import Path
 
-TOP = Path(__file__).resolve().parent.parent
+from slow import EXAMPLES, TOP, needs_program
+
+from cli.items import ITEMS
+
 # The front end's own statuses if it gets no answer from the program, and bash's if there is no such command.
 NO_ANSWER = (121, 122, 125, 126, 127)
-# The first words of items.
-ITEMS = set(
-    "protect reset ask vouch attested denied open take sense read drain out raw done packet forged busy skip budget".split()
-)
 
 
 def blocks(text):
@@ -234,9 +232,8 @@ def try_example(file, room):
 
 def make_room(room):
     """A folder in which the document's commands find what they name."""
-    for name in ("examples", "tools", "docs", "bench", "crates", "crates.txt", "wrong-bodies", "wrong-systems"):
+    for name in "sancus release examples tools tests docs bench crates crates.txt wrong-bodies wrong-systems".split():
         (room / name).symlink_to(TOP / name)
-    (room / "sancus").symlink_to(TOP / "sancus")
 
 
 def try_document(document):
@@ -257,28 +254,36 @@ def try_document(document):
     return said, failed
 
 
-def main():
-    words = argparse.ArgumentParser(description="Runs what the documents show, and compares.")
-    words.add_argument("--program", help="a build of the program, in place of ./sancus")
-    words.add_argument("--jobs", type=int, default=os.cpu_count())
-    words.add_argument("documents", nargs="*", type=Path)
-    given = words.parse_args()
-    if given.program:
-        os.environ["SANCUS_PROGRAM"] = str(Path(given.program).resolve())
-    examples = [*sorted((TOP / "examples").glob("*.txt")), *sorted((TOP / "examples/attacks").glob("*.txt"))]
-    documents = given.documents or [
-        TOP / "README.md",
-        TOP / "examples/parking/README.md",
-        *sorted((TOP / "docs").glob("*.md")),
-        *examples,
-    ]
+def every_document():
+    attacks = sorted((EXAMPLES / "attacks").glob("*.txt"))
+    parking = EXAMPLES / "parking" / "README.md"
+    return [TOP / "README.md", parking, *sorted((TOP / "docs").glob("*.md")), *sorted(EXAMPLES.glob("*.txt")), *attacks]
+
+
+def tried(documents):
+    """The lines about each document, and how many of its commands failed."""
+    with ThreadPoolExecutor() as pool:
+        yield from zip(documents, pool.map(try_document, documents))
+
+
+@needs_program
+class Documents(unittest.TestCase):
+    def test_all(self):
+        for document, (said, failed) in tried(every_document()):
+            with self.subTest(document=document.name):
+                self.assertEqual(failed, 0, "\n".join(it for it in said if "FAILED" in it))
+
+
+def main(names):
     failed = 0
-    with ThreadPoolExecutor(given.jobs) as pool:
-        for said, wrong in pool.map(try_document, documents):
-            print("\n".join(said), flush=True) if said else None
-            failed += wrong
+    for _, (said, wrong) in tried([Path(it) for it in names]):
+        print("\n".join(said), flush=True)
+        failed += wrong
     print(f"{failed} failed")
     sys.exit(failed > 0)
 
 
-main()
+if __name__ == "__main__":
+    if sys.argv[1:] and not sys.argv[1].startswith("-"):
+        main(sys.argv[1:])
+    unittest.main()

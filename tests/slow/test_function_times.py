@@ -1,5 +1,4 @@
-#!/usr/bin/env python3
-"""Tests tools/function_times.py on files that a check could have kept. Not a part of the gate."""
+"""tools/function_times.py on files that a check could have kept."""
 
 import os
 import subprocess
@@ -8,7 +7,9 @@ import tempfile
 import unittest
 from pathlib import Path
 
-TOOL = Path(__file__).resolve().parent / "function_times.py"
+from slow import TOOLS
+
+TOOL = TOOLS / "function_times.py"
 # Names of files, and the second in which each was written.
 KEPT = (
     ("Rattle-sx_a-specs.Words.oantt", 10),
@@ -46,4 +47,5 @@ class FunctionTimes(unittest.TestCase):
         self.assertEqual(ran.returncode, 1)
 
 
-unittest.main()
+if __name__ == "__main__":
+    unittest.main()

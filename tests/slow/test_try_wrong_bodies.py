@@ -1,15 +1,13 @@
-#!/usr/bin/env python3
-"""Tests tools/try_wrong_bodies.py in a small repository, with a command rt that only prints. Not a part of the gate."""
+"""tools/try_wrong_bodies.py in a small repository, with a command rt that only prints."""
 
-import os
 import shutil
 import subprocess
 import sys
-import tempfile
 import unittest
-from pathlib import Path
 
-TOOL = Path(__file__).resolve().parent / "try_wrong_bodies.py"
+from slow import TOOLS, Room, with_commands
+
+TOOL = TOOLS / "try_wrong_bodies.py"
 RT = """#!/bin/bash
 echo "rt: jobs ${RT_JOBS:-any}"
 for edit in crates/$2/must-fail/*.edit; do
@@ -21,10 +19,9 @@ done
 """
 
 
-class TryWrongBodies(unittest.TestCase):
+class TryWrongBodies(Room):
     def setUp(self):
-        self.room = Path(tempfile.mkdtemp())
-        self.addCleanup(shutil.rmtree, self.room)
+        super().setUp()
         self.top = self.room / "repository"
         files = ["crates/sx_a/src/lib.rt", "crates/sx_a/must-fail/gate.edit", "crates/sx_b/specs/B.antt"]
         files += ["wrong-bodies/sx_a/one.edit", "wrong-bodies/sx_a/two.edit", "wrong-bodies/sx_b/kept.edit"]
@@ -42,9 +39,10 @@ class TryWrongBodies(unittest.TestCase):
         subprocess.run(["git", *who, *words], cwd=self.top, check=True, capture_output=True)
 
     def tried(self, *words):
-        where = {**os.environ, "PATH": f"{self.room}:{os.environ['PATH']}"}
         tool = self.top / "tools" / TOOL.name
-        return subprocess.run([sys.executable, tool, *words], env=where, capture_output=True, text=True)
+        return subprocess.run(
+            [sys.executable, tool, *words], env=with_commands(self.room), capture_output=True, text=True
+        )
 
     def test_all(self):
         ran = self.tried()
@@ -96,4 +94,5 @@ class TryWrongBodies(unittest.TestCase):
         self.assertEqual(self.tried("--changed-since", "none").returncode, 1)
 
 
-unittest.main()
+if __name__ == "__main__":
+    unittest.main()

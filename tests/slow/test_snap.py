@@ -1,20 +1,13 @@
-#!/usr/bin/env python3
-"""Counts how many lines of a schedule a query of `snap` performs again, and how long many queries take. No clause says it. Not a part of the gate.
+"""How many lines of a schedule a query of `snap` performs again, and how long many queries take, of which no clause
+says anything. The count wants valgrind."""
 
-The program is ./sancus after a build, or PROGRAM in the environment; the count wants valgrind.
-"""
-
-import os
 import re
-import resource
 import shutil
 import subprocess
 import unittest
-from pathlib import Path
 
-TOP = Path(__file__).resolve().parent.parent
-BUILT = TOP / "crates" / "sancus_run" / "out" / "sancus_run"
-PROGRAM = os.environ.get("PROGRAM") or (str(BUILT) if BUILT.is_file() else "")
+from slow import PROGRAM, needs_program, taken
+
 EVERY = 8192  # after so many lines a checkpoint stands
 
 # Two lines, and then lines that each take 200 steps: an operation on a register, and a jump back to it. What else a query does takes less than one.
@@ -34,7 +27,7 @@ def instructions(at):
     return int(re.search(rb"Collected : ([0-9]+)", ended.stderr).group(1))
 
 
-@unittest.skipIf(not PROGRAM, "there is no proved build")
+@needs_program
 class Snap(unittest.TestCase):
     @unittest.skipIf(shutil.which("valgrind") is None, "there is no valgrind")
     def test_a_query_performs_fewer_lines_again_than_stand_between_checkpoints(self):
@@ -47,12 +40,9 @@ class Snap(unittest.TestCase):
             self.assertEqual(again, at % EVERY, f"line {at}")
 
     def test_many_queries_take_less_than_a_second(self):
-        text = asked(["reset n"] * 20000, ["items 20000"] * 64)
-        before = resource.getrusage(resource.RUSAGE_CHILDREN)
-        ended = subprocess.run([PROGRAM, "snap"], input=text, capture_output=True, check=True)
-        after = resource.getrusage(resource.RUSAGE_CHILDREN)
-        self.assertEqual(ended.stdout, b"item 20000 reset n asked\n" * 64 + b"end\n")
-        self.assertLess(after.ru_utime + after.ru_stime - before.ru_utime - before.ru_stime, 1)
+        ran = taken("snap", text=asked(["reset n"] * 20000, ["items 20000"] * 64))
+        self.assertEqual((ran.status, ran.out), (0, b"item 20000 reset n asked\n" * 64 + b"end\n"))
+        self.assertLess(ran.seconds, 1)
 
 
 if __name__ == "__main__":
