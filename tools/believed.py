@@ -151,7 +151,7 @@ class Repository:
             module = ".".join([crate, *path.relative_to(CRATES / crate / "specs").with_suffix("").parts])
             lines = path.read_text().splitlines()
             for name, rows in parts(lines):
-                it = Definition(f"{crate}/specs/{path.name}", name)
+                it = Definition(str(path.relative_to(CRATES)), name)
                 it.lines, it.text = len(rows), rows
                 self.add((module, name), it, [name, spoken(name), *constructors(rows)])
             for line in lines:

@@ -18,7 +18,7 @@ use Rattle.sx_trace.specs.declared.items.Item.TheVariants.{Reset, Protect, Sense
 use Rattle.sx_model.specs.State.{Model as OldModel, Pending as OldPending, Present as OldPresent, Standing as OldStanding, power_on as old_power_on}
 use Rattle.sx_model.specs.Reaction.{Flow, all_done, done, field_at}
 use Rattle.sx_model.specs.Renewal.{boot_of, may_attest, is_below, may_open, opens, takes}
-use Rattle.sx_model.specs.Step.{step as old_step, idle as old_idle, state_if as old_state_if, is_nothing as old_is_nothing, without_first, is_undriven as old_is_undriven, absent_at as old_absent_at}
+use Rattle.sx_model.specs.Step.{step as old_step, idle as old_idle, state_if as old_state_if, is_nothing as old_is_nothing, without_first, is_undriven as old_is_undriven}
 use Rattle.sx_model.specs.Legal.{Legal, after as old_after}
 use Rattle.sx_model.proofs.EndViews.{changed_at, link_of_end, same_side-true, view_at}
 use Rattle.sx_model.proofs.EndSteps.{view_of}

@@ -1,6 +1,5 @@
 -- Worked runs that aren't one at a time.
 use Rattle.std.proofs.Common.{◌≡◌, ◌<◌, true, false, [], ◌∷◌, ◌++◌, refl, None, Some, arith}
-use Rattle.std.proofs.lemmas.Bool.{true≢false}
 use Rattle.std.proofs.lemmas.List.Elements.{All-head}
 use Rattle.sx_trace.specs.declared.items.Item.TheVariants as item
 use Rattle.sx_mean.specs.Worked.{eye, lamp}

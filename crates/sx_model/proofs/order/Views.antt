@@ -3,18 +3,17 @@ use Rattle.std.proofs.Common.{◌≡◌, ℕ, zero, suc, ◌⊎◌, inl, inr, �
 use Rattle.std.specs.Prelude.{is_some}
 use Rattle.std.proofs.lemmas.Option.{same_Some}
 use Rattle.sx_lang.specs.declared.sides.Side.{Side}
-use Rattle.sx_mean.specs.declared.apps.AppDevice.{AppDevice}
 use Rattle.sx_mean.specs.declared.events.End.{End}
 use Rattle.sx_mean.specs.Application.{PartTree}
 use Rattle.sx_mean.specs.Ends.{same_side}
-use Rattle.sx_model.specs.State.{EndView, Reading, contains}
+use Rattle.sx_model.specs.State.{EndView, contains}
 use Rattle.sx_model.specs.State.{Standing as OldStanding}
 use Rattle.sx_model.specs.Changes.{is_from}
 use Rattle.sx_model.specs.Reaction.{field_of}
 use Rattle.sx_model.specs.Step.{absent_at as old_absent_at, is_undriven as old_is_undriven}
 use Rattle.sx_model.specs.order.State.{Standing}
 use Rattle.sx_model.proofs.EndViews.{behind_one, one_more}
-use Rattle.sx_model.specs.Step.{◌>>?◌, changed_views, stale_at}
+use Rattle.sx_model.specs.Step.{◌>>?◌, changed_views}
 use Rattle.sx_model.specs.order.Step.{absent_at, is_undriven}
 use Rattle.sx_model.proofs.order.Fields.{OpenAt, Starting, later, this}
 

@@ -159,7 +159,3 @@ step app s (Done m status k) = slice_get app.parts m >>? (λ q. slice_get s.modu
     && ((k == 0) && (is_none p.pending && (not (status == 8) || waits app s.devices q.device))))
     s)))
 step app s _ = Some s
-
--- the device that a module drives, if any
-abbrev pub device_of : AppTree → ℕ → Option ℕ
-device_of app m = slice_get app.parts m >>? (λ q. q.device)
