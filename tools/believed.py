@@ -10,7 +10,8 @@ the kit's own definitions don't count. Of some definitions a reader believes onl
 what stands behind these isn't reached. Two tiers: the core is about runs, for every sound setting and every list of
 lines in form; the rest is what leads there from the text that is read, and to the text that is written. What `forged`
 and keys say (the crates sx_forged and sx_links, and what is reached through them alone) is counted by itself, and in no
-other number; of this, what the keys of connections show has a line of its own. So is what says how seldom a `forged` comes.
+other number; of this, what the keys of connections show has a line of its own. So have what says how seldom a `forged` comes, and
+what properties of applications mean.
 """
 
 import re
@@ -37,6 +38,8 @@ FORGED = [f"sx_forged.{law}" for law in (
 )]
 # What the keys of connections show.
 LINKS = [f"sx_links.{law}" for law in ("LinksUnseen.LinksAreUnseen", "Unlinks.HasMoved", "Found.KeysFound")]
+# What a property's text means, and when it is broken.
+PROPERTIES = ["sx_watch.Text.IsProperty", "sx_watch.Watched.broken_at"]
 # How seldom a `forged` comes: counts, makers of schedules, and what a run asks of tags.
 ODDS = [
     "sx_counting.Guesses.FewGuessesHit", "sx_counting.Pads.CiphersAreRandom",
@@ -257,18 +260,22 @@ def main():
     headline = repository.reached(CORE + HEADLINE, OF_FORGED)
     program = repository.reached(CORE + HEADLINE + PROGRAM, OF_FORGED)
     forged = repository.reached(CORE + HEADLINE + PROGRAM + FORGED + LINKS) - program
+    properties = repository.reached(CORE + HEADLINE + PROGRAM + PROPERTIES, OF_FORGED) - program
     links = forged - repository.reached(CORE + HEADLINE + PROGRAM + FORGED, ("sx_links",))
     odds = repository.reached(CORE + HEADLINE + PROGRAM + FORGED + LINKS + ODDS) - program - forged
     repository.show("The source: application, model, legal run and items", source)
     repository.show("The core, beside it", core - source)
     repository.show("From the text on", headline - core)
     repository.show("What a reader may take from a trace, and the other commands", program - headline)
+    repository.show("Properties: what their texts mean, and when they are broken", properties)
     repository.show("What `forged` says, beside all of these", forged - links)
     repository.show("What the keys of connections show, beside that", links)
     repository.show("How seldom a `forged` comes, beside all of these", odds)
-    for key in repository.beside(program | forged | odds):
+    for key in repository.beside(program | properties | forged | odds):
         print(f"not reached: {key[1]} in {repository.definitions[key].place}")
-    tiers = {"core": core, "headline": headline, "program": program, "forged": forged, "odds": odds}
+    tiers = {
+        "core": core, "headline": headline, "program": program, "properties": properties, "forged": forged, "odds": odds,
+    }
     print(", ".join(f"{name} {repository.lines(keys)}" for name, keys in tiers.items()), "lines")
 
 

@@ -1,5 +1,5 @@
 -- What a property makes of the items of a trace, and when it is broken.
-use Rattle.std.specs.Prelude.{ℕ, ◌+◌, ◌||◌, Bool, true, false, if◌then◌else◌, List, [], ◌∷◌}
+use Rattle.std.specs.Prelude.{ℕ, ◌+◌, Bool, true, false, if◌then◌else◌, List, [], ◌∷◌}
 use Rattle.std.specs.Prelude.{Option, Some, None}
 use Rattle.sx_lang.specs.Tree.{ModuleTree}
 use Rattle.sx_check.specs.Source.{source_tree}
