@@ -9,7 +9,8 @@
 //! written. The language: `lex` has tokens, `texts` what is printed of modules, `mean` what modules
 //! do at events and their sizes, up to the highest expressions and the deepest blocks, and `asm` a
 //! word that is shown. Deployments: `lamps` has one and tries it, `deploy` what is read of it, `trace`
-//! the lines of items, `sched` lines of schedules that are written, `model` runs of the source;
+//! the lines of items, `sched` lines of schedules that are written, `model` runs of the source,
+//! `properties` where they break what is said of them;
 //! `wire` has packets, `ledger` entries, `bulk` the workload, and `deployer` answers, keys and
 //! renewals.
 //!
@@ -37,6 +38,8 @@ mod lex;
 mod mean;
 #[cfg(test)]
 mod model;
+#[cfg(test)]
+mod properties;
 #[cfg(test)]
 mod sched;
 #[cfg(test)]
