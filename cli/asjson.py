@@ -9,6 +9,7 @@ from cli import jsonlines, marks
 from cli.context import Context
 from cli.deployment import plan_of
 from cli.faults import Teller
+from cli.people import as_schedule
 from cli.program import Sink
 from cli.running import gathered, parts_of, run_program, tell, words_for_program
 from cli.say import text_of
@@ -50,7 +51,9 @@ def as_json(context: Context, given: Given, files: List[str]) -> int:
 def run_as_json(context: Context, given: Given, files: List[str]) -> int:
     """A run as JSON, with the line of each item, which a marked run tells."""
     parts = parts_of(given, files, context) or [file_part(files[0])]
-    kept, data = gathered(parts)
+    kept, data, refusal = as_schedule(*gathered(parts), context)
+    if refusal:
+        raise refusal
     sink = jsonlines.JsonSink(Sink(), plan=plan_of(data.head), has_images=not given.has("no_images"))
     try:
         made = marks.marked_run(data, context.program)

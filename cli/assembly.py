@@ -8,6 +8,7 @@ import re
 from typing import List, Optional, Tuple
 
 from cli.numbers import number
+from cli.say import MOST_SHOWN
 from cli.table import words
 
 TWO = "mov add addc subc sub cmp bit bic bis xor and".split()
@@ -37,7 +38,7 @@ def hint(text: str) -> Optional[str]:
 
 
 def hint_of(statement: str) -> Optional[str]:
-    if not statement:
+    if not statement or len(statement) > MOST_SHOWN:
         return None
     mnemonic, _, rest = statement.partition(" ")
     return of_mnemonic(mnemonic, rest.strip()) or of_numbers(statement) or of_count(mnemonic, rest)

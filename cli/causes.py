@@ -2,21 +2,31 @@
 
 from __future__ import annotations
 
+import os
+import re
 from dataclasses import dataclass, field
-from typing import Dict, Iterator, List, Optional
+from typing import Dict, Iterator, List, Optional, Tuple
 
-from cli import forged
+from cli import forged, refusals
+from cli.acts import ACTS, is_act
+from cli.commands import Given, Usage
+from cli.context import Context
 from cli.deployment import Plan, plan_of
 from cli.faults import Teller
+from cli.inspection import Inspected, inspected
 from cli.items import ITEMS, Item, say
-from cli.joining import explained
+from cli.joining import explained, trace_part
+from cli.marks import CannotMark, marked_run
 from cli.model import reason
 from cli.numbers import number
+from cli.output import print_lines
+from cli.people import is_for_people
 from cli.program import Collected, Program
 from cli.running import gathered
 from cli.say import Voice, text_of
 from cli.sinks import Kept as KeptLines
 from cli.status import BAD_TEXT, Ended
+from cli.texts import Input, Kept, Part, kept_of, look_at, look_at_standard_input
 
 # How many items of a module are shown before an illegal one.
 BEFORE = 6
@@ -27,6 +37,9 @@ SAID_CAUSE = {
     "take": "where this event was sent",
     "out": "the last event that triggered it",
 }
+# Items with which a call begins what its `done` ends.
+BEGINS = ("take", "read", "vouch", "open")
+IS_TRACE = re.compile(rb"(?m)^(trace\r?$|image |> |steps )")
 
 
 @dataclass
@@ -43,6 +56,9 @@ class Explained:
     about_fault: List[str] = field(default_factory=list)
     status: int = 0
     plan: Optional[Plan] = None
+    # the schedule, if the items come from a run of it, and for each item the line that gave it
+    seen: Optional[Inspected] = None
+    lines: List[Optional[int]] = field(default_factory=list)
 
     def item(self, at: int) -> Item:
         return self.items[at - 1]
@@ -55,9 +71,12 @@ def items_of(lines: List[bytes]) -> List[Item]:
     return [Item(at, it) for at, it in enumerate((it for it in texts if it.split(" ")[0] in ITEMS), 1)]
 
 
-def explain(deployment: str, trace: str, program: Program, voice: Voice) -> Explained:
+def explain(deployment: str, trace: Part, program: Program) -> Explained:
     """Has the program judge a trace, and takes apart what it says."""
-    kept, data = gathered(explained(deployment, trace, voice))
+    return judged(*gathered(explained(deployment, trace)), program)
+
+
+def judged(kept: Kept, data: Input, program: Program) -> Explained:
     sink = KeptLines(Collected())
     ran = program.ran_of(["explain"], data.data, sink)
     made = Explained(items_of(data.schedule), status=ran.status, plan=plan_of(data.head))
@@ -73,16 +92,38 @@ def explain(deployment: str, trace: str, program: Program, voice: Voice) -> Expl
     return made
 
 
+def explain_run(files: List[str], context: Context) -> Explained:
+    """Runs the schedule, or lines for people, of some files, and has the trace judged."""
+    seen = inspected(files, False, context)
+    lines = "".join(f"{it}\n" for it in seen.lines).encode(errors="surrogateescape")
+    try:
+        run = marked_run(Input(seen.head + b"%%\n" + lines), context.program)
+    except CannotMark as error:
+        raise Ended(BAD_TEXT, f"the schedule isn't run: {error}") from None
+    if run.last != b"end":
+        context.voice.say(*seen.fault_told(text_of(run.last or b"")), "what came before is judged")
+    items = list(run.items())
+    text = seen.head + b"%%\n" + b"\n".join([b"trace", *(it for _, it in items), b"end", b""])
+    made = judged(kept_of(text, ""), Input(text), context.program)
+    made.seen, made.lines = seen, [at for at, _ in items]
+    return made
+
+
 def told(made: Explained, at: int) -> str:
     item = made.item(at)
-    if item.kind == "forged":
-        return f"{at} {item.text}: {forged.said(made.items, at, made.plan)}"
-    return f"{at} {item.text}: {say(item, made.plan)}"
+    said = forged.said(made.items, at, made.plan) if item.kind == "forged" else say(item, made.plan)
+    line = made.lines[at - 1] if made.lines else None
+    where = f", at {made.seen.said(line)}" if made.seen and line else ""
+    return f"{at} {item.text}: {said}{where}"
 
 
 def chain(made: Explained, at: int) -> Iterator[str]:
     """An item, and its causes back to the first."""
     yield told(made, at)
+    yield from because(made, at)
+
+
+def because(made: Explained, at: int) -> Iterator[str]:
     while at in made.causes:
         kind, at = made.item(at).kind, made.causes[at]
         yield f"  because of {told(made, at)}" + (f" ({SAID_CAUSE[kind]})" if kind in SAID_CAUSE else "")
@@ -158,20 +199,47 @@ def why(made: Explained, at: int) -> Iterator[str]:
         return
     yield from chain(made, at)
     if at not in made.causes:
-        yield "  " + no_cause(made, at)
+        yield from (f"  {it}" for it in grounds(made, at))
 
 
-def no_cause(made: Explained, at: int) -> str:
+def grounds(made: Explained, at: int) -> List[str]:
+    """Why there is an item without a cause, as far as that is known."""
+    item = made.item(at)
+    if item.kind == "done" and item.fields()["status"] == 1:
+        return called_for(made, at) or no_cause(made, at)
+    if item.kind not in refusals.BY_ITEM:
+        return no_cause(made, at)
+    line = made.lines[at - 1] if made.lines else None
+    if made.seen and line:
+        same = [it.number for it in made.items[: at - 1] if it.text == item.text and made.lines[it.number - 1] == line]
+        return refusals.told(refusals.Moment(made.seen, item, made.items[: at - 1], line, len(same)))
+    return ["a trace doesn't tell by which line: `sancus why DEPLOYMENT SCHEDULE ITEM` does, and why"]
+
+
+def called_for(made: Explained, at: int) -> List[str]:
+    """What a module did at the call that a `done` ends, with its causes."""
+    module = made.item(at).fields()["module"]
+    for it in reversed(made.items[: at - 1]):
+        if it.fields().get("module") != module or it.kind not in (*BEGINS, "done"):
+            continue
+        if it.kind == "done":
+            break
+        more = [line.strip() for line in because(made, it.number)]
+        return [f"because of {told(made, it.number)} (what it was called for)", *more]
+    return []
+
+
+def no_cause(made: Explained, at: int) -> List[str]:
     if made.illegal and at > made.illegal:
-        return f"item {made.illegal} is illegal, and nothing after it is judged"
+        return [f"item {made.illegal} is illegal, and nothing after it is judged"]
     if at == made.forged:
-        return forged.AFTER
+        return [forged.AFTER]
     if made.forged and at > made.forged:
-        return f"nothing is judged from the first `forged` on, item {told(made, made.forged)}"
+        return [f"nothing is judged from the first `forged` on, item {told(made, made.forged)}"]
     kind = made.item(at).kind
     if kind == "sense":
-        return "a sample comes from outside: here the chain ends"
-    return "the causes of a `read`, a `take` and an `out` are told, and no others"
+        return ["a sample comes from outside: here the chain ends"]
+    return ["the causes of a `read`, a `take` and an `out` are told, and no others"]
 
 
 def in_words(made: Explained) -> Iterator[str]:
@@ -188,3 +256,51 @@ def in_words(made: Explained) -> Iterator[str]:
         yield f"forged: {told(made, made.forged)}; what comes after it isn't judged"
     if made.last.startswith("fault "):
         yield made.last
+
+
+# --- The command ---
+
+
+def are_lines(text: bytes) -> bool:
+    """Whether a text has lines of a schedule, lines for people or readings, and no trace."""
+    if IS_TRACE.search(text):
+        return False
+    data = Input(text)
+    lines = data.schedule if data.has_mark else text.split(b"\n")
+    words = [text_of(it) for it in next((it for it in lines if is_act(it)), b"").split()]
+    is_reading = len(words) == 2 and words[0] not in ITEMS and number(words[1]) is not None
+    return bool(words) and (words[0] in ACTS or is_for_people(words) or is_reading)
+
+
+def is_file(word: str) -> bool:
+    return word == "-" or os.path.exists(word) and not os.path.isdir(word)
+
+
+def files_and_item(given: Given) -> Tuple[List[str], str]:
+    """The files of a call after the deployment, and the item that is asked about."""
+    words = [*given.texts("TRACE"), *given.texts("ITEM")]
+    is_item = bool(words) and (number(words[0]) is not None or words[0].split(" ")[0] in ITEMS)
+    files = words[:1] if words and (is_file(words[0]) or not is_item) else []
+    while files and words[len(files) :] and is_file(words[len(files)]):
+        files.append(words[len(files)])
+    return files, " ".join(words[len(files) :])
+
+
+def explained_of(deployment: str, files: List[str], context: Context, given: Given) -> Explained:
+    """What is asked about: a trace, which comes on standard input if no file is named, or a schedule, which the deployment
+    may hold itself."""
+    if len(files) > 1 or files and are_lines(look_at(files[0])):
+        return explain_run([deployment, *files], context)
+    if not files and not look_at_standard_input():
+        if is_file(deployment) and deployment != "-" and Input(look_at(deployment)).schedule:
+            return explain_run([deployment], context)
+        raise Usage("`why` takes SCHEDULE or TRACE, or a trace in a pipe", given.command)
+    return explain(deployment, trace_part(files[0] if files else "-", context.voice), context.program)
+
+
+def answer(context: Context, given: Given) -> int:
+    files, words = files_and_item(given)
+    made = explained_of(given.text("DEPLOYMENT"), files, context, given)
+    must_be_judged(made)
+    print_lines(*why(made, chosen(made, words, context.voice)))
+    return 0

@@ -68,6 +68,9 @@ HELP = Option("--help", "prints this", short="-h")
 EVERYWHERE = (QUIET, PROGRAM, HELP)
 JSON = Option("--json", "prints a JSON object a line (docs/FORMATS.md)")
 NO_IMAGES = Option("--no-images", "leaves out the lines of images, nine tenths of the output")
+IMAGES = Option("--images", "prints images whole on a terminal too, which else shows how they begin, and their length")
+
+FORCE = Option("--force", "writes over files that are no earlier output of the command, too")
 
 DEPLOYMENT = Argument(
     "DEPLOYMENT", MAYBE, "the deployment, or a whole input with its line %%; absent or -, standard input"
@@ -91,9 +94,10 @@ COMMANDS: Tuple[Command, ...] = (
         "run",
         "compiles and runs a deployment under a schedule",
         (DEPLOYMENT, SCHEDULES),
-        (NO_IMAGES, JSON),
+        (NO_IMAGES, IMAGES, JSON),
         "sancus run examples/lighting.txt",
-        "It prints the modules' images and the trace, an item a line. At a terminal each line is answered at once.",
+        "It prints the modules' images and the trace, an item a line. SCHEDULE may have lines for people (`sancus help "
+        "schedule`). At a terminal each line is answered at once, and one that can't be done is explained and left out.",
         True,
         typed="a deployment, a line %%, and a schedule, each line of which is answered at once",
     ),
@@ -103,6 +107,7 @@ COMMANDS: Tuple[Command, ...] = (
         (DEPLOYMENT, Argument("READINGS", MANY, "readings, a line `DEVICE VALUE` each")),
         (
             NO_IMAGES,
+            IMAGES,
             Option("--schedule", "prints the lines of the schedule alone, as `run` takes them"),
             Option("--trace", "prints what `run` would print of that schedule"),
             JSON,
@@ -125,7 +130,10 @@ COMMANDS: Tuple[Command, ...] = (
     Command(
         "explain",
         "judges a trace by the sources alone, and prints which item caused which",
-        (DEPLOYMENT, Argument("TRACE", MAYBE, "what `run` or `drive` wrote; -, standard input")),
+        (
+            DEPLOYMENT,
+            Argument("TRACE", MAYBE, "what `run` or `drive` wrote, or a schedule, which is run first; -, standard input"),
+        ),
         (Option("--words", "prints the items with their causes, in words"), JSON),
         "sancus run examples/lighting.txt | sancus explain examples/lighting.txt",
         "If DEPLOYMENT has no trace after a line %%, and TRACE is absent, the trace comes on standard input.",
@@ -136,9 +144,10 @@ COMMANDS: Tuple[Command, ...] = (
         "snap",
         "prints registers, memory or items after any line of a schedule",
         (DEPLOYMENT, Argument("SCHEDULE", MAYBE, "a schedule"), Argument("QUERIES", MAYBE, "queries, a line each")),
-        (NO_IMAGES,),
+        (NO_IMAGES, IMAGES),
         "sancus snap --no-images examples/snap/dark_bulb.txt",
-        "The queries follow a second line %%: `regs NODE L`, `bytes NODE AT LEN L` and `items L`.",
+        "The queries follow a second line %%: `regs NODE L`, `bytes NODE AT LEN L` and `items L`. Of lines for people L "
+        "is one of those.",
         True,
         typed="a deployment, a line %%, a schedule, a line %%, and queries",
     ),
@@ -146,7 +155,7 @@ COMMANDS: Tuple[Command, ...] = (
         "gen",
         "runs a fixed application for some samples, and counts",
         (Argument("SAMPLES", ONE, "a number from 1 to 8,000", False),),
-        (NO_IMAGES,),
+        (NO_IMAGES, IMAGES),
         "sancus gen --no-images 4",
         "",
         True,
@@ -173,7 +182,7 @@ COMMANDS: Tuple[Command, ...] = (
     ),
     Command(
         "schedule",
-        "turns lines for people (`deploy`, `sample`, `carry`) into a schedule",
+        "turns lines for people (`deploy`, `flow`, `carry`) into a schedule",
         (DEPLOYMENT, Argument("LINES", MANY, "lines for people")),
         (Option("--lines", "prints the schedule alone, without the deployment"),),
         "printf 'deploy all\\nsample eye 120\\ncarry eye logic\\n' | sancus schedule examples/lighting.txt - | sancus "
@@ -184,6 +193,8 @@ COMMANDS: Tuple[Command, ...] = (
             ("sample M VALUE", "the sensor of M has this sample, and M reads it"),
             ("carry M N [WHICH]", "the next event for N of M's last call is taken, and N is called with it"),
             ("", "(WHICH is a connection, or the number of a piece from 0)"),
+            ("flow SENSOR VALUE", "the driver of SENSOR reads this sample, and every event that follows is carried"),
+            ("settle", "every event that is still in its window is carried, and those that follow"),
             ("call M ENTRY", "M is called, with the windows that are set"),
             ("give P NODE", "packet P, by number or name, is put into the in-window"),
             ("take NODE LENGTH", "a packet is made of what is in the out-window"),
@@ -200,7 +211,7 @@ The program runs as the lines are written, so packets, boots and pieces are thos
         "marks",
         "runs a schedule and prints which items each of its lines gave",
         (DEPLOYMENT, SCHEDULES),
-        (NO_IMAGES,),
+        (NO_IMAGES, IMAGES, Option("--input", "prints the deployment first, with its keys, and a line %%")),
         "sancus marks examples/forged.txt",
         typed="a deployment, a line %%, and a schedule",
     ),
@@ -218,20 +229,21 @@ The program runs as the lines are written, so packets, boots and pieces are thos
         ),
         (
             Option("--drive", "draws the honest run of readings"),
-            Option("--page", "writes the page there, by default beside INPUT with the ending .html", "PAGE"),
+            Option("--page", "writes the page there, by default beside the last file: day.html, or pump.day.html", "PAGE"),
             Option("--empty", "writes the page without a run, which opens files by itself"),
+            FORCE,
         ),
         "sancus view examples/lighting.txt --page lighting.html",
-        "The page opens in any browser, without a connection.",
+        "The page opens in any browser, without a connection. It is written over an earlier page, and over no other file.",
     ),
     Command(
         "vars",
         "prints a module's variables, arrays and ends after a line",
-        (INPUT, MORE, Argument("MODULE", ONE, "a module", False), LINE),
-        (DRIVE,),
+        (INPUT, MORE, Argument("MODULE", ONE, "a module", False), Argument("LINE", MAYBE, f"{LINE.says}; absent, the last", False)),
+        (DRIVE, Option("--changes", "prints each change of a variable or an array element up to LINE, a line each")),
         "sancus vars examples/lighting.txt logic 45",
-        "Of lines for people LINE is one of those; of what `sancus schedule` wrote it may also be FILE:LINE as it was "
-        "made of.",
+        "Of lines for people LINE is one of those; FILE:LINE may also be one of those that `sancus schedule` made what "
+        "is given of, or a reading, after which its last event was carried.",
     ),
     Command(
         "steps",
@@ -243,10 +255,15 @@ The program runs as the lines are written, so packets, boots and pieces are thos
     ),
     Command(
         "why",
-        "prints the chain of causes of an item, or why it is illegal",
+        "prints the chain of causes of an item, or why it is illegal or refused",
         (
             Argument("DEPLOYMENT", ONE, "the deployment"),
-            Argument("TRACE", MAYBE, "what `run` or `drive` wrote; absent or -, standard input"),
+            Argument(
+                "TRACE",
+                MAYBE,
+                "what `run` or `drive` wrote, or schedules, lines for people or readings, which are run; absent or -, "
+                "standard input",
+            ),
             Argument(
                 "ITEM",
                 MANY,
@@ -257,7 +274,8 @@ The program runs as the lines are written, so packets, boots and pieces are thos
         ),
         (),
         "sancus run examples/lighting.txt | sancus why examples/lighting.txt out lamp",
-        "A cause is the last event that triggered an item, and not all that its value depends on.",
+        "A cause is the last event that triggered an item, and not all that its value depends on. Of a schedule it also "
+        "prints by which line and instruction a node was reset, and why a line, an answer or a call was refused.",
     ),
     Command(
         "hex",
@@ -271,6 +289,7 @@ The program runs as the lines are written, so packets, boots and pieces are thos
             Option("--input", "put: warns if bytes meet what this input has on the node", "INPUT"),
             Option("--format", "image, convert: TI-TXT or Intel HEX", "FORMAT", choices=("ti", "hex")),
             Option("--to", "image: writes the files there", "FOLDER"),
+            FORCE,
         ),
         "sancus hex image examples/lighting.txt --to images",
         "Files are ELF, Intel HEX or TI-TXT. Encodings and keys are this project's own: images are for looking, and "

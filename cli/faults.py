@@ -12,12 +12,10 @@ from typing import Callable, Dict, List, Optional, Tuple
 from cli import acts, assembly, guesses, language, rules, tables, toml
 from cli.acts import ACTS, QUERIES, Field, Word, words_at
 from cli.deployment import KINDS, Plan, plan_of
-from cli.say import text_of
+from cli.say import MOST_SHOWN, short, text_of
 from cli.table import words as table_words
 from cli.texts import Kept, find_mark, split_lines
 
-# A line of more letters is shown in part.
-MOST_SHOWN = 200
 Lines = List[str]
 Ask = Callable[[List[str], bytes], bytes]
 
@@ -71,7 +69,7 @@ class Teller:
         text = text_of(whole)
         head = f"{self.place(line)}: "
         if len(text) > MOST_SHOWN:
-            return [f"{head}{text[:60]}.. ({len(whole):,} bytes)"]
+            return [head + short(text)]
         if column is None:
             return [head + text]
         before = text_of(whole[: column - 1])
@@ -209,7 +207,7 @@ class Teller:
         if rule == "D6":
             return lines + tables.counts(self.plan)
         if place == ["top"]:
-            return lines + tables.keys("top", self.plan.toml)
+            return lines + tables.keys("top", self.plan.toml) + guesses.of_tables(self.plan.toml)
         return lines + self.entry(rule, place)
 
     def entry(self, rule: str, place: List[str]) -> Lines:

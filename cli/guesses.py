@@ -3,10 +3,10 @@
 from __future__ import annotations
 
 import re
-from typing import List, Optional
+from typing import Dict, List, Optional
 
 from cli.acts import ACTS, QUERIES
-from cli.deployment import Plan
+from cli.deployment import KINDS, Plan
 from cli.items import ITEMS
 from cli.language import COMPARED, END, MULTIPLIED, NAMED, NUMBER, SUMMED, UNARY, NotInGrammar
 from cli.say import text_of
@@ -14,7 +14,7 @@ from cli.table import words
 
 OPERATORS = {*COMPARED, *SUMMED, *MULTIPLIED}
 STATEMENT = {"let", "send", "emit", "if", "repeat", NAMED}
-PEOPLE = ("deploy", "sample", "carry", "windows", "packets", "boots")
+PEOPLE = ("deploy", "sample", "carry", "flow", "settle", "windows", "packets", "boots")
 
 
 def expected(error: NotInGrammar) -> List[str]:
@@ -59,9 +59,21 @@ def of_toml(line: Optional[bytes]) -> List[str]:
     first = (line or b"").split()[:1]
     if first and first[0].decode(errors="replace") in ACTS:
         return ["this looks like a line of a schedule, which comes after a line `%%`"]
+    found = re.match(rb"\s*\[\s*(node|device|module|connection)\s*\]", line or b"")
+    if found:
+        return [two_brackets(text_of(found[1]))]
     if line and re.match(rb"\s*(source|secret|key|name|node|from|to|kind|device)\s*=\s*[^\"'\s]", line):
         return ["a text is written between quotes"]
     return []
+
+
+def two_brackets(kind: str) -> str:
+    return f"each {kind} begins with two brackets, `[[{kind}]]`, since there may be several"
+
+
+def of_tables(document: Dict[str, object]) -> List[str]:
+    """What there is in place of a table of a kind of which there may be several."""
+    return [two_brackets(it) for it in KINDS if isinstance(document.get(it), dict)]
 
 
 def of_head(command: str, first: bytes) -> List[str]:
@@ -100,8 +112,7 @@ def without_mark(command: str, name: str, first: bytes) -> List[str]:
     begun = next((text_of(it[0]) for it in words if it and not it[0].startswith(b"#")), "")
     if begun in ACTS or begun in PEOPLE:
         of = "a schedule" if begun in ACTS else "a schedule for people"
-        call = f"sancus run DEPLOYMENT {file}" if begun in ACTS else f"sancus schedule DEPLOYMENT {file} | sancus run"
-        return [f"these are lines of {of}, and the deployment comes before them: `{call}`"]
+        return [f"these are lines of {of}, and the deployment comes before them: `sancus run DEPLOYMENT {file}`"]
     more = {
         "run": ("SCHEDULE", "a schedule"),
         "drive": ("READINGS", "readings"),
@@ -117,7 +128,7 @@ def without_mark(command: str, name: str, first: bytes) -> List[str]:
 
 
 def for_people(act: str) -> str:
-    return f"`{act}` is a line for people: `sancus schedule DEPLOYMENT LINES | sancus run` takes those"
+    return f"`{act}` is a line for people: `sancus run DEPLOYMENT LINES` takes those from a file"
 
 
 def of_act(act: str, line: bytes, command: str, plan: Optional[Plan]) -> List[str]:

@@ -12,17 +12,21 @@ from typing import Callable, Dict, Iterator, List, Optional, Tuple
 from cli.context import Context
 from cli.deployment import Plan, plan_of
 from cli.output import print_lines, write
+from cli.say import plain
 from cli.status import BAD_TEXT, NO_FILE, Ended
 from cli.texts import Input, read_all
 from cli.commands import Given, Usage
+from cli.writing import must_be_free, write_file
 
 # How many bytes one `put` takes.
 PIECE = 1024
 MSP430 = 105
 MEMORY = 0x10000
 ALLOCATED, NULL, NO_BITS, LOADED = 2, 0, 8, 1
+RELOCATABLE = 1
 DATA, END, SEGMENT, START_SEGMENT, LINEAR, START = 0, 1, 2, 3, 4, 5
 MODULE = re.compile(r"^module (\S+) text 0x(\w{4}) 0x(\w{4}) data 0x(\w{4}) 0x(\w{4})$", re.M)
+THREE = "a file is ELF, Intel HEX (each line begins with `:`) or TI-TXT (a line `@ADDRESS`, then bytes)"
 IMAGE = re.compile(r"^image (\S+) ([0-9a-f]+)$", re.M)
 
 
@@ -52,18 +56,29 @@ class Code:
 
 def elf(data: bytes) -> Code:
     """An ELF file, by sections: the first segment that lld writes holds the file's header."""
-    if data[4] != 1 or data[5] != 1:
+    try:
+        return elf_of(data)
+    except struct.error:
+        raise Bad("the ELF file is cut: a part that its header names isn't there") from None
+
+
+def elf_of(data: bytes) -> Code:
+    if data[4:6] != b"\x01\x01":
         raise Bad("this is no little-endian ELF of 32 bits")
     header = struct.unpack_from("<HHIIIIIHHHHHH", data, 16)
-    machine, entry, programs, sections = header[1], header[3], header[4], header[5]
+    kind, machine, entry, programs, sections = header[0], header[1], header[3], header[4], header[5]
     program_size, program_count, section_size, section_count = header[8:12]
     if machine != MSP430:
         raise Bad(f"this is an ELF for machine {machine}, and not for {MSP430}, MSP430")
+    if kind == RELOCATABLE:
+        raise Bad("this ELF isn't linked, so its parts have no addresses: link it first, as examples/c_attacker/run.sh does")
     segments = [struct.unpack_from("<IIIIIIII", data, programs + it * program_size) for it in range(program_count)]
     made = Code(entry=entry)
     for number in range(section_count):
         _, kind, flags, at, offset, size, *_ = struct.unpack_from("<IIIIIIII", data, sections + number * section_size)
         if flags & ALLOCATED and kind not in (NULL, NO_BITS) and size:
+            if offset + size > len(data):
+                raise Bad("the ELF file is cut: a section's bytes aren't there")
             made.pieces.append(Piece(loaded_at(at, segments), data[offset : offset + size]))
     return made
 
@@ -76,12 +91,29 @@ def loaded_at(address: int, segments: List[Tuple[int, ...]]) -> int:
     return address
 
 
+def lines_of(text: str) -> Iterator[Tuple[int, str]]:
+    """The lines that aren't blank, with their numbers."""
+    return ((number, it.strip()) for number, it in enumerate(text.splitlines(), 1) if it.strip())
+
+
+def bytes_of(digits: str) -> Optional[bytes]:
+    """Bytes in hexadecimal, or None."""
+    try:
+        return bytes.fromhex(digits)
+    except ValueError:
+        return None
+
+
+def address_of(digits: str) -> Optional[int]:
+    return int(digits, 16) if re.fullmatch("[0-9A-Fa-f]{1,8}", digits) else None
+
+
 def intel_hex(text: str) -> Code:
     made, base = Code(), 0
-    for number, line in enumerate(text.split(), 1):
-        row = bytes.fromhex(line[1:])
-        if line[0] != ":" or len(row) < 5 or sum(row) & 255 or len(row) != row[0] + 5:
-            raise Bad(f"line {number} is no record of Intel HEX")
+    for number, line in lines_of(text):
+        row = bytes_of(line[1:]) if line[0] == ":" else None
+        if not row or len(row) < 5 or sum(row) & 255 or len(row) != row[0] + 5:
+            raise Bad(f"line {number} is no record of Intel HEX: `:`, then bytes whose sum is 0 and the first their count")
         at, kind, body = row[1] << 8 | row[2], row[3], row[4:-1]
         value = int.from_bytes(body, "big")
         if kind == DATA:
@@ -100,17 +132,21 @@ def intel_hex(text: str) -> Code:
 def ti_txt(text: str) -> Code:
     made = Code()
     at: Optional[int] = None
-    for number, line in enumerate(text.splitlines(), 1):
-        line = line.strip()
+    for number, line in lines_of(text):
         if line.lower() == "q":
             break
         if line.startswith("@"):
-            at = int(line[1:], 16)
-        elif line:
+            at = address_of(line[1:])
             if at is None:
-                raise Bad(f"line {number} has bytes before an address")
-            made.pieces.append(Piece(at, bytes.fromhex(line)))
-            at = made.pieces[-1].end
+                raise Bad(f"line {number}: after `@` comes an address in hexadecimal")
+            continue
+        body = bytes_of(line)
+        if at is None:
+            raise Bad(f"line {number} {'has bytes before an address' if body else 'has no address'}: {THREE}")
+        if body is None:
+            raise Bad(f"line {number} is no bytes in hexadecimal")
+        made.pieces.append(Piece(at, body))
+        at = made.pieces[-1].end
     return made
 
 
@@ -171,7 +207,23 @@ def as_intel_hex(made: Code) -> str:
     return "\n".join([*lines, record(0, END, b""), ""])
 
 
-FORMATS: Dict[str, Tuple[Callable[[Code], str], str]] = {"ti": (as_ti_txt, "txt"), "hex": (as_intel_hex, "hex")}
+@dataclass(frozen=True)
+class Format:
+    """A format of files: how it is written and read, and how names of its files end."""
+
+    written: Callable[[Code], str]
+    read: Callable[[str], Code]
+    ending: str
+
+    def is_own(self, text: str) -> bool:
+        """Whether a file is one that is written here: others have other lengths of lines, or an entry."""
+        try:
+            return self.written(Code(joined(self.read(text).pieces))) == text
+        except Bad:
+            return False
+
+
+FORMATS = {"ti": Format(as_ti_txt, ti_txt, "txt"), "hex": Format(as_intel_hex, intel_hex, "hex")}
 
 
 @dataclass(frozen=True)
@@ -213,7 +265,7 @@ def put(context: Context, given: Given, node: str, file: str) -> None:
         context.voice.say(*meetings(code.pieces, plan, node))
     if given.has("pc") and code.entry is None:
         raise Bad("the file says no entry: write `set NODE pc ADDRESS` yourself")
-    lines = [f"# {os.path.basename(file)}: {sum(len(it.body) for it in code.pieces)} bytes"]
+    lines = [f"# {plain(os.path.basename(file))}: {sum(len(it.body) for it in code.pieces)} bytes"]
     for it in code.pieces:
         lines += [
             f"put {node} 0x{it.at + at:04x} {it.body[at : at + PIECE].hex()}" for at in range(0, len(it.body), PIECE)
@@ -236,28 +288,34 @@ def image(context: Context, given: Given, name: str) -> None:
     if not bounds:
         raise Bad("the deployment has no module, so there is no image")
     plan = plan_of(data.head)
-    form, ending = FORMATS[given.text("format") or "ti"]
+    chosen = FORMATS[given.text("format") or "ti"]
     folder = Path(given.text("to") or ".")
     nodes: Dict[str, List[Piece]] = {}
-    lines = []
-    try:
-        folder.mkdir(parents=True, exist_ok=True)
-        for module, at in bounds.items():
-            piece = Piece(at, images[module])
-            nodes.setdefault(plan.node_of(module) if plan else "n", []).append(piece)
-            (folder / f"{module}.{ending}").write_text(form(Code([piece])))
-        for node, pieces in nodes.items():
-            (folder / f"node_{node}.{ending}").write_text(form(Code(joined(pieces))))
-            places = ", ".join(f"0x{it.at:04x} to 0x{it.end:04x}" for it in joined(pieces))
-            lines.append(f"{folder}/node_{node}.{ending}: {places}")
-    except OSError as error:
-        raise Ended(NO_FILE, f"{error.filename or folder} can't be written: {error.strerror}") from None
-    print_lines(*lines)
+    files: Dict[Path, List[Piece]] = {}
+    for module, at in bounds.items():
+        piece = Piece(at, images[module])
+        nodes.setdefault(plan.node_of(module) if plan else "n", []).append(piece)
+        files[folder / f"{module}.{chosen.ending}"] = [piece]
+    named = {folder / f"node_{node}.{chosen.ending}": joined(pieces) for node, pieces in nodes.items()}
+    write_images({**files, **named}, chosen, [name], given.has("force"))
+    for path, pieces in named.items():
+        print_lines(f"{path}: {', '.join(f'0x{it.at:04x} to 0x{it.end:04x}' for it in pieces)}")
+
+
+def write_images(files: Dict[Path, List[Piece]], form: Format, inputs: List[str], is_forced: bool) -> None:
+    """Writes pieces to files, or none of them if one would be written over what is no such file."""
+    for path in files:
+        must_be_free(path, inputs, form.is_own, is_forced, "file of `hex image`", "--to names another folder")
+    for path, pieces in files.items():
+        try:
+            path.parent.mkdir(parents=True, exist_ok=True)
+        except OSError as error:
+            raise Ended(NO_FILE, f"{error.filename or path.parent} can't be written: {error.strerror}") from None
+        write_file(path, form.written(Code(pieces)))
 
 
 def convert(given: Given, file: str) -> None:
-    form, _ = FORMATS[given.text("format") or "ti"]
-    write(form(read(file)).encode())
+    write(FORMATS[given.text("format") or "ti"].written(read(file)).encode())
 
 
 def answer(context: Context, given: Given) -> int:
@@ -273,7 +331,7 @@ def answer(context: Context, given: Given) -> int:
         else:
             convert(given, arguments[0])
     except UnicodeDecodeError:
-        raise Ended(BAD_TEXT, f"{arguments[-1]} is neither ELF, nor Intel HEX, nor TI-TXT") from None
+        raise Ended(BAD_TEXT, f"{arguments[-1]} is none of the three: {THREE}") from None
     except (Bad, ValueError, IndexError, struct.error) as error:
         raise Ended(BAD_TEXT, f"{arguments[-1]}: {error}") from None
     return 0

@@ -5,7 +5,7 @@ from __future__ import annotations
 import os
 import re
 from dataclasses import dataclass, field
-from typing import List, Tuple
+from typing import List, Optional, Tuple
 
 from cli.acts import is_act
 from cli.context import Context
@@ -17,7 +17,8 @@ from cli.people import are_for_people, lines_of, written
 from cli.program import Collected, Program
 from cli.rules import near
 from cli.running import gathered
-from cli.say import text_of
+from cli.say import plain, text_of
+from cli.schedule import spelled
 from cli.sinks import Kept as KeptLines
 from cli.status import BAD_TEXT, Ended
 from cli.texts import Input, Kept, file_part, kept_of
@@ -34,8 +35,10 @@ class Line:
     last: int
 
     def is_at(self, place: str) -> bool:
-        """Whether a word `FILE:LINE` means this line; the file's folder may be left out."""
-        return place in (self.place, os.path.basename(self.place))
+        """Whether a word `FILE:LINE` means this line; the file's folder may be left out. In a mark it is spelled as one
+        word."""
+        own = spelled(self.place)
+        return spelled(place) in (own, os.path.basename(own))
 
 
 @dataclass
@@ -48,10 +51,13 @@ class Inspected:
     lines: List[str]
     given: List[Line]
     program: Program
-    # whether the lines that were given are for people
+    # whether the lines that were given are for people, or readings
     is_for_people: bool = False
-    # lines of a `sancus schedule` that was run before, by its lines `#= FILE:LINE TEXT`
+    is_driven: bool = False
+    # the lines for people, or readings, of which `sancus schedule`, or `drive`, made the schedule
     marked: List[Line] = field(default_factory=list)
+    # what is kept of the input, if its own lines are the schedule's
+    kept: Optional[Kept] = None
 
     def line(self, word: str) -> Line:
         """The line that is asked about, by its number after the mark or its place in a file."""
@@ -63,23 +69,32 @@ class Inspected:
         found = [it for it in [*self.marked, *self.given] if it.is_at(word)] if value is None else []
         if found:
             return found[0]
-        begins = next((it.place for it in self.given if ":" in it.place), "")
+        begins = next((it.place for it in [*self.marked, *self.given] if ":" in it.place), "")
         raise Ended(
             BAD_TEXT,
             f"{word} is no line of the schedule: it has {len(self.given)}, counted from 1 after %%"
             + (f"; the first is {begins}" if begins else ""),
         )
 
+    def end(self) -> Line:
+        """The last line."""
+        return self.given[-1] if self.given else self.line("0")
+
     def said(self, at: int) -> str:
-        """A line of the schedule by its number, or by the line for people that it was made of."""
-        if self.is_for_people:
-            return next((it.place for it in self.given if it.first <= at <= it.last), f"line {at}")
-        return f"line {at}"
+        """A line of the schedule by its number, or by the line for people, or the reading, that it was made of."""
+        made_of = self.given if self.is_for_people else self.marked if self.is_driven else []
+        return plain(next((it.place for it in made_of if it.first <= at <= it.last), f"line {at}"))
 
     def headed(self, line: Line) -> str:
         """The line that is asked about, as the first line of an answer."""
         is_own = not self.is_for_people and line.first == line.last and line not in self.marked
-        return f"line {line.first}: {line.text}" if is_own else f"{line.place}: {line.text}"
+        return plain(f"line {line.first}: {line.text}" if is_own else f"{line.place}: {line.text}")
+
+    def fault_told(self, fault: str) -> List[str]:
+        """A fault of the schedule, and what it means."""
+        text = self.head + b"%%\n" + "".join(f"{it}\n" for it in self.lines).encode(errors="surrogateescape")
+        kept = self.kept or kept_of(text, self.name)
+        return [fault, *Teller(kept, "run", self.program.ask).told(fault)]
 
     def module(self, name: str) -> str:
         if not self.plan.named("module", name):
@@ -126,6 +141,18 @@ def driven(kept: Kept, data: Input, program: Program) -> List[str]:
     return [text_of(it[2:]) for it in sink.lines if it.startswith(b"> ")]
 
 
+def readings_of(lines: List[Tuple[str, str]], schedule: List[str]) -> List[Line]:
+    """Readings with what `drive` made of each, from its `sense` up to the next; of a comment it made nothing."""
+    begins = [at for at, it in enumerate(schedule, 1) if it.startswith("sense ")] + [len(schedule) + 1]
+    made, which = [], 0
+    for place, text in lines:
+        is_reading = is_act(text.encode(errors="surrogateescape"))
+        end = begins[min(which + is_reading, len(begins) - 1)] - 1
+        made.append(Line(place, text.strip(), begins[which] if is_reading else end + 1, end))
+        which += is_reading
+    return made
+
+
 def put_together(files: List[str], context: Context) -> Tuple[Kept, Input]:
     """The input of one file, or of a deployment and what comes after its mark."""
     return gathered(joined(files, context.voice) if len(files) > 1 else [file_part(files[0])])
@@ -136,12 +163,13 @@ def inspected(files: List[str], is_driven: bool, context: Context) -> Inspected:
     that they become."""
     kept, data = put_together(files, context)
     plan = must_be_accepted(kept, data, files[0], context.program)
-    seen = Inspected(files[0], data.head, plan, [], [], context.program)
-    if is_driven or are_readings(plan, data):
+    seen = Inspected(files[0], data.head, plan, [], [], context.program, is_driven=is_driven or are_readings(plan, data))
+    if seen.is_driven:
         if not is_driven:
             context.voice.say(f"{files[-1]} has readings: the lines are those that `drive` makes of them")
         seen.lines = driven(kept, data, context.program)
         seen.given = [Line("", it, at, at) for at, it in enumerate(seen.lines, 1)]
+        seen.marked = readings_of(lines_of(kept, data).lines, seen.lines)
         return seen
     given = lines_of(kept, data)
     if are_for_people(data):
@@ -149,7 +177,7 @@ def inspected(files: List[str], is_driven: bool, context: Context) -> Inspected:
         context.voice.say(*made.notes)
         spans, seen.lines, seen.is_for_people = made.spans, made.lines, True
     else:
-        seen.lines = [text for _, text in given.lines]
+        seen.kept, seen.lines = kept, [text for _, text in given.lines]
         spans = [(at, at) for at in range(1, len(seen.lines) + 1)]
         seen.marked = marked_lines(seen.lines)
     seen.given = [Line(at, text.strip(), *span) for (at, text), span in zip(given.lines, spans)]
@@ -158,9 +186,4 @@ def inspected(files: List[str], is_driven: bool, context: Context) -> Inspected:
 
 def broken(seen: Inspected, fault: str) -> Ended:
     """The schedule broke a rule on the way."""
-    text = seen.head + b"%%\n" + "".join(f"{it}\n" for it in seen.lines).encode(errors="surrogateescape")
-    return Ended(
-        BAD_TEXT,
-        f"the schedule breaks off: {fault}",
-        *Teller(kept_of(text, seen.name), "run", seen.program.ask).told(fault),
-    )
+    return Ended(BAD_TEXT, f"the schedule breaks off: {fault}", *seen.fault_told(fault)[1:])

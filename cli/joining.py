@@ -2,6 +2,7 @@
 
 from __future__ import annotations
 
+import os
 from array import array
 from dataclasses import dataclass, field
 from typing import Callable, List, Optional
@@ -38,7 +39,8 @@ class Begun:
                 return left.pop()
             return b"" if self.is_at_end else self.part.read()
 
-        return Part(self.part.name, read, self.part.fd if not left and not self.is_at_end else None, 1 + lines)
+        fd = None if self.is_at_end else self.part.fd
+        return Part(self.part.name, read, fd, 1 + lines, ahead=lambda: left[0] if left else self.part.ahead())
 
 
 def deployment_alone(name: str, voice: Voice) -> List[Part]:
@@ -58,7 +60,10 @@ def is_comment(line: bytes) -> bool:
 
 
 def after_mark(name: str, voice: Voice) -> Part:
-    """The lines of a file that come after the mark: without its own mark, and without its own deployment."""
+    """The lines of a file that come after the mark: without its own mark, and without its own deployment. Lines that are
+    typed have neither, and aren't waited for."""
+    if name == "-" and os.isatty(0):
+        return file_part(name)
     begun = Begun(file_part(name))
     data = begun.look(lambda it: find_mark(it) is not None or not may_have_mark(it))
     found = find_mark(data) if may_have_mark(data) else None
@@ -170,10 +175,9 @@ class TraceReader:
 def trace_part(name: str, voice: Voice) -> Part:
     part = file_part(name)
     reader = TraceReader(part, voice)
-    return Part(name, reader.read, part.fd, 1, reader.line_of)
+    return Part(name, reader.read, part.fd, 1, reader.line_of, part.ahead)
 
 
-def explained(deployment: str, trace: str, voice: Voice) -> List[Part]:
-    """The input of `explain`: the deployment of one file, and the trace of another."""
-    silent = Voice(True)
-    return [*deployment_alone(deployment, silent), trace_part(trace, voice)]
+def explained(deployment: str, trace: Part) -> List[Part]:
+    """The input of `explain`: the deployment of a file, and a trace."""
+    return [*deployment_alone(deployment, Voice(True)), trace]

@@ -10,8 +10,6 @@ from typing import Callable, Dict, List, Optional, Sequence, Tuple
 from cli import commands
 from cli.builds import Build, Builds
 from cli.context import Context
-from cli.items import ITEMS
-from cli.numbers import number
 from cli.output import print_lines, write
 from cli.program import Program
 from cli.say import Voice
@@ -44,11 +42,9 @@ def files_of(given: Given) -> List[str]:
 
 
 def variables(context: Context, given: Given) -> int:
-    from cli import inspection, variables
+    from cli.variables import answer
 
-    seen = inspection.inspected(files_of(given), given.has("drive"), context)
-    print_lines(*variables.told(seen, seen.module(given.text("MODULE")), seen.line(given.text("LINE"))))
-    return 0
+    return answer(context, given)
 
 
 def steps(context: Context, given: Given) -> int:
@@ -60,25 +56,9 @@ def steps(context: Context, given: Given) -> int:
 
 
 def why(context: Context, given: Given) -> int:
-    from cli import causes
+    from cli.causes import answer
 
-    trace, words = trace_and_item(given)
-    made = causes.explain(given.text("DEPLOYMENT"), trace, context.program, context.voice)
-    causes.must_be_judged(made)
-    print_lines(*causes.why(made, causes.chosen(made, words, context.voice)))
-    return 0
-
-
-def trace_and_item(given: Given) -> Tuple[str, str]:
-    """The trace and the item of a call of `why`: a trace that isn't named comes on standard input."""
-    words = [*given.texts("TRACE"), *given.texts("ITEM")]
-    is_file = bool(words) and (words[0] == "-" or os.path.exists(words[0]) and not os.path.isdir(words[0]))
-    is_item = bool(words) and (number(words[0]) is not None or words[0].split(" ")[0] in ITEMS)
-    if words and (is_file or not is_item):
-        return words[0], " ".join(words[1:])
-    if os.isatty(0):
-        raise Usage("`why` takes TRACE, or a trace in a pipe", given.command)
-    return "-", " ".join(words)
+    return answer(context, given)
 
 
 def hex_files(context: Context, given: Given) -> int:

@@ -180,9 +180,7 @@ def in_schedule(last: bytes, acts: List[Tuple[int, bytes]], done: int) -> bytes:
 
 
 def marked_lines(data: Input, made: Marked) -> Iterator[bytes]:
-    """The run as lines: deployment, %%, images, and each line of the schedule as `> LINE` before its items."""
-    yield from data.head.split(b"\n")[:-1]
-    yield b"%%"
+    """The output of a run, with each line of the schedule as `> LINE` before its items."""
     yield from made.images
     yield b"trace"
     given = dict(made.given)

@@ -6,6 +6,7 @@ import errno
 import os
 import select
 
+from cli.say import plain
 from cli.status import WRITE_FAILED, Ended
 
 
@@ -27,4 +28,5 @@ def write(data: bytes, fd: int = 1) -> None:
 
 
 def print_lines(*lines: str) -> None:
-    write("".join(f"{it}\n" for it in lines).encode(errors="surrogateescape"))
+    """Prints lines for people, in which no input moves the cursor or makes a line of its own."""
+    write("".join(f"{plain(it)}\n" for it in lines).encode())

@@ -2,8 +2,10 @@
 
 from __future__ import annotations
 
+import os
 from dataclasses import dataclass, field
-from typing import List, Tuple
+from itertools import accumulate
+from typing import List, Optional, Tuple, Type, TypeVar
 
 from cli.acts import is_act
 from cli.context import Context
@@ -11,19 +13,21 @@ from cli.deployment import plan_of
 from cli.faults import Teller
 from cli.guesses import PEOPLE
 from cli.joining import joined
-from cli.marks import CannotMark, marked_lines, marked_run
+from cli.marks import MOST_LINES, CannotMark, marked_lines, marked_run
 from cli.output import print_lines, write
 from cli.program import Program
 from cli.running import gathered, parts_of
-from cli.say import text_of
+from cli.say import plain, short, text_of
 from cli.schedule import Mistake, Writer
 from cli.session import Stopped, start
 from cli.status import BAD_TEXT, Ended
-from cli.texts import Input, Kept, file_part, kept_of
+from cli.sinks import is_image, short_image
+from cli.texts import MARK, Input, Kept, file_part, kept_of, split_lines
 from cli.commands import Given
 
 # The acts whose packet may get a name.
 NAMING = ("take", "forge", "ask")
+W = TypeVar("W", bound=Writer)
 
 
 @dataclass
@@ -43,6 +47,8 @@ class Written:
     lines: List[str]
     notes: List[str] = field(default_factory=list)
     spans: List[Tuple[int, int]] = field(default_factory=list)
+    # why it ends before a line that can't be done
+    refusal: Optional[Ended] = None
 
     @property
     def text(self) -> bytes:
@@ -51,7 +57,7 @@ class Written:
 
 def place(kept: Kept, line: int) -> str:
     name, number = kept.place(line)
-    return f"{name}:{number}" if name not in ("", "-") else f"line {number}" if number else name
+    return f"{plain(name)}:{number}" if name not in ("", "-") else f"line {number}" if number else name
 
 
 def lines_of(kept: Kept, data: Input) -> Lines:
@@ -68,14 +74,15 @@ def is_for_people(words: List[str]) -> bool:
     return words[0] in PEOPLE or words[0] in NAMING and words[-2:-1] == ["as"]
 
 
-def as_schedule(kept: Kept, data: Input, context: Context) -> Tuple[Kept, Input]:
-    """An input whose lines are those of a schedule: lines for people become one."""
+def as_schedule(kept: Kept, data: Input, context: Context) -> Tuple[Kept, Input, Optional[Ended]]:
+    """An input whose lines are those of a schedule: lines for people become one, up to the first that can't be done,
+    with why it can't."""
     if not are_for_people(data):
-        return kept, data
-    made = written(lines_of(kept, data), context)
+        return kept, data, None
+    made = written_so_far(lines_of(kept, data), context)
     context.voice.say(*made.notes)
     text = data.head + b"%%\n" + made.text
-    return kept_of(text, ""), Input(text)
+    return kept_of(text, ""), Input(text), made.refusal
 
 
 def read_lines(files: List[str], context: Context) -> Lines:
@@ -94,7 +101,7 @@ def read_lines(files: List[str], context: Context) -> Lines:
 def refused(error: Stopped, made: Lines, at: str, text: str, command: Program) -> Ended:
     """A plain line that breaks a rule of a schedule, told with the people's own place."""
     fault = error.fault.split()
-    lines = [f"{at}: {text}"]
+    lines = [f"{at}: {short(text)}"]
     if fault[:2] == ["fault", "schedule"]:
         whole = kept_of(made.head + b"%%\n" + text.encode(errors="surrogateescape"), "")
         told = Teller(whole, "schedule", command.ask).told(f"fault schedule {fault[2]} 1")
@@ -106,11 +113,11 @@ def refused(error: Stopped, made: Lines, at: str, text: str, command: Program) -
 
 def noted(writer: Writer, at: str, text: str) -> List[str]:
     """What a line showed that it does, or does not do."""
-    return [f"{at}: {text.strip()}: {it}" for it in writer.notes]
+    return [f"{at}: {short(text.strip())}: {it}" for it in writer.notes]
 
 
-def written(made: Lines, context: Context) -> Written:
-    """The schedule of lines for people."""
+def begun(made: Lines, context: Context, kind: Type[W]) -> W:
+    """A writer of lines, with the program beside it."""
     plan = plan_of(made.head)
     if plan is None:
         raise Ended(BAD_TEXT, "the deployment can't be read: `sancus check` says why")
@@ -118,26 +125,62 @@ def written(made: Lines, context: Context) -> Written:
         session = start(context.program, made.head, plan)
     except Stopped as error:
         raise Ended(BAD_TEXT, error.fault, *Teller(made.kept, "run", context.program.ask).told(error.fault)) from None
-    writer = Writer(plan, made.head, session, context.program)
-    notes: List[str] = []
-    spans: List[Tuple[int, int]] = []
+    return kind(plan, made.head, session, context.program)
+
+
+def do_line(writer: Writer, at: str, text: str, made: Lines, context: Context) -> List[str]:
+    """Does a line, and returns what is to be noted of it; a line that can't be done ends the command."""
+    before = len(writer.lines)
+    try:
+        writer.line(text, at)
+        return noted(writer, at, text)
+    except Mistake as error:
+        raise Ended(BAD_TEXT, *noted(writer, at, text), f"{at}: {short(text.strip())}: {error}") from None
+    except Stopped as error:
+        act = writer.lines[-1] if len(writer.lines) > before else text
+        raise refused(error, made, at, act, context.program) from None
+    except (IndexError, KeyError):
+        raise Ended(BAD_TEXT, f"{at}: {short(text.strip())}: too few words") from None
+    finally:
+        writer.notes.clear()
+
+
+def written_so_far(made: Lines, context: Context) -> Written:
+    """The schedule of lines for people, up to the first that can't be done."""
+    writer = begun(made, context, Writer)
+    found = Written(writer.lines)
     try:
         for at, text in made.lines:
             before = len(writer.lines)
             try:
-                writer.line(text, at)
-            except Mistake as error:
-                raise Ended(BAD_TEXT, *notes, *noted(writer, at, text), f"{at}: {text.strip()}: {error}") from None
-            except Stopped as error:
-                raise refused(error, made, at, writer.lines[-1] if writer.lines else text, context.program) from None
-            except (IndexError, KeyError):
-                raise Ended(BAD_TEXT, f"{at}: {text.strip()}: too few words") from None
-            spans.append((before + 1, len(writer.lines)))
-            notes += noted(writer, at, text)
-            writer.notes.clear()
+                found.notes += do_line(writer, at, text, made, context)
+            except Ended as error:
+                del writer.lines[before:]
+                found.refusal = error
+                break
+            found.spans.append((before + 1, len(writer.lines)))
     finally:
-        session.close()
-    return Written(writer.lines, notes, spans)
+        writer.session.close()
+    return fitted(found)
+
+
+def written(made: Lines, context: Context) -> Written:
+    """The schedule of lines for people, all of which can be done."""
+    found = written_so_far(made, context)
+    if found.refusal:
+        raise Ended(found.refusal.status, *found.notes, *found.refusal.lines)
+    return found
+
+
+def fitted(made: Written) -> Written:
+    """The schedule without its marks, if it has more lines with them than a run takes."""
+    if len(made.lines) <= MOST_LINES:
+        return made
+    kept = list(accumulate((not it.startswith("#= ") for it in made.lines), initial=0))
+    lines = [it for it in made.lines if not it.startswith("#= ")]
+    note = f"the comments `#= FILE:LINE ..` are left out: with them there are more than {MOST_LINES:,} lines"
+    spans = [(kept[first - 1] + 1, kept[last]) for first, last in made.spans]
+    return Written(lines, [*made.notes, note], spans, made.refusal)
 
 
 def answer(context: Context, given: Given) -> int:
@@ -145,7 +188,11 @@ def answer(context: Context, given: Given) -> int:
     made = read_lines(files, context)
     found = written(made, context)
     context.voice.say(*found.notes)
-    write(found.text if given.has("lines") else made.head + b"%%\n" + found.text)
+    text = found.text if given.has("lines") else made.head + b"%%\n" + found.text
+    if os.isatty(1):
+        print_lines(*map(text_of, split_lines(text)))
+    else:
+        write(text)
     return 0
 
 
@@ -160,17 +207,23 @@ def why_unmarked(kept: Kept, data: Input, context: Context) -> List[str]:
 def print_marked(context: Context, given: Given) -> int:
     """Prints a run with the line of the schedule before the items that it gave."""
     files = [*given.texts("DEPLOYMENT"), *given.texts("SCHEDULE")] or ["-"]
-    kept, data = as_schedule(*gathered(parts_of(given, files, context) or [file_part(files[0])]), context)
+    kept, data, refusal = as_schedule(*gathered(parts_of(given, files, context) or [file_part(files[0])]), context)
     try:
         made = marked_run(data, context.program)
     except CannotMark as error:
         raise Ended(BAD_TEXT, f"no marked run: {error}", *why_unmarked(kept, data, context)) from None
+    last = text_of(made.last or b"")
     if not made.has_trace:
-        last = text_of(made.last or b"")
         print_lines(last)
         context.voice.say(*Teller(kept, "run", context.program.ask).told(last))
         return made.status
-    lines = [it for it in marked_lines(data, made) if not (given.has("no_images") and it.startswith(b"image "))]
-    write(b"".join(it + b"\n" for it in lines))
-    context.voice.say(*Teller(kept, "run", context.program.ask).told(text_of(made.last or b"")))
+    if refusal:
+        made.last = None
+    is_short = os.isatty(1) and not given.has("images")
+    lines = (short_image(it) if is_short else it for it in marked_lines(data, made))
+    head = [*split_lines(data.head), MARK] if given.has("input") else []
+    print_lines(*map(text_of, head), *(text_of(it) for it in lines if not (given.has("no_images") and is_image(it))))
+    if refusal:
+        raise refusal
+    context.voice.say(*Teller(kept, "run", context.program.ask).told(last))
     return made.status

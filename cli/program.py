@@ -77,7 +77,7 @@ class Feeder:
 
     def watched(self) -> Optional[int]:
         """The descriptor to wait for, with whether it is to be written."""
-        return self.to if self.waiting else (self.parts[0].fd if self.parts else None)
+        return self.to if self.waiting else (self.parts[0].waits_for() if self.parts else None)
 
     def advance(self) -> None:
         """Reads the next piece, or writes what waits."""

@@ -17,7 +17,7 @@ from cli.output import print_lines
 from cli.program import Ran, Sink
 from cli.say import text_of
 from cli.session import Stopped, snapped
-from cli.sinks import ForgedSeen, NoImages, ScheduleOnly, TraceOnly
+from cli.sinks import ForgedSeen, NoImages, ScheduleOnly, ShortImages, TraceOnly
 from cli.status import NO_FILE, WITH_A_FAULT, Ended
 from cli.texts import (
     MOST_HEAD,
@@ -65,6 +65,8 @@ def sink_of(given: Given) -> Sink:
         return ScheduleOnly(sink)
     if given.has("no_images"):
         sink = NoImages(sink)
+    elif os.isatty(1) and not given.has("images"):
+        sink = ShortImages(sink)
     return TraceOnly(sink) if given.has("trace") else sink
 
 
@@ -82,7 +84,7 @@ def parts_of(given: Given, files: List[str], context: Context) -> Optional[List[
     """The parts of an input that is put together; None if one file is the whole input."""
     word = given.command.name
     if word == "explain" and (len(files) == 2 or is_trace_in_pipe(files)):
-        return explained(files[0], files[1] if len(files) == 2 else "-", context.voice)
+        return explained(files[0], trace_of(files, context))
     if word == "snap" and len(files) > 1:
         return snap_parts(files, context.voice)
     if len(files) > 1:
@@ -91,6 +93,14 @@ def parts_of(given: Given, files: List[str], context: Context) -> Optional[List[
     if word == "check" and (has_no_mark(fd) if is_regular(fd) else not is_direct(fd)):
         return with_mark(files[0])
     return None
+
+
+def trace_of(files: List[str], context: Context) -> Part:
+    """The trace of a call of `explain`, which may come in a pipe, or be the run of a schedule."""
+    # (imported here, as it takes a while)
+    from cli.runs import trace_for
+
+    return trace_for(files[0], files[1] if len(files) > 1 else "-", context)
 
 
 def is_trace_in_pipe(files: List[str]) -> bool:
@@ -116,7 +126,17 @@ def run_program(context: Context, given: Given, files: List[str], sink: Sink) ->
     if given.command.name == "gen":
         with open(os.devnull, "rb") as nothing:
             return context.program.run_file(words, nothing.fileno(), "-", sink)
-    parts = parts_of(given, files, context)
+    if given.command.name in ("run", "snap") and context.program.build().is_fast:
+        # (imported here, as other commands don't need it)
+        from cli.live import run_of_people
+
+        return run_of_people(context, given, files, sink)
+    return run_parts(context, given, files, parts_of(given, files, context), sink)
+
+
+def run_parts(context: Context, given: Given, files: List[str], parts: Optional[List[Part]], sink: Sink) -> Ran:
+    """Runs the program on the parts of an input, or on its one file."""
+    words = words_for_program(given)
     if parts is not None:
         return context.program.run_parts(words, parts, sink)
     fd = open_file(files[0])
@@ -125,9 +145,13 @@ def run_program(context: Context, given: Given, files: List[str], sink: Sink) ->
     return context.program.run_parts(words, [file_part(files[0])], sink)
 
 
-def warn_before(context: Context, given: Given, files: List[str]) -> None:
-    """Says what the rules allow and hardly anybody wants, if the deployment is a file."""
-    if context.voice.is_quiet or given.command.name not in ("run", "check", "drive") or files[0] == "-":
+def warn(context: Context, given: Given, files: List[str], ran: Ran) -> None:
+    """Says what the rules allow and hardly anybody wants, unless the deployment broke a rule, which comes first."""
+    if context.voice.is_quiet or given.command.name not in ("run", "check", "drive") or ran.status == 1:
+        return
+    if files[0] == "-":
+        if not os.isatty(0) and find_mark(bytes(ran.kept.first)):
+            warn_of(context, ran.kept)
         return
     fd = open_file(files[0])
     if is_regular(fd):
@@ -231,12 +255,10 @@ def answer(context: Context, given: Given) -> int:
         return explain_in_words(context, given, files)
     if given.command.name == "dis":
         return list_code(context, given, files)
-    warn_before(context, given, files)
     watch = ForgedSeen(sink_of(given))
     ran = run_program(context, given, files, watch)
-    if files[0] == "-" and given.command.name in ("run", "check", "drive") and not os.isatty(0):
-        warn_kept(context, ran.kept)
     context.voice.say(*tell(context, given, ran))
+    warn(context, given, files, ran)
     warn_after(context, given, ran)
     if watch.is_seen and given.command.name == "run":
         context.voice.say(*words_of(lambda: about_forged(context, ran.kept)))
@@ -261,19 +283,14 @@ def list_code(context: Context, given: Given, files: List[str]) -> int:
     return ran.status
 
 
-def warn_kept(context: Context, kept: Kept) -> None:
-    """The same warnings for standard input, which is known when it was read."""
-    if find_mark(bytes(kept.first)) and not context.voice.is_quiet:
-        warn_of(context, kept)
-
-
 def explain_in_words(context: Context, given: Given, files: List[str]) -> int:
     if len(files) < 2 and not is_trace_in_pipe(files):
         raise Usage("`explain --words` takes DEPLOYMENT and TRACE", given.command)
     from cli.causes import explain, in_words
 
-    made = explain(files[0], files[1] if len(files) > 1 else "-", context.program, context.voice)
+    made = explain(files[0], trace_of(files, context), context.program)
     print_lines(*in_words(made))
+    context.voice.say(*made.about_fault)
     return made.status
 
 

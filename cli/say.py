@@ -7,11 +7,23 @@ from dataclasses import dataclass
 
 # A longer line is cut: it may come from an input.
 LONGEST = 2000
+# Of a longer line of an input its beginning is shown.
+MOST_SHOWN = 200
+SHOWN = 60
 
 
 def plain(text: str) -> str:
     """The text with each control character written out, so that an input can't move the cursor or hide a line."""
-    return "".join(it if it == "\t" or it.isprintable() else escaped(it) for it in text[:LONGEST])
+    if text.isprintable():
+        return text
+    return "".join(it if it == "\t" or it.isprintable() else escaped(it) for it in text)
+
+
+def short(text: str) -> str:
+    """A line of an input, or the beginning of a long one with its length."""
+    if len(text) <= MOST_SHOWN:
+        return text
+    return f"{text[:SHOWN]}.. ({len(text.encode(errors='surrogateescape')):,} bytes)"
 
 
 def escaped(letter: str) -> str:
@@ -40,7 +52,7 @@ class Voice:
 
     def must_say(self, *lines: str) -> None:
         """Says what also `--quiet` doesn't keep back: why there is no answer."""
-        text = "".join(f"{self.name}: {plain(it)}\n" for it in lines)
+        text = "".join(f"{self.name}: {plain(it[:LONGEST])[:LONGEST]}\n" for it in lines)
         try:
             os.write(2, text.encode(errors="backslashreplace"))
         except OSError:

@@ -4,20 +4,28 @@ that the program showed.
 
 from __future__ import annotations
 
+import os
+import re
+from collections import deque
 from dataclasses import dataclass, field
-from typing import Callable, Dict, List, Optional, Tuple
+from typing import Callable, Deque, Dict, List, Optional, Tuple
 
-from cli.deployment import End, Plan
+from cli.deployment import End, Plan, port_of
 from cli.items import Item, say
 from cli.numbers import number, within
 from cli.program import Program
 from cli.rules import near
+from cli.say import plain
 from cli.session import Session, snapped
 from cli.table import words as table_words
 
 EVENT, ANSWER = 24, 16
 SET_KEY, ATTEST, EVENT_IN, SAMPLE = 0, 1, 2, 3
 EVENT_KIND = 3
+# More events than this aren't carried for one line: there are applications that never rest.
+MOST_CARRIED = 4096
+# A mark has no more letters of a line, and no longer name of a file, so that it is no longer than a line may be.
+MOST_MARKED, LONGEST_PLACE = 200, 2000
 
 
 class Mistake(Exception):
@@ -34,39 +42,87 @@ class Windows:
 
 @dataclass(frozen=True)
 class Piece:
-    """An event in a window: its place, its connection with the epoch, and its number."""
+    """An event in a window: its place and its connection."""
 
     at: int
     connection: str
-    epoch: int
-    number: int
+
+
+@dataclass(frozen=True)
+class Sent:
+    """An event that is on its way: its packet, and for which module it is."""
+
+    packet: str
+    sender: str
+    receiver: str
+
+
+@dataclass(frozen=True)
+class Write:
+    """Bytes of a node's memory that a line wrote, and what that was, with its place."""
+
+    begin: int
+    end: int
+    what: str
 
 
 @dataclass
 class Call:
-    """The last call of a module: where its pieces went, how many, and which were carried since."""
+    """The last call of a module: where its events went, how many, over which connections as far as that is sure, and
+    how many writes to its node came before. Those that were carried are kept by their places."""
 
     window: Optional[int]
     pieces: int
     line: int
-    carried: List[Tuple[str, int, int]] = field(default_factory=list)
+    writes: int
+    sure: List[Piece]
+    carried: Dict[int, str] = field(default_factory=dict)
+
+    @property
+    def places(self) -> List[int]:
+        return [(self.window or 0) + EVENT * it for it in range(self.pieces)]
+
+    def lost(self, pieces: List[Piece]) -> List[int]:
+        """The places of events that aren't there any more and weren't carried."""
+        there = {it.at for it in pieces}
+        return [it for it in self.places if it not in there and it not in self.carried]
 
 
 @dataclass
 class State:
-    """What the items showed: the next packet, boots, which modules are loaded, attested and have open ends, and their
-    last calls."""
+    """What the items showed: the next packet and how long each is, boots, which modules are loaded, attested and have
+    open ends, their last calls, and what was written to each node since its last reset."""
 
     packets: int = 0
+    lengths: Dict[int, int] = field(default_factory=dict)
     boots: Dict[str, int] = field(default_factory=dict)
     loaded: Dict[str, bool] = field(default_factory=dict)
     attested: Dict[str, int] = field(default_factory=dict)
     open_ends: Dict[str, Dict[str, int]] = field(default_factory=dict)
     calls: Dict[str, Call] = field(default_factory=dict)
+    writes: Dict[str, List[Write]] = field(default_factory=dict)
     named: Dict[str, int] = field(default_factory=dict)
 
     def boot(self, node: str) -> int:
         return self.boots.get(node, 0)
+
+
+def spelled(place: str) -> str:
+    """A place FILE:LINE as one word, whatever the file's name is."""
+    word = plain(place if len(place) <= LONGEST_PLACE else os.path.basename(place))
+    return word.replace(" ", "\\x20").replace("\t", "\\x09")
+
+
+def mark_of(place: str, words: List[str]) -> str:
+    """The comment that says of which line for people the lines below it were made."""
+    text = " ".join(words)
+    cut = text if len(text) <= MOST_MARKED else f"{text[:MOST_MARKED]}.."
+    is_of_file = not re.fullmatch(r"line [0-9]+", place)
+    return f"#= {spelled(place) if is_of_file else place} {plain(cut)}"
+
+
+def times(count: int) -> str:
+    return {1: "once", 2: "twice"}.get(count, f"{count} times")
 
 
 class Writer:
@@ -78,10 +134,14 @@ class Writer:
         self.lines: List[str] = []
         self.notes: List[str] = []
         self.is_marked = False
+        # where the line is that is done
+        self.place = ""
         self.acts: Dict[str, Callable[..., None]] = {
             "deploy": self.deploy,
             "sample": self.sample,
             "carry": self.carry,
+            "flow": self.flow,
+            "settle": self.settle,
             "windows": self.set_windows,
             "packets": self.check_packets,
             "boots": self.check_boots,
@@ -94,17 +154,34 @@ class Writer:
         text = " ".join(words)
         self.lines.append(text)
         items = [Item(0, it) for it in self.session.do(text)]
+        self.take_in_write(items, list(words))
         for it in items:
             self.take_in(it, list(words))
         return items
+
+    def take_in_write(self, items: List[Item], words: List[str]) -> None:
+        """Remembers what a line wrote to a node's memory, as far as that shows."""
+        act, node, at, size = words[0], "", 0, 0
+        if act == "call" and any(it.kind == "done" for it in items):
+            pieces = sum(it.fields()["pieces"] for it in items if it.kind == "done")
+            node, at, size = self.plan.node_of(words[1]), number(words[4]) or 0, EVENT * pieces
+        elif act == "give" and not items:
+            node, at, size = words[2], number(words[3]) or 0, self.state.lengths.get(number(words[1]) or 0, 0)
+        elif act == "put" and not items:
+            node, at, size = words[1], number(words[2]) or 0, len(words[3]) // 2
+        if size:
+            what = f"{words[1]}'s call" if act == "call" else f"the `{act}`"
+            self.state.writes.setdefault(node, []).append(Write(at, at + size, f"{what} at {self.place}"))
 
     def take_in(self, item: Item, words: List[str]) -> None:
         state, made = self.state, item.fields()
         if item.kind == "packet":
             state.packets = made["packet"] + 1
+            state.lengths[made["packet"]] = made["length"]
         elif item.kind == "reset":
             node = made["node"]
             state.boots[node] = state.boot(node) + 1
+            state.writes.pop(node, None)
             for module in self.plan.names("module"):
                 if self.plan.node_of(module) == node:
                     state.loaded.pop(module, None)
@@ -117,8 +194,13 @@ class Writer:
         elif item.kind == "open" and made["side"] == "from":
             state.open_ends.setdefault(made["module"], {})[made["connection"]] = made["epoch"]
         elif item.kind == "done":
-            window = number(words[4]) if words[0] == "call" and words[1] == made["module"] else None
-            state.calls[made["module"]] = Call(window, made["pieces"], len(self.session.lines))
+            is_call = words[0] == "call" and words[1] == made["module"]
+            window = number(words[4]) if is_call else None
+            pieces = 0 if is_call and number(words[2]) == ATTEST else made["pieces"]
+            writes = len(state.writes.get(self.plan.node_of(made["module"]), []))
+            call = Call(window, pieces, len(self.session.lines), writes, [])
+            call.sure = self.sure_pieces(made["module"], call)
+            state.calls[made["module"]] = call
 
     def note(self, text: str) -> None:
         self.notes.append(text)
@@ -127,13 +209,26 @@ class Writer:
 
     def module(self, name: str) -> str:
         if not self.plan.named("module", name):
-            raise Mistake(f"there is no module {name}{near(name, self.plan.names('module'))}")
+            raise Mistake(f"there is no module {name}{self.other(name)}")
         return self.plan.node_of(name)
+
+    def other(self, name: str) -> str:
+        """What a name is that is none of a module, or which module it may have been."""
+        if self.plan.named("node", name):
+            there = [it for it in self.plan.names("module") if self.plan.node_of(it) == name]
+            return f": {name} is a node, with the modules {' '.join(there)}" if there else f": {name} is a node"
+        if self.plan.named("device", name):
+            driver = self.plan.driver_of(name)
+            return f": {name} is a device, and {driver['name'] if driver else 'no module'} drives it"
+        return near(name, self.plan.names("module"))
 
     def packet(self, word: str) -> str:
         """A packet's number, by its name or the number itself."""
         if number(word) is not None:
             return word
+        kind, *names = word.split(".")
+        if word not in self.state.named and kind == "event" and len(names) == 2 and all(map(self.module, names)):
+            raise Mistake(f"there is no {word} yet: no event was carried from {names[0]} to {names[1]}")
         if word not in self.state.named:
             known = sorted(self.state.named)
             raise Mistake(
@@ -231,6 +326,10 @@ class Writer:
                 )
 
     def sample(self, name: str, value: str) -> None:
+        self.sampled(name, value)
+
+    def sampled(self, name: str, value: str) -> List[Item]:
+        """Gives a sensor a value, and calls its driver, whose items are returned."""
         self.module(name)
         device = (self.plan.named("module", name) or {}).get("device")
         if not device or (self.plan.named("device", device) or {}).get("kind") != "sensor":
@@ -241,17 +340,21 @@ class Writer:
         items = self.put("sense", str(device), value)
         if not any(it.kind == "sense" for it in items):
             raise Mistake(f"the sample isn't taken: {self.told(items)}")
-        self.tell_status(self.call(name, SAMPLE), name)
+        called = self.call(name, SAMPLE)
+        self.tell_status(called, name)
+        return called
 
     def must_be_loaded(self, name: str) -> None:
         if not self.state.loaded.get(name):
-            node = self.plan.node_of(name)
-            again = (
-                f" any more: {node} was reset {self.state.boot(node)} times, and `deploy {name}` renews it"
-                if self.state.boot(node)
-                else f" yet: `deploy {name}` first"
-            )
-            raise Mistake(f"{name} isn't loaded on {node}{again}")
+            raise Mistake(self.absence(name))
+
+    def absence(self, name: str) -> str:
+        """Why a module isn't there."""
+        node = self.plan.node_of(name)
+        if not self.state.boot(node):
+            return f"{name} isn't loaded on {node} yet: `deploy {name}` first"
+        was_reset = f"{node} was reset {times(self.state.boot(node))}"
+        return f"{name} isn't loaded on {node} any more: {was_reset}, and `deploy {name}` renews it"
 
     def tell_status(self, items: List[Item], name: str) -> None:
         """Says of a call that did nothing why; it may be just what was wanted."""
@@ -267,7 +370,7 @@ class Writer:
     # --- Carrying ---
 
     def carry(self, sender: str, receiver: str, which: str = "") -> None:
-        node = self.module(sender)
+        self.module(sender)
         self.module(receiver)
         between = self.plan.between(sender, receiver)
         if not between:
@@ -275,12 +378,75 @@ class Writer:
             raise Mistake(
                 f"no connection leads from {sender} to {receiver}; {sender} sends to: {' '.join(to) or 'nobody'}"
             )
-        piece = self.find(sender, receiver, between, which)
-        self.state.calls[sender].carried.append((piece.connection, piece.epoch, piece.number))
-        taken = self.put("take", node, f"0x{piece.at:x}", str(EVENT))
-        packet = self.new_packet(taken, "taking the event", f"event.{sender}.{receiver}")
+        sent = self.taken(sender, self.find(sender, receiver, between, which))
         self.must_be_loaded(receiver)
-        self.tell_status(self.hand(packet, receiver, EVENT_IN), receiver)
+        self.tell_status(self.hand(sent.packet, receiver, EVENT_IN), receiver)
+
+    def taken(self, sender: str, piece: Piece) -> Sent:
+        """Makes a packet of an event in a window."""
+        receiver = self.plan.receiver(piece.connection)
+        self.state.calls[sender].carried[piece.at] = piece.connection
+        items = self.put("take", self.plan.node_of(sender), f"0x{piece.at:x}", str(EVENT))
+        return Sent(self.new_packet(items, "taking the event", f"event.{sender}.{receiver}"), sender, receiver)
+
+    def flow(self, sensor: str, value: str) -> None:
+        """A reading, and then every event that follows, as `drive` delivers them."""
+        driver = self.driver(sensor)
+        items = self.sampled(driver, value)
+        self.deliver(self.sent_at(driver, items))
+
+    def settle(self) -> None:
+        """Carries what is on its way, and what follows, until nothing is."""
+        calls = sorted(self.state.calls, key=lambda it: self.state.calls[it].line)
+        waiting = [sent for it in calls for sent in self.on_the_way(it)]
+        if not waiting:
+            self.note("nothing is on its way")
+        self.deliver(waiting)
+
+    def driver(self, sensor: str) -> str:
+        """The module that drives a sensor, by the sensor's name or by its own."""
+        if not self.plan.named("device", sensor):
+            if not self.plan.named("module", sensor):
+                known = [*self.plan.names("device"), *self.plan.names("module")]
+                raise Mistake(f"there is no sensor {sensor}, and no module of this name{near(sensor, known)}")
+            return sensor
+        found = self.plan.driver_of(sensor)
+        if not found:
+            raise Mistake(f"no module drives {sensor}")
+        return str(found["name"])
+
+    def on_the_way(self, sender: str) -> List[Sent]:
+        """Takes the events of a module's last call that are in their window and weren't carried."""
+        call = self.state.calls.get(sender)
+        if not call or call.window is None:
+            return []
+        pieces = self.pieces(sender, call)
+        lost = call.lost(pieces)
+        if lost:
+            writer = self.written_over(sender, lost) or "another call or line"
+            self.note(f"{len(lost)} of the {call.pieces} events of {sender} aren't there any more: {writer} wrote over them")
+        return [self.taken(sender, it) for it in pieces if it.at not in call.carried]
+
+    def sent_at(self, sender: str, items: List[Item]) -> List[Sent]:
+        """Takes the events of a call of a module, if it was left."""
+        is_left = any(it.kind == "done" and it.fields()["module"] == sender for it in items)
+        return self.on_the_way(sender) if is_left else []
+
+    def deliver(self, sent: List[Sent]) -> None:
+        """Gives the oldest event to its module, whose events are taken then, until none waits."""
+        waiting: Deque[Sent] = deque(sent)
+        for _ in range(MOST_CARRIED):
+            if not waiting:
+                return
+            event = waiting.popleft()
+            if not self.state.loaded.get(event.receiver):
+                self.note(f"the event of {event.sender} isn't delivered: {self.absence(event.receiver)}")
+                continue
+            items = self.hand(event.packet, event.receiver, EVENT_IN)
+            self.tell_status(items, event.receiver)
+            waiting += self.sent_at(event.receiver, items)
+        if waiting:
+            raise Mistake(f"{MOST_CARRIED:,} events were carried, and the application doesn't come to rest")
 
     def find(self, sender: str, receiver: str, between: List[str], which: str) -> Piece:
         """The piece that is carried: the first for the receiver that wasn't, of the sender's last call."""
@@ -295,45 +461,54 @@ class Writer:
             raise Mistake(f"{sender} sent nothing at its last call")
         pieces = self.pieces(sender, call)
         if number(which) is not None and which:
-            return self.by_place(pieces, number(which) or 0, call, receiver)
+            return self.by_place(sender, receiver, pieces, number(which) or 0)
         if which and which not in between:
             raise Mistake(f"no connection {which} leads from {sender} to {receiver}: {' '.join(between)}")
         wanted = [which] if which else between
-        found = [it for it in pieces if it.connection in wanted]
-        left = [it for it in found if (it.connection, it.epoch, it.number) not in call.carried]
-        if left:
-            return left[0]
-        if found:
-            raise Mistake(
-                f"what {sender} sent to {receiver} at its last call was carried; `give event.{sender}.{receiver} NODE` "
-                "gives it again"
-            )
-        raise Mistake(self.nothing_for(sender, receiver, wanted, pieces))
+        left = [it for it in pieces if it.connection in wanted and it.at not in call.carried]
+        if not left:
+            raise Mistake(self.nothing_for(sender, receiver, wanted, pieces))
+        return left[0]
 
     def nothing_for(self, sender: str, receiver: str, wanted: List[str], pieces: List[Piece]) -> str:
         opened = self.state.open_ends.get(sender, {})
         closed = [it for it in wanted if it not in opened]
         if closed:
             return f"{sender} has no key for {' '.join(closed)} yet, so it sent nothing to {receiver}: `deploy` both"
+        call = self.state.calls[sender]
+        others = [it.at for it in call.sure if it.connection not in wanted]
+        lost = [it for it in call.lost(pieces) if it not in others]
+        if lost:
+            writer = self.written_over(sender, lost) or f"another call or line on {self.plan.node_of(sender)}"
+            return (
+                f"no event for {receiver} is in the window of {sender} any more: {writer} wrote over what it sent; "
+                f"`carry {sender} {receiver}` before that, or set other `windows` for it"
+            )
+        if any(it in wanted for it in call.carried.values()):
+            return (
+                f"what {sender} sent to {receiver} at its last call was carried; `give event.{sender}.{receiver} NODE` "
+                "gives it again"
+            )
         there = ", ".join(f"{it.connection} to {self.plan.receiver(it.connection)}" for it in pieces)
-        if there:
-            return f"no event for {receiver} is in the window: there is {there}"
-        return (
-            f"no event of {sender} is in its window any more, since another call or line on "
-            f"{self.plan.node_of(sender)} "
-            f"wrote there: `carry {sender} {receiver}` before it, or other `windows` for it"
-        )
+        return f"no event for {receiver} is in the window: there is {there or 'none'}"
 
-    def by_place(self, pieces: List[Piece], place: int, call: Call, receiver: str) -> Piece:
-        if place >= call.pieces:
-            raise Mistake(f"there is no piece {place}: the last call wrote {call.pieces}")
-        assert call.window is not None
-        found = next((it for it in pieces if it.at == call.window + EVENT * place), None)
+    def written_over(self, sender: str, places: List[int]) -> str:
+        """What wrote last over one of some places since a module's last call, or nothing that is known."""
+        writes = self.state.writes.get(self.plan.node_of(sender), [])[self.state.calls[sender].writes :]
+        met = [it for it in writes if any(it.begin < at + EVENT and at < it.end for at in places)]
+        return met[-1].what if met else ""
+
+    def by_place(self, sender: str, receiver: str, pieces: List[Piece], which: int) -> Piece:
+        places = self.state.calls[sender].places
+        if which >= len(places):
+            raise Mistake(f"there is no piece {which}: the last call wrote {len(places)}")
+        found = next((it for it in pieces if it.at == places[which]), None)
         if not found:
-            raise Mistake(f"piece {place} isn't there any more: other pieces were written over it")
+            writer = self.written_over(sender, [places[which]]) or "another call or line"
+            raise Mistake(f"piece {which} isn't there any more: {writer} wrote over it")
         if self.plan.receiver(found.connection) != receiver:
             raise Mistake(
-                f"piece {place} is for {self.plan.receiver(found.connection)}, by {found.connection}, and not for "
+                f"piece {which} is for {self.plan.receiver(found.connection)}, by {found.connection}, and not for "
                 f"{receiver}"
             )
         return found
@@ -341,28 +516,32 @@ class Writer:
     def pieces(self, sender: str, call: Call) -> List[Piece]:
         """The events of the sender in the window, as they are there now; by what the packets say, and not by their
         places."""
-        assert call.window is not None
         node, now = self.plan.node_of(sender), len(self.session.lines)
-        opened = self.state.open_ends.get(sender, {})
-        if call.pieces == 1 and len(opened) == 1 and call.line == now:
-            # (it can be no other)
-            connection, epoch = next(iter(opened.items()))
-            return [Piece(call.window, connection, epoch, 0)]
-        places = [call.window + EVENT * it for it in range(call.pieces)]
+        if call.line == now and call.sure:
+            return call.sure
         answers = snapped(
-            self.program, self.head, self.session.lines, [f"bytes {node} 0x{at:x} 6 {now}" for at in places]
+            self.program, self.head, self.session.lines, [f"bytes {node} 0x{at:x} 6 {now}" for at in call.places]
         )
         found = []
-        for at, answer in zip(places, answers):
+        for at, answer in zip(call.places, answers):
             data = bytes.fromhex(answer.split(" ")[-1])
-            kind, field_, event = (int.from_bytes(data[it : it + 2], "little") for it in (0, 2, 4))
-            link, epoch = field_ & 255, field_ >> 8
+            kind, link = int.from_bytes(data[:2], "little"), data[2]
             if kind != EVENT_KIND or link >= len(self.plan.connections):
                 continue
             name = str(self.plan.connections[link].get("name"))
             if self.plan.sender(name) == sender:
-                found.append(Piece(at, name, epoch, event))
+                found.append(Piece(at, name))
         return found
+
+    def sure_pieces(self, sender: str, call: Call) -> List[Piece]:
+        """The events of a call that was just made, if all open ends are of one output: then each `send` made one for
+        each of them, in this order."""
+        opened = self.state.open_ends.get(sender, {})
+        ends = [it.connection for it in self.plan.ends(sender) if it.side == "from" and it.connection in opened]
+        outputs = {port_of((self.plan.named("connection", it) or {}).get("from")) for it in ends}
+        if len(outputs) != 1:
+            return []
+        return [Piece(at, ends[which % len(ends)]) for which, at in enumerate(call.places)]
 
     # --- Plain lines ---
 
@@ -395,7 +574,7 @@ class Writer:
     def line(self, text: str, place: str) -> None:
         """Does a line for people, or a plain one, and marks what was made of it. A plain line that stays as it is has a
         mark only after other marks, which end there."""
-        words, begin = text.split(), len(self.lines)
+        words, begin, self.place = text.split(), len(self.lines), place
         if not words or words[0].startswith("#"):
             self.lines.append(text)
             return
@@ -405,7 +584,7 @@ class Writer:
             self.act(words)
         if self.is_marked or self.lines[begin:] not in ([text], [" ".join(words)]):
             self.is_marked = True
-            self.lines.insert(begin, f"#= {place} {' '.join(words)}")
+            self.lines.insert(begin, mark_of(place, words))
 
     def act(self, words: List[str]) -> None:
         """Does a line by its words."""
@@ -443,6 +622,8 @@ FORMS: Dict[str, Tuple[int, int, str]] = {
     "deploy": (1, 32, "deploy all, or deploy MODULE .."),
     "sample": (2, 2, "sample MODULE VALUE"),
     "carry": (2, 3, "carry MODULE MODULE [CONNECTION or PIECE]"),
+    "flow": (2, 2, "flow SENSOR VALUE"),
+    "settle": (0, 0, "settle"),
     "windows": (2, 2, "windows IN OUT"),
     "packets": (1, 1, "packets NUMBER"),
     "boots": (2, 2, "boots NODE NUMBER"),

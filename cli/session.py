@@ -4,13 +4,18 @@ from __future__ import annotations
 
 import subprocess
 from dataclasses import dataclass, field
-from typing import List, Optional, Tuple
+from threading import Thread
+from typing import List, Optional, Sequence, Tuple
 
 from cli.acts import is_act
 from cli.deployment import Plan
-from cli.marks import Marker, marker_of
+from cli.marks import MOST_LINES, Marker, marker_of
 from cli.program import Program
 from cli.status import NO_ANSWER, Ended
+
+# `snap` keeps a copy of the run after so many lines, and performs the lines after it again for each query.
+BETWEEN_COPIES = 8192
+MOST_QUERIES = 64
 
 
 class Stopped(Exception):
@@ -25,26 +30,50 @@ class Stopped(Exception):
 class Session:
     """A run of the program, which waits for the next line."""
 
-    process: "subprocess.Popen[bytes]"
+    command: List[str]
     marker: Marker
     # the lines that were given, without marks
     lines: List[str] = field(default_factory=list)
+    # how many lines the program was given, with marks, and how many items it showed
+    given: int = 0
+    shown: int = 0
+
+    def __post_init__(self) -> None:
+        self.start()
+
+    def start(self) -> None:
+        """Starts the program, and reads the images, up to where the trace begins."""
+        try:
+            self.process = subprocess.Popen(self.command, stdin=subprocess.PIPE, stdout=subprocess.PIPE)
+        except OSError as error:
+            raise Ended(NO_ANSWER, f"{self.command[0]} can't be started: {error.strerror}") from None
+        self.given = 0
+        self.give(self.marker.head + b"%%\n")
+        try:
+            while self.read() != b"trace":
+                pass
+        except Stopped:
+            self.close()
+            raise
+
+    @property
+    def has_room(self) -> bool:
+        """Whether the run takes a further line and a mark."""
+        return self.given + 2 <= MOST_LINES
 
     def read(self) -> bytes:
+        """A line of the output; a fault's ends the session."""
         assert self.process.stdout
         line = self.process.stdout.readline()
         if not line.endswith(b"\n"):
             raise Ended(NO_ANSWER, "the program ended before its time")
+        if line.startswith(b"fault "):
+            raise Stopped(line[:-1].decode(errors="replace"))
         return line[:-1]
 
-    def begin(self) -> None:
-        """Reads the images, up to where the trace begins."""
-        while True:
-            line = self.read()
-            if line == b"trace":
-                return
-            if line.startswith(b"fault "):
-                raise Stopped(line.decode(errors="replace"))
+    def item(self) -> bytes:
+        self.shown += 1
+        return self.read()
 
     def give(self, text: bytes) -> None:
         assert self.process.stdin
@@ -55,35 +84,80 @@ class Session:
             # (it ended with a fault, which is read next)
             pass
 
+    def give_lines(self, acts: Sequence[bytes]) -> None:
+        self.given += len(acts)
+        self.give(b"".join(it + b"\n" for it in acts))
+
     def do(self, line: str) -> List[str]:
         """The items that a line gives."""
         self.lines.append(line)
-        act = line.encode(errors="surrogateescape")
+        act = as_act(line)
         if not is_act(act):
             return []
-        self.give(act + b"\n" + self.marker.line + b"\n")
+        if not self.has_room:
+            self.start_again()
+        if not self.has_room:
+            return self.end_with(act)
+        self.give_lines([act, self.marker.line])
         items: List[str] = []
         while True:
             item = self.read()
             if item == self.marker.item and not self.marker.is_own(act, len(items)):
+                self.shown += len(items)
                 return items
-            if item.startswith(b"fault "):
-                raise Stopped(item.decode(errors="replace"))
             items.append(item.decode(errors="surrogateescape"))
+
+    def start_again(self) -> None:
+        """Has all lines but the last done once more, without marks, which leaves room for further ones."""
+        self.close()
+        shown, self.shown = self.shown, 0
+        self.start()
+        writer = self.writing([it for it in map(as_act, self.lines[:-1]) if is_act(it)])
+        while self.shown < shown:
+            self.item()
+        writer.join()
+
+    def end_with(self, act: bytes) -> List[str]:
+        """The items of the last line that a run takes, after which no mark has room."""
+        self.give_lines([act])
+        assert self.process.stdin
+        self.process.stdin.close()
+        items = list(iter(self.item, b"end"))
+        self.shown -= 1
+        return [it.decode(errors="surrogateescape") for it in items]
+
+    def writing(self, acts: Sequence[bytes]) -> Thread:
+        """Gives lines while their items are read: neither pipe takes all of them."""
+        writer = Thread(target=self.give_lines, args=(acts,), daemon=True)
+        writer.start()
+        return writer
+
+    def skip(self, lines: Sequence[str]) -> None:
+        """Has lines done whose items aren't asked for. One mark follows them: an `answer` of its own module gives either
+        of two items, so the mark's is the one after those."""
+        self.lines += lines
+        acts = [it for it in map(as_act, lines) if is_act(it)]
+        left = sum(self.marker.is_own(it, 0) for it in acts)
+        own = (self.marker.item, b"attested " + self.marker.module.encode())
+        writer = self.writing([*acts, self.marker.line])
+        while left >= 0:
+            item = self.item()
+            left -= b" ".join(item.split(b" ")[:2]) in own
+        writer.join()
+        self.shown -= 1
 
     def step(self, node: str, steps: int = 1) -> Tuple[List[str], bool]:
         """The items of a step of a node, and whether a module runs there then: a `put` past the end of memory changes
         nothing and tells."""
         line = f"run {node} {steps}"
         self.lines.append(line)
-        self.give(f"{line}\nput {node} 0xffff 0000\n".encode())
+        self.give_lines([line.encode(), f"put {node} 0xffff 0000".encode()])
         items: List[str] = []
         while True:
-            item = self.read().decode(errors="surrogateescape")
+            item = self.item().decode(errors="surrogateescape")
             if item in (f"busy {node}", f"skip {node}"):
+                self.shown -= 1
                 return items, item.startswith("busy")
-            if item.startswith("fault "):
-                raise Stopped(item)
             items.append(item)
 
     def close(self) -> None:
@@ -94,6 +168,10 @@ class Session:
                 it.close()
 
 
+def as_act(line: str) -> bytes:
+    return line.encode(errors="surrogateescape")
+
+
 def start(program: Program, head: bytes, plan: Plan) -> Session:
     """A run of a deployment whose schedule is still to come."""
     if not program.build().is_fast:
@@ -102,30 +180,30 @@ def start(program: Program, head: bytes, plan: Plan) -> Session:
     answer = program.ask(["check"], head + b"%%\n").decode(errors="replace").strip() if marker.is_added else "end"
     if answer != "end":
         raise Stopped(answer)
-    command = program.command(["run"])
-    try:
-        process = subprocess.Popen(command, stdin=subprocess.PIPE, stdout=subprocess.PIPE)
-    except OSError as error:
-        raise Ended(NO_ANSWER, f"{command[0]} can't be started: {error.strerror}") from None
-    session = Session(process, marker)
-    session.give(marker.head + b"%%\n")
-    session.begin()
-    return session
+    return Session(program.command(["run"]), marker)
 
 
 def snapped(program: Program, head: bytes, lines: List[str], queries: List[str]) -> List[str]:
-    """The answers of `snap` to queries, as many as there are; 64 at a time."""
+    """The answers of `snap` to queries of registers and bytes, as many as there are."""
     answers: List[str] = []
-    schedule = "".join(f"{it}\n" for it in lines).encode(errors="surrogateescape")
-    for at in range(0, len(queries), 64):
-        some = "".join(f"{it}\n" for it in queries[at : at + 64]).encode()
-        answer = (
-            program.ask(["snap"], head + b"%%\n" + schedule + b"%%\n" + some)
-            .decode(errors="surrogateescape")
-            .split("\n")
-        )
+    for at in range(0, len(queries), MOST_QUERIES):
+        performed, some = near_a_copy(lines, queries[at : at + MOST_QUERIES])
+        schedule = "".join(f"{it}\n" for it in performed).encode(errors="surrogateescape")
+        text = head + b"%%\n" + schedule + b"%%\n" + "".join(f"{it}\n" for it in some).encode()
+        answer = program.ask(["snap"], text).decode(errors="surrogateescape").split("\n")
         last: Optional[str] = answer[-2] if len(answer) > 1 else None
         if last != "end":
             raise Stopped(last or "")
         answers += [it for it in answer[:-2] if not it.startswith("image ")]
     return answers
+
+
+def near_a_copy(lines: List[str], queries: List[str]) -> Tuple[List[str], List[str]]:
+    """The lines up to the last that the queries are about, with blank ones after the first of those, so that `snap`
+    keeps a copy of the run there; and the queries about these lines."""
+    asked = [(it.rpartition(" ")[0], int(it.rpartition(" ")[2])) for it in queries]
+    first, last = min(at for _, at in asked), max(at for _, at in asked)
+    blank = -first % BETWEEN_COPIES
+    if last + blank > MOST_LINES:
+        blank = 0
+    return lines[:first] + [""] * blank + lines[first:last], [f"{what} {at + blank}" for what, at in asked]

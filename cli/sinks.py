@@ -7,6 +7,9 @@ from typing import List
 
 from cli.program import Sink
 
+# So many digits of an image are shown in short.
+FIRST_DIGITS = 32
+
 
 @dataclass
 class Lines(Sink):
@@ -74,6 +77,25 @@ class NoImages(Sink):
         if self.start:
             self.to.write(self.start)
         self.to.close()
+
+
+@dataclass
+class ShortImages(Lines):
+    """Shortens the lines of images to their first bytes and their length."""
+
+    def line(self, line: bytes) -> bytes:
+        return short_image(line) + b"\n"
+
+
+def is_image(line: bytes) -> bool:
+    return line.startswith(b"image ")
+
+
+def short_image(line: bytes) -> bytes:
+    words = line.split(b" ")
+    if not is_image(line) or len(words) != 3 or len(words[2]) <= FIRST_DIGITS:
+        return line
+    return b"image %s %s.. (%s bytes)" % (words[1], words[2][:FIRST_DIGITS], f"{len(words[2]) // 2:,}".encode())
 
 
 @dataclass

@@ -12,6 +12,7 @@ from typing import Dict, Iterator, List
 from cli.acts import ACTS, is_act
 from cli.inspection import Inspected, Line, broken
 from cli.numbers import number
+from cli.say import plain
 from cli.session import Stopped, snapped, start
 from cli.status import BAD_TEXT, Ended
 
@@ -94,6 +95,8 @@ class Walk:
     items: List[List[str]] = field(default_factory=list)
     lines: List[str] = field(default_factory=list)
     is_busy: bool = False
+    # whether the schedule has no room for further steps
+    is_cut: bool = False
 
 
 def walked(seen: Inspected, at: int, parts: Parts) -> Walk:
@@ -101,17 +104,16 @@ def walked(seen: Inspected, at: int, parts: Parts) -> Walk:
     session = start(seen.program, seen.head, seen.plan)
     walk = Walk()
     try:
-        for it in seen.lines[: at - 1]:
-            session.do(it)
+        session.skip(seen.lines[: at - 1])
         for it in parts.before:
             items = session.do(it)
             walk.is_busy = walk.is_busy or f"busy {parts.node}" in items
-        while not walk.is_busy and len(walk.items) < parts.most:
+        while not walk.is_busy and len(walk.items) < parts.most and session.has_room:
             items, runs = session.step(parts.node)
             walk.items.append(items)
             if any(it.startswith(f"reset {parts.node} ") for it in items) or (parts.is_whole and not runs):
                 break
-        walk.lines = session.lines
+        walk.lines, walk.is_cut = session.lines, not session.has_room
     except Stopped as error:
         raise broken(seen, str(error)) from None
     finally:
@@ -233,8 +235,10 @@ def told_line(seen: Inspected, at: int, most: int) -> List[str]:
         places.setdefault(step.before[0], first + number_)
     texts = disassembled(seen, code_at(seen, parts.node, walk.lines, places), list(places))
     lines = [*(shortened(it) for it in parts.before), *rows(seen, parts.node, steps, texts)]
+    if walk.is_cut:
+        return [*lines, "and perhaps more: a schedule has no room for further steps"]
     return lines + ([f"and more: {MOST_STEPS:,} steps are shown at most"] if len(walk.items) == most else [])
 
 
 def shortened(line: str) -> str:
-    return line if len(line) < 80 else f"{line[:60]}.. ({len(line.split()[-1]) // 2} bytes)"
+    return plain(line if len(line) < 80 else f"{line[:60]}.. ({len(line.split()[-1]) // 2} bytes)")

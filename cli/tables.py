@@ -6,12 +6,14 @@ from __future__ import annotations
 
 import re
 from dataclasses import dataclass
-from typing import Any, Dict, List
+from typing import Any, Dict, List, Optional
 
 from cli.deployment import KINDS, Entry, Plan, module_of, port_of
 from cli.rules import near
 
 LOWEST, HIGHEST = 0x0200, 0xFFE0
+# Below this place are the windows to which lines for people have packets written.
+ABOVE_WINDOWS = 0x0600
 MOST = {"node": 16, "device": 32, "module": 32, "connection": 64}
 TYPES: Dict[str, Dict[str, str]] = {
     "top": {"secret": "32 digits", "node": "tables", "device": "tables", "module": "tables", "connection": "tables"},
@@ -157,42 +159,97 @@ def sections(plan: Plan, module: Entry) -> List[Range]:
 
 
 def section_places(plan: Plan, index: int) -> List[str]:
-    """What is wrong with the places of a module's sections."""
+    """What is wrong with the places of a module's sections, and where they have room."""
     module, lines = plan.modules[index], []
     own = sections(plan, module)
-    for it in own:
-        if it.begin % 2:
-            lines.append(f"{it.told()} begins at an odd place")
-        if it.begin < LOWEST:
-            lines.append(f"{it.told()} begins below 0x0200")
-        if it.end > HIGHEST:
-            lines.append(f"{it.told()} ends {it.end - HIGHEST} bytes above 0xffe0")
     earlier = [it for it in plan.modules[:index] if it.get("node") == module.get("node")]
     others = [it for other in earlier for it in sections(plan, other)]
-    pairs = [(one, other) for one in own for other in others]
-    for one, other in pairs + ([(own[0], own[1])] if len(own) == 2 else []):
-        if one.shares(other):
-            lines.append(f"{one.told()} and {other.told()} {one.shares(other)}")
+    wrong = []
+    for it in own:
+        found = section_faults(plan, module, it, [*others, *([own[0]] if it is not own[0] else [])])
+        lines += found
+        wrong += [it] if found else []
+    return lines + rooms(plan, module, wrong)
+
+
+def section_faults(plan: Plan, module: Entry, it: Range, others: List[Range]) -> List[str]:
+    """What is wrong with the place of a section of a module, beside other sections."""
+    lines = []
+    if it.begin % 2:
+        lines.append(f"{it.told()} begins at an odd place")
+    if it.begin < LOWEST:
+        lines.append(f"{it.told()} begins below 0x0200")
+    if it.end > HIGHEST:
+        lines.append(f"{it.told()} ends {it.end - HIGHEST} bytes above 0xffe0")
+    lines += [f"{it.told()} and {other.told()} {it.shares(other)}" for other in others if it.shares(other)]
     for device in plan.devices:
-        word = Range("", device["at"], device["at"] + 2)
-        for it in own:
-            drives = device["name"] == module.get("device") and it.what.startswith("the private")
-            if device["node"] == module.get("node") and not drives and it.shares(word):
-                lines.append(f"{it.told()} holds the word of the device {device['name']}, 0x{device['at']:04x}")
+        drives = device["name"] == module.get("device") and it.what.startswith("the private")
+        if device["node"] == module.get("node") and not drives and it.shares(word_of(device)):
+            lines.append(f"{it.told()} holds the word of the device {device['name']}, 0x{device['at']:04x}")
     return lines
 
 
+def word_of(device: Entry) -> Range:
+    return Range(f"the word of {device.get('name')}", device["at"], device["at"] + 2)
+
+
+def taken_on(plan: Plan, node: Any) -> List[Range]:
+    """What a node has: sections and words of devices, those of a driver in its private section."""
+    modules = [it for it in plan.modules if it.get("node") == node]
+    driven = [it.get("device") for it in modules]
+    words = [word_of(it) for it in plan.devices if it.get("node") == node and it.get("name") not in driven]
+    return [*words, *(it for module in modules for it in sections(plan, module))]
+
+
+def free_place(size: int, taken: List[Range], begin: int) -> Optional[int]:
+    """The first place from one on, or else above the windows, where so many bytes meet nothing; at a page, if one has
+    room."""
+    for unit in (256, 2):
+        starts = {-(-at // unit) * unit for at in (begin, ABOVE_WINDOWS, *(it.end for it in taken))}
+        free = [
+            at
+            for at in sorted(starts)
+            if ABOVE_WINDOWS <= at <= HIGHEST - size and not any(it.shares(Range("", at, at + size)) for it in taken)
+        ]
+        if free:
+            return next((at for at in free if at >= begin), free[0])
+    return None
+
+
+def rooms(plan: Plan, module: Entry, wrong: List[Range]) -> List[str]:
+    """Where on its node sections of a module have room, one beside the other."""
+    taken, lines = [it for it in taken_on(plan, module.get("node")) if it not in wrong], []
+    for it in wrong:
+        at = free_place(it.end - it.begin, taken, it.begin)
+        is_public = it.what.startswith("the public")
+        key = "text" if is_public else "data" if "data" in module else "at"
+        of = f" of its device {module.get('device')}" if key == "at" else ""
+        lines.append(room_told(it, module.get("node"), key, at) + of)
+        taken += [Range("", at, at + it.end - it.begin)] if at is not None else []
+    return lines
+
+
+def room_told(it: Range, node: Any, key: str, at: Optional[int]) -> str:
+    if at is None:
+        return f"node {node} has no room for {it.what}, {it.end - it.begin:,} bytes"
+    return f"the next free place on {node} for {it.what}: `{key} = 0x{at:04x}`"
+
+
 def places(kind: str, index: int, plan: Plan) -> List[str]:
-    if kind == "module":
-        return section_places(plan, index)
-    device, lines = plan.devices[index], []
-    at = device["at"]
+    return section_places(plan, index) if kind == "module" else device_places(plan, plan.devices[index])
+
+
+def device_places(plan: Plan, device: Entry) -> List[str]:
+    """What is wrong with the place of a device, and where it has room, with its driver's private section."""
+    at, lines = device["at"], []
     if at % 2 or not LOWEST <= at < HIGHEST:
         lines.append(f"its place 0x{at:04x} is odd, below 0x0200, or 0xffe0 or above")
     for other in plan.devices:
         if other is not device and (other["node"], other["at"]) == (device["node"], at):
             lines.append(f"the device {other['name']} is at 0x{at:04x} too")
-    return lines
+    own = (sections(plan, plan.driver_of(device["name"]) or {})[1:] or [word_of(device)])[0]
+    taken = [it for it in taken_on(plan, device["node"]) if it != own]
+    return [*lines, room_told(own, device["node"], "at", free_place(own.end - own.begin, taken, at))]
 
 
 def counts(plan: Plan) -> List[str]:

@@ -64,6 +64,12 @@ class Part:
     line: Optional[int] = 1
     # tells the file's line of a line of the part, if lines are left out between
     line_of: Optional[Callable[[int], int]] = None
+    # the next bytes, if they were read ahead
+    ahead: Callable[[], bytes] = bytes
+
+    def waits_for(self) -> Optional[int]:
+        """The descriptor that the next read may have to wait for; None if it need not."""
+        return None if self.ahead() else self.fd
 
 
 @dataclass
@@ -241,8 +247,7 @@ def file_part(name: str) -> Part:
     if name in HELD:
         return text_part(HELD.pop(name), name, 1)
     fd = open_file(name)
-    # (what was read ahead is there at once)
-    return Part(name, lambda: read_piece(fd, name), None if fd == 0 and AHEAD else fd)
+    return Part(name, lambda: read_piece(fd, name), fd, ahead=lambda: AHEAD[0] if fd == 0 and AHEAD else b"")
 
 
 def text_part(data: bytes, name: str = "", line: Optional[int] = None) -> Part:

@@ -1,17 +1,23 @@
-"""The state of a module after a line: its variables, arrays and ends by name, read by `snap` from its private
-section.
+"""The state of a module after a line, or as it changes: its variables, arrays and ends by name, read by `snap` from its
+private section.
 
 docs/PROTOCOL.md has the section's form: from 512 on a slot for each end, then the cells, each less its first value.
 """
 
 from __future__ import annotations
 
+import os
+import re
 from dataclasses import dataclass
-from typing import Dict, List, Optional, Tuple
+from typing import Dict, Iterator, List, Optional, Tuple
 
+from cli.commands import Given, Usage
+from cli.context import Context
 from cli.deployment import Bounds
-from cli.inspection import Inspected, Line, broken
+from cli.inspection import Inspected, Line, broken, inspected
 from cli.marks import CannotMark, marked_run
+from cli.numbers import number
+from cli.output import print_lines
 from cli.session import Stopped, snapped
 from cli.texts import Input
 
@@ -28,34 +34,55 @@ class Seen:
     since: Optional[int] = None
 
 
-def looked_up(seen: Inspected, module: str, line: int) -> Seen:
-    """Whether the module is protected after a line, by the items up to there."""
-    node, found = seen.plan.node_of(module), Seen()
+def items_up_to(seen: Inspected, line: int) -> List[Tuple[Optional[int], str]]:
+    """The items of a run up to a line, each with its line."""
     text = seen.head + b"%%\n" + "".join(f"{it}\n" for it in seen.lines[:line]).encode(errors="surrogateescape")
     try:
         run = marked_run(Input(text), seen.program)
-        items: List[Tuple[Optional[int], bytes]] = list(run.items())
-        if run.last is not None and run.last.startswith(b"fault "):
-            raise broken(seen, run.last.decode(errors="replace"))
     except CannotMark:
-        answer = seen.program.ask(["run"], text).split(b"\n")
-        items = [(None, it) for it in answer]
-    for number, item in items:
-        words = item.decode(errors="replace").split(" ")
+        return [(None, it.decode(errors="replace")) for it in seen.program.ask(["run"], text).split(b"\n")]
+    if run.last is not None and run.last.startswith(b"fault "):
+        raise broken(seen, run.last.decode(errors="replace"))
+    return [(at, it.decode(errors="replace")) for at, it in run.items()]
+
+
+def presence(seen: Inspected, module: str, line: int) -> Iterator[Tuple[int, Seen]]:
+    """The lines up to one at which the module comes or goes, with what was seen of it then."""
+    node, found = seen.plan.node_of(module), Seen()
+    for at, item in items_up_to(seen, line):
+        words = item.split(" ")
         if words[:2] == ["reset", node]:
             found = Seen(found.boot + 1)
         elif words == ["protect", node, module]:
-            found.since = number or 0
+            found = Seen(found.boot, at or 0)
+        else:
+            continue
+        yield at or 0, found
+
+
+def looked_up(seen: Inspected, module: str, line: int) -> Seen:
+    """Whether the module is protected after a line, by the items up to there."""
+    found = Seen()
+    for _, found in presence(seen, module, line):
+        pass
     return found
+
+
+def pieces_of(begin: int, end: int) -> List[Tuple[int, int]]:
+    """Places and sizes of the queries for some bytes."""
+    return [(at, min(MOST_BYTES, end - at)) for at in range(begin, end, MOST_BYTES)]
+
+
+def bytes_of(answers: List[str]) -> bytes:
+    return b"".join(bytes.fromhex(it.split(" ")[-1]) for it in answers)
 
 
 def private_bytes(seen: Inspected, node: str, bounds: Bounds, line: int) -> Tuple[bytes, List[str]]:
     """The slots and cells of a private section, and the registers of its node."""
-    begin = bounds.data + SLOTS
-    pieces = [(at, min(MOST_BYTES, bounds.data_end - at)) for at in range(begin, bounds.data_end, MOST_BYTES)]
+    pieces = pieces_of(bounds.data + SLOTS, bounds.data_end)
     queries = [f"regs {node} {line}", *(f"bytes {node} 0x{at:x} {size} {line}" for at, size in pieces)]
     answers = snapped(seen.program, seen.head, seen.lines, queries)
-    return b"".join(bytes.fromhex(it.split(" ")[-1]) for it in answers[1:]), answers[0].split(" ")[3:]
+    return bytes_of(answers[1:]), answers[0].split(" ")[3:]
 
 
 def words_of(data: bytes) -> List[int]:
@@ -75,16 +102,33 @@ def end_lines(seen: Inspected, module: str, data: bytes) -> List[str]:
     return lines
 
 
-def cell_lines(seen: Inspected, module: str, data: bytes) -> List[str]:
-    tree, lines = seen.plan.tree(module), []
+@dataclass(frozen=True)
+class Cells:
+    """A variable or an array, with its values."""
+
+    kind: str
+    name: str
+    values: List[int]
+
+    def told(self) -> str:
+        return f"{self.kind} {self.name} = {' '.join(map(str, self.values))}"
+
+    def changes(self, after: Cells) -> Iterator[str]:
+        """The words that differ later."""
+        for at, (old, new) in enumerate(zip(self.values, after.values)):
+            if old != new:
+                yield f"{self.name}{f'[{at}]' if self.kind == 'array' else ''} {old} -> {new}"
+
+
+def cells_of(seen: Inspected, module: str, data: bytes) -> List[Cells]:
+    tree, cells = seen.plan.tree(module), []
     stored = words_of(data)
     for it in tree.cells() if tree else []:
         size = it.value if it.kind == "array" else 1
         first = 0 if it.kind == "array" else it.value
-        values = [(value + first) & WORD for value in stored[:size]]
+        cells.append(Cells(it.kind, it.name, [(value + first) & WORD for value in stored[:size]]))
         stored = stored[size:]
-        lines.append(f"{it.kind} {it.name} = {' '.join(map(str, values))}")
-    return lines
+    return cells
 
 
 def pc_line(seen: Inspected, node: str, registers: List[str]) -> str:
@@ -96,13 +140,17 @@ def pc_line(seen: Inspected, node: str, registers: List[str]) -> str:
     return f"pc of {node} 0x{pc:04x}, outside the deployed modules"
 
 
-def told(seen: Inspected, module: str, asked: Line) -> List[str]:
-    """A module after a line, as lines."""
-    line = asked.last
-    node = seen.plan.node_of(module)
+def bounds_of(seen: Inspected, module: str) -> Bounds:
     entry: Dict[str, object] = seen.plan.named("module", module) or {}
     bounds = seen.plan.bounds(entry)
     assert bounds
+    return bounds
+
+
+def told(seen: Inspected, module: str, asked: Line) -> List[str]:
+    """A module after a line, as lines."""
+    line = asked.last
+    node, bounds = seen.plan.node_of(module), bounds_of(seen, module)
     lines = [seen.headed(asked)]
     found = looked_up(seen, module, line)
     where = f"text 0x{bounds.text:04x} to 0x{bounds.text_end:04x}, data 0x{bounds.data:04x} to 0x{bounds.data_end:04x}"
@@ -117,7 +165,90 @@ def told(seen: Inspected, module: str, asked: Line) -> List[str]:
     slots = SLOT * len(seen.plan.ends(module))
     return [
         *lines,
-        *cell_lines(seen, module, data[slots:]),
+        *(it.told() for it in cells_of(seen, module, data[slots:])),
         *end_lines(seen, module, data),
         pc_line(seen, node, registers),
     ]
+
+
+# --- Changes ---
+
+
+def runs_on(seen: Inspected, node: str, line: str) -> bool:
+    """Whether a line executes instructions of a node."""
+    act, *fields = line.split()[:2] or [""]
+    if act in ("run", "finish"):
+        return fields == [node]
+    return act in ("call", "load") and seen.plan.node_of(fields[0] if fields else "") == node
+
+
+def cells_after(seen: Inspected, module: str, lines: List[int]) -> Iterator[Tuple[int, List[Cells]]]:
+    """The variables and arrays after each of some lines."""
+    node, bounds = seen.plan.node_of(module), bounds_of(seen, module)
+    pieces = pieces_of(bounds.data + SLOTS + SLOT * len(seen.plan.ends(module)), bounds.data_end)
+    queries = [f"bytes {node} 0x{at:x} {size} {line}" for line in lines for at, size in pieces]
+    try:
+        answers = snapped(seen.program, seen.head, seen.lines, queries)
+    except Stopped as error:
+        raise broken(seen, str(error)) from None
+    for which, line in enumerate(lines):
+        begin = which * len(pieces)
+        yield line, cells_of(seen, module, bytes_of(answers[begin : begin + len(pieces)]))
+
+
+def protected_after(moments: List[int], met: Dict[int, Seen]) -> Iterator[int]:
+    """Those of some lines after which the module is protected."""
+    is_there = False
+    for at in moments:
+        is_there = met[at].since is not None if at in met else is_there
+        if is_there:
+            yield at
+
+
+def changes(seen: Inspected, module: str, asked: Line) -> List[str]:
+    """What changes in a module up to a line, a line for each word; and where the module comes and goes."""
+    node = seen.plan.node_of(module)
+    met = dict(presence(seen, module, asked.last))
+    moments = [at for at in range(1, asked.last + 1) if at in met or runs_on(seen, node, seen.lines[at - 1])]
+    present = list(protected_after(moments, met))
+    cells = dict(cells_after(seen, module, present))
+    lines: List[str] = []
+    before: List[Cells] = []
+    was_there = False
+    for at in moments:
+        now, said = cells.get(at, []), seen.said(at)
+        if at in met and (at in cells or was_there):
+            lines.append(f"{said}: {came_or_went(node, met[at], now)}")
+        elif at not in met:
+            lines += [f"{said}: {it}" for old, new in zip(before, now) for it in old.changes(new)]
+        before, was_there = now, at in cells
+    return lines or [f"{module} isn't protected in this run"]
+
+
+def came_or_went(node: str, found: Seen, cells: List[Cells]) -> str:
+    if found.since is None:
+        return f"not protected any more: {node} was reset"
+    return "; ".join([f"protected, boot {found.boot}", *(it.told() for it in cells)])
+
+
+# --- The command ---
+
+
+def ends_with_line(words: List[str]) -> bool:
+    """Whether the last of some words is LINE, and not MODULE: it is a number or FILE:LINE, or a module's name comes before
+    it."""
+    if number(words[-1]) is not None or re.search(r":[0-9]+$", words[-1]):
+        return True
+    return bool(words[1:] and re.fullmatch(r"[a-z][a-z0-9_]*", words[-2])) and not os.path.exists(words[-2])
+
+
+def answer(context: Context, given: Given) -> int:
+    words = [*given.texts("SCHEDULE"), *given.texts("MODULE")]
+    line = words.pop() if ends_with_line(words) else ""
+    if not words:
+        raise Usage("missing: MODULE", given.command)
+    module = words.pop()
+    seen = inspected([given.text("INPUT"), *words], given.has("drive"), context)
+    asked = seen.line(line) if line else seen.end()
+    print_lines(*(changes if given.has("changes") else told)(seen, seen.module(module), asked))
+    return 0

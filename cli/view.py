@@ -6,7 +6,7 @@ import base64
 import re
 from dataclasses import dataclass
 from pathlib import Path
-from typing import Dict, List
+from typing import Dict, List, Optional
 
 from cli.context import Context
 from cli.deployment import plan_of
@@ -17,9 +17,10 @@ from cli.output import print_lines
 from cli.people import as_schedule
 from cli.program import Collected
 from cli.sinks import TraceOnly
-from cli.status import BAD_TEXT, NO_FILE, Ended
-from cli.texts import Input, find_mark, look_at, read_all
+from cli.status import BAD_TEXT, Ended
+from cli.texts import Input, look_at, read_all
 from cli.viewer.join import joined
+from cli.writing import must_be_free, write_file
 from cli.commands import Given, Usage
 
 # A line that only the output of `run` or `drive` has.
@@ -39,9 +40,7 @@ class Drawn:
 
 def without_lines(text: bytes) -> bytes:
     """The items of a marked run alone, with images and the last line."""
-    found = find_mark(text)
-    after = text[found[1] :] if found else text
-    return b"".join(it + b"\n" for it in after.split(b"\n")[:-1] if not it.startswith(b"> "))
+    return b"".join(it + b"\n" for it in text.split(b"\n")[:-1] if not it.startswith(b"> "))
 
 
 def causes_of(context: Context, head: bytes, trace: bytes) -> bytes:
@@ -61,9 +60,8 @@ def of_run(context: Context, data: Input) -> Drawn:
     has_trace = b"\ntrace\n" in b"\n" + plain
     try:
         lines = b"".join(it + b"\n" for it in marked_lines(data, marked_run(data, context.program)))
-        found = find_mark(lines)
-        if found and without_lines(lines) == plain:
-            output = lines[found[1] :]
+        if without_lines(lines) == plain:
+            output = lines
     except CannotMark as error:
         if has_trace:
             context.voice.say(f"no marked run, so the page matches items and lines: {error}")
@@ -88,11 +86,18 @@ def page_of(texts: Texts) -> str:
     return joined().replace(SLOT, SLOT + held, 1)
 
 
-def write_page(path: Path, text: str) -> None:
-    try:
-        path.write_text(text)
-    except OSError as error:
-        raise Ended(NO_FILE, f"{path} can't be written: {error.strerror}") from None
+def is_page(text: str) -> bool:
+    """Whether a file is such a page, which `view` or the page itself wrote."""
+    return text.startswith("<!doctype html>") and SLOT in text
+
+
+def page_for(given: Given, names: List[str], inputs: List[str]) -> Path:
+    """Where the page is written: beside the last file, by the names of the first and the last."""
+    last = Path(names[-1])
+    stems = [Path(names[0]).stem, last.stem] if len(names) > 1 else [last.stem]
+    page = Path(given.text("page") or last.with_name(".".join(stems) + ".html"))
+    must_be_free(page, inputs, is_page, given.has("force"), "page of `view`", "--page names another")
+    return page
 
 
 def is_output(name: str) -> bool:
@@ -105,43 +110,46 @@ def given_texts(files: List[str]) -> Texts:
     return {name: read_all(it) for name, it in zip(names, files)}
 
 
-def run_texts(context: Context, given: Given, files: List[str]) -> Texts:
-    """The texts of a run that is made now; none if the input isn't taken."""
+def run_drawn(context: Context, given: Given, files: List[str]) -> Drawn:
+    """A run that is made now; it ends here if there is nothing to draw."""
     kept, data = put_together(files, context)
     plan = plan_of(data.head)
     is_driven = given.has("drive") or bool(plan and are_readings(plan, data))
     if is_driven and not given.has("drive"):
         context.voice.say(f"{files[-1]} has readings: the honest run of them is drawn")
+    refusal: Optional[Ended] = None
     if plan and not is_driven:
-        kept, data = as_schedule(kept, data, context)
+        kept, data, refusal = as_schedule(kept, data, context)
     drawn = (of_readings if is_driven else of_run)(context, data)
     if drawn.last.startswith("fault "):
         lines = Teller(kept, "drive" if is_driven else "run", context.program.ask).told(drawn.last)
         if drawn.last.startswith("fault deployment") or drawn.last == "fault read":
             raise Ended(BAD_TEXT, drawn.last, *lines, "there is nothing to draw")
         context.voice.say(drawn.last, *lines, "what came before is drawn")
+    elif refusal:
+        context.voice.must_say(*refusal.lines, "what came before is drawn")
+        drawn.status = refusal.status
     elif drawn.status:
         context.voice.say(f"the program ended with status {drawn.status}; what it wrote is drawn")
-    return drawn.texts
+    return drawn
 
 
 def answer(context: Context, given: Given) -> int:
     files = [*given.texts("INPUT"), *given.texts("FILE")]
     if given.has("empty"):
-        page = Path(given.text("page") or "viewer.html")
-        write_page(page, joined())
+        page = page_for(given, ["viewer"], files)
+        write_file(page, joined())
         print_lines(str(page))
         return 0
     if not files:
         raise Usage("`view` takes INPUT, or --empty", given.command)
-    if len(files) > 1 and is_output(files[1]):
-        if len(files) > 3:
-            raise Usage("after what `run` wrote `view` takes only what `explain` wrote of it", given.command)
-        texts = given_texts(files)
-    else:
-        texts = run_texts(context, given, files)
-    name = Path(files[0] if files[0] != "-" else "run.txt")
-    page = Path(given.text("page") or name.with_suffix(".html"))
-    write_page(page, page_of({**texts, "name": name.name.encode()}))
+    named = [it for it in files if Path(it).is_file()] or ["run"]
+    has_output = len(files) > 1 and is_output(files[1])
+    if has_output and len(files) > 3:
+        raise Usage("after what `run` wrote `view` takes only what `explain` wrote of it", given.command)
+    page = page_for(given, named[:2] if has_output else named, files)
+    drawn = Drawn(given_texts(files), "", 0) if has_output else run_drawn(context, given, files)
+    title = ", ".join(Path(it).name for it in dict.fromkeys([named[-1], named[0]]))
+    write_file(page, page_of({**drawn.texts, "name": title.encode(errors="surrogateescape")}))
     print_lines(str(page))
-    return 0
+    return drawn.status

@@ -1,11 +1,12 @@
 """`vars`, `steps`, `why` and `explain --words`: what a run did, and why, by the program's own answers."""
 
+import re
 import unittest
 from unittest.mock import patch
 
 from support import EXAMPLES, HEAD, LIGHTING, PROGRAM, TOP, Room, needs_program, program, sancus
 
-from cli import forged, marks
+from cli import forged, marks, session
 from cli.builds import Builds
 from cli.deployment import plan_of
 from cli.items import Item
@@ -79,6 +80,37 @@ class Variables(Room):
         self.assertIn("next event 0", sancus("vars", head, easy, "lamp", "5").out.decode())
         self.assertIn("next event 1", sancus("vars", head, easy, "lamp", "6").out.decode())
 
+    def test_without_a_line(self):
+        """Without LINE it is the last."""
+        wanted = sancus("vars", LIGHTING_FILE, "logic", "45").lines
+        self.assertEqual(sancus("vars", LIGHTING_FILE, "logic").lines, wanted)
+        head, easy = self.file("d.toml", HEAD), self.file("easy.txt", EASY)
+        self.assertEqual(sancus("vars", head, easy, "lamp").lines, sancus("vars", head, easy, "lamp", "easy.txt:6").lines)
+        self.says(sancus("vars", LIGHTING_FILE, "45"), "missing: MODULE")
+
+    def test_changes(self):
+        head, easy = self.file("d.toml", Input(ARRAYS).head), self.file("easy.txt", EASY + "reset a\n")
+        first = f"{easy}:1: protected, boot 0; var limit = 100; array last = 0 0 0; var n = 7"
+        carried = [f"{easy}:3: {it}" for it in ("limit 100 -> 99", "last[1] 0 -> 120", "n 7 -> 1")]
+        gone = f"{easy}:7: not protected any more: a was reset"
+        self.assertEqual(sancus("vars", "--changes", head, easy, "logic").lines, [first, *carried, gone])
+        self.assertEqual(sancus("vars", "--changes", head, easy, "logic", "easy.txt:2").lines, [first])
+        self.assertEqual(sancus("vars", "--changes", head, easy, "logic", "0").lines, ["logic isn't protected in this run"])
+        # more lines than one call of `snap` answers for
+        many = self.file("many.txt", "deploy all\n" + "sample eye 120\ncarry eye logic\n" * 70)
+        self.assertEqual(len(sancus("vars", "--changes", head, many, "logic").lines), 1 + 70 * 2 + 1)
+
+    def test_a_reading_by_its_line(self):
+        """After a reading its last event was carried; after a comment it is as after the reading before."""
+        head, readings = self.file("d.toml", Input(ARRAYS).head), self.file("r.txt", "light 7\n# dark\nlight 9\n")
+        for line, values in (("r.txt:1", "0 7 0"), ("r.txt:2", "0 7 0"), (f"{readings}:3", "0 9 0")):
+            ran = sancus("vars", head, readings, "logic", line)
+            self.assertIn(f"array last = {values}", ran.lines, ran.said)
+        self.assertEqual(ran.lines[0], f"{readings}:3: light 9")
+        changed = sancus("vars", "--changes", head, readings, "logic").lines
+        self.assertIn(f"{readings}:3: last[1] 7 -> 9", changed)
+        self.assertIn("> call lamp 2 0x40 0x80", sancus("steps", head, readings, "r.txt:1").lines)
+
     def test_misuse(self):
         for words, said in (
             (("vars", LIGHTING_FILE, "ear", "1"), "there is no module ear: eye logic lamp"),
@@ -134,7 +166,59 @@ class Marks(Room):
 
 
 @needs_program
+class Snap(Room):
+    """Queries about lines for people."""
+
+    QUERIES = "items 3\n# regs a 9\nregs a 4\nbytes a 0x300 4 3\nregs b 0\n"
+
+    def test_lines_for_people(self):
+        head, easy, queries = self.file("d", HEAD), self.file("e", EASY), self.file("q", self.QUERIES)
+        made = sancus("schedule", head, easy).out.decode()
+        lines = made.partition("%%\n")[2].splitlines()
+        first, second = (next(at for at, it in enumerate(lines, 1) if it.startswith(f"#= {easy}:{n}")) for n in (3, 4))
+        asked = "".join(f"items {it}\n" for it in range(first + 1, second)) + f"regs a {second - 1}\n"
+        wanted = program("snap", text=f"{made}%%\n{asked}bytes a 0x300 4 {second - 1}\nregs b 0\n")
+        answers = [it.split(" ") for it in wanted.lines if not it.startswith("image ")]
+        for it in answers[:-1]:
+            it[{"item": 1, "regs": 2, "bytes": 3}[it[0]]] = {"regs": "4"}.get(it[0], "3") if it[1] != "b" else "0"
+        for files in ((head, easy, queries), (self.file("w", f"{HEAD.decode()}%%\n{EASY}%%\n{self.QUERIES}"),)):
+            ran = sancus("snap", "--no-images", *files)
+            self.assertEqual((ran.status, ran.lines), (0, [" ".join(it) for it in answers]), ran.said)
+
+    def test_misuse(self):
+        head, easy = self.file("d", HEAD), self.file("e", EASY)
+        for queries, last in (("regs a 1\nregs a 99\n", "Y6 2"), ("\nmoods a 1\n", "Y3 2"), ("\n" * 65, "Y2 65")):
+            ran = sancus("snap", "--no-images", head, easy, self.file("q", queries))
+            self.assertEqual((ran.status, ran.lines[-1]), (11, f"fault query {last}"), ran.said)
+            self.says(ran, f"{last.split()[0]}: ")
+        ran = sancus("snap", head, self.file("bad", "deploy ear\n"), self.file("q", "regs a 1\n"))
+        self.assertEqual((ran.status, ran.out), (122, b""))
+        self.says(ran, "there is no module ear")
+
+
+@needs_program
 class Steps(Room):
+    def test_after_many_lines(self):
+        """A line costs what it does itself, wherever it stands: the lines before it are done together."""
+        head, _, lines = LIGHTING.partition(b"%%\n")
+        call = b"call eye 3 0x300 0x400\n"
+        before, _, after = lines.partition(call)
+        many = 60_000
+        text = head + b"%%\n" + before + b"set a r5 0\n" * many + call + after
+        ran = sancus("steps", self.file("x", text), str(39 + many))
+        self.assertEqual(ran.status, 0, ran.said)
+        self.assertEqual(ran.lines[1:], sancus("steps", LIGHTING_FILE, "39").lines[1:])
+
+    def test_near_a_copy(self):
+        """What is asked stands behind a line at which `snap` keeps a copy of the run, if there is room for that."""
+        lines = [f"run a {it}" for it in range(1, 60_002)]
+        made, asked = session.near_a_copy(lines, ["regs a 8193", "bytes a 0x10 2 8195"])
+        self.assertEqual(asked, ["regs a 16384", "bytes a 0x10 2 16386"])
+        self.assertEqual((made[8192], made[8193:16384], made[16384:]), (lines[8192], [""] * 8191, lines[8193:8195]))
+        self.assertEqual(session.near_a_copy(lines, ["regs a 0", "regs a 2"]), (lines[:2], ["regs a 0", "regs a 2"]))
+        last = ["regs a 60000", "regs a 60001"]
+        self.assertEqual(session.near_a_copy(lines, last), (lines, last))
+
     def test_a_call(self):
         ran = sancus("steps", LIGHTING_FILE, "39")
         lines = ran.lines
@@ -316,10 +400,94 @@ class Why(Room):
         self.assertEqual(ran.status, 8)
         self.assertIn("illegal: 38", ran.out.decode())
         self.says(
-            sancus("why", LIGHTING_FILE, LIGHTING_FILE),
+            sancus("why", LIGHTING_FILE, self.file("x", "secret = 1\n")),
             "the trace isn't judged: fault trace E1 1",
-            "this is a schedule, and no trace",
+            "this is a deployment",
         )
+
+    def test_explain_words_of_a_fault(self):
+        """A fault has the same words with and without --words."""
+        faulty, trace = self.file("d.toml", HEAD.replace(b"v > limit", b"v % limit")), self.file("e", b"none\n")
+        for files, said in (((faulty, self.trace), "there is no remainder"), ((LIGHTING_FILE, trace), "E1: a line")):
+            plain, worded = sancus("explain", *files), sancus("explain", "--words", *files)
+            self.assertEqual(worded, plain)
+            self.says(worded, said)
+
+    def test_a_schedule_is_run_first(self):
+        """It is run first: a plain one, one for people, or readings."""
+        head, easy = self.file("d.toml", HEAD), self.file("easy.txt", EASY)
+        whole = sancus("why", LIGHTING_FILE, self.trace).lines
+        for files in ((LIGHTING_FILE, LIGHTING_FILE), (head, easy), (head, easy, "42"), (head, easy, "out lamp")):
+            lines = sancus("why", *files).lines
+            self.assertEqual([re.sub(r", at (line )?\S+", "", it) for it in lines], whole)
+        self.assertEqual(sancus("explain", head, easy).out, sancus("explain", head, self.trace).out)
+        self.assertEqual(sancus("explain", "--words", head, easy).lines[-1].split(":")[0], "legal")
+        self.assertIn("42 out lamp 1", sancus("why", head, self.file("r", "light 120\n")).out.decode())
+        ran = sancus("why", head, self.file("bad", "deploy all\ncarry eye logic\n"), "1")
+        self.assertEqual((ran.status, ran.out), (122, b""))
+        self.says(ran, "eye sent nothing at its last call")
+        ran = sancus("why", head, self.file("s", "load eye\nload ear\n"), "1")
+        self.assertEqual((ran.status, ran.lines[0].split(":")[0]), (0, "1 protect a eye"))
+        self.says(ran, "fault schedule S4 2", "/s:2: load ear", "what came before is judged")
+
+    # Lines after those of the lighting example, the item that is asked about, and what is said of it.
+    REFUSED = (
+        ("give 99 a 0x300", "skip a", "there is no packet 99: 12 were made before"),
+        ("put a 0x4000 00", "skip a", "0x4000 to 0x4000 meet the public section of eye, 0x4000 to 0x497f"),
+        ("take a 0x1010 4", "skip a", "0x1010 to 0x1013 meet the private section of eye, 0x1000 to 0x1217"),
+        ("asm a 0x0ffe mov #3, r5", "skip a", "0x0ffe to 0x1001 meet"),
+        ("give 11 a 0x1ff0", "skip a", "0x1ff0 to 0x2007 meet the private section of logic"),
+        ("put a 0xffff 0000", "skip a", "0xffff and 2 bytes pass the end of memory"),
+        ("irq a 3", "skip a", "interrupts are masked: GIE in SR, 0x0000, is 0"),
+        ("set a r12 3\nset a pc 0x4000\nrun a 5\nput a 0x900 00", "busy a", "PC is 0x4014, in eye, which isn't done"),
+        ("answer eye 0 1", "denied eye", "no ask of eye is open"),
+        ("ask eye\nanswer eye 0 1", "denied eye", "eye didn't answer its last ask, with challenge 3, before"),
+        ("answer eye 0 99", "denied eye", "there is no packet 99: 12 were made before"),
+        ("call lamp 2 0x300 0x400", "done lamp 6", "the packet is event 0 of down in epoch 0, and the next that lamp takes is 1"),
+        ("call lamp 2 0x300 0x400", "done lamp 6", "`call lamp 2 0x300 0x400`; packet 11 was given to this window last"),
+        ("call eye 3 0x300 0x400", "done eye 8", "the last sample of light was read at item 35, read eye 120"),
+        ("call lamp 3 0x300 0x400", "done lamp 2", "lamp has no entry 3: 0 set-key, 1 attest, 2 input"),
+        ("call lamp 2 0xff0 0x400", "done lamp 3", "the in-window of 40 bytes, 0x0ff0 to 0x1017, meets the private section"),
+        ("call lamp 2 0x300 0xff00", "done lamp 3", "the out-window of 384 bytes, 0xff00 to 0x007f, passes the end"),
+        ("call lamp 0 0x300 0x400", "done lamp 4", "entry 0 takes a set-key packet, and in the in-window is an event"),
+        ("reset b\nload lamp\ngive 11 b 0x300\ncall lamp 2 0x300 0x400", "done lamp 5", "lamp's end of it isn't open"),
+        ("call lamp 2 0x300 0x400", "done lamp 1", "because of 41 take lamp down 0 1"),
+        ("put b 0x306 ff\nput b 0x304 0900\ncall lamp 2 0x300 0x400", "done lamp 7", "the packet is event 9 of down"),
+        ("reset a", "reset a", "asked for by line 46, `reset a`"),
+        ("asm a 0x800 mov #0x1000, r5; push r5; mov @r5, r6\nset a sp 0x600\nset a pc 0x800\nrun a 9", "reset a read",
+         "by line 49, `run a 9`, step 3: `mov @r5, r6` at 0x0806, outside the deployed modules"),
+        ("asm a 0x800 mov @r5, r6\nset a r5 0x2000\nset a pc 0x800\nrun a 9", "reset a read",
+         "0x2000 is in the private section of logic, 0x2000 to 0x2231"),
+        ("asm a 0x800 push r5\nset a sp 0x4010\nset a pc 0x800\nrun a 9", "reset a write",
+         "0x400e is in the public section of eye, 0x4000 to 0x497f"),
+        ("asm a 0x800 mov #0x4010, pc\nset a pc 0x800\nrun a 9", "reset a order", "step 1 was `mov #0x4010, pc` at 0x0800"),
+        ("asm a 0x800 mov #0x4010, pc\nset a pc 0x800\nrun a 9", "reset a order", "which is entered at 0x4000 alone"),
+        ("call eye 0 0x1ff0 0x400", "reset a read", "is in the private section of logic"),
+        ("asm b 0x800 mov #1, &0x1000\nreset b\nasm b 0x800 mov #1, &0x1000\nset b pc 0x800\nrun b 1", "raw bulb",
+         "lamp, which drives bulb, isn't protected: until it is, any code can do this"),
+    )
+
+    def test_what_was_refused(self):
+        for lines, item, words in self.REFUSED:
+            with self.subTest(lines):
+                ran = sancus("why", self.file("x.txt", LIGHTING + lines.encode() + b"\n"), *item.split())
+                self.assertEqual(ran.status, 0, ran.said)
+                self.assertTrue(ran.lines[1:] and all(it.startswith("  ") for it in ran.lines[1:]), ran.lines)
+                self.assertIn(words, "\n".join(ran.lines[1:]))
+
+    def test_a_schedule_in_place_of_a_trace(self):
+        head, easy = self.file("d.toml", HEAD), self.file("easy.txt", EASY + "give event.logic.lamp b\ncall lamp 2\n")
+        lines = sancus("why", head, easy, "out", "lamp").lines
+        self.assertTrue(lines[0].endswith(f": lamp wrote 1 to its actuator, at {easy}:6"), lines)
+        self.assertTrue(lines[-1].endswith(f"at {easy}:2 (the sensor's last sample)"), lines)
+        lines = sancus("why", head, easy, "done lamp 6").lines
+        self.assertIn(f"  by {easy}:8, `call lamp 2 0x300 0x400`; packet 11 was given to this window last", lines)
+        readings = sancus("why", head, self.file("r.txt", "light 120\n"), "out lamp").lines
+        self.assertIn("r.txt:1 (the sensor's last sample)", readings[-1])
+        self.assertEqual(sancus("why", LIGHTING_FILE, "out", "lamp").lines[0].partition(", at ")[2], "line 45")
+        lines = sancus("why", head, self.file("t", program("run", text=LIGHTING + b"reset a\n").out), "reset").lines
+        self.assertIn("`sancus why DEPLOYMENT SCHEDULE ITEM` does", lines[1])
+        self.says(sancus("why", head), "`why` takes SCHEDULE or TRACE, or a trace in a pipe")
 
     def test_forged(self):
         for name, item, words in (

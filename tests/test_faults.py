@@ -6,7 +6,7 @@ import unittest
 
 from support import EXAMPLES, HEAD, LIGHTING, PROGRAM, Room, needs_program, program, sancus, one_by_one, whole_examples
 
-from cli import language, toml, warnings
+from cli import language, tables, toml, warnings
 from cli.deployment import plan_of
 from cli.faults import Teller
 from cli.texts import Input, kept_of
@@ -179,7 +179,7 @@ CASES = [
         b"deploy lamp",
         "run",
         "schedule S3 4",
-        ["`sancus schedule DEPLOYMENT LINES | sancus run` takes those"],
+        ["`sancus run DEPLOYMENT LINES` takes those"],
     ),
     (b"load lamp", b"light 5", "run", "schedule S3 4", ["this looks like a reading"]),
     (b"load lamp", b"items 5", "run", "schedule S3 4", ["is a query of `sancus snap`"]),
@@ -210,6 +210,21 @@ CASES = [
     (b"ask eye", b"asm a 0x200 mov #70000, r5", "run", "schedule S8 9", ["`70000` is out of range"]),
     (b"ask eye", b"asm a 0x200 mov #-1, r5", "run", "schedule S8 9", ["write `65535`"]),
     (b"ask eye", b"asm a 0x200 mov.w #1, r5", "run", "schedule S8 9", ["is written `mov`"]),
+    (b"if v > limit", b"if v > 3 send bright(1); if v > limit", "check", "deployment D7 module 1 4 24", ["a block has braces"]),
+    (b"send bright(1)", b"send bright(1, v)", "check", "deployment D7 module 1 4 43", ["an event carries one word"]),
+    (b"if v > limit", b"print v; if v > limit", "check", "deployment D7 module 1 4 21", ["nothing is printed"]),
+    (b"limit = 100", b"limit = -1", "check", "deployment D7 module 1 3 13", ["-1 is written 65535"]),
+    (b"var limit = 100;", b"var limit = 100; array h[2] = {1, 2};", "check", "deployment D7 module 1 3 29", ["an array begins with zeros"]),
+    (b"var limit = 100;", b"var limit = 100; array h[limit];", "check", "deployment D7 module 1 3 26", ["an array's length is a number"]),
+    (b"if v > limit", b"let w = v ? 1 : 2; if v > limit", "check", "deployment D7 module 1 4 25", ["there is no `? :`"]),
+    (b"if v > limit", b"let w; if v > limit", "check", "deployment D7 module 1 4 20", ["a local has a value from the start"]),
+    (b"on show(v)", b"on show()", "check", "deployment D7 module 2 3 9", ["a handler has one parameter"]),
+    (b"on show(v)", b"on show", "check", "deployment D7 module 2 3 9", ["a handler has one parameter"]),
+    (b"on show(v)", b"on show(input)", "check", "deployment D7 module 2 3 9", ["a reserved word, and no name"]),
+    (b"var limit = 100;", b"let limit = 100;", "check", "deployment D7 module 1 3 1", ["declared by `var x = 1;`"]),
+    (b"if v > limit", b"var w = 1; if v > limit", "check", "deployment D7 module 1 4 15", ["in a handler a local is declared by `let x = 1;`"]),
+    (b"limit = 100", b"limit = 0xFFFFF", "check", "deployment D7 module 1 3 19", ["a number is at most 65,535"]),
+    (b'[[module]]\nname = "logic"', b'[module]\nname = "logic"', "check", "deployment D3 -", ["`[[module]]`"]),
 ]
 
 
@@ -229,6 +244,32 @@ class Cases(unittest.TestCase):
                     if "^^^" == it and not PROGRAM and " S8" in fault:
                         continue
                     self.assertIn(it, lines)
+
+    @needs_program
+    def test_a_free_place(self):
+        """A place that doesn't suit is named with one that does."""
+        port = b'{ name = "port", node = "a", kind = "actuator", at = 0x1000 },\n         '
+        for old, new, place, key in (
+            (b"text = 0x6000", b"text = 0x4900", b"text = 0x4900", "text = 0x4a00"),
+            (b"data = 0x2000", b"data = 0xff00", b"data = 0xff00", "data = 0x0600"),
+            (b"data = 0x2000", b"data = 0x1000", b"data = 0x1000", "data = 0x1300"),
+            (b"data = 0x2000", b"data = 0x6400", b"data = 0x6400", "data = 0x6c00"),
+            (b"at = 0x1000 },\n", b"at = 0x1001 },\n", b"at = 0x1001 },\n", "at = 0x1100"),
+            (b"text = 0x6000", b"text = 0xe000", b"data = 0x2000", ""),
+            (b'{ name = "light"', port + b'{ name = "light"', b'"sensor", at = 0x1000', "at = 0x1100"),
+        ):
+            text = HEAD.replace(old, new, 1)
+            ran = sancus("check", text=text)
+            if key:
+                self.assertTrue(ran.out.startswith(b"fault deployment D10 "), ran.out)
+                self.assertIn(f": `{key}`", ran.said)
+                text = text.replace(place, re.sub(b"0x[0-9a-f]+", key[-6:].encode(), place), 1)
+            self.assertEqual(sancus("check", text=text + b"%%\n").status, 0, text)
+        taken = [tables.Range("", 0x0600, 0x8004), tables.Range("", 0x8020, 0xFF00)]
+        self.assertEqual(tables.free_place(0x10, taken, 0x4000), 0xFF00)
+        taken.append(tables.Range("", 0xFF00, 0xFFE0))
+        self.assertEqual(tables.free_place(0x10, taken, 0x4000), 0x8004)
+        self.assertIsNone(tables.free_place(0x1E, taken, 0x4000))
 
     @needs_program
     def test_the_program_says_so(self):
@@ -275,7 +316,7 @@ class Cases(unittest.TestCase):
             ),
             (
                 b"deploy all\n",
-                "lines of a schedule for people, and the deployment comes before them: `sancus schedule DEP",
+                "lines of a schedule for people, and the deployment comes before them: `sancus run DEPLOY",
             ),
         ):
             self.assertIn(said, told(text, "fault deployment D2 -", "run"))
@@ -442,6 +483,15 @@ class Warnings(Room):
             self.says(sancus(word, self.file("x", text), program=self.fake()), "no `secret`")
             self.says(sancus(word, text=text, program=self.fake()), "no `secret`")
         self.assertEqual(sancus("run", "--quiet", self.file("x", text), program=self.fake()).said, "")
+
+    def test_a_fault_comes_first(self):
+        """Warnings wait until the deployment is accepted, and stand below the fault of a schedule."""
+        text = LIGHTING.replace(b"secret", b"# secret")
+        for word, last, status in (("run", "schedule S3 1", 3), ("check", "deployment D4 top", 1)):
+            for words, piped in (((self.file("x", text),), b""), ((), text)):
+                ran = sancus(word, *words, text=piped, program=self.fake(f"fault {last}", status))
+                self.assertTrue(ran.said.startswith(f"sancus: {last.split()[1]}: "), ran.said)
+                self.assertEqual("no `secret`" in ran.said, status == 3)
 
     @needs_program
     def test_a_finish_that_ends_inside_a_module(self):

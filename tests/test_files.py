@@ -139,20 +139,63 @@ class Streams(Room):
     def test_line_by_line_at_a_terminal(self):
         leader, follower = pty.openpty()
         process = subprocess.Popen(
-            [SANCUS, "--quiet", "run"],
+            [SANCUS, "run"],
             stdin=follower,
             stdout=subprocess.PIPE,
+            stderr=subprocess.PIPE,
             env={**os.environ, "SANCUS_PROGRAM": PROGRAM},
         )
         os.write(leader, b"%%\nreset n\n")
         self.assertEqual(process.stdout.readline(), b"trace\n")
         self.assertEqual(process.stdout.readline(), b"reset n asked\n")
-        os.write(leader, b"nothing\n")
-        self.assertEqual(process.stdout.read(), b"fault schedule S3 2\n")
-        self.assertEqual(process.wait(), 3)
-        process.stdout.close()
+        # (a line that breaks a rule is explained, and the run goes on)
+        os.write(leader, b"nothing\nrestart n\nreset n\n")
+        self.assertEqual(process.stdout.readline(), b"reset n asked\n")
+        os.write(leader, b"\x04")
+        out, said = process.communicate(timeout=60)
+        self.assertEqual((process.returncode, out), (0, b"end\n"))
+        self.assertIn(b"sancus: line 3: nothing\nsancus: S3: its first word is no act\n", said)
+        self.assertIn(b"did you mean `reset`?", said)
         os.close(leader)
         os.close(follower)
+
+    def test_a_deployment_and_typed_lines(self):
+        leader, follower = pty.openpty()
+        ran = subprocess.Popen(
+            [SANCUS, "run", EXAMPLES / "lighting.txt", "-"],
+            stdin=follower,
+            stdout=subprocess.PIPE,
+            stderr=subprocess.PIPE,
+            env={**os.environ, "SANCUS_PROGRAM": PROGRAM},
+        )
+        os.write(leader, b"deploy all\ncarry eye lamp\nsample eye 120\ncarry eye logic\ncarry logic lamp\n\x04")
+        out, said = ran.communicate(timeout=60)
+        self.assertEqual((ran.returncode, out), (0, program("run", text=LIGHTING).out))
+        self.assertIn(b"no connection leads from eye to lamp", said)
+        os.close(leader)
+        os.close(follower)
+
+    def test_each_line_after_a_deployment_is_answered_at_once(self):
+        process = subprocess.Popen(
+            [SANCUS, "--quiet", "run", "--no-images", EXAMPLES / "lighting.txt", "-"],
+            bufsize=0,
+            stdin=subprocess.PIPE,
+            stdout=subprocess.PIPE,
+            env={**os.environ, "SANCUS_PROGRAM": PROGRAM},
+        )
+        for line, items in (
+            (b"load eye", [b"trace", b"protect a eye"]),
+            (b"ask eye", [b"ask eye 0", b"packet 0 18"]),
+            (b"fly", [b"fault schedule S3 3"]),
+        ):
+            process.stdin.write(line + b"\n")
+            process.stdin.flush()
+            for it in items:
+                self.assertTrue(select.select([process.stdout], [], [], 30)[0], line)
+                self.assertEqual(process.stdout.readline(), it + b"\n")
+        process.stdin.close()
+        self.assertEqual(process.wait(), 3)
+        process.stdout.close()
 
     def test_what_is_typed_at_a_terminal(self):
         wanted = {
@@ -178,8 +221,8 @@ class Streams(Room):
     def test_it_is_said_at_a_terminal(self):
         leader, follower = pty.openpty()
         os.write(leader, b"%%\n\x04")
-        ran = subprocess.run([SANCUS, "--program", self.fake(), "run"], stdin=follower, capture_output=True, timeout=60)
-        self.assertEqual(ran.stdout, b"ran run\n%%\nend\n")
+        ran = subprocess.run([SANCUS, "--program", PROGRAM, "run"], stdin=follower, capture_output=True, timeout=60)
+        self.assertEqual(ran.stdout, b"trace\nend\n")
         self.assertIn(b"sancus: type a deployment, a line %%", ran.stderr)
         os.close(leader)
         os.close(follower)

@@ -2,6 +2,7 @@
 
 import os
 import shutil
+import struct
 import subprocess
 import unittest
 
@@ -57,7 +58,11 @@ class Hex(Room):
     def test_what_is_no_file(self):
         for name, text, words in (
             ("d.hex", ":00000001FE\n", "line 1 is no record"),
-            ("d.txt", "00 01\nq\n", "bytes before an address"),
+            ("g.hex", "\n:0000zz01FF\n", "line 2 is no record"),
+            ("d.txt", "00 01\nq\n", "line 1 has bytes before an address: a file is ELF, Intel HEX"),
+            ("evil.c", "#include <x.h>\nint main() {}\n", "line 1 has no address: a file is ELF, Intel HEX"),
+            ("h.txt", "@0200\n00 0x01\nq\n", "line 2 is no bytes in hexadecimal"),
+            ("i.txt", "@xyz\n00\nq\n", "line 1: after `@` comes an address"),
             ("e.txt", "@FFFF\n00 01\nq\n", "pass the end of memory"),
             ("f.txt", "@0200\n00 01\n@0201\n00\nq\n", "two parts meet at 0x0201"),
         ):
@@ -77,6 +82,47 @@ class Hex(Room):
         shown = program("run", text=LIGHTING).out.decode()
         image = shown.partition("image eye ")[2].partition("\n")[0]
         self.assertEqual("".join(it.split()[3] for it in lines[1:4]), image)
+
+    @needs_program
+    def test_nothing_is_overwritten(self):
+        folder = self.room / "images"
+        for form in ("ti", "hex", "ti"):
+            self.assertEqual(self.hex("image", str(INPUT), "--to", "images", "--format", form).returncode, 0)
+        mine = folder / "logic.txt"
+        for text in ("my notes\n", "@6000\n82 41\nq", TI_TXT.replace("@FFFE", "@fffe")):
+            mine.write_text(text)
+            eye = (folder / "eye.txt").stat().st_mtime_ns
+            ran = self.hex("image", str(INPUT), "--to", "images")
+            self.assertEqual((ran.returncode, ran.stdout, mine.read_text()), (121, "", text))
+            self.assertIn("logic.txt is there, and is no file of `hex image`: --force writes over it", ran.stderr)
+            self.assertEqual((folder / "eye.txt").stat().st_mtime_ns, eye)
+        self.assertEqual(self.hex("image", str(INPUT), "--to", "images", "--force").returncode, 0)
+        self.assertTrue(mine.read_text().startswith("@6000\n82 41 94 20"))
+        shutil.copy(INPUT, self.room / "eye.txt")
+        ran = self.hex("image", "eye.txt", "--force")
+        self.assertEqual((ran.returncode, (self.room / "eye.txt").read_bytes()), (121, LIGHTING))
+        self.assertIn("eye.txt is an input", ran.stderr)
+
+    def test_elf_files_that_are_not_taken(self):
+        def elf(kind, machine=105, sections=0):
+            return b"\x7fELF\x01\x01" + bytes(10) + struct.pack("<HHIIIIIHHHHHH", kind, machine, 1, 0, 0, 52, 0, 52, 32, 0, 40, sections, 0)
+
+        for data, said in (
+            (elf(1), "this ELF isn't linked, so its parts have no addresses"),
+            (elf(2, 62), "an ELF for machine 62, and not for 105, MSP430"),
+            (elf(2, sections=1), "the ELF file is cut"),
+            (elf(2)[:30], "the ELF file is cut"),
+            (b"\x7fELF", "no little-endian ELF of 32 bits"),
+        ):
+            (self.room / "x.elf").write_bytes(data)
+            ran = self.hex("put", "n", "x.elf")
+            self.assertEqual((ran.returncode, ran.stdout), (122, ""))
+            self.assertIn(f"x.elf: {said}" if said[0] == "t" else said, ran.stderr)
+
+    def test_a_name_makes_no_line(self):
+        name = "a\nreset n\n.txt"
+        (self.room / name).write_text(TI_TXT)
+        self.assertEqual(self.hex("put", "n", name).stdout.splitlines()[0], r"# a\x0areset n\x0a.txt: 20 bytes")
 
     @unittest.skipUnless(CLANG, "clang for MSP430 isn't here")
     def test_elf_and_intel_hex_agree(self):

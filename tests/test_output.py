@@ -1,13 +1,28 @@
 """Output on request: without images, the schedule or the trace of an honest run, JSON, marks, and listings of
 images."""
 
+import contextlib
 import json
+import os
+import pty
+import subprocess
 import unittest
 
-from support import EXAMPLES, LIGHTING, Room, needs_program, program, sancus, one_by_one, whole_examples
+from support import (
+    EXAMPLES,
+    LIGHTING,
+    PROGRAM,
+    SANCUS,
+    Room,
+    needs_program,
+    program,
+    sancus,
+    one_by_one,
+    whole_examples,
+)
 
 from cli.program import Collected
-from cli.sinks import NoImages, ScheduleOnly, TraceOnly
+from cli.sinks import NoImages, ScheduleOnly, ShortImages, TraceOnly
 from cli.texts import Input
 
 READINGS = EXAMPLES / "readings.txt"
@@ -30,6 +45,12 @@ class Sinks(unittest.TestCase):
         for text in (b"", b"end\n", b"ima", b"image "):
             self.assertEqual(passed(NoImages, text, 1), b"" if text == b"image " else text)
 
+    def test_short_images(self):
+        for digits, shown in (("00" * 16, "00" * 16), ("8241" * 600, "8241" * 8 + ".. (1,200 bytes)")):
+            text = f"image eye {digits}\ntrace\nout eye 1\nend\n".encode()
+            for size in (1, 7, len(text)):
+                self.assertEqual(passed(ShortImages, text, size), text.replace(digits.encode(), shown.encode()))
+
     def test_schedule_and_trace(self):
         text = b"image eye 8241\n> load eye\nprotect a eye\nsteps 5\nend\n"
         for size in (1, 3, 100):
@@ -50,6 +71,25 @@ class Output(Room):
             whole, without = sancus(*words), sancus(*words, "--no-images")
             self.assertEqual(without.lines, [it for it in whole.lines if not it.startswith("image ")])
             self.assertEqual(whole.status, without.status)
+
+    def test_images_on_a_terminal(self):
+        for words, is_short in (([], True), (["--images"], False)):
+            leader, follower = pty.openpty()
+            ran = subprocess.Popen(
+                [SANCUS, "run", *words, EXAMPLES / "lighting.txt"],
+                stdout=follower,
+                env={**os.environ, "SANCUS_PROGRAM": PROGRAM},
+            )
+            os.close(follower)
+            out = b""
+            with contextlib.suppress(OSError):
+                while not out.endswith(b"end\r\n"):
+                    out += os.read(leader, 65536)
+            self.assertEqual(ran.wait(), 0)
+            os.close(leader)
+            line = out.partition(b"\r\n")[0]
+            self.assertEqual(line.endswith(b".. (2,432 bytes)"), is_short)
+            self.assertEqual(len(line), len("image eye ") + (32 + 16 if is_short else 2 * 2432))
 
     def test_an_honest_run_as_a_schedule(self):
         schedule = sancus("drive", READINGS, "--schedule")
@@ -77,15 +117,30 @@ class Output(Room):
             ],
         )
 
+    def test_marks_hold_no_keys(self):
+        """The deployment, with its keys, is printed on demand alone, and what a comment holds moves no cursor."""
+        text = LIGHTING + b"# \x1b]0;owned\x07 \xc2\x9b caf\xc3\xa9\n"
+        ran = sancus("marks", self.file("x", text), "--no-images")
+        self.assertEqual((ran.status, ran.lines[:2]), (0, ["trace", f"> {Input(LIGHTING).schedule[0].decode()}"]))
+        self.assertNotIn(b"secret", ran.out)
+        self.assertIn("> # \\x1b]0;owned\\x07 \\x9b caf\u00e9\n", ran.out.decode())
+        whole = sancus("marks", self.file("x", text), "--no-images", "--input")
+        self.assertEqual(whole.out, text.partition(b"%%\n")[0] + b"%%\n" + ran.out)
+
+    def test_marks_up_to_a_line_that_can_not_be_done(self):
+        lines = self.file("p", "deploy eye\nsample ear 3\nreset a\n")
+        ran = sancus("marks", EXAMPLES / "lighting.txt", lines, "--no-images")
+        self.assertEqual((ran.status, ran.lines[:3]), (122, ["trace", f"> #= {lines}:1 deploy eye", "> load eye"]))
+        self.assertEqual(ran.lines[-1], "done eye 1 0")
+        self.says(ran, f"{lines}:2: sample ear 3: there is no module ear")
+
     def test_marks_of_examples(self):
         files = [it for it in whole_examples() if b"`./sancus drive`" not in it.read_bytes()[:400]]
         for file, ran in zip(files, one_by_one(lambda it: sancus("marks", it), files)):
             with self.subTest(file.name):
                 wanted = program("run", text=file.read_bytes())
-                after = b"\n".join(
-                    it for it in (b"\n" + ran.out).partition(b"\n%%\n")[2].split(b"\n") if not it.startswith(b"> ")
-                )
-                self.assertEqual((after, ran.status), (wanted.out, wanted.status))
+                items = b"\n".join(it for it in ran.out.split(b"\n") if not it.startswith(b"> "))
+                self.assertEqual((items, ran.status), (wanted.out, wanted.status))
 
     def test_marks_of_faults(self):
         ran = sancus("marks", text=LIGHTING + b"\n# x\nload ear\n")
@@ -122,6 +177,11 @@ class Json(Room):
             ("up", 0, 0, 0, 120, 42),
         )
         self.assertEqual(len(self.objects("run", "--no-images", EXAMPLES / "lighting.txt")), 44)
+
+    def test_lines_for_people(self):
+        easy = self.file("easy.txt", "deploy all\nsample eye 120\n")
+        made = self.objects("run", EXAMPLES / "lighting.txt", easy)
+        self.assertEqual([it["text"] for it in made[-4:-1]], ["sense light 120", "read eye 120", "done eye 1 1"])
 
     def test_items_are_those_of_run(self):
         for file in (

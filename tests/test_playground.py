@@ -1,11 +1,40 @@
-"""playground.html is what its parts give: the viewer, tools/playground, tools/wasm, the examples and release/sancus.wasm."""
+"""playground.html is what its parts give: the viewer, tools/playground, tools/wasm, the examples and release/sancus.wasm. What it makes
+of lines for people is what `sancus schedule` makes of them."""
 
+import json
+import shutil
 import subprocess
 import sys
 import unittest
-from pathlib import Path
 
-TOP = Path(__file__).resolve().parent.parent
+from support import EXAMPLES, HEAD, TOP, needs_program, sancus
+
+NODE = shutil.which("node") or shutil.which("nodejs")
+PARKING = (EXAMPLES / "parking" / "parking.toml").read_bytes()
+# The worker of the page, under node: a text for people comes in, and what it becomes goes out.
+MADE = """
+const {readFileSync} = require("fs");
+const module = new WebAssembly.Module(readFileSync(process.argv[1]));
+console.log(JSON.stringify(new Session(module, readFileSync(0, "utf8")).result()));
+"""
+DAY = """
+deploy all
+sample eye 120
+carry eye logic
+carry logic lamp
+give event.eye.logic a
+call logic 2
+take a 16 as heard
+forge 00ff as made
+give made b
+windows 0x320 0x480
+reset b
+deploy lamp
+sample eye 3
+carry eye logic up
+carry logic lamp 0
+asm a 0x800 mov #1, r5; jmp 0x800
+"""
 
 
 class Playground(unittest.TestCase):
@@ -14,6 +43,46 @@ class Playground(unittest.TestCase):
         make = TOP / "tools" / "playground" / "make.py"
         ran = subprocess.run([sys.executable, make, "--check"], capture_output=True, text=True)
         self.assertEqual((ran.returncode, ran.stderr), (0, ""))
+
+
+@needs_program
+@unittest.skipUnless(NODE, "there is no node")
+class People(unittest.TestCase):
+    @classmethod
+    def setUpClass(cls):
+        make = TOP / "tools" / "playground" / "make.py"
+        code = "import runpy, sys; sys.stdout.write(runpy.run_path(sys.argv[1])['worker']())"
+        cls.worker = subprocess.run([sys.executable, "-c", code, make], capture_output=True, text=True, check=True).stdout
+
+    def made(self, text):
+        script = f"let onmessage;\n{self.worker}\n{MADE}"
+        wasm = TOP / "release" / "sancus.wasm"
+        ran = subprocess.run([NODE, "-e", script, wasm], input=text, capture_output=True)
+        self.assertEqual((ran.returncode, ran.stderr), (0, b""))
+        return json.loads(ran.stdout)
+
+    def test_a_schedule(self):
+        without_marks = lambda text: [it for it in text.splitlines() if not it.startswith("#=")]
+        for text in (HEAD + b"%%\n" + DAY.encode(), PARKING + b"%%\n" + (EXAMPLES / "parking" / "day.people").read_bytes()):
+            made, wanted = self.made(text), sancus("schedule", "-", text=text)
+            self.assertIsNone(made["wrong"])
+            self.assertEqual(wanted.status, 0, wanted.said)
+            self.assertEqual(without_marks(made["parts"][0]), without_marks(wanted.out.decode()))
+
+    def test_mistakes(self):
+        for lines, line, words in (
+            ("deploy eye\nsample eye 1\ncarry eye logic", 3, "logic isn't loaded on a yet: `deploy logic` first"),
+            ("deploy all\nsample ey 1", 2, "there is no module ey; did you mean `eye`?"),
+            ("deploy all\ncarry eye lamp", 2, "no connection leads from eye to lamp; eye sends to: logic"),
+            # (logic answers into the window that had the event)
+            ("deploy all\nsample eye 5\ncarry eye logic\ncarry eye logic", 4, "any more"),
+            ("deploy all\nsample 1", 2, "`sample` has too many words or too few: sample MODULE VALUE"),
+        ):
+            text = HEAD + b"%%\n" + lines.encode() + b"\n"
+            wrong = self.made(text)["wrong"]
+            self.assertEqual(wrong["line"], HEAD.count(b"\n") + 1 + line)
+            self.assertIn(words, wrong["words"])
+            self.assertIn(words, sancus("schedule", "-", text=text).said)
 
 
 if __name__ == "__main__":

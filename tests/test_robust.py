@@ -77,6 +77,14 @@ class Files(Room):
                     self.assertEqual(len(ran.said.splitlines()), 1)
                 self.assertNotEqual((ran.status, ran.said), (0, ""), "nothing is said")
 
+    def test_what_is_said_is_short(self):
+        """Of a long line its beginning is shown."""
+        zeros = self.file("zeros", b"\0" * 100_000)
+        for words in (["asm", "0", zeros], ["schedule", EXAMPLES / "lighting.txt", zeros], ["run", zeros]):
+            said = sancus(*words, program=PROGRAM or self.fake("fault asm A1 1", 10)).said
+            self.assertTrue(said)
+            self.assertLess(max(map(len, said.splitlines())), 400, words)
+
     def test_full_disk(self):
         for words in (["run", "examples/lighting.txt"], ["help"], ["version"], ["help", "--man"]):
             with open("/dev/full", "wb") as full:

@@ -1,8 +1,11 @@
 """`sancus schedule`: lines for people, done by the program as they are written."""
 
 import unittest
+from unittest.mock import patch
 
-from support import HEAD, LIGHTING, Room, needs_program, program, sancus, one_by_one
+from support import HEAD, LIGHTING, TOP, Room, needs_program, program, sancus, one_by_one
+
+from cli import people, schedule, session
 
 DEPLOYMENT = HEAD.decode() + "%%\n"
 READING = "deploy all\nsample eye 120\ncarry eye logic\ncarry logic lamp\n"
@@ -38,6 +41,36 @@ data = 0x2000
 source = "input i; input j; var x; on i(v) { x = v; } on j(v) { x = v; }"
 %%
 """
+# An event goes straight to end, and another through mid, which is on the sender's node and so writes to the same window.
+CHAIN = """secret = "000102030405060708090a0b0c0d0e0f"
+node = [ { name = "a", key = "101112131415161718191a1b1c1d1e1f" }, { name = "b", key = "202122232425262728292a2b2c2d2e2f" } ]
+device = [ { name = "light", node = "a", kind = "sensor", at = 0x1000 } ]
+connection = [ { name = "straight", from = "eye.o", to = "end.i" }, { name = "to_mid", from = "eye.o", to = "mid.i" },
+               { name = "on", from = "mid.o", to = "end.j" }, { name = "back", from = "end.o", to = "mid.j" } ]
+[[module]]
+name = "eye"
+node = "a"
+provider = 7
+text = 0x4000
+device = "light"
+source = "sensor; output o; sample(v) { send o(v); send o(v + 1); }"
+[[module]]
+name = "mid"
+node = "a"
+provider = 8
+text = 0x6000
+data = 0x2000
+source = "input i; input j; output o; on i(v) { send o(v); } on j(v) { if v < 3 { send o(v + 1); } }"
+[[module]]
+name = "end"
+node = "b"
+provider = 9
+text = 0x6000
+data = 0x2000
+source = "input i; input j; output o; on i(v) {} on j(v) { send o(v); }"
+%%
+"""
+FIRST = FAN_OUT.count("\n") + 2
 
 
 def written(lines, *words, deployment=DEPLOYMENT):
@@ -157,12 +190,17 @@ class Schedule(Room):
         ("sample eye 1\ncarry eye agg 0", "piece 0 is for vio, by to_vio, and not for agg"),
         ("sample eye 1\ncarry eye agg 3", "there is no piece 3: the last call wrote 3"),
         ("sample eye 1\ncarry eye agg other", "no connection other leads from eye to agg: to_agg again"),
-        ("reset a\nsample eye 1", "eye isn't loaded on a any more: a was reset 1 times, and `deploy eye` renews it"),
+        ("reset a\nsample eye 1", "eye isn't loaded on a any more: a was reset once, and `deploy eye` renews it"),
         ("sample eye 1\nreset a\ncarry eye agg", "eye wasn't called since it was loaded"),
         (
             f"sample eye 1\nput a 0x400 {'00' * 72}\ncarry eye agg",
-            "no event of eye is in its window any more, since another call or line on a wrote there: `carry eye agg` before",
+            f"no event for agg is in the window of eye any more: the `put` at line {FIRST + 1} wrote over what it sent; `carry eye agg` before",
         ),
+        ("deploy a", "there is no module a: a is a node, with the modules eye vio"),
+        ("sample spot 3", "there is no module spot: spot is a device, and eye drives it"),
+        ("flow spott 3", "there is no sensor spott, and no module of this name; did you mean `spot`?"),
+        ("give event.vio.agg b", "there is no event.vio.agg yet: no event was carried from vio to agg"),
+        ("flow agg 3", "agg drives no sensor"),
         ("load ear", "S4: a field is no name"),
         ("fly", "S3: its first word is no act"),
         ("cary eye agg", "lines for people: deploy sample carry"),
@@ -180,8 +218,81 @@ class Schedule(Room):
         for (lines, words), ran in zip(self.MISTAKES, one_by_one(tried, self.MISTAKES)):
             with self.subTest(lines):
                 self.assertEqual((ran.status, ran.out), (122, b""), ran.said)
-                self.assertIn(f"line {FAN_OUT.count(chr(10)) + 2 + lines.count(chr(10))}: ", ran.said)
+                self.assertIn(f"line {FIRST + lines.count(chr(10))}: ", ran.said)
                 self.assertIn(words, ran.said)
+
+    def test_what_was_written_over(self):
+        for last, words in (
+            ("carry eye end", f"mid's call at line {CHAIN.count(chr(10)) + 3} wrote over what it sent"),
+            ("carry eye end 0", f"piece 0 isn't there any more: mid's call at line {CHAIN.count(chr(10)) + 3} wrote"),
+        ):
+            ran = written(f"deploy all\nsample eye 7\ncarry eye mid\ncarry eye end\n{last}\n", deployment=CHAIN)
+            self.assertEqual(ran.status, 122, ran.said)
+            self.says(ran, words)
+
+    def test_flow_as_drive(self):
+        """The events that follow a reading come as `drive` brings them, by the sensor's name or its driver's."""
+        driven = program("drive", text=CHAIN + "light 1\nlight 0\n").out.decode()
+        items = [it for it in driven.partition("> sense")[2].splitlines() if it[:1] not in ("", ">", " ")]
+        wanted = [it for it in items if not it.startswith(("packet", "steps", "end"))]
+        self.assertIn("take end on 0 1", wanted)
+        ran = written("deploy all\nflow light 1\nflow eye 0\n", deployment=CHAIN)
+        made = trace(ran.out)[trace(ran.out).index("sense light 1") :]
+        self.assertEqual([it for it in made if not it.startswith(("packet", "end"))], wanted)
+
+    def test_settle(self):
+        lines = "deploy all\nsample eye 7\ncarry eye mid\nsettle\nsettle\n"
+        ran = written(lines, deployment=CHAIN)
+        self.assertEqual(ran.status, 0, ran.said)
+        taken = [it for it in trace(ran.out) if it.startswith("take")]
+        after_mid = ["take mid to_mid 0 7", "take end straight 1 8", "take mid to_mid 1 8", "take end on 0 7"]
+        self.assertEqual(taken[:4], after_mid)
+        self.says(ran, "1 of the 4 events of eye aren't there any more: mid's call", "settle: nothing is on its way")
+
+    def test_what_is_gone_is_passed_over(self):
+        ran = written("deploy all\nreset b\nflow light 1\n", deployment=CHAIN)
+        self.assertEqual(ran.status, 0, ran.said)
+        self.says(ran, "the event of eye isn't delivered: end isn't loaded on b any more: b was reset once")
+        self.assertIn("take mid to_mid 1 2", trace(ran.out))
+        restless = CHAIN.replace("v < 3", "1")
+        with patch.object(schedule, "MOST_CARRIED", 20):
+            self.says(written("deploy all\nflow light 1\n", deployment=restless), "doesn't come to rest")
+
+    def test_an_event_is_carried_once(self):
+        """Also a second event, over the one end that is open."""
+        reading = "sample eye 120\ncarry eye logic\n"
+        lines = f"deploy all\n{reading}windows 0x300 0x400\n{reading}carry eye logic\n"
+        lines = lines.replace("120\ncarry", "120\nwindows 0x300 0x600\ncarry")
+        self.says(written(lines), "what eye sent to logic at its last call was carried")
+
+    def test_names_of_files(self):
+        """Each mark is one line, and its place one word, whatever the file's name is."""
+        head = self.file("d.toml", HEAD)
+        for name in ("a b.txt", "x\nreset a\n.txt", "\x1b]0;owned\x07.txt", "n" * 250):
+            lines = self.file(name, READING + f"asm a 0x800 mov #1, r5 // {'x' * 4000}\n")
+            out = sancus("schedule", "--lines", head, lines).out
+            self.assertEqual(acts("%%\n" + out.decode())[:-1], acts(LIGHTING.decode()))
+            self.assertLessEqual(max(map(len, out.split(b"\n"))), 4096)
+            self.assertNotIn(b"\x1b", out)
+            made = self.file("made.txt", out)
+            for given in (made, lines):
+                ran = sancus("vars", head, given, "lamp", f"{name}:4")
+                self.assertEqual(ran.status, 0, ran.said)
+                self.assertTrue(ran.lines[0].endswith(":4: carry logic lamp"), ran.lines[0])
+                self.assertNotIn(b"\x1b", ran.out)
+
+    def test_as_many_lines_as_a_run_takes(self):
+        """Neither marks in the schedule nor those between lines that are done one by one count: what a run takes can be
+        made of lines for people."""
+        lines = READING + "set a r5 1\n" * 30
+        most = len(acts(LIGHTING.decode())) + 30
+        whole = written(lines, "--lines")
+        with patch.object(people, "MOST_LINES", most), patch.object(session, "MOST_LINES", most):
+            ran = written(lines, "--lines")
+        self.assertEqual(ran.status, 0, ran.said)
+        self.assertEqual(ran.lines, [it for it in whole.lines if not it.startswith("#= ")])
+        self.assertEqual(len(ran.lines), most)
+        self.says(ran, "the comments `#= FILE:LINE ..` are left out: with them there are more than ")
 
     def test_notes_stand_before_a_fault(self):
         ran = written("deploy all\nwindows 0x1000 0x400\nsample eye 1\ncarry eye agg\n", deployment=FAN_OUT)
@@ -200,6 +311,70 @@ class Schedule(Room):
         ran = sancus("schedule", text="node = 3\n%%\ndeploy all\n")
         self.assertEqual((ran.status, ran.out), (122, b""))
         self.says(ran, "fault deployment D4 top", "`node` must be an array of tables")
+
+
+@needs_program
+class Names(Room):
+    """A file's name, or a comment, makes no line and moves no cursor."""
+
+    def test_names(self):
+        folder = self.room / "x\nreset a\n\x1b[2J"
+        folder.mkdir()
+        easy = folder / "easy.txt"
+        easy.write_text(READING)
+        ran = sancus("schedule", "--lines", self.file("d.toml", HEAD), easy)
+        self.assertEqual((ran.status, acts("%%\n" + ran.out.decode())), (0, acts(LIGHTING.decode())))
+        self.assertIn(f"#= {self.room}/x\\x0areset\\x20a\\x0a\\x1b[2J/easy.txt:3 carry eye logic\n", ran.out.decode())
+
+    def test_comments(self):
+        text = self.file("x", b"# \x1b]0;owned\x07\n")
+        for words in (("vars", self.file("d.toml", HEAD), text, "eye", "1"), ("steps", self.room / "d.toml", text, "1")):
+            self.assertEqual(sancus(*words).lines[0], r"line 1: # \x1b]0;owned\x07")
+
+
+@needs_program
+class Run(Room):
+    """Lines for people in a run: their items come as they are done."""
+
+    def setUp(self):
+        super().setUp()
+        self.head, self.easy = self.file("d.toml", HEAD), self.file("easy.txt", READING)
+        self.wanted = program("run", text=LIGHTING).out
+
+    def test_files_and_pipes(self):
+        whole = self.file("whole.txt", DEPLOYMENT + READING)
+        more = self.file("more.txt", READING.partition("carry")[0])
+        rest = self.file("rest.txt", "carry eye logic\ncarry logic lamp\n")
+        for words, text in (
+            ([self.head, self.easy], ""),
+            ([self.head, more, rest], ""),
+            ([self.head, "-"], READING),
+            ([whole], ""),
+        ):
+            ran = sancus("run", *words, text=text)
+            self.assertEqual((ran.status, ran.out, ran.said), (0, self.wanted, ""))
+
+    def test_a_line_that_can_not_be_done(self):
+        for line, words in (("carry eye lamp", "no connection leads from eye to lamp"), ("load ear", "S4: a field")):
+            file = self.file("bad.txt", f"reset a\ndeploy eye\n{line}\nreset b\n")
+            ran = sancus("run", self.head, file, "--no-images")
+            self.assertEqual((ran.status, ran.lines[:2]), (122, ["trace", "reset a asked"]))
+            self.assertEqual(ran.lines[-1], "done eye 1 0")
+            self.says(ran, f"{file}:3: {line}", words)
+
+    def test_notes_and_faults(self):
+        again = self.file("again.txt", READING + "give event.eye.logic a\ncall logic 2\nsample eye 3\n")
+        ran = sancus("run", self.head, again)
+        self.assertEqual((ran.status, ran.out[: len(self.wanted) - 4]), (0, self.wanted[:-4]))
+        self.assertIn("done logic 6 0", ran.lines)
+        ran = sancus("run", self.file("bad.toml", "node = 3\n"), self.easy)
+        self.assertEqual((ran.status, ran.lines), (1, ["fault deployment D4 top"]))
+        self.says(ran, "`node` must be an array of tables")
+
+    def test_a_forged_tag_is_told(self):
+        text = (TOP / "examples" / "forged.txt").read_text().replace("load left", "windows 0x500 0x600\nload left", 1)
+        ran = sancus("run", self.file("f.txt", text))
+        self.says(ran, "item 8, `forged deployer`", "left hadn't made, in packet 1")
 
 
 if __name__ == "__main__":

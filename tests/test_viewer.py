@@ -330,6 +330,20 @@ class Viewer(unittest.TestCase):
         self.show({"input": b"node = [\n%%\nload eye\n", "output": b"trace\nprotect a eye\nend\n"})
         self.assertIn("The deployment isn't read", self.texts("#notes div.bad")[0])
 
+    def test_files_that_are_opened(self):
+        """A deployment, a schedule and an output, in any order."""
+        lines, items = readings(1)
+        schedule, output = "\n".join(lines) + "\n", "trace\n" + "\n".join(items) + "\nend\n"
+        self.show({})
+        self.browser.value(f"page.open({json.dumps([DEPLOYMENT.partition('%%')[0]])})")
+        self.assertIn("This is a part of a run", self.texts("#notes div")[0])
+        self.browser.value(f"page.open({json.dumps([output])})")
+        self.assertEqual(self.texts("#notes div"), [])
+        self.assertIn("▣ logic", self.texts("#heads text"))
+        self.browser.value(f"page.open({json.dumps([schedule])})")
+        self.assertEqual(self.texts("#notes div"), [])
+        self.assertEqual(self.texts(".row .cell")[-1], "10done lamp 1 0")
+
     def test_hostile_texts_stay_texts(self):
         text = '# </script><img src=x onerror="window.bad=1">'
         self.show(run_of([text, *readings(1)[0]], readings(1)[1]))
@@ -358,7 +372,7 @@ class Viewer(unittest.TestCase):
                 split = "page.run.rows.filter(row => row.kind === 'act').map(row => [row.line.text.trim(), row.line.isUnsure ? null : row.line.items.map(item => item.text)])"
                 self.show({"input": text, "output": plain})
                 found = self.browser.value(split)
-                self.show({"input": text, "output": (b"\n" + lines).partition(b"\n%%\n")[2]})
+                self.show({"input": text, "output": lines})
                 self.browser.shoot(file.stem)
                 exact = self.browser.value(split)
                 self.assertEqual(len(found), len(exact))
@@ -419,15 +433,14 @@ class Viewer(unittest.TestCase):
         self.assertEqual(self.texts("#notes div"), [])
         shown = self.browser.value("page.run.shown[page.at].line.text")
         self.assertTrue(shown.startswith("sense "), shown)
+        self.assertEqual(self.browser.value("byId('scroll').scrollWidth - byId('scroll').clientWidth"), 0)
         self.browser.press("f")
-        self.browser.shoot("parking-fitted")
-        room = "byId('scroll').clientWidth - document.querySelector('.corner').offsetWidth"
-        self.assertLessEqual(self.browser.value("page.picture.columns.list.at(-1).x"), self.browser.value(room))
-        self.browser.press("f")
+        self.browser.shoot("parking-full")
         self.assertEqual(self.browser.value("page.look.scale"), 1)
 
     def test_columns_are_hidden_and_moved(self):
         self.show(run_of(*readings(2)))
+        self.browser.press("f")
         wide, rows = (self.browser.value(it) for it in ("page.picture.columns.width", "page.run.shown.length"))
         self.browser.value(
             "document.querySelector('[data-id=\"module eye\"]').dispatchEvent(new MouseEvent('dblclick', {bubbles: true}))"
@@ -462,10 +475,67 @@ class Viewer(unittest.TestCase):
             *first[10:],
         ]
         self.show(run_of(lines, items))
-        self.assertEqual(self.browser.value("page.run.groups.map(it => it.title)"), ["--- 1. a reading"])
-        self.show(run_of(lines[1:], items))
+        made = ["sample eye 0", "carry eye logic", "sample eye 37"]
         titles = self.browser.value("page.run.groups.map(it => it.title)")
-        self.assertEqual(titles, ["sample eye 0", "carry eye logic", "sample eye 37"])
+        self.assertEqual(titles, ["--- 1. a reading", *made])
+        self.show(run_of(lines[1:], items))
+        self.assertEqual(self.browser.value("page.run.groups.map(it => it.title)"), made)
+
+    @needs_program
+    def test_the_set_up_after_a_comment_is_folded(self):
+        """As `sancus schedule` writes it for `# my day`, `deploy all` and a reading."""
+        set_up, reading = (it.splitlines() for it in LIGHTING.partition("%%\n")[2].split("sense light", 1))
+        acts = [it for it in set_up if not it.startswith("#")]
+        lines = ["# my day", "#= x:2 deploy all", *acts, "#= x:3 sample eye 120", f"sense light{reading[0]}", *reading[1:]]
+        self.show(of_run(context(), Input((DEPLOYMENT + "\n".join(lines) + "\n").encode())).texts)
+        self.assertEqual(self.browser.value("page.run.groups.slice(0, 3).map(it => [it.title, it.isFolded])"),
+                         [["my day", False], ["deploy all", True], ["sample eye 120", False]])
+        self.assertEqual(self.browser.value("page.run.shown[page.at].text"), "sample eye 120  (x:3)")
+
+    def test_acts_of_an_attacker(self):
+        lines, items = readings(1)
+        # the event for logic is given twice, and that for lamp never
+        lines = [*lines[:5], "give 0 a 0x300", "call logic 2 0x300 0x400", "asm b 0x800 mov #9, &0x1000", "run b 1"]
+        lines.append("take a 0x400 24")
+        items = [*items[:6], "done logic 6 0", "raw bulb 9", "packet 1 24"]
+        self.show(run_of(lines, items))
+        self.browser.shoot("attacker")
+        drawn = self.texts("svg.drawing text")
+        for text in ("#0", "#0 again", "#1 · never given", "RAW bulb 9"):
+            self.assertIn(text, drawn)
+        self.assertEqual(self.texts(".is-attack:not(.legend *)"), ["give 0 a 0x300", "asm b 0x800 mov #9, &0x1000", "run b 1"])
+        self.assertEqual(self.texts(".row.raw .text"), ["raw bulb 9"])
+        self.assertEqual(self.texts("#about"), ["9 items · 0 out · 0 reset · 1 raw"])
+        self.browser.press("End")
+        self.assertIn("It is never given.", self.texts("#more")[0])
+
+    @needs_program
+    def test_the_variables_of_a_row(self):
+        """What the strip says of a module's variables is what `sancus vars` reads from its memory."""
+        parking = EXAMPLES / "parking"
+        names = ("parking.toml", "set-up.schedule", "renewal.schedule")
+        text = b"".join((parking / it).read_bytes() for it in names)
+        (self.room / "renewal.txt").write_bytes(text)
+        self.show(of_run(context(), Input(text)).texts)
+        count = len(Input(text).schedule)
+        for module in ("p1", "vio", "agg"):
+            for line in range(85, count, 25):
+                read = sancus("vars", self.room / "renewal.txt", module, str(line)).lines
+                cells = [it.split(" ", 1)[1].split(" = ") for it in read if it.startswith(("var ", "array "))]
+                index = f"page.run.rows.findLast(it => it.line?.number <= {line} && it.kind !== 'note').index"
+                shown = self.browser.value(f"[...page.run.values.after({json.dumps(module)}, {index}) ?? []]")
+                self.assertEqual([[name, value.strip("[]")] for name, value in shown], cells, (module, line))
+        self.browser.value("page.go(page.run.rows.find(it => it.item?.text.startsWith('take vio p1_vio')))")
+        self.browser.shoot("variables")
+        self.assertRegex(self.texts("#more")[0], r"Variables of vio: limit = 120, .*occupied = \[1 0\] \(was \[0 0\]\)")
+
+    def test_no_other_script_runs(self):
+        self.show(run_of(*readings(1)))
+        self.browser.value(
+            "document.body.append(Object.assign(document.createElement('script'), {textContent: 'window.bad = 1'}))"
+        )
+        self.browser.value("document.body.setAttribute('onclick', 'window.bad = 2'); document.body.click()")
+        self.assertIsNone(self.browser.value("window.bad"))
 
     def test_picture_as_a_file(self):
         self.show(run_of(*readings(2)) | {"causes": b"because 9 8\nlegal\n"}, "#item=9")
@@ -483,6 +553,7 @@ class Viewer(unittest.TestCase):
         self.assertEqual(len(self.texts(".row.group")), 3)
 
 
+VALUED = ("toml", "texts", "language", "plan", "match", "values", "rows", "words")
 NODE = shutil.which("node") or shutil.which("nodejs")
 FORGED = """
 const run = new Run(JSON.parse(require("fs").readFileSync(0)));
@@ -497,7 +568,7 @@ class Words(unittest.TestCase):
 
     def said(self, texts):
         folder = TOP / "cli" / "viewer"
-        scripts = [(folder / f"{it}.js").read_text() for it in ("texts", "toml", "plan", "match", "rows", "words")]
+        scripts = [(folder / f"{it}.js").read_text() for it in VALUED]
         words = "const WORDS = " + (TOP / "cli" / "faults.json").read_text() + ";"
         ran = subprocess.run(
             [NODE, "-e", "\n".join([words, *scripts, FORGED])], input=json.dumps(texts), capture_output=True, text=True
@@ -597,6 +668,49 @@ class Page(Room):
         self.assertIn("> load eye\nprotect a eye\n", self.held(page, "output"))
 
     @needs_program
+    def test_names_of_pages(self):
+        """Two schedules of one deployment have two pages, each with its title."""
+        head, folder = self.file("d.toml", Input(LIGHTING_BYTES).head), self.room / "days"
+        folder.mkdir()
+        one, other = self.file("one.txt", b"load eye\n"), self.file("days/other.txt", b"load lamp\n")
+        whole = self.file("whole.txt", LIGHTING_BYTES)
+        for files, name, title in (
+            ((head, one), "d.one.html", "one.txt, d.toml"),
+            ((head, one, other), "days/d.other.html", "other.txt, d.toml"),
+            ((whole,), "whole.html", "whole.txt"),
+        ):
+            ran = sancus("view", *files)
+            self.assertEqual((ran.status, ran.out), (0, f"{self.room / name}\n".encode()), ran.said)
+            held = base64.b64encode(title.encode()).decode()
+            self.assertIn(f"\nname {held}</script>", (self.room / name).read_text())
+
+    @needs_program
+    def test_nothing_is_overwritten(self):
+        head, plain = self.file("d.toml", Input(LIGHTING_BYTES).head), self.file("s.txt", b"load eye\n")
+        link = self.room / "link"
+        link.symlink_to(head)
+        for files, page in (((head, plain), head), ((head, plain), plain), ((head, plain), link)):
+            for force in ((), ("--force",)):
+                ran = sancus("view", *files, "--page", page, *force)
+                self.assertEqual((ran.status, ran.out), (121, b""))
+                self.says(ran, "is an input, and isn't written over")
+        page = self.file("s.html", LIGHTING_BYTES)
+        self.says(sancus("view", page), "is an input")
+        self.assertEqual(page.read_bytes(), LIGHTING_BYTES)
+        for text in (b"important\n", b"<!doctype html>\n<p>mine"):
+            mine = self.file("d.s.html", text)
+            for words in ((head, plain), ("--empty", "--page", mine)):
+                ran = sancus("view", *words)
+                self.assertEqual((ran.status, ran.out, mine.read_bytes()), (121, b"", text))
+                self.says(ran, "d.s.html is there, and is no page of `view`: --force writes over it")
+        self.assertEqual(sancus("view", head, plain, "--force").status, 0)
+        # an earlier page is written over, and an empty file has nothing to lose
+        self.assertEqual(sancus("view", head, plain).status, 0)
+        mine.write_bytes(b"")
+        self.assertEqual(sancus("view", head, plain).status, 0)
+        self.assertIn("load eye", self.held(mine, "output"))
+
+    @needs_program
     def test_misuse(self):
         page = self.room / "p.html"
         for text, words in (
@@ -609,15 +723,16 @@ class Page(Room):
             self.says(ran, words)
             self.assertFalse(page.exists())
         ran = sancus("view", self.file("x", LIGHTING_BYTES + b"load ear\n"), "--page", page)
-        self.assertEqual(ran.status, 0)
+        self.assertEqual((ran.status, ran.out), (3, f"{page}\n".encode()))
         self.says(ran, "S4", "what came before is drawn")
         out = self.file("out", b"trace\nend\n")
         ran = sancus("view", EXAMPLES / "lighting.txt", out, out, out, "--page", page)
         self.assertEqual(ran.status, 2)
         self.says(ran, "takes only what `explain` wrote of it")
-        ran = sancus("view", EXAMPLES / "lighting.txt", self.file("p", b"deploy ear\n"), "--page", page)
-        self.assertEqual(ran.status, 122)
-        self.says(ran, "there is no module ear")
+        ran = sancus("view", EXAMPLES / "lighting.txt", self.file("p", b"deploy eye\ndeploy ear\n"), "--page", page)
+        self.assertEqual((ran.status, ran.out), (122, f"{page}\n".encode()))
+        self.says(ran, "there is no module ear", "what came before is drawn")
+        self.assertIn("attested eye 0\n", self.held(page, "output"))
         ran = sancus("view", EXAMPLES / "lighting.txt", "--page", self.room / "no" / "p.html")
         self.assertEqual(ran.status, 121)
 

@@ -19,7 +19,9 @@ function html(name, className, text) {
 }
 
 // How wide a hidden column is, and how narrow the others may get.
-const HIDDEN = 13, LEAST_SCALE = 0.4;
+const HIDDEN = 13, LEAST_SCALE = 0.25;
+// Below this scale the heads stand in two rows, and so high are one and two.
+const TWO_ROWS_FROM = 0.75, ONE_ROW = 44, TWO_ROWS = 60;
 
 // The columns from left to right. A look says how wide they are (scale), which are hidden, and their order in each node.
 class Columns {
@@ -146,24 +148,25 @@ class Picture {
       this.text(column.x, y, `▣ ${name}`, "middle bold event");
     },
     reset([, node, cause], y, {row}) {
+      const className = cause === "asked" ? "attack" : "trouble";
       const box = this.columns.boxes.find(it => it.node === node);
       let path = `M${box.from + 2} ${y}`;
       for (let x = box.from + 8, k = 0; x < box.to; x += 6, k++) path += `L${x} ${y + (k % 2 ? 5 : -5)}`;
-      this.into.append(svg("path", {d: path, class: "zigzag"}));
+      this.into.append(svg("path", {d: path, class: `zigzag ${className}`}));
       this.text(
-          (box.from + box.to) / 2, y, `RESET: ${cause} · now boot ${row.boot}`, "middle bold over trouble");
+          (box.from + box.to) / 2, y, `RESET: ${cause} · now boot ${row.boot}`, `middle bold over ${className}`);
     },
     ask([, module], y) { this.text(this.deployer.x, y, `asks ${module}`); },
-    packet([, number, length], y, {line}) {
-      const text = `#${number} · ${length} B`;
+    packet([, number, length], y, {line, row}) {
+      const text = row.isLost ? `#${number} · never given` : `#${number} · ${length} B`, lost = row.isLost ? "attack" : "";
       if (line.kind === "take")
-        this.arrow(this.memory(line.words[1]), this.network, y, "", text);
+        this.arrow(this.memory(line.words[1]), this.network, y, lost, text, lost);
       else if (line.kind === "forge")
-        this.text(this.network.x, y, `✎ ${text}`, "middle bold trouble");
+        this.text(this.network.x, y, `✎ ${text}`, "middle bold attack");
       else if (line.kind === "all")
         this.text(this.network.x, y, text);
       else
-        this.arrow(this.deployer, this.network, y, "", text);
+        this.arrow(this.deployer, this.network, y, lost, text, lost);
     },
     vouch([, module, challenge], y) { this.beside(this.module(module), y, `vouches ✓ ${challenge}`, "dim"); },
     attested(
@@ -206,10 +209,10 @@ class Picture {
       this.beside(device, y, value, "bold out");
     },
     raw([, device, value], y, {isTrouble}) {
-      this.arrow(
-          this.memory(this.plan.devices.get(device).node), this.device(device), y, isTrouble ? "wild" : "",
-          isTrouble ? "raw" : "", "trouble");
-      this.beside(this.device(device), y, value, isTrouble ? "bold trouble" : "bold");
+      const memory = this.memory(this.plan.devices.get(device).node);
+      if (isTrouble) return this.pastDriver(memory, this.device(device), y, `RAW ${device} ${value}`);
+      this.arrow(memory, this.device(device), y, "", "");
+      this.beside(this.device(device), y, value, "bold");
     },
     done([, module, status, pieces], y, {isTrouble}) {
       const text = isTrouble ? `✗ ${status}: ${STATUSES[status]?.[0] ?? "?"}` :
@@ -233,6 +236,14 @@ class Picture {
         [, node], y) { this.beside(this.memory(node), y, "✗ still runs after 1,000,000 steps", "trouble"); },
   };
 
+  // An actuator that is written past its driver: a whole bar, with what is written in it.
+  pastDriver(memory, device, y, text) {
+    const [from, to] = [memory.x, device.x].sort((one, other) => one - other), half = text.length * 3.8 + 8;
+    const [left, right] = [Math.min(from, to - half), Math.max(to, from + half)];
+    this.into.append(svg("rect", {x: left - 6, y: y - 10, width: right - left + 12, height: 20, rx: 4, class: "raw"}));
+    this.text((left + right) / 2, y, text, "middle bold raw");
+  }
+
   octagon(x, y) {
     this.into.append(
         svg("path", {d: `M${x - 2.5} ${y - 6}h5l3.5 3.5v5l-3.5 3.5h-5l-3.5 -3.5v-5z`, class: "fill-forged"}));
@@ -252,27 +263,34 @@ class Picture {
   act(row, y) {
     if (row.item) return this.item(row, y);
     const {kind, words} = row.line;
-    const mark = (column, text, className = "dim") => {
+    const mark = (column, text, className = "attack") => {
       if (!column) return;
-      this.into.append(svg("rect", {x: column.x - 3, y: y - 3, width: 6, height: 6, class: "dot"}));
+      const path = `M${column.x} ${y - 5}l5 5l-5 5l-5 -5z`;
+      this.into.append(svg("path", {d: path, class: `fill-${className}`}));
       this.beside(column, y, text.length > 34 ? `${text.slice(0, 33)}…` : text, className);
     };
     const memory = this.memory(words[1]);
     switch (kind) {
-      case "give": return this.arrow(this.network, this.memory(words[2]), y, "", `#${numberOf(words[1])}`);
+      case "give": return this.delivery(row, this.memory(words[2]), y, words[1]);
       case "call":
         return this.arrow(
             this.memory(this.plan.nodeOf(words[1])), this.module(words[1]), y, "",
             ENTRIES[numberOf(words[2])] ?? `entry ${words[2]}`);
-      case "answer": return this.arrow(this.network, this.deployer, y, "", `#${numberOf(words[3])}`);
-      case "load": return mark(this.module(words[1]), "load", "trouble");
+      case "answer": return this.delivery(row, this.deployer, y, words[3]);
+      case "load": return mark(this.module(words[1]), "load", "dim");
       case "put": return mark(memory, `put ${words[2]} (${(words[3] ?? "").length / 2} B)`);
       case "asm": return mark(memory, words.slice(3).join(" "));
       case "set": return mark(memory, `${words[2]} := ${words[3]}`);
       case "run": return mark(memory, `▶ ${words[2]} step${words[2] === "1" ? "" : "s"}`);
       case "finish": return mark(memory, "▶ finish");
-      case "irq": return mark(memory, `interrupt ${words[2]}`, "trouble");
+      case "irq": return mark(memory, `interrupt ${words[2]}`);
     }
+  }
+
+  // A packet's way out of the network: dashed if it was delivered before.
+  delivery(row, to, y, packet) {
+    const again = row.isAgain ? "attack" : "";
+    this.arrow(this.network, to, y, again && `again ${again}`, `#${numberOf(packet)}${again && " again"}`, again);
   }
 
   // A folded group: its readings, outs and troubles on one row.
@@ -297,6 +315,8 @@ class Picture {
         this.text(this.module(words[1]).x, y, `✗${words[2]}`, "middle bold trouble");
       else if (item.kind === "forged")
         Picture.ITEMS.forged.call(this, words, y);
+      else if (this.plan.isPastDriver(item))
+        this.item({item}, y);
     }
   }
 
@@ -360,27 +380,33 @@ class Picture {
     }
   }
 
-  // A column's head, to be dragged, and hidden by a double click.
-  head(column) {
+  get hasTwoRows() { return this.columns.look.scale < TWO_ROWS_FROM; }
+  get headHeight() { return this.hasTwoRows ? TWO_ROWS : ONE_ROW; }
+
+  // A column's head, to be dragged, and hidden by a double click. If columns are narrow, every other one stands lower, so that each
+  // has the room of two.
+  head(column, at) {
+    const y = this.hasTwoRows && at % 2 ? 52 : 36;
     const made = svg("g", {class: "head", "data-id": column.id}), {x, width, kind, name, isHidden} = column;
     const sign = {sensor: "◉ ", actuator: "■ ", module: "▣ "}[kind] ?? "";
     made.append(
         svg("title", {}, `${name}: double-click to ${isHidden ? "show" : "hide"}, drag to move`),
-        svg("rect", {x: x - width / 2, y: 20, width, height: 24, class: "grip"}));
-    const room = Math.max(3, Math.floor(width / 6.6)), text = sign + name;
+        svg("rect", {x: x - width / 2, y: 20, width, height: this.headHeight - 20, class: "grip"}));
+    const room = Math.max(3, Math.floor(width * (this.hasTwoRows ? 2 : 1) / 6.6));
+    const text = name.length + 2 > room ? name : sign + name;
     const shown = isHidden ? "⋮" : text.length > room ? `${text.slice(0, room - 1)}…` : text;
-    made.append(svg("text", {x, y: 36, class: "middle bold"}, shown));
+    made.append(svg("text", {x, y, class: "middle bold"}, shown));
     return made;
   }
 
   heads() {
-    const made = svg("svg", {width: this.columns.width, height: 44});
+    const made = svg("svg", {width: this.columns.width, height: this.headHeight});
     this.into = made;
     for (const box of this.columns.boxes) {
-      made.append(svg("rect", {x: box.from, y: 2, width: box.to - box.from, height: 42, class: "node"}));
+      made.append(svg("rect", {x: box.from, y: 2, width: box.to - box.from, height: this.headHeight - 2, class: "node"}));
       this.text((box.from + box.to) / 2, 12, `node ${box.node}`, "middle dim");
     }
-    for (const column of this.columns.list) made.append(this.head(column));
+    this.columns.list.forEach((column, at) => made.append(this.head(column, at)));
     return made;
   }
 }

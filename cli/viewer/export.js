@@ -2,7 +2,7 @@
 
 // With more rows than this, groups have to be folded first.
 const MOST_ROWS = 4000;
-const LEFT = 430, TOP = 46;
+const LEFT = 430;
 // What fits into the left part, in letters.
 const LETTERS = 52;
 
@@ -34,7 +34,8 @@ function leftText(page, row, y) {
 
 function wholePicture(page) {
   const {picture, run: {shown}} = page;
-  const width = LEFT + picture.columns.width + 60, height = TOP + shown.length * HEIGHT + 10;
+  const top = picture.headHeight + 2;
+  const width = LEFT + picture.columns.width + 60, height = top + shown.length * HEIGHT + 10;
   const whole = svg("svg", {width, height, viewBox: `0 0 ${width} ${height}`});
   const part = (x, y, ...content) => {
     const made = svg("g", {transform: `translate(${x} ${y})`});
@@ -46,9 +47,9 @@ function wholePicture(page) {
       svg("style", {}, drawnRules()), byId("marks").content.querySelector("defs").cloneNode(true),
       svg("rect", {width, height, class: "ground"}));
   part(LEFT, 0, ...picture.heads().childNodes);
-  picture.into = part(LEFT, TOP);
+  picture.into = part(LEFT, top);
   picture.back(0, shown.length);
-  const left = part(0, TOP), middle = place => (place + 0.5) * HEIGHT;
+  const left = part(0, top), middle = place => (place + 0.5) * HEIGHT;
   shown.forEach((row, place) => picture.row(row, middle(place)));
   picture.chain(page.chainHere(), 0);
   shown.forEach((row, place) => left.append(leftText(page, row, middle(place))));

@@ -5,13 +5,15 @@ const BARE_PAGE = `<!doctype html>\n${document.documentElement.outerHTML}`;
 // How many rows are drawn above and below those in sight.
 const MARGIN = 12;
 
+const counted = (count, what) => `${count} ${what}${count === 1 ? "" : "s"}`;
+
 class Page {
   constructor() {
     this.texts = {};
     this.run = null;
     this.at = 0;
     this.hits = new Set();
-    this.look = {scale: 1, hidden: new Set(), order: []};
+    this.look = {scale: 1, isFull: false, hidden: new Set(), order: []};
     this.listen();
   }
 
@@ -23,15 +25,20 @@ class Page {
       if (got.input && this.texts.input && got.input !== this.texts.input) this.texts = {};
       Object.assign(this.texts, got);
     }
+    const {deployment, schedule} = this.texts;
+    if (deployment && schedule !== undefined) this.texts.input = joinedInput(this.texts);
+    if (deployment) this.texts.head ??= deployment;
     this.show();
+    if (!this.texts.input && !this.texts.output)
+      this.warn("This is a part of a run: open the deployment, its schedule and the output too, one or all at once.");
   }
 
   show() {
     this.run = new Run(this.texts);
-    this.picture = new Picture(this.run, this.look);
     this.at = 0;
     byId("drop").hidden = true;
     byId("main").hidden = byId("more").hidden = false;
+    this.picture = this.pictured();
     byId("notes").replaceChildren(
         ...this.run.notes.map(({text, isBad}) => html("div", isBad ? "bad" : "", text)));
     this.drawHeads();
@@ -39,7 +46,7 @@ class Page {
     this.tellCounts();
     this.layOut();
     this.begin();
-    byId("scroll").focus();
+    byId("scroll").focus({preventScroll: true});
   }
 
   // Opens after the set-up, which is folded.
@@ -53,23 +60,30 @@ class Page {
   // --- columns ---
 
   drawHeads() {
-    byId("heads").replaceChildren(html("div", "corner", "schedule and items"), this.picture.heads());
+    byId("heads").querySelector("svg")?.remove();
+    byId("heads").append(this.picture.heads());
     byId("columns").textContent = this.look.hidden.size ? `Show ${this.look.hidden.size} hidden` : "";
     byId("columns").hidden = !this.look.hidden.size;
     byId("fit").textContent = this.look.scale < 1 ? "Full width" : "Fit";
+    byId("heads").classList.toggle("two-rows", this.picture.hasTwoRows);
   }
 
   redraw() {
-    this.picture = new Picture(this.run, this.look);
+    this.picture = this.pictured();
     this.drawHeads();
     this.layOut();
   }
 
-  // All columns in sight, or as wide as they are.
-  fit() {
+  // The picture with all columns in sight if they can be, or as wide as they are if that was asked.
+  pictured() {
     const room = byId("scroll").clientWidth - document.querySelector(".corner").offsetWidth;
     const wide = new Picture(this.run, {...this.look, scale: 1}).columns.width - 84;
-    this.look.scale = this.look.scale < 1 ? 1 : Math.max(LEAST_SCALE, Math.min(1, (room - 90) / wide));
+    this.look.scale = this.look.isFull ? 1 : Math.max(LEAST_SCALE, Math.min(1, (room - 90) / wide));
+    return new Picture(this.run, this.look);
+  }
+
+  fit() {
+    this.look.isFull = !this.look.isFull;
     this.redraw();
     byId("scroll").scrollLeft = 0;
   }
@@ -102,10 +116,12 @@ class Page {
   tellCounts() {
     const items = this.run.output?.items ?? [],
           count = kind => items.filter(item => item.kind === kind).length;
-    const forged = count("forged");
-    byId("about").textContent = `${items.length} items · ${count("out")} out · ${count("reset")} reset${
-        forged ? ` · ${forged} FORGED` : ""}`;
-    byId("about").className = forged ? "forged" : "";
+    const forged = count("forged"), raw = count("raw");
+    const parts = [counted(items.length, "item"), `${count("out")} out`, `${count("reset")} reset`];
+    if (raw) parts.push(`${raw} raw`);
+    if (forged) parts.push(`${forged} FORGED`);
+    byId("about").textContent = parts.join(" · ");
+    byId("about").className = forged || items.some(item => this.run.plan.isPastDriver(item)) ? "forged" : "";
   }
 
   layOut() {
@@ -163,6 +179,7 @@ class Page {
       hit: this.hits.has(row),
       fault: row.fault
     };
+    classes.raw = row.item && this.run.plan.isPastDriver(row.item);
     classes.forged = row.item?.kind === "forged" ||
         row.kind === "group" && group.troubles.some(item => item.kind === "forged");
     for (const name in classes)
@@ -178,7 +195,7 @@ class Page {
     if (row.kind === "act") {
       parts.push(
           html("span", "number", `${row.line.isUnsure ? "≈" : ""}${row.line.number ?? ""}`),
-          html("span", "text", row.line.text.trim()));
+          html("span", this.run.isAttack(row) ? "text is-attack" : "text", row.line.text.trim()));
       if (row.fault) parts.push(html("span", "text trouble", `  ${row.fault}`));
     }
     if (row.item) {
@@ -196,8 +213,9 @@ class Page {
     const parts =
         [html("span", "number", String(group.rows[0].line?.number ?? "")), html("span", "text", group.title)];
     parts.push(html("span", "text dim", outs ? `  ⇒ ${outs}` : `  (${group.items} items)`));
-    const troubles = group.troubles.length;
-    if (troubles)
+    const troubles = group.troubles.length, raw = group.troubles.filter(item => this.run.plan.isPastDriver(item));
+    for (const item of raw) parts.push("  ", html("span", "text is-raw", item.text));
+    if (troubles > raw.length)
       parts.push(html("span", "text trouble", `  ✗ ${troubles > 1 ? troubles : group.troubles[0].text}`));
     return parts;
   }
@@ -215,7 +233,8 @@ class Page {
     for (const row of rows(item => item.kind === "out")) add(row, 2, 5, "fill-out");
     for (const row of rows(item => this.run.plan.isTrouble(item) && item.kind !== "forged"))
       add(row, 8, 5, "fill-trouble");
-    for (const row of rows(item => item.kind === "forged")) add(row, 0, 18, "fill-forged");
+    for (const row of rows(item => item.kind === "forged" || this.run.plan.isPastDriver(item)))
+      add(row, 0, 18, "fill-forged");
     strip.replaceChildren(...marks);
   }
 
@@ -228,13 +247,15 @@ class Page {
     const say = (...parts) => more.appendChild(html("div")).append(...parts);
     if (row.kind === "group")
       say(html("code", "", row.group.title),
-          `: ${row.group.rows.length} rows, ${row.group.items} items. Enter unfolds.`);
+          `: ${counted(row.group.rows.length, "row")}, ${counted(row.group.items, "item")}. Enter unfolds.`);
     if (row.kind === "note") say(row.text);
     if (row.kind === "act" || row.kind === "item") this.tellLine(row, say);
+    for (const {module, text} of this.valuesHere(row)) say("Variables of ", html("b", "", module), ": ", html("code", "", text));
     const packet = row.line ? this.run.packetOf(row) : null, acts = this.run.packets.get(packet) ?? [];
     if (acts.length)
       say(`Packet #${packet}: `,
-          ...acts.flatMap(it => [this.link(`${it.what} at line ${it.row.line.number ?? "?"}`, it.row), " "]));
+          ...acts.flatMap(it => [this.link(`${it.what}${it.row.isAgain ? " again" : ""} at line ${it.row.line.number ?? "?"}`, it.row), " "]),
+          acts[0].row.isLost ? "It is never given." : "");
     const chain = this.chainHere();
     if (chain.length > 1)
       say("Because: ",
@@ -243,6 +264,18 @@ class Page {
     else if (row.item?.kind === "out" && !this.run.causes)
       say("The causes of an out are shown if what `explain` wrote is opened too.");
     if (row.isAfter) say("This comes after the first `forged`: nothing is promised of it.");
+  }
+
+  // The variables of the row's modules: after its group, its line or its item, and before its line.
+  valuesHere(row) {
+    const rows = row.kind === "group" ? row.group.rows :
+                                        this.run.rows.filter(it => it.line === row.line && (row.kind === "act" || it.index <= row.index));
+    try {
+      return rows.length ? this.run.values.told(rows) : [];
+    } catch (error) {
+      if (error instanceof RangeError) return [];
+      throw error;
+    }
   }
 
   tellLine(row, say) {
@@ -389,7 +422,7 @@ class Page {
       };
     }
     byId("scroll").addEventListener("scroll", () => requestAnimationFrame(() => this.paint()));
-    addEventListener("resize", () => this.paint());
+    addEventListener("resize", () => this.run && this.redraw());
     byId("space").addEventListener("click", event => {
       if (event.target.closest(".fold, a") || String(getSelection())) return;
       this.at = Math.min(

@@ -42,7 +42,7 @@ class Plan {
 
   addConnection({name, from, to}) {
     const connection =
-        {name, from: String(from).split(".")[0], to: String(to).split(".")[0], text: `${from} → ${to}`};
+        {name, from: String(from).split(".")[0], to: String(to).split(".")[0], port: String(to).split(".")[1], text: `${from} → ${to}`};
     this.connections.set(name, connection);
     for (const end of [connection.from, connection.to])
       if (this.modules.has(end)) this.modules.get(end).ends++;
@@ -77,6 +77,9 @@ class Plan {
       return this.nodeOf(words[1]);
     return undefined;
   }
+
+  // Whether an actuator that a module drives was written past its driver.
+  isPastDriver({kind, words}) { return kind === "raw" && Boolean(this.devices.get(words[1])?.driver); }
 
   isTrouble({kind, words}) {
     if (kind === "reset") return words[2] !== "asked";

@@ -4,6 +4,8 @@
 const FOLDED_FROM = 1500;
 // A set-up of more rows than this is folded, and the page opens after it.
 const SET_UP_FROM = 12;
+// The lines by which code beside the modules, or the network, does what no honest run does.
+const ATTACKS = ["put", "asm", "set", "run", "finish", "irq", "forge", "reset"];
 
 class Run {
   constructor(texts) {
@@ -21,6 +23,8 @@ class Run {
     this.fault = /^fault schedule \S+ ([0-9]+)$/.exec(this.output?.last ?? "");
     this.addRows(this.lines());
     this.findSpans();
+    this.followPackets();
+    this.values = new Values(this);
     this.say();
     for (const group of this.groups) group.isFolded = this.rows.length > FOLDED_FROM && group.rows.length > 1;
     this.foldSetUp();
@@ -100,14 +104,14 @@ class Run {
     }
   }
 
-  // A comment begins a group, but those of `sancus schedule` don't split what a person's comment began: `#= PLACE LINE` comes before
-  // what was made of a line for people, and `# NAME is packet N` after a packet.
+  // A comment begins a group, and so does `#= PLACE LINE`, which comes before what `sancus schedule` made of a line for people; a
+  // `# NAME is packet N` after a packet doesn't.
   addNote(line, before) {
     const text = line.text.replace(/^\s*#\s?/, "");
     const made = /^= *(\S+:[0-9]+|line [0-9]+) (.*)$/.exec(text);
     const isOwn = !made && !/^\S+ is packet [0-9]+$/.test(text);
     if (isOwn && before !== "#") this.begin(text, "#");
-    if (made && this.group?.kind !== "#") this.begin(made[2], "made");
+    if (made) this.begin(made[2], "made");
     this.isMade = made !== null || this.isMade && !isOwn;
     this.add({kind: "note", text: made ? `${made[2]}  (${made[1]})` : text, line});
   }
@@ -171,6 +175,21 @@ class Run {
   keepPacket(number, row, what) {
     if (!this.packets.has(number)) this.packets.set(number, []);
     this.packets.get(number).push({row, what});
+  }
+
+  // Marks the rows at which a packet is delivered once more, and those of packets that never were.
+  followPackets() {
+    if (!this.rows.some(row => row.kind === "act")) return;
+    for (const acts of this.packets.values()) {
+      const deliveries = acts.filter(({row}) => row.item?.kind !== "packet");
+      for (const {row} of deliveries.slice(1)) row.isAgain = true;
+      if (!deliveries.length) acts[0].row.isLost = true;
+    }
+  }
+
+  // Whether a row is an act that no honest run has.
+  isAttack(row) {
+    return row.kind === "act" && (row.isAgain === true || ATTACKS.includes(row.line.kind));
   }
 
   packetOf(row) {

@@ -17,15 +17,36 @@ function numberOf(word) {
   return /^(0x[0-9a-fA-F]{1,20}|[0-9]{1,20})$/.test(word ?? "") ? Number(word) : NaN;
 }
 
-// Which of the texts this is, as a part of {input, head, output, causes}.
+// The first words of the lines that a schedule has, and of those for people, which `sancus schedule` makes a schedule of.
+const ACTS = "run finish put asm set take give forge sense irq reset ask answer load call".split(" ");
+const PEOPLE = ["deploy", "sample", "carry", "flow", "settle", "windows", "packets", "boots"];
+
+// Which of the texts this is, as a part of {input, head, output, causes}, or of {deployment, schedule}, which an input is made of.
 function sortText(text) {
   text = text.replace(/^\uFEFF/, "");
-  const lines = splitLines(text), mark = lines.indexOf("%%");
-  if (/^(because|legal|illegal|forged) |^fault trace /.test(lines.find(line => line.trim()) ?? ""))
-    return {causes: text};
-  if (mark < 0) return {output: text};
+  const lines = splitLines(text), mark = lines.indexOf("%%"), first = lines.find(line => line.trim()) ?? "";
+  if (/^(because|legal|illegal|forged) |^fault trace /.test(first)) return {causes: text};
+  if (mark >= 0 && lines.slice(0, mark).every(line => !wordsOf(line).length)) return {schedule: lines.slice(mark + 1).join("\n")};
+  if (mark < 0) return sortPart(text, lines);
   if (!/^(image |trace$|> |fault )/.test(lines[mark + 1] ?? "")) return {input: text};
   return {head: lines.slice(0, mark).join("\n"), output: lines.slice(mark + 1).join("\n")};
+}
+
+// A text without a mark, by its first line that is no comment.
+function sortPart(text, lines) {
+  const [word, next] = wordsOf(lines.find(line => /^[ \t]*[^# \t]/.test(line)) ?? "");
+  if (/^(image|trace|>|fault)$/.test(word ?? "")) return {output: text};
+  if (next === "=" || /^\[|=/.test(word ?? "")) return {deployment: text};
+  const isReading = /^[a-z][a-z0-9_]*$/.test(word ?? "") && !ITEMS.has(word) && /^[0-9]+$/.test(next ?? "");
+  return ACTS.includes(word) || PEOPLE.includes(word) || isReading ? {schedule: text} : {output: text};
+}
+
+// The input that a deployment and a schedule are together; null if there is neither. `head` is the deployment to which a schedule is
+// added that came alone.
+function joinedInput({deployment, schedule}, head = "") {
+  const ended = text => text.endsWith("\n") ? text : `${text}\n`;
+  if (schedule === undefined) return deployment ?? null;
+  return `${ended(deployment ?? head)}%%\n${schedule}`;
 }
 
 // A line of a schedule; its kind is its first word, "#" for a comment, and empty for a blank line.

@@ -10,8 +10,8 @@ class Toml {
   static read(text) { return new Toml(text).document(); }
 
   fail(what) {
-    const line = this.text.slice(0, this.at).split("\n").length;
-    throw new Error(`line ${line}: ${what}`);
+    const before = this.text.slice(0, this.at).split("\n"), line = before.length, column = before.at(-1).length + 1;
+    throw Object.assign(new Error(`line ${line}: ${what}`), {what, line, column});
   }
 
   // Takes what the pattern, a sticky one, finds here.

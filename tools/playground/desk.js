@@ -3,7 +3,8 @@
 // How many letters of an output are shown as text; the picture has all.
 const MOST_SHOWN = 200_000;
 const COMMANDS = ["run", "drive", "check", "explain", "snap"];
-const OWN = "";
+// The name of a text that came from a file, an address or a saved page.
+const OPENED = "(opened)";
 const KEYS = {
   "Ctrl+Enter": "give the input to the last command again",
   "Esc": "stop it"
@@ -17,7 +18,8 @@ class Desk {
     this.turn = 0;
     this.last = null;
     this.address = null;
-    this.faults = new Faults();
+    this.name = null;
+    this.begun = null;
     this.editor = new Editor(() => this.isChanged());
     const lacks = missing();
     if (lacks) return this.refuse(lacks);
@@ -46,77 +48,118 @@ class Desk {
     for (const word of COMMANDS) byId(`do-${word}`).onclick = () => this.does(word);
     byId("do-stop").onclick = () => this.stop();
     byId("do-link").onclick = () => this.link();
-    byId("do-save").onclick = () =>
-        page.saveAs(`${byId("example").value.replaceAll("/", "_") || "input"}.txt`, "text/plain", this.editor.text);
-    byId("example").onchange = event => event.target.value !== OWN && this.take(this.examples[event.target.value]);
+    byId("do-save").onclick = () => this.save();
+    byId("example").onchange = event => this.take(this.sources.text(event.target.value), event.target.value);
     addEventListener("keydown", event => {
       if (event.key === "Enter" && (event.ctrlKey || event.metaKey)) this.does(this.word ?? this.purpose());
       if (event.key === "Escape") this.stop();
     });
     addEventListener("hashchange", () => location.hash !== this.address && this.begin());
-    // an input that is opened, dropped or pasted as a file is on the desk too
+    // what is opened, dropped or pasted as a file is on the desk too
     const {open} = page;
-    page.open = texts => {
-      open.call(page, texts);
-      if (page.texts.input) this.put(page.texts.input, OWN);
-    };
+    page.open = texts => this.open(texts, open);
     this.draw = texts => {
       page.texts = {};
       open.call(page, texts);
     };
   }
 
+  // Files of a run are drawn; an input, or a part of one, is put into the editor and run.
+  open(texts, draw) {
+    const got = Object.assign({}, ...texts.map(sortText));
+    const input = got.input ?? joinedInput(got, headOf(this.editor.text));
+    if (!got.output && !got.causes && input) return this.take(input, OPENED);
+    draw.call(page, texts);
+    if (page.texts.input) this.put(page.texts.input, OPENED);
+  }
+
   // --- the origin of an input ---
 
-  // By the address an input or an example; else what the page holds; else an example. What isn't drawn yet is run.
+  // What stood here before the page was loaded again; else by the address an input or an example; else what the page
+  // holds, what was written last, or an example. What isn't drawn yet is run.
   async begin() {
-    this.examples ??= JSON.parse(new TextDecoder().decode(await unpacked("examples")));
-    byId("example").replaceChildren(
-        new Option("(own)", OWN), ...Object.keys(this.examples).map(name => new Option(name)));
-    const asked = new URLSearchParams(location.hash.slice(1)), held = page.texts;
+    this.sources ??= new Sources(JSON.parse(new TextDecoder().decode(await unpacked("examples"))));
+    const asked = new URLSearchParams(location.hash.slice(1)), held = page.texts, {sources} = this;
     const word = COMMANDS.includes(asked.get("do")) ? asked.get("do") : null;
+    const before = history.state?.name;
+    if (before && sources.text(before) !== null) return this.take(sources.text(before), before, word);
     if (asked.has("z")) return this.takeLinked(asked.get("z"), word);
     if (held.output && !this.turn) return this.hold(held);
-    const name = Object.hasOwn(this.examples, asked.get("example") ?? "") ? asked.get("example") : "readings";
-    await this.take(this.examples[name], name, word);
+    const wanted = asked.get("example");
+    const name = sources.examples[wanted] ? wanted : sources.lastDraft ?? "readings";
+    await this.take(sources.text(name), name, word);
     page.followAddress();
   }
 
   async takeLinked(letters, word) {
     try {
-      await this.take(await unpackedText(letters), OWN, word);
+      await this.take(await unpackedText(letters), OPENED, word);
     } catch (error) {
+      this.put("", OPENED);
       this.say(html("span", "fault", `The address holds no input: ${error.message}`));
     }
   }
 
   // A page that was saved with a run.
   hold(held) {
-    this.put(held.input ?? `${held.head}\n%%\n${held.output}`, OWN);
+    this.put(held.input ?? `${held.head}\n%%\n${held.output}`, OPENED);
     this.say("The run that was saved with this page.");
     document.documentElement.dataset.done = "held";
   }
 
   put(text, name) {
+    if (name === OPENED) this.sources.opened = text;
     this.editor.text = text;
-    this.last = null;
-    byId("example").value = name;
+    this.last = this.begun = null;
+    this.show(name);
   }
 
-  async take(text, name = byId("example").value, word = null) {
+  // Says in the list, and to the page when it is loaded again, which text stands here. The browser asks before it leaves what it
+  // couldn't keep.
+  show(name) {
+    this.name = name;
+    byId("example").replaceChildren(...this.sources.options());
+    byId("example").value = name;
+    history.replaceState({name}, "");
+    globalThis.onbeforeunload = this.sources.drafts.areSafe ? null : event => event.preventDefault();
+  }
+
+  async take(text, name, word = null) {
     this.put(text, name);
     await this.does(word ?? this.purpose());
   }
 
   isChanged() {
     this.last = null;
-    byId("example").value = OWN;
+    this.show(this.nameNow(this.editor.text));
     byId("seen").classList.add("old");
+  }
+
+  // The name of the text after a change: a person's own is kept, and one that isn't a person's becomes so. One that was begun and
+  // undone is forgotten.
+  nameNow(text) {
+    const {sources} = this, {drafts} = sources, known = sources.nameOf(text);
+    if (known !== null) {
+      if (this.begun?.from === known) drafts.drop(this.begun.name);
+      return known;
+    }
+    const isOwn = sources.isDraft(this.name), name = isOwn ? this.name : drafts.newName();
+    if (!isOwn) this.begun = {name, from: this.name};
+    drafts.keep(name, text);
+    return name;
+  }
+
+  save() {
+    const {text} = this.editor, {drafts} = this.sources;
+    drafts.saved.add(text);
+    this.show(this.name);
+    page.saveAs(`${this.name.replace(/[^\w]+/g, "_")}.txt`, "text/plain", text);
   }
 
   // The command that a text is made for, by what comes after its marks.
   purpose() {
     const lines = this.editor.lines, mark = lines.indexOf("%%");
+    if (mark < 0) return "check";
     if (lines.indexOf("%%", mark + 1) > 0) return "snap";
     const first = lines.slice(mark + 1).find(line => /^[ \t]*[^# \t]/.test(line)) ?? "";
     if (/^(image |trace$)/.test(first)) return "explain";
@@ -135,7 +178,7 @@ class Desk {
     this.say(`${word} …`);
     const job = new Job(word, text, this.purpose(), start), ended = await job.does(this.last);
     if (!isNow()) return;
-    this.tell(word, ended, text);
+    this.tell(word, ended, text, job.people);
     const texts = await job.drawn();
     if (!isNow()) return;
     if (job.run?.trace) this.last = job.run;
@@ -166,7 +209,7 @@ class Desk {
     byId("said").replaceChildren(...parts);
   }
 
-  tell(word, ended, text) {
+  tell(word, ended, text, people) {
     if (ended.error) {
       byId("wrote").textContent = "";
       return this.say(html("span", "fault", `${word}: ${ended.error}`));
@@ -180,21 +223,48 @@ class Desk {
     byId("wrote").textContent = short.slice(0, MOST_SHOWN);
     if (short.length > MOST_SHOWN)
       parts.push(`The first ${MOST_SHOWN.toLocaleString("en")} letters of the output are shown. `);
-    const fault = this.faults.told(splitLines(ended.text).at(-1), text);
+    const last = splitLines(ended.text).at(-1), fault = new Faults(text).told(last);
     if (fault) parts.push(...this.fault(fault));
+    if (people) parts.push(...this.ofPeople(people, text));
+    if (word !== "explain" && !/^fault deployment/.test(last)) parts.push(...this.warnings(text));
     this.say(...parts);
   }
 
-  fault({words, line, column}) {
-    const parts = [html("span", "fault", words)];
-    if (line && line <= this.editor.lines.length) {
-      const place = html("button", "place", `line ${line}`);
-      place.onclick = () => this.editor.go(line, column);
+  fault(fault) {
+    const place = this.place(fault), {line} = fault;
+    if (place.length) {
       this.editor.mark(line);
       this.editor.show(line);
-      parts.push(", at ", place);
     }
-    return parts;
+    return [html("span", "fault", fault.words), ...place, ...fault.notes.map(it => html("div", "note", it))];
+  }
+
+  // The line for people that can't be done, and what the others showed.
+  ofPeople({wrong, notes}, text) {
+    const faults = new Faults(text), {line, rule, words} = wrong ?? {};
+    const fault = rule ? faults.told(`fault schedule ${rule} ${line - faults.mark}`) : {words, line, notes: []};
+    const told = notes.map(it => {
+      const made = html("div", "note", it.words);
+      made.append(...this.place(it));
+      return made;
+    });
+    return [...(wrong ? this.fault(fault) : []), ...told];
+  }
+
+  warnings(text) {
+    return warningsOf(text).map(it => {
+      const made = html("div", "warning", `warning: ${it.words}`);
+      made.append(...this.place(it));
+      return made;
+    });
+  }
+
+  // A place of the text in words, to go there; none if there is none.
+  place({line, column}) {
+    if (!line || line > this.editor.lines.length) return [];
+    const made = html("button", "place", `line ${line}${column ? `, column ${column}` : ""}`);
+    made.onclick = () => this.editor.go(line, column);
+    return [", at ", made];
   }
 
   // --- the input in an address ---
@@ -203,6 +273,7 @@ class Desk {
     const packed = await packedText(this.editor.text);
     this.address = `#z=${packed}&do=${this.word ?? this.purpose()}`;
     location.replace(this.address);
+    history.replaceState({name: this.name}, "");
     const isCopied = await navigator.clipboard?.writeText(location.href).then(() => true, () => false);
     const size = location.href.length.toLocaleString("en");
     this.say(

@@ -1,16 +1,19 @@
 // The text of an input with the numbers of its lines, and with a mark at the line of a fault.
 
 const LINE_HEIGHT = 18, PADDING = 6;
+// A longer text takes the browser too long to type.
+const MOST_TYPED = 400_000;
 
 class Editor {
   constructor(onChange) {
     this.area = byId("text");
     this.numbered = "";
     this.markedLine = null;
+    this.isReplacing = false;
     this.area.addEventListener("input", () => {
       this.mark(null);
       this.number();
-      onChange();
+      if (!this.isReplacing) onChange();
     });
     this.area.addEventListener("scroll", () => this.follow());
     // (the page takes a text that is pasted elsewhere as a file)
@@ -23,10 +26,24 @@ class Editor {
   }
 
   set text(value) {
-    this.area.value = value;
+    this.replace(value);
     this.area.scrollTop = this.area.scrollLeft = 0;
     this.mark(null);
     this.number();
+  }
+
+  // Puts a text in place of another as a person would type it, so that it can be undone.
+  replace(value) {
+    const focused = document.activeElement;
+    this.isReplacing = true;
+    this.area.focus({preventScroll: true});
+    this.area.select();
+    const isUndoable = this.text !== "" && value !== "" && value.length < MOST_TYPED &&
+        document.execCommand("insertText", false, value);
+    if (!isUndoable || this.text !== value) this.area.value = value;
+    this.area.setSelectionRange(0, 0);
+    this.isReplacing = false;
+    focused?.focus({preventScroll: true});
   }
 
   get lines() {
@@ -40,7 +57,8 @@ class Editor {
 
   // Numbers each line, and after the mark its place in the schedule too, which is what the picture shows.
   number() {
-    const count = this.text.split("\n").length, mark = this.markAt, wanted = `${count} ${mark}`;
+    // (lines for people become others)
+    const count = this.text.split("\n").length, mark = areForPeople(this.text) ? -1 : this.markAt, wanted = `${count} ${mark}`;
     if (wanted !== this.numbered) {
       const width = mark < 0 ? 0 : String(count - mark).length + 2;
       const row = (_, at) => `${at + 1}${(mark >= 0 && at > mark ? String(at - mark) : "").padStart(width)}`;

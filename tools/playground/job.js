@@ -17,6 +17,18 @@ function asSchedule(text) {
   return second < 0 ? text : lines.slice(0, second).concat("").join("\n");
 }
 
+// A deployment with the mark that the program wants; the page takes it without.
+function withMark(text) {
+  return splitLines(text).includes("%%") ? text : `${text.replace(/\n?$/, "\n")}%%\n`;
+}
+
+// Whether one of the lines after the mark is for people, in a deployment that can be read.
+function areForPeople(text) {
+  const lines = splitLines(asSchedule(text)), mark = lines.indexOf("%%");
+  const isOne = ([first, ...rest]) => PEOPLE.includes(first) || ["take", "forge", "ask"].includes(first) && rest.at(-2) === "as";
+  return mark >= 0 && lines.slice(mark + 1).some(line => isOne(wordsOf(line))) && Boolean(Deployment.of(text)?.by.module.length);
+}
+
 class Job {
   // purpose: the command that the text is made for; start: runs a command on a text.
   constructor(word, text, purpose, start) {
@@ -26,11 +38,24 @@ class Job {
 
   // `explain` judges the last run of this text, or a new one, if it has no trace.
   async does(last) {
+    const refused = await this.translate();
+    if (refused) return this.ended = refused;
     const isOfRun = this.word === "explain" && this.purpose !== "explain";
     if (isOfRun) this.run = last ?? await this.ran(this.purpose === "drive" ? "drive" : "run");
-    const input = isOfRun ? this.judged(this.run.trace ?? "") : this.text;
+    const input = isOfRun ? this.judged(this.run.trace ?? "") : this.word === "check" ? withMark(this.text) : this.text;
     this.ended = await this.start(this.word, input);
     return this.ended;
+  }
+
+  // Lines for people become a schedule; what they became is run, also if a line can't be done.
+  async translate() {
+    this.people = null;
+    if (this.word === "check" || !areForPeople(this.text)) return null;
+    const made = await this.start("people", this.text);
+    if (made.error) return made;
+    this.people = made;
+    this.text = made.text;
+    return null;
   }
 
   async ran(word) {

@@ -18,9 +18,9 @@ from pathlib import Path
 HERE = Path(__file__).resolve().parent
 TOP = HERE.parent.parent
 PAGE = TOP / "playground.html"
-SCRIPTS = ("link", "editor", "faults", "marks", "runner", "job", "desk")
+SCRIPTS = ("link", "editor", "drafts", "trees", "guesses", "acts", "deployment", "rules", "tables", "faults", "warnings", "marks", "runner", "job", "desk")
 POLICY = (
-    "default-src 'none'; script-src 'unsafe-inline' 'wasm-unsafe-eval'; style-src 'unsafe-inline'; img-src data:; "
+    "default-src 'none'; script-src 'sha256-HASH' 'wasm-unsafe-eval'; style-src 'unsafe-inline'; img-src data:; "
     "worker-src blob:; form-action 'none'; base-uri 'none'"
 )
 TITLE = "Sancus applications, verified"
@@ -36,15 +36,23 @@ def loaded(name, path):
     return made
 
 
-def viewer():
-    """The viewer's page, without a run."""
-    return loaded("join", TOP / "cli" / "viewer" / "join.py").joined()
+VIEWER = loaded("join", TOP / "cli" / "viewer" / "join.py")
 
 
 def examples():
     folder = TOP / "examples"
     files = [*sorted(folder.glob("*.txt")), *sorted(folder.glob("attacks/*.txt")), *sorted(folder.glob("snap/*.txt"))]
-    return {str(it.relative_to(folder).with_suffix("")): it.read_text() for it in files}
+    return {**{str(it.relative_to(folder).with_suffix("")): it.read_text() for it in files}, **parking(folder / "parking")}
+
+
+def parking(folder):
+    """The parking lot: a day's readings, the lines for people, and each schedule after the set-up."""
+    head, set_up = ((folder / name).read_text() for name in ("parking.toml", "set-up.schedule"))
+    days = {it: head + it.read_text() for it in sorted(folder.glob("*.readings"))}
+    people = {f"parking/{it.stem} for people": f"{head}%%\n{it.read_text()}" for it in sorted(folder.glob("*.people"))}
+    schedules = [it for it in sorted(folder.glob("*.schedule")) if it.name != "set-up.schedule"]
+    days.update({it: head + set_up + it.read_text() for it in schedules})
+    return {**{f"parking/{it.stem}": text for it, text in days.items()}, **people}
 
 
 def part(name):
@@ -64,6 +72,14 @@ def held(name, text):
     return f'<script type="text/plain" id="{name}">{text}</script>\n'
 
 
+def worker():
+    """What runs the program: its host, and what makes a schedule of lines for people."""
+    host = (TOP / "tools" / "wasm" / "host.js").read_text()
+    shared = [(TOP / "cli" / "viewer" / f"{it}.js").read_text() for it in ("toml", "texts", "language")]
+    own = [part(f"{it}.js") for it in ("guesses", "deployment", "people", "worker")]
+    return "\n".join([VIEWER.words(), host, *shared, *own])
+
+
 def packed(data):
     return base64.b64encode(gzip.compress(data, 9, mtime=0)).decode()
 
@@ -75,16 +91,16 @@ def made():
     texts = [
         held("program", packed(program)),
         held("examples", packed(json.dumps(examples()).encode())),
-        held("worker", (TOP / "tools" / "wasm" / "host.js").read_text() + part("worker.js")),
+        held("worker", worker()),
     ]
-    page = re.sub(r'(http-equiv="Content-Security-Policy" content=)"[^"]*"', rf'\1"{POLICY}"', viewer(), count=1)
+    page = re.sub(r'(http-equiv="Content-Security-Policy" content=)"[^"]*"', rf'\1"{POLICY}"', VIEWER.joined(), count=1)
     page = re.sub(r"(<title>|<b id=\"title\">)[^<]*", rf"\g<1>{TITLE}", page)
     places = [("</style>", part("desk.css") + "</style>"), (DATA, work + DATA + "".join(texts)), (END, scripts + END)]
     for old, new in places:
         if page.count(old) != 1:
             sys.exit(f"make: the viewer's page has {old!r} {page.count(old)} times, and not once")
         page = page.replace(old, new)
-    return page
+    return VIEWER.sealed(page)
 
 
 def compared(page):

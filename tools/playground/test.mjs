@@ -165,7 +165,7 @@ async function testFaults(test) {
     ],
     [
       "a source's rules", "check", changed("send level(v)", "send other(v)"), "Unknown: a name isn't declared",
-      at("[[module]]")
+      at("send level(v)")
     ],
     ["a key", "check", changed("provider = 7", "povider = 7"), "D4: a key is unknown or missing", at("[[module]]")],
     ["TOML", "check", changed('node = "a"', "node = a b"), "D3", undefined],
@@ -185,12 +185,63 @@ async function testFaults(test) {
     const said = await test.said(),
           marked = await test.value(`${element("marked")}.hidden ? 0 : Number(${element("marked")}.dataset.line)`);
     const isRight =
-        said.includes(words) && (line === undefined || said.endsWith(`, at line ${line}`) && marked === line);
+        said.includes(words) && (line === undefined || said.includes(`, at line ${line}`) && marked === line);
     expect(`a fault in words at its line: ${name}`, isRight, {said, marked, line});
   }
+  await testNotes(test, changed);
   await test.write(cases[0][2]);
   await test.click("do-run");
   await test.picture("fault");
+}
+
+// What the command line says of a text, beyond the fault line: on a terminal.
+function told(word, text) {
+  const ran = spawnSync(fileURLToPath(new URL("sancus", TOP)), [word, "-"], {input: text});
+  return String(ran.stderr).split("\n").map(line => line.replace(/^sancus: /, ""));
+}
+
+async function testNotes(test, changed) {
+  const cases = [
+    ["an operator that isn't there", "check", changed("send level(v)", "send level(v % 3)"), ", column 26"],
+    ["a semicolon that is missing", "check", changed("output level;", "output level"), "perhaps a `;` is missing"],
+    ["a name that isn't declared", "check", changed("send level(v)", "send levl(v)"), "did you mean `level`?"],
+    ["a local declared twice", "check", changed("send level(v);", "let v = 1; send level(v);"), "the handler has a local `v` already"],
+    ["a key", "check", changed("provider = 7", "povider = 7"), "the key `povider` is unknown here; did you mean `provider`?"],
+    ["a device", "check", changed('device = "light"', 'device = "ligth"'), "did you mean `light`?"],
+    ["a port", "check", changed("logic.level", "logic.levle"), "has no input `levle`; its inputs: level; did you mean"],
+    ["a place", "check", changed("text = 0x6000", "text = 0x4400"), "share 0x4400 to"],
+    ["an act", "run", changed("load logic", "laod logic"), "did you mean `load`?"],
+    ["a module of a line", "run", changed("load logic", "load lgic"), "expected: a module: eye logic lamp; did you mean `logic`?"],
+    ["no secret", "run", changed(/^secret.*$/m, ""), "warning: the deployment has connections and no `secret`"],
+    ["a comparison", "run", changed("v > limit", "v >= 0"), "warning: this always holds"],
+  ];
+  for (const [name, word, input, words] of cases) {
+    await test.write(input);
+    await test.click(`do-${word}`);
+    const said = await test.value(`${element("said")}.innerText`);
+    expect(`more words of a fault: ${name}`, said.includes(words), said);
+    const notes = await test.value(`[...${element("said")}.querySelectorAll(".note, .warning")].map(it => it.firstChild.data)`);
+    const others = told(word, input).map(line => line.replace(/, line \d+ of the input$/, ""));
+    const foreign = notes.filter(it => !others.some(other => other.includes(it)));
+    expect(`as the command line has them: ${name}`, !foreign.length, {foreign, others});
+  }
+}
+
+async function testPeople(test) {
+  await test.open("#example=" + encodeURIComponent("parking/day for people"));
+  const outs = (await test.wrote()).split("\n").filter(it => it.startsWith("out "));
+  expect("lines for people are run", outs.join() === "out dfree 2,out dfree 2,out dfree 1", outs);
+  const here = await test.value(`document.querySelector(".row.selected").textContent`);
+  expect("and the picture begins after their set-up", here.includes("7:00"), here);
+  await test.picture("people");
+  const head = example("lighting").split("%%\n")[0], at = head.split("\n").length + 2;
+  for (const [line, words] of [["carry eye lmp", "there is no module lmp; did you mean `lamp`?"], ["laod eye", "S3: its first word is no act"]]) {
+    await test.write(`${head}%%\ndeploy all\nsample eye 5\n${line}\n`);
+    await test.click("do-run");
+    const said = await test.said(), marked = await test.value(`Number(${element("marked")}.dataset.line)`);
+    expect(`a line for people that can't be done: ${line}`, said.includes(words) && marked === at + 1, {said, marked, at});
+    expect("what came before it is drawn", await test.rows() >= 6, await test.rows());
+  }
 }
 
 async function testStop(test) {
@@ -240,7 +291,69 @@ async function testSaved(test) {
   rmSync(file);
 }
 
+const OWN = `${example("lighting").replace("sense light 120", "sense light 9")}`;
+const chosen = test => test.value(`${element("example")}.value`);
+const reload = async test => {
+  await test.value(act(`delete ${DONE}; location.reload()`)).catch(() => null);
+  await sleep(300);
+  return test.done();
+};
+
+async function testTexts(test) {
+  await test.value(act("localStorage.clear()"));
+  await test.open("#example=lighting");
+  await test.write(OWN);
+  expect("a text of one's own has a name", await chosen(test) === "own 1", await chosen(test));
+  await test.choose("attack");
+  expect("another text can be chosen", await test.text() === example("attack"));
+  await test.choose("own 1");
+  expect("and the own one again", await test.text() === OWN, await test.text());
+  await test.choose("attack");
+  await test.value(act(`${element("text")}.focus(); document.execCommand("undo")`));
+  expect("a text that was replaced comes back by Undo", await test.text() === OWN && await chosen(test) === "own 1");
+  await reload(test);
+  expect("it is there after the page was loaded again", await test.text() === OWN && await chosen(test) === "own 1");
+  await test.open("#example=attack");
+  await test.write(`${example("attack")}# more`);
+  expect("a second text doesn't take the place of the first", await chosen(test) === "own 2", await chosen(test));
+  await test.open();
+  expect("what was written last is there after the page was closed", await test.text() === `${example("attack")}# more`);
+  await test.choose("own 1");
+  expect("and so is the other", await test.text() === OWN);
+  await test.value(act(`Storage.prototype.setItem = () => { throw new Error("full") }`));
+  await test.write(`${OWN}# more`);
+  expect("the browser asks before it leaves what it can't keep", await test.value("typeof onbeforeunload") === "function");
+  await test.value(act(`${element("do-save")}.click()`));
+  expect("and doesn't if that was saved", await test.value("onbeforeunload === null"));
+  const names = await test.value(`[...${element("example")}.options].map(it => it.value).join(" ")`);
+  expect("parking is in the list", ["day", "hostile", "replay"].every(it => names.includes(`parking/${it}`)), names);
+  await test.value(act("localStorage.clear()"));
+}
+
+async function testOpen(test) {
+  await test.open("#example=readings");
+  const [head, lines] = example("lighting").split("%%\n"), open = texts => test.value(act(`delete ${DONE};
+    const files = new DataTransfer();
+    for (const text of ${JS(texts)}) files.items.add(new File([text], "a file"));
+    ${element("files")}.files = files.files;
+    ${element("files")}.dispatchEvent(new Event("change"))`));
+  await open([head]);
+  await test.done();
+  expect("a deployment that is opened stands in the editor", await test.text() === head);
+  expect("and is checked", (await test.said()).startsWith("check ended with status 0"), await test.said());
+  expect("nothing is said of an output", await test.value(`document.querySelectorAll("#notes .bad").length`) === 0);
+  await open([lines]);
+  await test.done();
+  expect("a schedule joins the deployment that is there", await test.text() === example("lighting"), await test.text());
+  expect("and is run", (await test.said()).startsWith("run ended with status 0"), await test.said());
+  await open([lines, head]);
+  await test.done();
+  expect("two files are one input", await test.text() === example("lighting"));
+}
+
 async function testPolicy(test) {
+  await test.value(act(`document.body.append(Object.assign(document.createElement("script"), {textContent: "window.bad = 1"}))`));
+  expect("no script but the page's runs", await test.value(`String(window.bad)`) === "undefined");
   const reached = await test.value(`fetch("https://example.org").then(() => "reached", () => "refused")`);
   expect("the page connects to nothing", reached === "refused", reached);
 }
@@ -280,6 +393,19 @@ async function testKeys(test) {
   expect("Tab goes from word to word", wanted.every((id, k) => order[k] === id), order);
 }
 
+async function testPhone(Browser) {
+  const browser = new Browser(), test = new Test(browser);
+  await browser.begin({width: 390, height: 844});
+  await test.open("#example=lighting");
+  const box = id => test.value(`(({left, right, top, bottom}) => ({left, right, top, bottom}))(${element(id)}.getBoundingClientRect())`);
+  const desk = await box("desk"), seen = await box("seen");
+  expect("on a phone the picture stands below the editor", seen.top >= desk.bottom && seen.left === 0, {desk, seen});
+  expect("both are as wide as the window", [desk, seen].every(it => it.right > 370), {desk, seen});
+  expect("nothing is wider", await test.value("document.documentElement.scrollWidth <= innerWidth"));
+  await test.picture("phone");
+  await browser.end();
+}
+
 async function testWithoutWebAssembly(Browser) {
   const browser = new Browser(), test = new Test(browser);
   await browser.begin({width: 1280, height: 720, script: "delete globalThis.WebAssembly"});
@@ -302,12 +428,14 @@ for (const Browser of BROWSERS.filter(it => !wanted || it.name === wanted)) {
   const browser = new Browser(), test = new Test(browser);
   await browser.begin({width: 1280, height: 720});
   await test.open();
-  for (const one of [testLayout, testWords, testFaults, testStop, testLink, testSaved, testKeys, testExamples])
+  for (const one of [testTexts, testOpen, testLayout, testWords, testFaults, testPeople, testStop, testLink, testSaved, testKeys, testExamples])
     await one(test);
   expect("no errors", !browser.errors.length, browser.errors);
   await testPolicy(test);
   await browser.end();
-  if (Browser.name === "Chromium") await testWithoutWebAssembly(Browser);
+  if (Browser.name !== "Chromium") continue;
+  await testPhone(Browser);
+  await testWithoutWebAssembly(Browser);
 }
 console.log(failed ? `${failed} failed` : "all passed");
 process.exitCode = failed ? 1 : 0;

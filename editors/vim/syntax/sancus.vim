@@ -21,7 +21,7 @@ syntax match sancusRemark contained +//.*$+
 syntax region sancusSchedule matchgroup=sancusMark start=/^%%\r\?$/ end=/\%$/ contains=sancusNote,sancusAct,sancusNumber,sancusHex,sancusEase
 syntax match sancusNote contained /^\s*#.*$/
 syntax match sancusAct contained /^\s*\(run\|finish\|put\|asm\|set\|take\|give\|forge\|sense\|irq\|reset\|ask\|answer\|load\|call\)\>/
-syntax match sancusEase contained /^\s*\(deploy\|sample\|carry\|windows\|packets\|boots\)\>/
+syntax match sancusEase contained /^\s*\(deploy\|sample\|carry\|flow\|settle\|windows\|packets\|boots\)\>/
 syntax match sancusHex contained /\<\x\{8,}\>/
 
 highlight default link sancusTable Structure
