@@ -234,7 +234,7 @@ has_head TooLong e = absurd (cc e)
 has_head NoMark e = absurd (cc e)
 has_head Unread e = absurd (cc e)
 
-told_also : {tells to_tell : Bool} {limit : Limit} {m0 m1 : CommandAt} {status : ℕ} {F : List Answer → Output} {also : List Answer → Type 0} (next : List Answer → Type 0)
+pub told_also : {tells to_tell : Bool} {limit : Limit} {m0 m1 : CommandAt} {status : ℕ} {F : List Answer → Output} {also : List Answer → Type 0} (next : List Answer → Type 0)
     → ((answers : List Answer) → also answers → next answers) → Told tells to_tell limit m0 m1 status F also → Told tells to_tell limit m0 m1 status F next
 told_also {tells} {to_tell} {limit} {m0} {m1} {status} {F} {also} next h told =
     let r = told.reads in record {
