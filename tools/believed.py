@@ -38,7 +38,7 @@ FORGED = [f"sx_forged.{law}" for law in (
 )]
 # What the keys of connections show.
 LINKS = [f"sx_links.{law}" for law in ("LinksUnseen.LinksAreUnseen", "Unlinks.HasMoved", "Found.KeysFound")]
-# What a property's text means, and when it is broken.
+# What a property's text means, and when it is broken; what `watch` says of it is reached from the program.
 PROPERTIES = ["sx_watch.Text.IsProperty", "sx_watch.Watched.broken_at"]
 # How seldom a `forged` comes: counts, makers of schedules, and what a run asks of tags.
 ODDS = [
@@ -54,6 +54,7 @@ ODDS = [
     )),
 ]
 OF_FORGED = ("sx_forged", "sx_links")
+OF_PROPERTIES = ("sx_watch", "sx_command_property", "sx_command_watch")
 # The images are a function of the deployment; which one, the compiler says, and nobody has to believe that.
 FUNCTIONS = {("sx_command_world.Compiled", "compiled_texts")}
 
@@ -258,11 +259,11 @@ def main():
     source = repository.reached(SOURCE)
     core = repository.reached(CORE)
     headline = repository.reached(CORE + HEADLINE, OF_FORGED)
-    program = repository.reached(CORE + HEADLINE + PROGRAM, OF_FORGED)
-    forged = repository.reached(CORE + HEADLINE + PROGRAM + FORGED + LINKS) - program
+    program = repository.reached(CORE + HEADLINE + PROGRAM, OF_FORGED + OF_PROPERTIES)
     properties = repository.reached(CORE + HEADLINE + PROGRAM + PROPERTIES, OF_FORGED) - program
+    forged = repository.reached(CORE + HEADLINE + PROGRAM + FORGED + LINKS) - program - properties
     links = forged - repository.reached(CORE + HEADLINE + PROGRAM + FORGED, ("sx_links",))
-    odds = repository.reached(CORE + HEADLINE + PROGRAM + FORGED + LINKS + ODDS) - program - forged
+    odds = repository.reached(CORE + HEADLINE + PROGRAM + FORGED + LINKS + ODDS) - program - properties - forged
     repository.show("The source: application, model, legal run and items", source)
     repository.show("The core, beside it", core - source)
     repository.show("From the text on", headline - core)

@@ -2,7 +2,7 @@
 use Rattle.std.specs.Prelude.{◌≤◌, Option, Some, None}
 use Rattle.sx_top.specs.declared.words.Command.{Command}
 use Rattle.sx_top.specs.declared.words.Command.TheVariants.{Run, Check, Explain, Snap, Gen, Asm}
-use Rattle.sx_top.specs.declared.words.Command.TheVariants.{Dis, Drive}
+use Rattle.sx_top.specs.declared.words.Command.TheVariants.{Dis, Drive, Watch}
 
 -- a workload carries at most 8,000 samples
 abbrev pub CarriesFew : Option Command → Type 0
@@ -10,6 +10,7 @@ CarriesFew None = Unit {0}
 CarriesFew (Some Run) = Unit {0}
 CarriesFew (Some Check) = Unit {0}
 CarriesFew (Some Explain) = Unit {0}
+CarriesFew (Some Watch) = Unit {0}
 CarriesFew (Some Drive) = Unit {0}
 CarriesFew (Some Snap) = Unit {0}
 CarriesFew (Some (Gen n)) = n ≤ 8000
@@ -22,6 +23,7 @@ LeavesInput None = Unit {0}
 LeavesInput (Some Run) = ⊥
 LeavesInput (Some Check) = ⊥
 LeavesInput (Some Explain) = ⊥
+LeavesInput (Some Watch) = ⊥
 LeavesInput (Some Drive) = ⊥
 LeavesInput (Some Snap) = ⊥
 LeavesInput (Some (Gen n)) = Unit {0}

@@ -14,6 +14,8 @@ pub(crate) enum Command {
     Run,
     Check,
     Explain,
+    /// Which item of a trace is the first that breaks a property.
+    Watch,
     /// The honest run of readings.
     Drive,
     /// Answers about a run after any of its lines.
@@ -37,6 +39,8 @@ fn plain_command(word: &[u8]) -> Option<Command>
         Some(Command::Check)
     } else if word == b"explain".as_slice() {
         Some(Command::Explain)
+    } else if word == b"watch".as_slice() {
+        Some(Command::Watch)
     } else if word == b"drive".as_slice() {
         Some(Command::Drive)
     } else if word == b"snap".as_slice() {

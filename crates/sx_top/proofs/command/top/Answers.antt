@@ -2,12 +2,13 @@ use Rattle.std.proofs.Common.{◌∙◌, arith, map, refl, sym, subst, ap, Optio
 use Rattle.std.specs.Prelude.{string_bytes}
 use Rattle.sx_tag.specs.Mac.{hmac_sha256}
 use Rattle.sx_top.specs.declared.words.Command.{Command}
-use Rattle.sx_top.specs.declared.words.Command.TheVariants.{Run, Check, Explain, Drive, Snap, Gen, Asm, Dis}
+use Rattle.sx_top.specs.declared.words.Command.TheVariants.{Run, Check, Explain, Drive, Snap, Gen, Asm, Dis, Watch}
 use Rattle.sx_top.specs.Chosen.{CarriesFew}
 use Rattle.sx_command.specs.Refusals.{usage_line}
 use Rattle.sx_command_run.proofs.Said.{says_not_two}
 use Rattle.sx_command_check.proofs.Promised.{check_not_two}
 use Rattle.sx_command_explain.proofs.Promised.{explain_not_two}
+use Rattle.sx_command_watch.proofs.Promised.{watch_not_two}
 use Rattle.sx_command_drive.proofs.Said.{says_not_two as drive_not_two}
 use Rattle.sx_command_snap.proofs.Said.{says_not_two as snap_not_two}
 use Rattle.sx_command_gen.proofs.Generated.{gen_not_two}
@@ -32,6 +33,12 @@ returns-in-Some-Explain-clause-told g c =
     program hmac_sha256 (map string_bytes c.args.words.now) (Some Explain)
     (sym c.command_of.ensures.command ∙ c.in-Some-Explain.is ∙ ap Some c.in-Some-Explain.field-0-is) c.explain_over.ensures
     (λ two. absurd (explain_not_two c.explain_over.ensures two))
+
+pub returns-in-Some-Watch-clause-told : goal.returns-in-Some-Watch-clause-told
+returns-in-Some-Watch-clause-told g c =
+    program hmac_sha256 (map string_bytes c.args.words.now) (Some Watch)
+    (sym c.command_of.ensures.command ∙ c.in-Some-Watch.is ∙ ap Some c.in-Some-Watch.field-0-is) c.watch_over.ensures
+    (λ two. absurd (watch_not_two c.watch_over.ensures two))
 
 pub returns-in-Some-Drive-clause-told : goal.returns-in-Some-Drive-clause-told
 returns-in-Some-Drive-clause-told g c =
