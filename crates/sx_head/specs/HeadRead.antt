@@ -27,10 +27,15 @@ HeadRead tells s0 s1 now (Err fault.OutOfMemory) =
     (text : List ℕ) × Got tells head_lines head_lines s0 s1 now head
     (λ more. Found text more) Unread anything
 
--- What a call that reads another text took, and answered, where F was all that a command writes and
--- g is what it writes by that text.
-abbrev pub TextTaken : Bool → Limit → SourceAt → SourceAt → Ahead → (List Answer → Output)
-    → (Head → Output) → (List Answer → Type 0) → Result (List ℕ) HeadFault → Type 0
+-- what a command writes of its input, and what is noted of that
+pub record Noted : Type 0 where
+  pub output : Output
+  pub notes : List (List ℕ)
+
+-- What a call that reads another text took, and answered, where F was of all that comes and g is of
+-- the text that comes.
+abbrev pub TextTaken : Bool → Limit → SourceAt → SourceAt → Ahead → (List Answer → Noted)
+    → (Head → Noted) → (List Answer → Type 0) → Result (List ℕ) HeadFault → Type 0
 TextTaken tells limit s0 s2 now F g also (Ok text) =
     Got tells limit head_lines s0 s2 now F (λ more. g (Found text more)) (g Unread) also
 TextTaken tells limit s0 s2 now F g also (Err fault.TooLong) =
@@ -47,7 +52,7 @@ TextTaken tells limit s0 s2 now F g also (Err fault.OutOfMemory) =
 abbrev pub TextRead : Bool → SourceAt → SourceAt → Ahead → Ahead → Result (List ℕ) HeadFault
     → Type 0
 TextRead tells s1 s2 old now result =
-    (limit : Limit) (s0 : SourceAt) (F : List Answer → Output) (g : Head → Output)
+    (limit : Limit) (s0 : SourceAt) (F : List Answer → Noted) (g : Head → Noted)
     (aside : List Answer → List ℕ) (noted : List ℕ)
     → Got tells limit head_lines s0 s1 old F (λ answers. g (head answers)) (g Unread)
     (Notes aside noted)
