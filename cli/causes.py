@@ -3,12 +3,10 @@
 from __future__ import annotations
 
 import os
-import re
 from dataclasses import dataclass, field
 from typing import Dict, Iterator, List, Optional, Tuple
 
 from cli import forged, refusals
-from cli.acts import ACTS, is_act
 from cli.commands import Given, Usage
 from cli.context import Context
 from cli.deployment import Plan, plan_of
@@ -20,9 +18,9 @@ from cli.marks import CannotMark, marked_run
 from cli.model import reason
 from cli.numbers import number
 from cli.output import print_lines
-from cli.people import is_for_people
 from cli.program import Collected, Program
 from cli.running import gathered
+from cli.runs import is_schedule
 from cli.say import Voice, text_of
 from cli.sinks import Kept as KeptLines
 from cli.status import BAD_TEXT, Ended
@@ -39,7 +37,6 @@ SAID_CAUSE = {
 }
 # Items with which a call begins what its `done` ends.
 BEGINS = ("take", "read", "vouch", "open")
-IS_TRACE = re.compile(rb"(?m)^(trace\r?$|image |> |steps )")
 
 
 @dataclass
@@ -261,17 +258,6 @@ def in_words(made: Explained) -> Iterator[str]:
 # --- The command ---
 
 
-def are_lines(text: bytes) -> bool:
-    """Whether a text has lines of a schedule, lines for people or readings, and no trace."""
-    if IS_TRACE.search(text):
-        return False
-    data = Input(text)
-    lines = data.schedule if data.has_mark else text.split(b"\n")
-    words = [text_of(it) for it in next((it for it in lines if is_act(it)), b"").split()]
-    is_reading = len(words) == 2 and words[0] not in ITEMS and number(words[1]) is not None
-    return bool(words) and (words[0] in ACTS or is_for_people(words) or is_reading)
-
-
 def is_file(word: str) -> bool:
     return word == "-" or os.path.exists(word) and not os.path.isdir(word)
 
@@ -287,9 +273,9 @@ def files_and_item(given: Given) -> Tuple[List[str], str]:
 
 
 def explained_of(deployment: str, files: List[str], context: Context, given: Given) -> Explained:
-    """What is asked about: a trace, which comes on standard input if no file is named, or a schedule, which the deployment
-    may hold itself."""
-    if len(files) > 1 or files and are_lines(look_at(files[0])):
+    """What is asked about: a trace, which comes on standard input if no file is named, or a schedule, which may be behind
+    the deployment's own mark."""
+    if len(files) > 1 or files and is_schedule(files[0], deployment):
         return explain_run([deployment, *files], context)
     if not files and not look_at_standard_input():
         if is_file(deployment) and deployment != "-" and Input(look_at(deployment)).schedule:

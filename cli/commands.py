@@ -84,6 +84,7 @@ INPUT = Argument("INPUT", ONE, "a deployment, a line %% and a schedule")
 LINE = Argument(
     "LINE", ONE, "a line of the schedule, counted from 1 after %%, or FILE:LINE as in an editor; 0 is power-on", False
 )
+LAST_LINE = Argument("LINE", MAYBE, f"{LINE.says}; absent, the last", False)
 MORE = Argument(
     "SCHEDULE", MANY, "schedules or lines for people, one after the other, if INPUT is the deployment alone"
 )
@@ -239,7 +240,7 @@ The program runs as the lines are written, so packets, boots and pieces are thos
     Command(
         "vars",
         "prints a module's variables, arrays and ends after a line",
-        (INPUT, MORE, Argument("MODULE", ONE, "a module", False), Argument("LINE", MAYBE, f"{LINE.says}; absent, the last", False)),
+        (INPUT, MORE, Argument("MODULE", ONE, "a module", False), LAST_LINE),
         (DRIVE, Option("--changes", "prints each change of a variable or an array element up to LINE, a line each")),
         "sancus vars examples/lighting.txt logic 45",
         "Of lines for people LINE is one of those; FILE:LINE may also be one of those that `sancus schedule` made what "

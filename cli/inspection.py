@@ -13,7 +13,7 @@ from cli.deployment import Plan, plan_of
 from cli.faults import Teller
 from cli.joining import joined
 from cli.numbers import number
-from cli.people import are_for_people, lines_of, written
+from cli.people import are_for_people, lines_of, written_so_far
 from cli.program import Collected, Program
 from cli.rules import near
 from cli.running import gathered
@@ -163,7 +163,8 @@ def inspected(files: List[str], is_driven: bool, context: Context) -> Inspected:
     that they become."""
     kept, data = put_together(files, context)
     plan = must_be_accepted(kept, data, files[0], context.program)
-    seen = Inspected(files[0], data.head, plan, [], [], context.program, is_driven=is_driven or are_readings(plan, data))
+    seen = Inspected(files[0], data.head, plan, [], [], context.program)
+    seen.is_driven = is_driven or are_readings(plan, data)
     if seen.is_driven:
         if not is_driven:
             context.voice.say(f"{files[-1]} has readings: the lines are those that `drive` makes of them")
@@ -173,8 +174,10 @@ def inspected(files: List[str], is_driven: bool, context: Context) -> Inspected:
         return seen
     given = lines_of(kept, data)
     if are_for_people(data):
-        made = written(given, context)
+        made = written_so_far(given, context)
         context.voice.say(*made.notes)
+        if made.refusal:
+            context.voice.must_say(*made.refusal.lines, "the lines before it are looked into")
         spans, seen.lines, seen.is_for_people = made.spans, made.lines, True
     else:
         seen.kept, seen.lines = kept, [text for _, text in given.lines]

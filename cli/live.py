@@ -16,6 +16,7 @@ from cli.commands import Given
 from cli.context import Context
 from cli.guesses import PEOPLE
 from cli.items import Item
+from cli.joining import may_have_mark
 from cli.people import Lines, are_for_people, begun, do_line, is_for_people, place
 from cli.program import Collected, Ran, Sink
 from cli.running import gathered, parts_of, run_parts
@@ -24,16 +25,28 @@ from cli.schedule import Writer
 from cli.session import Stopped
 from cli.snapping import snap
 from cli.status import BAD_TEXT, Ended
-from cli.texts import MARK, Input, Kept, Origin, Part, file_part, is_regular, kept_of, open_file, without_return
+from cli.texts import (
+    MARK,
+    Input,
+    Kept,
+    Origin,
+    Part,
+    file_part,
+    find_mark,
+    is_regular,
+    kept_of,
+    open_file,
+    without_return,
+)
 
 # In a larger file no lines for people are looked for.
 MOST_LOOKED = 1 << 24
 # What a text has that has lines for people.
-LIKE_PEOPLE = re.compile(rb"(?m)^[ \t]*(?:%s)[ \t]|[ \t]as[ \t]" % "|".join(PEOPLE).encode())
+LIKE_PEOPLE = re.compile(rb"(?m)^[ \t]*(?:%s)(?:[ \t\r]|$)|[ \t]as[ \t]" % "|".join(PEOPLE).encode())
 
 
 def has_lines_for_people(name: str) -> bool:
-    """Whether a file has a line for people, after its mark if it has one."""
+    """Whether a file has a line for people, after its deployment if it has one."""
     if name != "-" and not os.path.isfile(name):
         return False
     fd = open_file(name)
@@ -46,8 +59,7 @@ def has_lines_for_people(name: str) -> bool:
             os.close(fd)
     if not LIKE_PEOPLE.search(text):
         return False
-    data = Input(text)
-    return are_for_people(data if data.has_mark else Input(b"%%\n" + text))
+    return are_for_people(Input(text if may_have_mark(text) and find_mark(text) else b"%%\n" + text))
 
 
 def begins_for_people(part: Part) -> bool:

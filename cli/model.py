@@ -12,6 +12,7 @@ from typing import Any, Callable, Dict, List, Optional, Tuple
 from cli.deployment import Plan, port_of
 from cli.items import Item
 from cli.meaning import first_cells, react
+from cli.numbers import counted
 
 MOST_SENT, LAST_EPOCH = 65535, 255
 
@@ -263,7 +264,8 @@ def take(model: Model, item: Item, made: Dict[str, Any]) -> None:
     words, sender = model.sent.get((connection, epoch), []), model.plan.sender(connection)
     if event >= len(words):
         raise Fails(
-            f"{sender} sent {len(words)} events over {connection} in epoch {epoch}, so there is no event {event}"
+            f"{sender} sent {counted(len(words), 'event')} over {connection} in epoch {epoch}, so there is no event "
+            f"{event}"
         )
     if words[event] != made["value"]:
         raise Fails(f"{sender} sent the value {words[event]} as event {event} of {connection}, and not {made['value']}")
@@ -299,15 +301,15 @@ def done(model: Model, _item: Item, made: Dict[str, Any]) -> None:
             raise Fails(f"{module} is at {owed.what} (item {owed.item}), and emits {owed.emits[0]} before it is done")
         if owed.pieces != pieces:
             raise Fails(
-                f"{module} is at {owed.what} (item {owed.item}), which makes {owed.pieces} pieces over its open ends, "
-                f"and not {pieces}"
+                f"{module} is at {owed.what} (item {owed.item}), which makes {counted(owed.pieces, 'piece')} over its "
+                f"open ends, and not {pieces}"
             )
         present.owed = None
         return
     if not 2 <= status <= 8:
         raise Fails(f"there is no status {status}")
     if pieces:
-        raise Fails(f"with status {status} nothing is written, and here are {pieces} pieces")
+        raise Fails(f"with status {status} nothing is written, and here it is {counted(pieces, 'piece')}")
     if present.owed:
         raise Fails(
             f"{module} is at {present.owed.what} (item {present.owed.item}), so it can't be refused with status "

@@ -19,3 +19,8 @@ def number(word: str) -> Optional[int]:
 def within(word: str, least: int, greatest: int) -> bool:
     value = number(word)
     return value is not None and least <= value <= greatest
+
+
+def counted(count: int, what: str) -> str:
+    """So many things in words, as `1 event` or `2 events`."""
+    return f"{count:,} {what}{'' if count == 1 else 's'}"

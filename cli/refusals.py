@@ -19,15 +19,14 @@ from cli.numbers import number
 from cli.session import Stopped, snapped
 
 IN_WINDOW, OUT_WINDOW, TOP = 40, 384, 0x10000
-VECTORS = 0xFFE0
-# The packets of the entries, by their first two bytes, and how much of the in-window each entry copies.
+# Packets by their first word; the entries 0, 1 and 2 take them in this order.
 KINDS = {1: "a set-key packet", 2: "an ask", 3: "an event"}
 OPERAND = re.compile(r"(?:&?(?P<at>0x[0-9a-f]+)(?:\((?P<indexed>\w+)\))?|@(?P<by>\w+)\+?)")
 
 
 @dataclass(frozen=True)
 class Place:
-    """Addresses of a node that aren't free, the end exclusive: a section or a device's word."""
+    """A section or a device's word, its end exclusive."""
 
     what: str
     begin: int
@@ -98,8 +97,8 @@ class Moment:
 
 @dataclass
 class Executed:
-    """The instruction that gave an item: the how manyth of its line, its text, the registers before it, and the text of
-    the one before it."""
+    """The instruction that gave an item: its number in its line, its text, the registers before it, and the text of the
+    one before it."""
 
     which: int
     text: str
@@ -281,7 +280,7 @@ def of_denied(moment: Moment) -> Iterator[str]:
     elif attested and LAST_EPOCH in epochs.values():
         yield f"a connection of {module} is at its last epoch, {LAST_EPOCH}"
     else:
-        yield f"packet {packet} isn't {module}'s answer to its last ask, with challenge {challenge}, as {module} made it"
+        yield f"packet {packet} isn't the answer that {module} made to its last ask, with challenge {challenge}"
 
 
 # --- Calls ------------------------------------------------------------------------------------------------------------

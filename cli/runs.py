@@ -36,8 +36,11 @@ def trace_for(deployment: str, name: str, context: Context) -> Part:
         return trace_part(name, context.voice)
     kept, data = gathered(joined([deployment, name], Voice(True)))
     plan = plan_of(data.head)
+    if plan is None or not context.program.ask(["check"], data.head + b"%%\n").endswith(b"end\n"):
+        # (the program says which rule the deployment breaks)
+        return trace_part(name, context.voice)
     trace = Collected()
-    if plan and are_readings(plan, data):
+    if are_readings(plan, data):
         ran = context.program.ran_of(["drive"], data.data, TraceOnly(trace))
         told = Teller(kept, "drive", context.program.ask).told(ran.last)
     else:
@@ -46,6 +49,6 @@ def trace_for(deployment: str, name: str, context: Context) -> Part:
             raise refusal
         ran = context.program.ran_of(["run"], data.data, trace)
         told = Teller(kept, "run", context.program.ask).told(ran.last)
-    if ran.status and not ran.last.startswith("fault deployment"):
+    if ran.status:
         context.voice.say(ran.last, *told, "what came before is judged")
     return text_part(trace.data(), f"the run of {name}", 1)

@@ -12,7 +12,7 @@ from typing import Callable, Deque, Dict, List, Optional, Tuple
 
 from cli.deployment import End, Plan, port_of
 from cli.items import Item, say
-from cli.numbers import number, within
+from cli.numbers import counted, number, within
 from cli.program import Program
 from cli.rules import near
 from cli.say import plain
@@ -424,7 +424,7 @@ class Writer:
         lost = call.lost(pieces)
         if lost:
             writer = self.written_over(sender, lost) or "another call or line"
-            self.note(f"{len(lost)} of the {call.pieces} events of {sender} aren't there any more: {writer} wrote over them")
+            self.note(f"{counted(len(lost), 'event')} of {sender} can't be carried any more: {writer} wrote there")
         return [self.taken(sender, it) for it in pieces if it.at not in call.carried]
 
     def sent_at(self, sender: str, items: List[Item]) -> List[Sent]:

@@ -133,8 +133,8 @@ class Session:
         return writer
 
     def skip(self, lines: Sequence[str]) -> None:
-        """Has lines done whose items aren't asked for. One mark follows them: an `answer` of its own module gives either
-        of two items, so the mark's is the one after those."""
+        """Has lines done whose items nobody asks for. One mark follows them: an `answer` of its own module gives one of
+        two items, so the mark's is the one after those."""
         self.lines += lines
         acts = [it for it in map(as_act, lines) if is_act(it)]
         left = sum(self.marker.is_own(it, 0) for it in acts)

@@ -9,7 +9,7 @@ from __future__ import annotations
 from dataclasses import dataclass, field
 from typing import Dict, Iterator, List
 
-from cli.acts import ACTS, is_act
+from cli.acts import ACTS, is_act, suits
 from cli.inspection import Inspected, Line, broken
 from cli.numbers import number
 from cli.say import plain
@@ -204,9 +204,17 @@ def told(seen: Inspected, asked: Line) -> List[str]:
     return lines
 
 
+def is_in_form(seen: Inspected, line: str) -> bool:
+    """Whether a line has the words of an act; the text of an `asm` isn't looked at."""
+    act, *words = line.split()
+    fields = ACTS.get(act, [])
+    is_long_enough = len(words) >= len(fields) if act == "asm" else len(words) == len(fields)
+    return bool(fields) and is_long_enough and all(suits(it, word, seen.plan) for it, word in zip(fields, words))
+
+
 def must_be_an_act(seen: Inspected, line: str, at: int) -> None:
-    """If the first word is no act, says how the schedule breaks off there."""
-    if not is_act(line.encode(errors="replace")) or line.split()[0] in ACTS:
+    """If a line isn't in form, says how the schedule breaks off there."""
+    if not is_act(line.encode(errors="replace")) or is_in_form(seen, line):
         return
     schedule = "".join(f"{it}\n" for it in seen.lines[:at]).encode(errors="surrogateescape")
     answer = seen.program.ask(["run"], seen.head + b"%%\n" + schedule).decode(errors="replace").split("\n")

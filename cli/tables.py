@@ -49,7 +49,7 @@ def given(value: Any, wanted: str) -> str:
         return f"has {len(value)} characters" if len(value) != 32 else "has others"
     if isinstance(value, str):
         return f'is "{value[:40]}"'
-    return f"is {str(value)[:40]}"
+    return "is one table" if isinstance(value, dict) else f"is {str(value)[:40]}"
 
 
 def keys(kind: str, entry: Entry) -> List[str]:

@@ -235,8 +235,8 @@ def came_or_went(node: str, found: Seen, cells: List[Cells]) -> str:
 
 
 def ends_with_line(words: List[str]) -> bool:
-    """Whether the last of some words is LINE, and not MODULE: it is a number or FILE:LINE, or a module's name comes before
-    it."""
+    """Whether the last of some words is LINE, and not MODULE: it is a number or FILE:LINE, or a module's name comes
+    before it."""
     if number(words[-1]) is not None or re.search(r":[0-9]+$", words[-1]):
         return True
     return bool(words[1:] and re.fullmatch(r"[a-z][a-z0-9_]*", words[-2])) and not os.path.exists(words[-2])

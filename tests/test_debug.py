@@ -111,6 +111,18 @@ class Variables(Room):
         self.assertIn(f"{readings}:3: last[1] 7 -> 9", changed)
         self.assertIn("> call lamp 2 0x40 0x80", sancus("steps", head, readings, "r.txt:1").lines)
 
+    def test_up_to_a_line_that_can_not_be_done(self):
+        head, easy = self.file("d.toml", HEAD), self.file("bad.txt", EASY.replace("# at last", "sample lamp 3"))
+        good = self.file("good.txt", EASY)
+        for words in (("vars", "logic", "3"), ("steps", "3")):
+            ran = sancus(words[0], head, easy, *words[1:])
+            wanted = sancus(words[0], head, good, *words[1:]).lines
+            self.assertEqual((ran.status, ran.lines), (0, [it.replace("good.txt", "bad.txt") for it in wanted]))
+            self.says(ran, "bad.txt:5: sample lamp 3: lamp drives no sensor", "the lines before it are looked into")
+        ran = sancus("vars", head, easy, "logic", "6")
+        self.assertEqual((ran.status, ran.out), (122, b""))
+        self.says(ran, "lamp drives no sensor", "6 is no line of the schedule: it has 4")
+
     def test_misuse(self):
         for words, said in (
             (("vars", LIGHTING_FILE, "ear", "1"), "there is no module ear: eye logic lamp"),
@@ -122,6 +134,8 @@ class Variables(Room):
             (("vars", LIGHTING_FILE, "eye", "lighting.txt:9"), "it has 45, counted from 1 after %%; the first is"),
             (("steps", LIGHTING_FILE, "0"), "line 0 is power-on"),
             (("steps", self.file("d", HEAD), self.file("e", "fly 3\n"), "1"), "S3: its first word is no act"),
+            (("steps", self.file("d", HEAD), self.file("g", "call eye 3\n"), "1"), "S7: it has too many words or too few"),
+            (("steps", self.file("d", HEAD), self.file("h", "run a x\n"), "1"), "S5: a field is no number"),
             (("vars", self.file("d", HEAD), self.file("f", "deploy ear\n"), "eye", "1"), "there is no module ear"),
         ):
             ran = sancus(*words)
@@ -181,7 +195,8 @@ class Snap(Room):
         answers = [it.split(" ") for it in wanted.lines if not it.startswith("image ")]
         for it in answers[:-1]:
             it[{"item": 1, "regs": 2, "bytes": 3}[it[0]]] = {"regs": "4"}.get(it[0], "3") if it[1] != "b" else "0"
-        for files in ((head, easy, queries), (self.file("w", f"{HEAD.decode()}%%\n{EASY}%%\n{self.QUERIES}"),)):
+        both = self.file("both", EASY + "%%\n" + self.QUERIES)
+        for files in ((head, easy, queries), (head, both), (self.file("w", f"{HEAD.decode()}%%\n{EASY}%%\n{self.QUERIES}"),)):
             ran = sancus("snap", "--no-images", *files)
             self.assertEqual((ran.status, ran.lines), (0, [" ".join(it) for it in answers]), ran.said)
 
@@ -361,7 +376,7 @@ class Why(Room):
             (
                 b"take lamp down 0 1",
                 b"take lamp down 1 1",
-                "logic sent 1 events over down in epoch 0, so there is no event 1",
+                "logic sent 1 event over down in epoch 0, so there is no event 1",
             ),
             (b"read eye 120", b"read eye 121", "the sensor light has the value 120, and not 121"),
             (b"sense light 120\n", b"", "has no new sample"),
@@ -423,7 +438,14 @@ class Why(Room):
         self.assertEqual(sancus("explain", head, easy).out, sancus("explain", head, self.trace).out)
         self.assertEqual(sancus("explain", "--words", head, easy).lines[-1].split(":")[0], "legal")
         self.assertIn("42 out lamp 1", sancus("why", head, self.file("r", "light 120\n")).out.decode())
-        ran = sancus("why", head, self.file("bad", "deploy all\ncarry eye logic\n"), "1")
+        for text in ("node = 3\n", "node\n"):
+            ran = sancus("explain", self.file("n.toml", text), easy)
+            self.assertEqual((ran.status, ran.out), (1, program("explain", text=text + "%%\n").out))
+        bad = self.file("bad", "deploy all\ncarry eye logic\n")
+        ran = sancus("why", head, bad, "1")
+        self.assertEqual((ran.status, ran.lines[0].split(":")[0]), (0, "1 protect a eye"))
+        self.says(ran, "eye sent nothing at its last call", "the lines before it are looked into")
+        ran = sancus("explain", head, bad)
         self.assertEqual((ran.status, ran.out), (122, b""))
         self.says(ran, "eye sent nothing at its last call")
         ran = sancus("why", head, self.file("s", "load eye\nload ear\n"), "1")

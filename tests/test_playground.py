@@ -1,5 +1,5 @@
-"""playground.html is what its parts give: the viewer, tools/playground, tools/wasm, the examples and release/sancus.wasm. What it makes
-of lines for people is what `sancus schedule` makes of them."""
+"""playground.html is what its parts give: the viewer, tools/playground, tools/wasm, the examples and release/sancus.wasm.
+What it makes of lines for people is what `sancus schedule` makes of them."""
 
 import json
 import shutil
@@ -33,6 +33,9 @@ deploy lamp
 sample eye 3
 carry eye logic up
 carry logic lamp 0
+flow light 101
+sample eye 7
+settle
 asm a 0x800 mov #1, r5; jmp 0x800
 """
 
@@ -52,7 +55,8 @@ class People(unittest.TestCase):
     def setUpClass(cls):
         make = TOP / "tools" / "playground" / "make.py"
         code = "import runpy, sys; sys.stdout.write(runpy.run_path(sys.argv[1])['worker']())"
-        cls.worker = subprocess.run([sys.executable, "-c", code, make], capture_output=True, text=True, check=True).stdout
+        ran = subprocess.run([sys.executable, "-c", code, make], capture_output=True, text=True, check=True)
+        cls.worker = ran.stdout
 
     def made(self, text):
         script = f"let onmessage;\n{self.worker}\n{MADE}"
@@ -63,7 +67,8 @@ class People(unittest.TestCase):
 
     def test_a_schedule(self):
         without_marks = lambda text: [it for it in text.splitlines() if not it.startswith("#=")]
-        for text in (HEAD + b"%%\n" + DAY.encode(), PARKING + b"%%\n" + (EXAMPLES / "parking" / "day.people").read_bytes()):
+        day = (EXAMPLES / "parking" / "day.people").read_bytes()
+        for text in (HEAD + b"%%\n" + DAY.encode(), PARKING + b"%%\n" + day):
             made, wanted = self.made(text), sancus("schedule", "-", text=text)
             self.assertIsNone(made["wrong"])
             self.assertEqual(wanted.status, 0, wanted.said)
@@ -74,8 +79,12 @@ class People(unittest.TestCase):
             ("deploy eye\nsample eye 1\ncarry eye logic", 3, "logic isn't loaded on a yet: `deploy logic` first"),
             ("deploy all\nsample ey 1", 2, "there is no module ey; did you mean `eye`?"),
             ("deploy all\ncarry eye lamp", 2, "no connection leads from eye to lamp; eye sends to: logic"),
-            # (logic answers into the window that had the event)
-            ("deploy all\nsample eye 5\ncarry eye logic\ncarry eye logic", 4, "any more"),
+            ("deploy all\nsample eye 5\ncarry eye logic\ncarry eye logic", 4, "`give event.eye.logic NODE` gives it again"),
+            (
+                "deploy all\nsample eye 5\ncarry eye logic\nsample eye 6\ncarry logic lamp",
+                5,
+                "in the window of logic any more: eye's call at line 48 wrote over what it sent",
+            ),
             ("deploy all\nsample 1", 2, "`sample` has too many words or too few: sample MODULE VALUE"),
         ):
             text = HEAD + b"%%\n" + lines.encode() + b"\n"

@@ -247,7 +247,7 @@ class Schedule(Room):
         taken = [it for it in trace(ran.out) if it.startswith("take")]
         after_mid = ["take mid to_mid 0 7", "take end straight 1 8", "take mid to_mid 1 8", "take end on 0 7"]
         self.assertEqual(taken[:4], after_mid)
-        self.says(ran, "1 of the 4 events of eye aren't there any more: mid's call", "settle: nothing is on its way")
+        self.says(ran, "1 event of eye can't be carried any more: mid's call", "settle: nothing is on its way")
 
     def test_what_is_gone_is_passed_over(self):
         ran = written("deploy all\nreset b\nflow light 1\n", deployment=CHAIN)
@@ -367,6 +367,8 @@ class Run(Room):
         ran = sancus("run", self.head, again)
         self.assertEqual((ran.status, ran.out[: len(self.wanted) - 4]), (0, self.wanted[:-4]))
         self.assertIn("done logic 6 0", ran.lines)
+        ran = sancus("run", self.head, self.file("still.txt", "settle\n"), "--no-images")
+        self.assertEqual((ran.status, ran.lines), (0, ["trace", "end"]), ran.said)
         ran = sancus("run", self.file("bad.toml", "node = 3\n"), self.easy)
         self.assertEqual((ran.status, ran.lines), (1, ["fault deployment D4 top"]))
         self.says(ran, "`node` must be an array of tables")

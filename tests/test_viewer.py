@@ -486,10 +486,10 @@ class Viewer(unittest.TestCase):
         """As `sancus schedule` writes it for `# my day`, `deploy all` and a reading."""
         set_up, reading = (it.splitlines() for it in LIGHTING.partition("%%\n")[2].split("sense light", 1))
         acts = [it for it in set_up if not it.startswith("#")]
-        lines = ["# my day", "#= x:2 deploy all", *acts, "#= x:3 sample eye 120", f"sense light{reading[0]}", *reading[1:]]
-        self.show(of_run(context(), Input((DEPLOYMENT + "\n".join(lines) + "\n").encode())).texts)
-        self.assertEqual(self.browser.value("page.run.groups.slice(0, 3).map(it => [it.title, it.isFolded])"),
-                         [["my day", False], ["deploy all", True], ["sample eye 120", False]])
+        lines = ["# my day", "#= x:2 deploy all", *acts, "#= x:3 sample eye 120", f"sense light{reading[0]}"]
+        self.show(of_run(context(), Input((DEPLOYMENT + "\n".join([*lines, *reading[1:]]) + "\n").encode())).texts)
+        groups = self.browser.value("page.run.groups.slice(0, 3).map(it => [it.title, it.isFolded])")
+        self.assertEqual(groups, [["my day", False], ["deploy all", True], ["sample eye 120", False]])
         self.assertEqual(self.browser.value("page.run.shown[page.at].text"), "sample eye 120  (x:3)")
 
     def test_acts_of_an_attacker(self):
@@ -503,7 +503,8 @@ class Viewer(unittest.TestCase):
         drawn = self.texts("svg.drawing text")
         for text in ("#0", "#0 again", "#1 · never given", "RAW bulb 9"):
             self.assertIn(text, drawn)
-        self.assertEqual(self.texts(".is-attack:not(.legend *)"), ["give 0 a 0x300", "asm b 0x800 mov #9, &0x1000", "run b 1"])
+        acts = ["give 0 a 0x300", "asm b 0x800 mov #9, &0x1000", "run b 1"]
+        self.assertEqual(self.texts(".is-attack:not(.legend *)"), acts)
         self.assertEqual(self.texts(".row.raw .text"), ["raw bulb 9"])
         self.assertEqual(self.texts("#about"), ["9 items · 0 out · 0 reset · 1 raw"])
         self.browser.press("End")

@@ -66,12 +66,18 @@ class Faults {
     if (rule === "D3") return this.noToml();
     if (rule === "D6" && this.plan) return {notes: badCounts(this.plan)};
     const [kind, number, ...rest] = place, index = Number(number);
-    if (kind === "top" && this.plan) return {notes: badKeys("top", this.plan.toml)};
+    if (kind === "top" && this.plan) return {notes: [...badKeys("top", this.plan.toml), ...this.bareTables()]};
     const entry = KINDS.includes(kind) && this.plan?.by[kind][index];
     if (!entry) return {};
     const named = entry.name ? `${kind} ${entry.name}` : `${kind} number ${index}, counted from 0`;
     const {notes = [], ...found} = this.ofEntry(rule, kind, index, rest);
     return {line: entryLine(this.text, this.plan, kind, index), notes: [named, ...notes], ...found};
+  }
+
+  // What there is in place of a table of a kind of which there may be several.
+  bareTables() {
+    const isTable = value => typeof value === "object" && value !== null && !Array.isArray(value);
+    return KINDS.filter(kind => isTable(this.plan.toml[kind])).map(twoBrackets);
   }
 
   ofEntry(rule, kind, index, rest) {
@@ -154,14 +160,27 @@ class Faults {
     const [act] = wordsOf(text);
     if (rule === "S3") return {column: begins, notes: guessOfAct(act, this.plan)};
     if (["S4", "S5", "S6"].includes(rule) && ACT_FIELDS[act]) return badField(text, ACT_FIELDS[act], this.plan);
+    if (rule === "S8") return this.assembly(text);
     return rule === "S7" ? {column: begins, notes: [`its words: ${toldFields(act, ACT_FIELDS)}`]} : {};
+  }
+
+  // Why the text of an `asm` line isn't assembled, and at which statement.
+  assembly(text) {
+    const begins = /^[ \t]*asm[ \t]+\S+[ \t]+\S+[ \t]+/.exec(text)?.[0].length ?? 0, found = assemblyHint(text.slice(begins));
+    return {
+      column: (found ? text.indexOf(found.statement, begins) : begins) + 1,
+      notes: found ? [found.say] : []
+    };
   }
 
   reading(rule, text, begins) {
     const [first, value] = wordsOf(text);
     if (rule === "Q5" && value) return {column: text.indexOf(value, begins - 1 + first.length) + 1};
     if (rule !== "Q4" && rule !== "Q3") return {};
-    if (ACTS.includes(first)) return {column: begins, notes: [`\`${first}\` is a line of a schedule: Run takes those, and Drive makes them of readings`]};
+    if (ACTS.includes(first)) {
+      const says = `\`${first}\` is a line of a schedule: Run takes those, and Drive makes them of readings`;
+      return {column: begins, notes: [says]};
+    }
     if (PEOPLE.includes(first)) return {column: begins, notes: [forPeople(first)]};
     if (rule === "Q3" || !this.plan) return {};
     const sensors = sensorsOf(this.plan).filter(it => this.plan.driverOf(it));

@@ -18,7 +18,8 @@ from pathlib import Path
 HERE = Path(__file__).resolve().parent
 TOP = HERE.parent.parent
 PAGE = TOP / "playground.html"
-SCRIPTS = ("link", "editor", "drafts", "trees", "guesses", "acts", "deployment", "rules", "tables", "faults", "warnings", "marks", "runner", "job", "desk")
+WORDS = ("trees", "guesses", "acts", "assembly", "deployment", "rules", "tables", "faults", "warnings")
+SCRIPTS = ("link", "editor", "drafts", *WORDS, "marks", "runner", "job", "desk")
 POLICY = (
     "default-src 'none'; script-src 'sha256-HASH' 'wasm-unsafe-eval'; style-src 'unsafe-inline'; img-src data:; "
     "worker-src blob:; form-action 'none'; base-uri 'none'"
@@ -42,7 +43,8 @@ VIEWER = loaded("join", TOP / "cli" / "viewer" / "join.py")
 def examples():
     folder = TOP / "examples"
     files = [*sorted(folder.glob("*.txt")), *sorted(folder.glob("attacks/*.txt")), *sorted(folder.glob("snap/*.txt"))]
-    return {**{str(it.relative_to(folder).with_suffix("")): it.read_text() for it in files}, **parking(folder / "parking")}
+    inputs = {str(it.relative_to(folder).with_suffix("")): it.read_text() for it in files}
+    return {**inputs, **parking(folder / "parking")}
 
 
 def parking(folder):

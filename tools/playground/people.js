@@ -20,19 +20,26 @@ const FORMS = {
 // A line for people that can't be done, in words.
 class Mistake extends Error {}
 
-// A module's last call: where its pieces went, which events they surely are, and which were carried since.
+// A module's last call: where its pieces went, which events they surely are, which were carried since, and how many writes to its
+// node came before.
 class Call {
-  constructor(window, pieces, line) {
+  constructor(window, pieces, line, writes) {
     this.places = window === null ? [] : Array.from({length: pieces}, (_, k) => window + EVENT * k);
-    Object.assign(this, {window, line, sure: [], carried: new Map()});
+    Object.assign(this, {window, line, writes, sure: [], carried: new Map()});
   }
+
+  // The places of events that aren't there any more and weren't carried.
+  lost(pieces) { return this.places.filter(at => !this.carried.has(at) && !pieces.some(it => it.at === at)); }
 }
 
-// What the items showed: packets, boots, which modules are loaded, attested and have open ends, and their last calls.
+// What the items showed: packets and how long each is, boots, which modules are loaded, attested and have open ends, their last calls,
+// and what was written to each node since its last reset.
 class Shown {
   constructor(plan) {
     this.plan = plan;
     this.packets = 0;
+    this.lengths = new Map();
+    this.writes = new Map();
     this.boots = new Map();
     this.loaded = new Set();
     this.attested = new Map();
@@ -46,17 +53,41 @@ class Shown {
   takeIn(item, line, count) {
     const [kind, first, second, third] = item.split(" "), act = wordsOf(line);
     if (kind === "packet") this.packets = Number(first) + 1;
+    if (kind === "packet") this.lengths.set(Number(first), Number(second));
     if (kind === "protect" && second !== "-") this.loaded.add(second);
     if (kind === "attested") this.attested.set(first, Number(second));
     if (kind === "open" && third === "from") this.open.set(first, new Set([...this.open.get(first) ?? [], second]));
     if (kind === "reset") this.reset(first);
     if (kind !== "done") return;
     const isCall = act[0] === "call" && act[1] === first, isAnswer = isCall && numberOf(act[2]) === ATTEST;
-    this.calls.set(first, new Call(isCall ? numberOf(act[4]) : null, isAnswer ? 0 : Number(third), count));
+    const writes = this.writesTo(this.plan.named("module", first).node).length;
+    this.calls.set(first, new Call(isCall ? numberOf(act[4]) : null, isAnswer ? 0 : Number(third), count, writes));
     this.calls.get(first).sure = this.surePieces(first, this.calls.get(first));
   }
 
+  writesTo(node) { return this.writes.get(node) ?? []; }
+
+  // Remembers what a line wrote to a node's memory, as far as that shows.
+  takeInWrite(items, [act, ...fields], place) {
+    const done = items.filter(it => it.startsWith("done ")), pieces = done.reduce((count, it) => count + Number(it.split(" ")[3]), 0);
+    const [node, at, size, what] = {
+      call: done.length && [this.plan.named("module", fields[0])?.node, fields[3], EVENT * pieces, `${fields[0]}'s call`],
+      give: !items.length && [fields[1], fields[2], this.lengths.get(numberOf(fields[0])), "the `give`"],
+      put: !items.length && [fields[0], fields[1], (fields[2] ?? "").length / 2, "the `put`"],
+    }[act] || [];
+    if (!size) return;
+    const write = {begin: numberOf(at), end: numberOf(at) + size, what: `${what} at ${place}`};
+    this.writes.set(node, [...this.writesTo(node), write]);
+  }
+
+  // What wrote last over one of some places since a module's last call, or nothing that is known.
+  writtenOver(sender, node, places) {
+    const since = this.writesTo(node).slice(this.calls.get(sender).writes);
+    return since.findLast(it => places.some(at => it.begin < at + EVENT && at < it.end))?.what ?? null;
+  }
+
   reset(node) {
+    this.writes.delete(node);
     this.boots.set(node, this.boot(node) + 1);
     for (const {name} of this.plan.by.module.filter(it => it.node === node)) {
       this.loaded.delete(name);
@@ -92,6 +123,7 @@ class Writer {
     this.lines.push(text);
     this.given.push(text);
     const items = yield text;
+    this.shown.takeInWrite(items, words, `line ${this.number}`);
     for (const item of items) this.shown.takeIn(item, text, this.given.length);
     return items;
   }
@@ -99,6 +131,7 @@ class Writer {
   // Does a line, and marks what was made of it.
   * line(text, number) {
     const words = wordsOf(text), begin = this.lines.length;
+    this.number = number;
     if (!words.length || words[0].startsWith("#")) return void this.lines.push(text);
     if (words[0] === "asm")
       yield* this.put(text);
@@ -295,7 +328,7 @@ class Writer {
       throw new Mistake(`${sender} was called by other code, and not by a line \`call\`: \`take\` its piece where that put it`);
     if (!call.places.length) throw new Mistake(`${sender} sent nothing at its last call`);
     const pieces = this.pieces(sender, call);
-    if (!Number.isNaN(place)) return this.byPlace(call, pieces, place, receiver);
+    if (!Number.isNaN(place)) return this.byPlace(sender, pieces, place, receiver);
     if (which && !between.includes(which))
       throw new Mistake(`no connection ${which} leads from ${sender} to ${receiver}: ${between.join(" ")}`);
     const wanted = which ? [which] : between;
@@ -304,10 +337,12 @@ class Writer {
     return left;
   }
 
-  byPlace(call, pieces, which, receiver) {
+  byPlace(sender, pieces, which, receiver) {
+    const call = this.shown.calls.get(sender);
     if (which >= call.places.length) throw new Mistake(`there is no piece ${which}: the last call wrote ${call.places.length}`);
     const found = pieces.find(it => it.at === call.places[which]);
-    if (!found) throw new Mistake(`piece ${which} isn't there any more: other pieces were written over it`);
+    const writer = this.shown.writtenOver(sender, this.nodeOf(sender), [call.places[which]]) ?? "another call or line";
+    if (!found) throw new Mistake(`piece ${which} isn't there any more: ${writer} wrote over it`);
     const to = moduleOf(this.plan.named("connection", found.connection).to);
     if (to !== receiver) throw new Mistake(`piece ${which} is for ${to}, by ${found.connection}, and not for ${receiver}`);
     return found;
@@ -317,12 +352,17 @@ class Writer {
     const {open, calls} = this.shown, closed = wanted.filter(it => !open.get(sender)?.has(it));
     if (closed.length)
       return `${sender} has no key for ${closed.join(" ")} yet, so it sent nothing to ${receiver}: \`deploy\` both`;
-    if (pieces.length < calls.get(sender).places.length)
-      return `no event for ${receiver} is in the window of ${sender} any more: another call or line on ${this.nodeOf(sender)} wrote ` +
-          `over what it sent; \`carry ${sender} ${receiver}\` before that, or set other \`windows\` for it`;
-    if ([...calls.get(sender).carried.values()].some(it => wanted.includes(it)))
+    const call = calls.get(sender), others = call.sure.filter(it => !wanted.includes(it.connection)).map(it => it.at);
+    const lost = call.lost(pieces).filter(at => !others.includes(at)), node = this.nodeOf(sender);
+    if (lost.length) {
+      const writer = this.shown.writtenOver(sender, node, lost) ?? `another call or line on ${node}`;
+      return `no event for ${receiver} is in the window of ${sender} any more: ${writer} wrote over what it sent; \`carry ${sender} ${
+          receiver}\` before that, or set other \`windows\` for it`;
+    }
+    if ([...call.carried.values()].some(it => wanted.includes(it)))
       return `what ${sender} sent to ${receiver} at its last call was carried; \`give event.${sender}.${receiver} NODE\` gives it again`;
-    return `no event for ${receiver} is in the window of ${sender}: there is ${pieces.map(it => it.connection).join(", ")}`;
+    const there = pieces.map(it => `${it.connection} to ${moduleOf(this.plan.named("connection", it.connection).to)}`);
+    return `no event for ${receiver} is in the window: there is ${there.join(", ") || "none"}`;
   }
 
   // The events of the sender in the window, as they are there now; by what the packets say, and not by their places.

@@ -1,6 +1,7 @@
 // What is wrong with the tables of a deployment, a line each: keys, names, ties, places and counts (rules D4, D5, D6, D9, D10).
 
-const LOWEST = 0x0200, HIGHEST = 0xffe0;
+// Below the last of these places are the windows to which lines for people have packets written.
+const LOWEST = 0x0200, HIGHEST = 0xffe0, ABOVE_WINDOWS = 0x0600;
 const MOST_ENTRIES = {node: 16, device: 32, module: 32, connection: 64};
 const TYPES = {
   top: {secret: "32 digits", node: "tables", device: "tables", module: "tables", connection: "tables"},
@@ -23,6 +24,7 @@ const FORMS = {
 function givenValue(value, form) {
   if (typeof value === "string" && form === "32 digits")
     return value.length === 32 ? "has others" : `has ${value.length} characters`;
+  if (typeof value === "object" && !Array.isArray(value)) return "is one table";
   return typeof value === "string" ? `is "${value.slice(0, 40)}"` : `is ${String(value).slice(0, 40)}`;
 }
 
@@ -82,27 +84,65 @@ function badTies(kind, index, plan) {
   return ["a handler of it can make more than 16 packets: its sends, each once for each connection from that output"];
 }
 
-function badPlace(range) {
-  const lines = [];
+// What is wrong with the place of a section of a module, beside other sections.
+function badSection(plan, module, range, others) {
+  const lines = [], isPublic = range.what.startsWith("the public");
   if (range.begin % 2) lines.push(`${range.told} begins at an odd place`);
   if (range.begin < LOWEST) lines.push(`${range.told} begins below 0x0200`);
   if (range.end > HIGHEST) lines.push(`${range.told} ends ${range.end - HIGHEST} bytes above 0xffe0`);
+  for (const other of others.filter(it => range.shares(it)))
+    lines.push(`${range.told} and ${other.told} ${range.shares(other)}`);
+  for (const device of plan.by.device.filter(it => it.node === module.node && range.shares(wordRange(it)))) {
+    if (isPublic || device.name !== module.device)
+      lines.push(`${range.told} holds the word of the device ${device.name}, ${hex(device.at)}`);
+  }
   return lines;
 }
 
-// What is wrong with the places of a module's sections.
-function badSections(index, plan) {
-  const {module: modules, device: devices} = plan.by, module = modules[index], own = plan.sections(module);
-  const earlier = modules.slice(0, index).filter(it => it.node === module.node).flatMap(it => plan.sections(it));
-  const pairs = own.flatMap(one => earlier.map(other => [one, other]));
-  if (own.length) pairs.push(own);
-  const shared = pairs.filter(([one, other]) => one.shares(other));
-  const held = devices.filter(it => it.node === module.node).flatMap(device => {
-    const place = new Range("", device.at, device.at + 2), drives = device.name === module.device;
-    return own.filter((it, k) => !(drives && k === 1) && it.shares(place)).map(
-        it => `${it.told} holds the word of the device ${device.name}, ${hex(device.at)}`);
+const wordRange = ({name, at}) => new Range(`the word of ${name}`, at, at + 2);
+
+// What a node has: sections and words of devices, those of a driver in its private section.
+function takenOn(plan, node) {
+  const modules = plan.by.module.filter(it => it.node === node), driven = modules.map(it => it.device);
+  const words = plan.by.device.filter(it => it.node === node && !driven.includes(it.name)).map(wordRange);
+  return [...words, ...modules.flatMap(it => plan.sections(it))];
+}
+
+// The first place from one on, or else above the windows, where so many bytes meet nothing; at a page, if one has room.
+function freePlace(size, taken, begin) {
+  const isFree = at => at >= ABOVE_WINDOWS && at <= HIGHEST - size && !taken.some(it => it.shares(new Range("", at, at + size)));
+  for (const unit of [256, 2]) {
+    const starts = [begin, ABOVE_WINDOWS, ...taken.map(it => it.end)].map(at => Math.ceil(at / unit) * unit);
+    const free = starts.filter(isFree).sort((one, other) => one - other);
+    if (free.length) return free.find(at => at >= begin) ?? free[0];
+  }
+  return null;
+}
+
+function toldRoom(range, node, key, at) {
+  const size = (range.end - range.begin).toLocaleString("en");
+  return at === null ? `node ${node} has no room for ${range.what}, ${size} bytes` :
+                       `the next free place on ${node} for ${range.what}: \`${key} = ${hex(at)}\``;
+}
+
+// Where on its node sections of a module have room, one beside the other.
+function toldRooms(plan, module, wrong) {
+  const isWrong = it => wrong.some(({begin, end}) => it.begin === begin && it.end === end);
+  const taken = takenOn(plan, module.node).filter(it => !isWrong(it));
+  return wrong.map(it => {
+    const at = freePlace(it.end - it.begin, taken, it.begin);
+    const key = it.what.startsWith("the public") ? "text" : "data" in module ? "data" : "at";
+    if (at !== null) taken.push(new Range("", at, at + it.end - it.begin));
+    return toldRoom(it, module.node, key, at) + (key === "at" ? ` of its device ${module.device}` : "");
   });
-  return [...own.flatMap(badPlace), ...shared.map(([one, other]) => `${one.told} and ${other.told} ${one.shares(other)}`), ...held];
+}
+
+// What is wrong with the places of a module's sections, and where they have room.
+function badSections(index, plan) {
+  const modules = plan.by.module, module = modules[index], own = plan.sections(module);
+  const earlier = modules.slice(0, index).filter(it => it.node === module.node).flatMap(it => plan.sections(it));
+  const found = own.map((it, k) => badSection(plan, module, it, k ? [...earlier, own[0]] : earlier));
+  return [...found.flat(), ...toldRooms(plan, module, own.filter((_, k) => found[k].length))];
 }
 
 function badPlaces(kind, index, plan) {
@@ -111,7 +151,10 @@ function badPlaces(kind, index, plan) {
   if (at % 2 || at < LOWEST || at >= HIGHEST)
     lines.push(`its place ${hex(at)} is odd, below 0x0200, or 0xffe0 or above`);
   const others = plan.by.device.filter(it => it !== device && it.node === device.node && it.at === at);
-  return [...lines, ...others.map(it => `the device ${it.name} is at ${hex(at)} too`)];
+  lines.push(...others.map(it => `the device ${it.name} is at ${hex(at)} too`));
+  const own = plan.sections(plan.driverOf(device.name) ?? {})[1] ?? wordRange(device);
+  const taken = takenOn(plan, device.node).filter(it => it.begin !== own.begin || it.end !== own.end);
+  return [...lines, toldRoom(own, device.node, "at", freePlace(own.end - own.begin, taken, at))];
 }
 
 // Which of the entries are too many.

@@ -209,9 +209,12 @@ async function testNotes(test, changed) {
     ["a key", "check", changed("provider = 7", "povider = 7"), "the key `povider` is unknown here; did you mean `provider`?"],
     ["a device", "check", changed('device = "light"', 'device = "ligth"'), "did you mean `light`?"],
     ["a port", "check", changed("logic.level", "logic.levle"), "has no input `levle`; its inputs: level; did you mean"],
-    ["a place", "check", changed("text = 0x6000", "text = 0x4400"), "share 0x4400 to"],
+    ["a place", "check", changed("text = 0x6000", "text = 0x4400"), "the next free place on a for the public section of logic: `text = 0x"],
+    ["a table in place of several", "check", `[module]\nname = "x"\n%%\n`, "each module begins with two brackets"],
     ["an act", "run", changed("load logic", "laod logic"), "did you mean `load`?"],
     ["a module of a line", "run", changed("load logic", "load lgic"), "expected: a module: eye logic lamp; did you mean `logic`?"],
+    ["an instruction", "run", changed("load logic", "asm a 0x800 mov r5, r6; inc r5"), "write `add #1, r5`"],
+    ["an operand", "run", changed("load logic", "asm a 0x800 mov #70000, r6"), "`70000` is out of range"],
     ["no secret", "run", changed(/^secret.*$/m, ""), "warning: the deployment has connections and no `secret`"],
     ["a comparison", "run", changed("v > limit", "v >= 0"), "warning: this always holds"],
   ];

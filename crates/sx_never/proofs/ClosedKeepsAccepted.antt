@@ -5,12 +5,13 @@ use Rattle.sx_trace.specs.declared.items.Item.TheVariants.{Reset, Protect, Sense
 use Rattle.sx_trace.specs.declared.items.Item.TheVariants.{Forged, Busy, Skip, Budget}
 use Rattle.sx_deploy.proofs.Sound.{sound}
 use Rattle.sx_mean.specs.Application.{AppTree}
-use Rattle.sx_model.specs.Legal.{before, is_forged}
+use Rattle.sx_model.specs.Legal.{Legal, before, is_forged}
 use Rattle.sx_run.specs.State.{switched_on}
 use Rattle.sx_run.specs.Setting.{Setting}
 use Rattle.sx_run.specs.Run.{run}
 use Rattle.sx_run.specs.Accepted.{setting_of}
-use Rattle.sx_run.proofs.AcceptedRunsLegal.{accepted_runs_legal}
+use Rattle.sx_run.proofs.AcceptedRuns.{of_accepted}
+use Rattle.sx_run.proofs.RunsLegal.{runs_legal}
 use Rattle.sx_never.specs.Rules.{Each}
 use Rattle.sx_never.specs.Tables.{Table, IsAmong, IsGiven, at}
 use Rattle.sx_never.specs.Laws.{ClosedKeepsAccepted, IsOpen}
@@ -61,4 +62,4 @@ closed_keeps_accepted text d read reacts o t ways closed open' mac texts tag ima
     closed_keeps reacts d.app o t links ways closed (before (run set (switched_on set) lines).items)
     (each_before (IsGiven o t) (run set (switched_on set) lines).items
     (each_map (IsSensed d.app) (IsGiven o t) (given_of d.app o t open') (run set (switched_on set) lines).items (run_sensed d.names set (switched_on set) lines s.sensors are)))
-    (accepted_runs_legal text d read mac texts tag images lines few are)
+    (of_accepted Legal runs_legal text d read mac texts tag images lines few are)

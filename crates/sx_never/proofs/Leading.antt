@@ -12,7 +12,6 @@ use Rattle.sx_span.specs.Paths.{react_within}
 use Rattle.sx_table.specs.declared.stays.Freed.{Freed}
 use Rattle.sx_table.specs.declared.stays.Freed.TheVariants.{Nobody, Only, AtNode}
 use Rattle.sx_table.specs.declared.demands.NeededValues.{NeededValues}
-use Rattle.sx_table.specs.Boxes.{box_within, fills}
 use Rattle.sx_table.specs.Stays.{values_at}
 use Rattle.sx_table.specs.Rows.{RowTree, places_at}
 use Rattle.sx_table.specs.Demands as md

@@ -9,7 +9,6 @@ use Rattle.sx_span.specs.declared.pieces.ActRange.{ActRange}
 use Rattle.sx_span.specs.declared.pieces.ActRange.TheVariants.{SendIn, EmitIn}
 use Rattle.sx_span.specs.Ranges as ranges
 use Rattle.sx_table.specs.declared.stays.Freed.{Freed}
-use Rattle.sx_table.specs.declared.stays.Freed.TheVariants.{Only}
 use Rattle.sx_table.specs.declared.demands.NeededValues.{NeededValues}
 use Rattle.sx_table.specs.Places.{PlaceTree}
 use Rattle.sx_table.specs.Rows.{RowTree, places_at}
@@ -19,7 +18,7 @@ use Rattle.sx_never.specs.Closed as hl
 use Rattle.sx_never.specs.Check as hc
 use Rattle.sx_never.specs.Demands as hd
 use Rattle.sx_never.specs.Same.{as_demand, as_doing, as_freed, as_interval, as_needed, as_path, as_place, as_row, as_values, ways}
-use Rattle.sx_never.proofs.Same.{at_map, words}
+use Rattle.sx_never.proofs.Same.{at_map}
 use Rattle.sx_never.proofs.Leading.{ways_same}
 
 map_append : {A B : Type 0} (f : A → B) (xs ys : List A) → map f (xs ++ ys) ≡ map f xs ++ map f ys

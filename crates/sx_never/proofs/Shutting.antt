@@ -8,7 +8,6 @@ use Rattle.sx_mean.specs.Application.{AppTree, PartTree, is_sensor}
 use Rattle.sx_mean.specs.Places.{initial_cells}
 use Rattle.sx_span.specs.declared.intervals.Interval.{Interval}
 use Rattle.sx_table.specs.declared.stays.Freed.TheVariants.{Nobody, Only, AtNode}
-use Rattle.sx_table.specs.Boxes.{box_has}
 use Rattle.sx_table.specs.Places.{PlaceTree}
 use Rattle.sx_table.specs.Stays.{is_set, values_at}
 use Rattle.sx_table.specs.Rows.{RowTree}
@@ -19,7 +18,7 @@ use Rattle.sx_never.specs.Tables as ht
 use Rattle.sx_never.specs.Check as hc
 use Rattle.sx_never.specs.Demands as hd
 use Rattle.sx_never.specs.Same.{as_interval, as_place, as_row, as_table, ways}
-use Rattle.sx_never.proofs.Same.{and_same, or_same, at_map, fills_same, has_same, words}
+use Rattle.sx_never.proofs.Same.{and_same, or_same, at_map, fills_same, has_same}
 use Rattle.sx_table.specs.Shut as ms
 use Rattle.sx_never.proofs.Leading.{leads_same}
 use Rattle.sx_never.proofs.Making.{answers_same}

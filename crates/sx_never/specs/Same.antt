@@ -1,5 +1,5 @@
 -- The code's intervals, rows and tables as those of the proofs, and that both checks say the same.
-use Rattle.std.specs.Prelude.{◌≡◌, ℕ, List, [], Option, map}
+use Rattle.std.specs.Prelude.{◌≡◌, ℕ, List, Option, map}
 use Rattle.sx_lang.specs.Tree.{ModuleTree}
 use Rattle.sx_mean.specs.Application.{AppTree}
 use Rattle.sx_span.specs.declared.intervals.Interval.{Interval}

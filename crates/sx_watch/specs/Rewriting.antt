@@ -19,9 +19,6 @@ use Rattle.sx_watch.specs.Words.{unnamed, input_name, next}
 abbrev pub fail_begins : List Kind
 fail_begins = If ∷ Name ended ∷ OpenBrace ∷ CloseBrace ∷ Else ∷ OpenBrace ∷ Emit ∷ Number 1 ∷ []
 
-abbrev pub fail_ends : List Kind
-fail_ends = Semicolon ∷ CloseBrace ∷ []
-
 abbrev pub assume_ends : List Kind
 assume_ends = OpenBrace ∷ CloseBrace ∷ Else ∷ OpenBrace ∷ Name ended ∷ Equals ∷ Number 1
     ∷ Semicolon ∷ CloseBrace ∷ []
@@ -34,22 +31,24 @@ is_reserved w = is_fail w || is_assume w
 abbrev pub other : Kind → List Kind
 other k = if is_left_out k then Bad ∷ [] else k ∷ []
 
--- a name there
-abbrev pub plain_name : List ℕ → List Kind
-plain_name w = if is_fail w then fail_begins else if is_assume w then If ∷ [] else Name w ∷ []
+-- What a token becomes there, and how the next one is read: first of a name.
+abbrev pub plain_name : List ℕ → List Kind × Mode
+plain_name w = if is_fail w then (fail_begins, Failing)
+    else if is_assume w then (If ∷ [], Assuming) else (Name w ∷ [], Plain)
 
-abbrev pub plain : Kind → List Kind
+abbrev pub plain : Kind → List Kind × Mode
+plain On = (On ∷ [], Head)
 plain (Name w) = plain_name w
-plain k = other k
+plain k = (other k, Plain)
 
 -- The first word of a head is left out. What isn't one may not stand.
-abbrev pub of_kind : Option TopicKind → List Kind
-of_kind None = Bad ∷ []
-of_kind (Some kind) = []
+abbrev pub of_kind : Option TopicKind → List Kind × Mode
+of_kind None = (Bad ∷ [], Plain)
+of_kind (Some kind) = ([], Item kind)
 
-abbrev pub head_word : Kind → List Kind
+abbrev pub head_word : Kind → List Kind × Mode
 head_word (Name w) = of_kind (kind_of w)
-head_word k = Bad ∷ []
+head_word k = (Bad ∷ [], Plain)
 
 -- The name after it is the input, with a parameter for none where its items have no value.
 abbrev pub of_input : Bool → ℕ → List Kind
@@ -62,51 +61,29 @@ item_name kind n k = Bad ∷ []
 
 -- after `fail`
 abbrev pub fail_end : Kind → List Kind
-fail_end Semicolon = fail_ends
+fail_end Semicolon = Semicolon ∷ CloseBrace ∷ []
 fail_end k = Bad ∷ []
 
 -- after `assume`, up to its end
-abbrev pub assumed : Kind → List Kind
-assumed Semicolon = assume_ends
-assumed OpenBrace = Bad ∷ []
-assumed (Name w) = if is_reserved w then Bad ∷ [] else Name w ∷ []
-assumed k = other k
+abbrev pub assumed : Kind → List Kind × Mode
+assumed Semicolon = (assume_ends, Plain)
+assumed OpenBrace = (Bad ∷ [], Assuming)
+assumed (Name w) = (if is_reserved w then Bad ∷ [] else Name w ∷ [], Assuming)
+assumed k = (other k, Assuming)
 
--- what a token becomes, behind this many heads
+-- what a token becomes, behind this many heads, and how the next one is read
+abbrev pub read_as : Mode → ℕ → Kind → List Kind × Mode
+read_as Plain n k = plain k
+read_as Head n k = head_word k
+read_as (Item kind) n k = (item_name kind n k, Plain)
+read_as Failing n k = (fail_end k, Plain)
+read_as Assuming n k = assumed k
+
 abbrev pub written : Mode → ℕ → Kind → List Kind
-written Plain n k = plain k
-written Head n k = head_word k
-written (Item kind) n k = item_name kind n k
-written Failing n k = fail_end k
-written Assuming n k = assumed k
-
--- how the token after it is read
-abbrev pub name_mode : List ℕ → Mode
-name_mode w = if is_fail w then Failing else if is_assume w then Assuming else Plain
-
-abbrev pub plain_mode : Kind → Mode
-plain_mode On = Head
-plain_mode (Name w) = name_mode w
-plain_mode k = Plain
-
-abbrev pub item_mode : Option TopicKind → Mode
-item_mode None = Plain
-item_mode (Some kind) = Item kind
-
-abbrev pub head_mode : Kind → Mode
-head_mode (Name w) = item_mode (kind_of w)
-head_mode k = Plain
-
-abbrev pub assumed_mode : Kind → Mode
-assumed_mode Semicolon = Plain
-assumed_mode k = Assuming
+written mode n k = (read_as mode n k).0
 
 abbrev pub mode_after : Mode → Kind → Mode
-mode_after Plain k = plain_mode k
-mode_after Head k = head_mode k
-mode_after (Item kind) k = Plain
-mode_after Failing k = Plain
-mode_after Assuming k = assumed_mode k
+mode_after mode k = (read_as mode 0 k).1
 
 -- the head that ends with this token, if one does
 abbrev pub head_at : Mode → Kind → Place → List heads.Head

@@ -2,7 +2,7 @@
 use Rattle.std.specs.Prelude.{◌≡◌, ◌⊎◌, ℕ, not, Bool, false, if◌then◌else◌, List, [], ◌∷◌}
 use Rattle.std.specs.Prelude.{◌++◌, Option, Some, None, is_some, option_map, option_and_then}
 use Rattle.std.specs.Prelude.{Result, Ok, Err, slice_get, true, unwrap_or}
-use Rattle.std.specs.Option.{option_to_list}
+use Rattle.std.specs.Option.{option_map_or, option_to_list}
 use Rattle.std.specs.List.{find, list_any}
 use Rattle.sx_lang.specs.Tree.{ModuleTree}
 use Rattle.sx_lang.specs.declared.tree.DeviceKind.{DeviceKind}
@@ -14,7 +14,6 @@ use Rattle.sx_grammar.specs.Tokens.{given_tokens}
 use Rattle.sx_grammar.specs.Grammar.{IsModule, IsFaultAt}
 use Rattle.sx_grammar.specs.Text.{place_of}
 use Rattle.sx_check.specs.Rules.{first_broken}
-use Rattle.sx_check.specs.declared.rules.Rule.{Rule}
 use Rattle.sx_trace.specs.Names.{NameLists, sensor_place}
 use Rattle.sx_trace.specs.Names as names
 use Rattle.sx_mean.specs.Application.{AppTree, PartTree, declared_kind, same_kind}
@@ -39,18 +38,14 @@ if_actuator sensors d = if unwrap_or (slice_get sensors d) true then None else S
 abbrev pub actuator_place : NameLists → List ℕ → Option ℕ
 actuator_place n w = option_and_then (if_actuator n.sensors) (names.place_of n.devices w)
 
--- a part's module declares a device of this kind
-abbrev pub has_kind : DeviceKind → Option DeviceKind → Bool
-has_kind kind None = false
-has_kind kind (Some k) = same_kind kind k
+-- a module's part has a device of this kind
+abbrev pub drives : DeviceKind → PartTree → Bool
+drives kind p = option_map_or (same_kind kind) (declared_kind p.tree.decls) false
 
-abbrev pub drives : DeviceKind → Option PartTree → Bool
-drives kind None = false
-drives kind (Some p) = has_kind kind (declared_kind p.tree.decls)
-
--- the index of the name of a module with a device of this kind
+-- the index of the name of a module with such a device
 abbrev pub if_drives : AppTree → DeviceKind → ℕ → Option ℕ
-if_drives app kind m = if drives kind (slice_get app.parts m) then Some m else None
+if_drives app kind m =
+    if option_map_or (drives kind) (slice_get app.parts m) false then Some m else None
 
 abbrev pub driver_place : NameLists → AppTree → DeviceKind → List ℕ → Option ℕ
 driver_place n app kind w = option_and_then (if_drives app kind) (names.place_of n.modules w)
@@ -93,30 +88,17 @@ second_from n app earlier [] = None
 second_from n app earlier (h ∷ hs) = if is_heard earlier (topic_of n app h) then Some h
     else second_from n app (earlier ++ option_to_list (topic_of n app h)) hs
 
--- a property, or the rule of the language that it breaks
-abbrev pub unless_broken : PropertyTree → Option Rule → Result PropertyTree PropertyFault
-unless_broken p None = Ok p
-unless_broken p (Some rule) = Err (Language rule)
+-- what follows, unless there is a fault
+abbrev pub unless : {A : Type 0} → (A → PropertyFault) → Option A
+    → Result PropertyTree PropertyFault → Result PropertyTree PropertyFault
+unless fault found rest = option_map_or (λ x. Err (fault x)) found rest
 
-abbrev pub broken_or_made : ModuleTree → List Topic → Result PropertyTree PropertyFault
-broken_or_made tree topics =
-    unless_broken (record { tree = tree; topics = topics }) (first_broken tree)
-
--- or the second handler of a topic
-abbrev pub unless_head : (Place → PropertyFault) → Option Head → Result PropertyTree PropertyFault
-    → Result PropertyTree PropertyFault
-unless_head fault None rest = rest
-unless_head fault (Some h) rest = Err (fault h.place)
-
-abbrev pub twice_or_made : NameLists → AppTree → List Head → ModuleTree
-    → Result PropertyTree PropertyFault
-twice_or_made n app hs tree =
-    unless_head Twice (second_from n app [] hs) (broken_or_made tree (topics_of n app hs))
-
--- or the handler of none: what a module with these heads is
+-- what a module with these heads is: a property, or the first rule that it breaks
 abbrev pub judged : NameLists → AppTree → List Head → ModuleTree → Result PropertyTree PropertyFault
-judged n app hs tree =
-    unless_head Unknown (first_unknown n app hs) (twice_or_made n app hs tree)
+judged n app hs tree = unless (λ h. Unknown h.place) (first_unknown n app hs)
+    (unless (λ h. Twice h.place) (second_from n app [] hs)
+    (unless Language (first_broken tree)
+    (Ok (record { tree = tree; topics = topics_of n app hs }))))
 
 -- what tokens that end here mean: what the module is that they stand for, or their first fault
 abbrev pub IsMeant : NameLists → AppTree → List Placed → Place → Result PropertyTree PropertyFault

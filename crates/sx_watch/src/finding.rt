@@ -1,12 +1,14 @@
 //! What the heads of a property name in a deployment.
 
-ghost use Rattle.std.specs.Prelude.{◌≡◌, ◌++◌, IfOk, IsTrue, OnOk, [], slice_get};
+ghost use Rattle.std.specs.Prelude.{◌≡◌, ◌++◌, IfOk, IsTrue, OnOk, [], false};
+ghost use Rattle.std.specs.Prelude.{slice_get};
 ghost use Rattle.std.specs.List.{list_any};
-ghost use Rattle.std.specs.Option.{option_to_list};
+ghost use Rattle.std.specs.Option.{option_map_or, option_to_list};
+ghost use Rattle.sx_mean.specs.Application.{same_kind};
 ghost use Rattle.sx_mean.specs.View.{app_as};
 ghost use Rattle.sx_trace.specs.ValidNames.{are_valid};
 ghost use Rattle.sx_watch.specs.Text.{actuator_place, driver_place, drives, first_unknown};
-ghost use Rattle.sx_watch.specs.Text.{has_kind, if_actuator, if_drives, is_heard, is_unknown};
+ghost use Rattle.sx_watch.specs.Text.{if_actuator, if_drives, is_heard, is_unknown};
 ghost use Rattle.sx_watch.specs.Text.{second_from, topic_named, topic_of, topics_of};
 ghost use Rattle.sx_watch.specs.Topics.{same_topic};
 
@@ -37,7 +39,7 @@ fn actuator(names: &Names, name: &[u8]) -> Option<u8>
 }
 
 fn has_kind(kind: DeviceKind, found: Option<DeviceKind>) -> bool
-    ensures { result ≡ has_kind kind found }
+    ensures { result ≡ option_map_or (same_kind kind) found false }
 {
     match (kind, found) {
         (DeviceKind::Sensor, Some(DeviceKind::Sensor)) => true,
@@ -48,7 +50,8 @@ fn has_kind(kind: DeviceKind, found: Option<DeviceKind>) -> bool
 
 /// Whether the module of this index declares a device of this kind.
 fn drives(app: &App, kind: DeviceKind, module: u8) -> bool
-    ensures { result ≡ drives kind (slice_get (app_as app.now).parts «module») }
+    ensures { result
+        ≡ option_map_or (drives kind) (slice_get (app_as app.now).parts «module») false }
 {
     match app.parts.get(usize::from(module)) {
         Some(part) => has_kind(kind, declared_kind(&part.code.module().decls)),

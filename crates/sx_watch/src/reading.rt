@@ -4,9 +4,8 @@ ghost use Rattle.std.specs.Prelude.{◌≡◌, IsTrue};
 ghost use Rattle.sx_lang.specs.View.{module_of};
 ghost use Rattle.sx_mean.specs.View.{app_as};
 ghost use Rattle.sx_trace.specs.ValidNames.{are_valid};
-ghost use Rattle.sx_watch.specs.Read.{Gives, GivesOne, no_module};
-ghost use Rattle.sx_watch.specs.Text.{IsMeant, IsProperty, broken_or_made, judged};
-ghost use Rattle.sx_watch.specs.Text.{twice_or_made};
+ghost use Rattle.sx_watch.specs.Read.{Gives, GivesOne, apart, made, no_module};
+ghost use Rattle.sx_watch.specs.Text.{IsMeant, IsProperty, judged};
 
 use crate::finding::{first_second, first_unknown, topics_of};
 use crate::property::Property;
@@ -57,7 +56,7 @@ impl From<AllocError> for PropertyError {
 
 /// The property with this module, if it keeps the rules of the language.
 fn checked(tree: Module, topics: Vec<Topic>) -> Result<Property, PropertyError>
-    ensures { Gives result (broken_or_made (module_of tree) topics.items) }
+    ensures { Gives result (made (module_of tree) topics.items) }
 {
     match check(tree) {
         Ok(code) => Ok(Property { code, topics }),
@@ -74,7 +73,7 @@ fn told_apart(
     tree: Module,
 ) -> Result<Property, PropertyError>
     requires { IsTrue (are_valid names.now) }
-    ensures { Gives result (twice_or_made names.now (app_as app.now) heads.now (module_of tree)) }
+    ensures { Gives result (apart names.now (app_as app.now) heads.now (module_of tree)) }
 {
     match first_second(alloc, names, app, heads)? {
         Some(head) => Err(PropertyError::Fault(PropertyFault::Twice(head.place))),

@@ -3,9 +3,9 @@
 ghost use Rattle.std.specs.Prelude.{◌≡◌, ◌++◌, IfOk, OnOk, true};
 ghost use Rattle.sx_watch.specs.Rewriting.{assume_ends, assumed, count_after, fail_begins};
 ghost use Rattle.sx_watch.specs.Rewriting.{fail_end, front, head_word, item_name, other, plain};
-ghost use Rattle.sx_watch.specs.Rewriting.{head_at, head_mode, heads_of, inputs_from, is_reserved};
+ghost use Rattle.sx_watch.specs.Rewriting.{head_at, heads_of, inputs_from, is_reserved};
 ghost use Rattle.sx_watch.specs.Rewriting.{mode_after, module_tokens, of_input, placed};
-ghost use Rattle.sx_watch.specs.Rewriting.{plain_mode, plain_name, rewritten, written};
+ghost use Rattle.sx_watch.specs.Rewriting.{plain_name, rewritten, written};
 
 use crate::words::{
     TopicKind, ended, has_value, input_name, is_assume, is_fail, is_left_out, kind_of, next,
@@ -98,7 +98,7 @@ fn is_reserved(word: &Name) -> bool
 }
 
 fn put_name(list: &mut Vec<Placed>, place: Place, word: Name) -> Result<(), AllocError>
-    ensures { OnOk result (list.new.items ≡ list.old.items ++ placed place (plain_name word)) }
+    ensures { OnOk result (list.new.items ≡ list.old.items ++ placed place (plain_name word).0) }
 {
     if is_fail(&word) {
         put_fail(list, place)
@@ -120,7 +120,7 @@ fn put_other(list: &mut Vec<Placed>, place: Place, kind: Kind) -> Result<(), All
 }
 
 fn put_plain(list: &mut Vec<Placed>, place: Place, kind: Kind) -> Result<(), AllocError>
-    ensures { OnOk result (list.new.items ≡ list.old.items ++ placed place (plain kind)) }
+    ensures { OnOk result (list.new.items ≡ list.old.items ++ placed place (plain kind).0) }
 {
     match kind {
         Kind::Name(word) => put_name(list, place, word),
@@ -129,7 +129,7 @@ fn put_plain(list: &mut Vec<Placed>, place: Place, kind: Kind) -> Result<(), All
 }
 
 fn put_kind(list: &mut Vec<Placed>, place: Place, kind: Kind) -> Result<(), AllocError>
-    ensures { OnOk result (list.new.items ≡ list.old.items ++ placed place (head_word kind)) }
+    ensures { OnOk result (list.new.items ≡ list.old.items ++ placed place (head_word kind).0) }
 {
     match kind {
         Kind::Name(word) => match kind_of(word.bytes()) {
@@ -193,7 +193,7 @@ fn put_fail_end(list: &mut Vec<Placed>, place: Place, kind: Kind) -> Result<(), 
 }
 
 fn put_assumed(list: &mut Vec<Placed>, place: Place, kind: Kind) -> Result<(), AllocError>
-    ensures { OnOk result (list.new.items ≡ list.old.items ++ placed place (assumed kind)) }
+    ensures { OnOk result (list.new.items ≡ list.old.items ++ placed place (assumed kind).0) }
 {
     match kind {
         Kind::Semicolon => put_assume_end(list, place),
@@ -229,7 +229,7 @@ fn put_token(
 }
 
 fn plain_mode(kind: &Kind) -> Mode
-    ensures { result ≡ plain_mode kind.now }
+    ensures { result ≡ (plain kind.now).1 }
 {
     match kind {
         Kind::On => Mode::Head,
@@ -247,7 +247,7 @@ fn plain_mode(kind: &Kind) -> Mode
 }
 
 fn head_mode(kind: &Kind) -> Mode
-    ensures { result ≡ head_mode kind.now }
+    ensures { result ≡ (head_word kind.now).1 }
 {
     match kind {
         Kind::Name(word) => match kind_of(word.bytes()) {

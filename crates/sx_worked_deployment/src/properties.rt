@@ -29,9 +29,15 @@ const BROKEN: [(&str, Option<usize>); 9] = [
     ("on protect lamp { fail; }", Some(3)),
     ("on attested lamp { fail; }", Some(30)),
     ("on take up(v) { if v == 120 { fail; } }", Some(38)),
-    ("on reset b { fail; } on drain light { fail; } on raw bulb(v) { fail; }", None),
+    (
+        "on reset b { fail; } on drain light { fail; } on raw bulb(v) { fail; }",
+        None,
+    ),
     // an assumption that fails ends the question, from its item on
-    ("on read eye(v) { assume v < 120; } on out lamp(v) { fail; }", None),
+    (
+        "on read eye(v) { assume v < 120; } on out lamp(v) { fail; }",
+        None,
+    ),
     ("on sense light(v) { fail; assume 0; }", Some(34)),
     ("on sense light(v) { assume 0; fail; }", None),
 ];
@@ -61,11 +67,7 @@ const UNKNOWN: [(&str, u32); 5] = [
 ];
 
 /// The number of the first item that breaks a property.
-fn broken_at(
-    alloc: Global,
-    watcher: &mut Watcher,
-    items: &[Item],
-) -> Result<Option<usize>, Fail> {
+fn broken_at(alloc: Global, watcher: &mut Watcher, items: &[Item]) -> Result<Option<usize>, Fail> {
     for index in 0..items.len() {
         if watcher.item(alloc, &items[index])? {
             return Ok(Some(index + 1));
