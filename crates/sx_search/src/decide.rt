@@ -61,10 +61,11 @@ fn attempts(alloc: Global, app: &App, property: &Property) -> Result<Decided, Ha
     ensures { IfOk result (λ decided. decided ≡ Holds
         → IsNeverBroken (app_as app.now) (property_as property.now)) }
 {
-    match attempt(alloc, app, property, 0)? {
-        Decided::Holds => Ok(Decided::Holds),
-        Decided::Unknown(_) => attempt(alloc, app, property, finest(alloc, &property.code)?),
+    let decided = attempt(alloc, app, property, 0)?;
+    if let Decided::Unknown(_) = &decided {
+        return attempt(alloc, app, property, finest(alloc, &property.code)?);
     }
+    Ok(decided)
 }
 
 /// Whether a table is found that shows that no run of a deployment of the application, whatever its

@@ -20,6 +20,8 @@ pub(crate) enum Command {
     Drive,
     /// Answers about a run after any of its lines.
     Snap,
+    /// Whether a property is broken in no run.
+    Holds,
     /// The run of the workload that carries this many samples.
     Gen(u32),
     /// The listing of a text's code for this address.
@@ -45,6 +47,8 @@ fn plain_command(word: &[u8]) -> Option<Command>
         Some(Command::Drive)
     } else if word == b"snap".as_slice() {
         Some(Command::Snap)
+    } else if word == b"holds".as_slice() {
+        Some(Command::Holds)
     } else {
         None
     }
