@@ -10,7 +10,8 @@ the kit's own definitions don't count. Of some definitions a reader believes onl
 what stands behind these isn't reached. Two tiers: the core is about runs, for every sound setting and every list of
 lines in form; the rest is what leads there from the text that is read, and to the text that is written. What `forged`
 and keys say (the crates sx_forged and sx_links, and what is reached through them alone) is counted by itself, and in no
-other number; of this, what the keys of connections show has a line of its own.
+other number; of this, what the keys of connections show has a line of its own. So have what says how seldom a `forged` comes, and
+what properties of applications mean.
 """
 
 import re
@@ -37,7 +38,23 @@ FORGED = [f"sx_forged.{law}" for law in (
 )]
 # What the keys of connections show.
 LINKS = [f"sx_links.{law}" for law in ("LinksUnseen.LinksAreUnseen", "Unlinks.HasMoved", "Found.KeysFound")]
+# What a property's text means, and when it is broken; what `watch` says of it is reached from the program.
+PROPERTIES = ["sx_watch.Text.IsProperty", "sx_watch.Watched.broken_at"]
+# How seldom a `forged` comes: counts, makers of schedules, and what a run asks of tags.
+ODDS = [
+    "sx_counting.Guesses.FewGuessesHit", "sx_counting.Pads.CiphersAreRandom",
+    *(f"sx_makers.{law}" for law in (
+        "Makers.MakersSeeTheSame", "Makers.DistinguisherIsRun", "Makers.DistinguisherKnowsNoKey",
+        "LinkMakers.LinkMakersSeeTheSame", "Time.StepsShowNoKey", "Time.RegistersShowNoLink",
+        "Impostors.IdentitiesDiffer", "Impostors.ImpostorsHaveOtherNames", "Impostors.NamesAreUnlawful",
+    )),
+    *(f"sx_uses.{law}" for law in (
+        "UsesAlone.UsesAlone", "Whole.ScriptsAlone", "Whole.RunsAlone", "GivenLogged.GivenAreLogged", "GivenLogged.HeldAreLogged",
+        "Fresh.UnmadeWasNotGiven", "Fresh.ForgedWasNotGiven", "Unasked.UnaskedIsUnseen", "Hit.ForgedIsHit", "Hit.AnswersHitFresh",
+    )),
+]
 OF_FORGED = ("sx_forged", "sx_links")
+OF_PROPERTIES = ("sx_watch", "sx_command_property", "sx_command_watch")
 # The images are a function of the deployment; which one, the compiler says, and nobody has to believe that.
 FUNCTIONS = {("sx_command_world.Compiled", "compiled_texts")}
 
@@ -138,7 +155,7 @@ class Repository:
             module = ".".join([crate, *path.relative_to(CRATES / crate / "specs").with_suffix("").parts])
             lines = path.read_text().splitlines()
             for name, rows in parts(lines):
-                it = Definition(f"{crate}/specs/{path.name}", name)
+                it = Definition(str(path.relative_to(CRATES)), name)
                 it.lines, it.text = len(rows), rows
                 self.add((module, name), it, [name, spoken(name), *constructors(rows)])
             for line in lines:
@@ -242,18 +259,24 @@ def main():
     source = repository.reached(SOURCE)
     core = repository.reached(CORE)
     headline = repository.reached(CORE + HEADLINE, OF_FORGED)
-    program = repository.reached(CORE + HEADLINE + PROGRAM, OF_FORGED)
-    forged = repository.reached(CORE + HEADLINE + PROGRAM + FORGED + LINKS) - program
+    program = repository.reached(CORE + HEADLINE + PROGRAM, OF_FORGED + OF_PROPERTIES)
+    properties = repository.reached(CORE + HEADLINE + PROGRAM + PROPERTIES, OF_FORGED) - program
+    forged = repository.reached(CORE + HEADLINE + PROGRAM + FORGED + LINKS) - program - properties
     links = forged - repository.reached(CORE + HEADLINE + PROGRAM + FORGED, ("sx_links",))
+    odds = repository.reached(CORE + HEADLINE + PROGRAM + FORGED + LINKS + ODDS) - program - properties - forged
     repository.show("The source: application, model, legal run and items", source)
     repository.show("The core, beside it", core - source)
     repository.show("From the text on", headline - core)
     repository.show("What a reader may take from a trace, and the other commands", program - headline)
+    repository.show("Properties: what their texts mean, and when they are broken", properties)
     repository.show("What `forged` says, beside all of these", forged - links)
     repository.show("What the keys of connections show, beside that", links)
-    for key in repository.beside(program | forged):
+    repository.show("How seldom a `forged` comes, beside all of these", odds)
+    for key in repository.beside(program | properties | forged | odds):
         print(f"not reached: {key[1]} in {repository.definitions[key].place}")
-    tiers = {"core": core, "headline": headline, "program": program, "forged": forged}
+    tiers = {
+        "core": core, "headline": headline, "program": program, "properties": properties, "forged": forged, "odds": odds,
+    }
     print(", ".join(f"{name} {repository.lines(keys)}" for name, keys in tiers.items()), "lines")
 
 

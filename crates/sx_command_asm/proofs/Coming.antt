@@ -14,7 +14,7 @@ use Rattle.sx_told.specs.Reads.{anything}
 use Rattle.sx_told.specs.Got.{Got}
 use Rattle.sx_told.proofs.Takings.{got-new, got-line, got-same}
 use Rattle.sx_told.proofs.Takings.{reads-end, reads-failed, reads-stop, reads-too-long}
-use Rattle.sx_head.proofs.Turns.{alone}
+use Rattle.sx_command_asm.proofs.Alone.{alone}
 use Rattle.sx_command_asm.specs.Disassembling.{HexInput, Bytes, BadLine, Unread, in_front, on_line, hex_input}
 use Rattle.sx_command_asm.specs.Disassembling.{decoded, line_bytes, dis_lines}
 use Rattle.sx_command_asm.specs.Kept.{ReadsGiven}

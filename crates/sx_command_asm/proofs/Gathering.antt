@@ -12,7 +12,7 @@ use Rattle.sx_io.specs.declared.lines.LineRead.TheVariants as read
 use Rattle.sx_told.specs.Reads.{Reads, anything}
 use Rattle.sx_told.specs.Got.{Got}
 use Rattle.sx_told.proofs.Takings.{got-line, got-same, reads-map, reads-stop, reads-end, reads-too-long, reads-failed}
-use Rattle.sx_head.proofs.Turns.{alone}
+use Rattle.sx_command_asm.proofs.Alone.{alone}
 use Rattle.sx_command_asm.specs.declared.assembling.GatheredText.{GatheredText}
 use Rattle.sx_command_asm.specs.declared.assembling.GatherFault.{GatherFault}
 use Rattle.sx_command_asm.specs.declared.assembling.GatherFault.TheVariants as fault

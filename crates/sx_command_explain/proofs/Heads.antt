@@ -1,6 +1,6 @@
 -- From a head that was read to what `explain` says. A head is the same where the lines behind it may
 -- be longer.
-use Rattle.std.proofs.Common.{◌≡◌, ◌∙◌, ℕ, ◌+◌, Bool, true, false, if◌then◌else◌, List, [], ◌∷◌, ◌++◌, length, nat_lt, refl, sym, ap, subst, Err}
+use Rattle.std.proofs.Common.{arith, codes, ◌≡◌, ◌∙◌, ℕ, ◌+◌, Bool, true, false, if◌then◌else◌, List, [], ◌∷◌, ◌++◌, length, nat_lt, refl, sym, ap, subst, Err}
 use Rattle.std.specs.Prelude.{◌==◌}
 use Rattle.std.proofs.lemmas.List.{append-nil}
 use Rattle.sx_io.specs.Streams.{SourceAt, SinkAt}
@@ -181,6 +181,8 @@ got_longer {tells} {s0} {s1} {now} text b = record {
   holds = holds_anything now.state explain_lines (b.before ++ b.line);
   one = b.one;
   few = b.few;
+  bound = λ most h lines. h (codes "%%" ∷ lines);
+  short = λ most h. omega (arith, b.short 4096 (λ lines. omega arith), h []);
   due = longer_none [] [] b.before Broken Unread tt b.due;
   no_fault = b.no_fault;
   at_end = b.at_end;
@@ -208,6 +210,7 @@ reads_longer {tells} {s0} {s1} h n r = record {
     parts = r.reach.parts;
     one = r.reach.one;
     few = r.reach.few;
+    short = λ most h. omega (arith, r.reach.short 4096 (λ lines. omega arith), h []);
     due = longer_none [] [] r.reach.before Broken Unread tt r.reach.due;
     asked = r.reach.asked;
   };
@@ -231,7 +234,7 @@ has_head TooLong e = absurd (cc e)
 has_head NoMark e = absurd (cc e)
 has_head Unread e = absurd (cc e)
 
-told_also : {tells to_tell : Bool} {limit : Limit} {m0 m1 : CommandAt} {status : ℕ} {F : List Answer → Output} {also : List Answer → Type 0} (next : List Answer → Type 0)
+pub told_also : {tells to_tell : Bool} {limit : Limit} {m0 m1 : CommandAt} {status : ℕ} {F : List Answer → Output} {also : List Answer → Type 0} (next : List Answer → Type 0)
     → ((answers : List Answer) → also answers → next answers) → Told tells to_tell limit m0 m1 status F also → Told tells to_tell limit m0 m1 status F next
 told_also {tells} {to_tell} {limit} {m0} {m1} {status} {F} {also} next h told =
     let r = told.reads in record {

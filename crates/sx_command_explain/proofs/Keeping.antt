@@ -202,7 +202,7 @@ waits_stop {tells} {to_tell} {limit} {m0} {s} {k1} {k2} {now} {defined} {kept} {
                   subst (λ (v : List ℕ). also (scan limit e [] v)) (sym (append_assoc lines held more)) (hold e (held ++ more)),
                 ),
               );
-              reach = record { before = b.got.before; line = b.got.line; ahead = held; parts = refl; one = b.got.one; few = b.got.few; due = b.got.due; asked = b.got.asked };
+              reach = record { before = b.got.before; line = b.got.line; ahead = held; parts = refl; one = b.got.one; few = b.got.few; short = b.got.short; due = b.got.due; asked = b.got.asked };
             };
           }
     ]
@@ -271,6 +271,8 @@ waits_written {tells} {to_tell} {limit} {m0} {s} {k1} {k2} {now} {defined} {kept
               holds = subst Q (sym given.still) (λ e more. subst (λ (v : List ℕ). also (scan limit e [] v)) (sym (parts more)) (hold e (given.lines ++ more)));
               one = inl tt;
               few = few_left given.old.held given.lines now.held given.held b.got.few;
+              bound = b.got.bound;
+              short = λ most h. omega arith;
               due = ap (λ (v : List ℕ). defined (scan limit Broken [] (first ++ v))) (sym (append-nil given.lines)) ∙ to_come Broken (given.lines ++ [])
                   ∙ ap (behind text) (given.same Broken [] ∙ ap (behind kept) unread) ∙ joined text kept unread_output;
               no_fault = b.got.no_fault;

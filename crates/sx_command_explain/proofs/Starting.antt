@@ -1,20 +1,18 @@
 -- From a deployment to its trace: the lines of images, and the start.
-use Rattle.std.proofs.Common.{◌≡◌, ◌&&◌, ℕ, ◌+◌, Bool, true, false, if◌then◌else◌, List, [], take, refl, ap, subst, Option, Result, Ok, Err}
+use Rattle.std.proofs.Common.{◌≡◌, ◌&&◌, ℕ, ◌+◌, Bool, true, false, if◌then◌else◌, List, take, refl, ap, subst, Result, Ok, Err}
 use Rattle.std.specs.Prelude.{IfErr, IfOk, OnErr, nat_le}
 use Rattle.sx_io.specs.Streams.{SourceAt, SinkAt}
 use Rattle.sx_io.specs.Reading.{Answer, Limit}
 use Rattle.sx_io.specs.Next.{Ahead, Next}
 use Rattle.sx_io.specs.Passed.{longest_passed}
 use Rattle.sx_io.specs.declared.lines.LineRead.TheVariants as read
-use Rattle.sx_told.specs.Told.{CommandAt, Output, command_at}
+use Rattle.sx_told.specs.Told.{CommandAt, Output, command_at, unread_output}
 use Rattle.sx_told.specs.Parts.{Begun, Rest}
 use Rattle.sx_told.proofs.Laws.{begun-line, begun-same, ends-out-of-memory, ends-same, prefix-none, told-stop}
 use Rattle.sx_stage.specs.Gives.{GivesOne}
 use Rattle.sx_stage.specs.declared.fault.DeployError.{DeployError}
 use Rattle.sx_stage.specs.declared.fault.DeployError.TheVariants as error
 use Rattle.sx_stage.specs.declared.fault.DeployFault.{DeployFault}
-use Rattle.sx_trace.specs.declared.items.Item.{Item}
-use Rattle.sx_mean.specs.Application.{AppTree}
 use Rattle.sx_deploy.specs.Deployment.{Deployed, IsRead}
 use Rattle.sx_deploy.specs.SeenDeployment.{deployed_as}
 use Rattle.sx_deploy.specs.declared.deployment.Deployment.{Deployment}
@@ -22,8 +20,8 @@ use Rattle.sx_deploy.proofs.Meanings.{one_meaning}
 use Rattle.sx_command_head.specs.Ends.{EndsRefused}
 use Rattle.sx_command_explain.specs.declared.images.ImageLine.TheVariants as image
 use Rattle.sx_command_explain.specs.Meant.{AreMeanings, Meanings}
-use Rattle.sx_command_explain.specs.Explain.{explain_deployed, explain_found, explain_from, explain_start}
-use Rattle.sx_command_explain.specs.Trace.{image_line, image_lines, is_image, is_trace, most_images, on_image, start, trace_lines}
+use Rattle.sx_command_explain.specs.Explain.{explain_deployed, explain_found}
+use Rattle.sx_command_explain.specs.Trace.{Behind, Missing, Start, Unread, image_line, image_lines, is_image, is_trace, most_images, on_image, start, trace_lines}
 
 -- ---- a line before `trace`
 
@@ -46,32 +44,32 @@ image_is number text e = by_image (is_trace text) (nat_le number most_images && 
 abbrev pub lines_by : Bool → Limit
 lines_by t lines = if t then trace_lines lines else image_lines lines
 
--- what is said from a line of this number on
-abbrev pub start_from : AppTree → (List ℕ → Option Item) → ℕ → List Answer → Output
-start_from app item number more = explain_start app item (start number more)
+-- what is said from a line of this number on, by the start
+abbrev pub start_from : (Start → Output) → ℕ → List Answer → Output
+start_from say number more = say (start number more)
 
 module _ {tells to_tell : Bool} {limit : Limit} {m0 : CommandAt} {s1 s2 : SourceAt} {k1 : SinkAt} {old new : Ahead} {F : List Answer → Output} {also : List Answer → Type 0} {into : List ℕ} {n : ℕ}
-    (app : AppTree) (item : List ℕ → Option Item) (number : ℕ) (b : Begun tells to_tell limit image_lines m0 (command_at s1 k1) old F (start_from app item number) also)
+    (say : Start → Output) (unread : say (Missing Unread) ≡ unread_output) (number : ℕ) (b : Begun tells to_tell limit image_lines m0 (command_at s1 k1) old F (start_from say number) also)
     (x : Next longest_passed tells s1 s2 old new into (read.Text n)) where
   pub given : Begun tells to_tell limit (lines_by (is_trace (take n into))) m0 (command_at s2 k1) new F
-      (λ more. explain_start app item (on_image number (image_line number (take n into)) more (start (number + 1) more))) also
-  given = begun-line (start_from app item number) refl b x
+      (λ more. say (on_image number (image_line number (take n into)) more (start (number + 1) more))) also
+  given = begun-line (start_from say number) unread b x
 
   limited : (t : Bool) → is_trace (take n into) ≡ t → Begun tells to_tell limit (lines_by t) m0 (command_at s2 k1) new F
-      (λ more. explain_start app item (on_image number (image_line number (take n into)) more (start (number + 1) more))) also
+      (λ more. say (on_image number (image_line number (take n into)) more (start (number + 1) more))) also
   limited t e =
       let P : Bool → Type 0 = λ t. Begun tells to_tell limit (lines_by t) m0 (command_at s2 k1) new F
-      (λ more. explain_start app item (on_image number (image_line number (take n into)) more (start (number + 1) more))) also in
+      (λ more. say (on_image number (image_line number (take n into)) more (start (number + 1) more))) also in
       subst P e given
 
-  pub behind_image : image_line number (take n into) ≡ image.Image → Begun tells to_tell limit image_lines m0 (command_at s2 k1) new F (start_from app item (number + 1)) also
+  pub behind_image : image_line number (take n into) ≡ image.Image → Begun tells to_tell limit image_lines m0 (command_at s2 k1) new F (start_from say (number + 1)) also
   behind_image e =
-      begun-same (start_from app item (number + 1)) (λ more. ap (λ l. explain_start app item (on_image number l more (start (number + 1) more))) e)
+      begun-same (start_from say (number + 1)) (λ more. ap (λ l. say (on_image number l more (start (number + 1) more))) e)
       (limited false (image_is number (take n into) e))
 
-  pub behind_trace : image_line number (take n into) ≡ image.Trace → Begun tells to_tell limit trace_lines m0 (command_at s2 k1) new F (explain_from app item []) also
+  pub behind_trace : image_line number (take n into) ≡ image.Trace → Begun tells to_tell limit trace_lines m0 (command_at s2 k1) new F (λ more. say (Behind more)) also
   behind_trace e =
-      begun-same (explain_from app item []) (λ more. ap (λ l. explain_start app item (on_image number l more (start (number + 1) more))) e)
+      begun-same (λ more. say (Behind more)) (λ more. ap (λ l. say (on_image number l more (start (number + 1) more))) e)
       (limited true (trace_is number (take n into) e))
 
 -- ---- behind a head

@@ -23,7 +23,7 @@ use sx_told::{READ_FAILED, finish};
 
 /// What a line before a trace is.
 #[derive(Clone, Copy)]
-pub(crate) enum ImageLine {
+pub enum ImageLine {
     /// The line `trace`.
     Trace,
     /// The line of an image, of which there aren't too many.
@@ -35,11 +35,11 @@ pub(crate) enum ImageLine {
 /// At most this many lines of images stand before a trace.
 const MOST_IMAGES: u32 = 32;
 
-/// The rule that these lines keep.
-const NO_TRACE: u8 = 1;
+/// The rule that the line `trace` stands behind at most 32 lines of images.
+pub const NO_TRACE: u8 = 1;
 
 /// What the line of this number is, by its first bytes and how many it has.
-fn front_line(number: u32, front: &[u8; 8], count: u32) -> ImageLine
+pub fn front_line(number: u32, front: &[u8; 8], count: u32) -> ImageLine
     ensures line { result ≡ front_line number front.now count }
     ensures few { result ≡ ImageLine.Image → number ≤ 32 }
     ensures room { length front.now ≡ 8 }

@@ -11,7 +11,7 @@ use sx_trace::reading::read_item;
 
 /// What a line of a trace says.
 #[derive(Clone, Copy)]
-pub(crate) enum TraceLine {
+pub enum TraceLine {
     /// One item.
     Item(Item),
     /// The trace ends.
@@ -21,12 +21,13 @@ pub(crate) enum TraceLine {
 /// A trace has at most this many lines.
 const MOST_LINES: u32 = 4_000_000;
 
-/// The rule that an item keeps, the one that no line may stand behind the last, and the one that
-/// says how many lines there may be.
-pub(crate) const NO_ITEM: u8 = 2;
+/// The rule that a line of a trace is `end`, the line of a fault, or an item's.
+pub const NO_ITEM: u8 = 2;
 
+/// The rule that no line stands behind the last one.
 const BEHIND: u8 = 4;
 
+/// The rule that there are at most 4,000,000 lines.
 const TOO_MANY: u8 = 5;
 
 /// Whether a trace ends with this line.
@@ -75,7 +76,7 @@ fn kept(line: Option<TraceLine>, number: u32) -> Result<TraceLine, u8>
 }
 
 /// What this text as the line of this number says, or the first rule that it breaks.
-pub(crate) fn judge_line(names: &Names, text: &[u8], number: u32) -> Result<TraceLine, u8>
+pub fn judge_line(names: &Names, text: &[u8], number: u32) -> Result<TraceLine, u8>
     requires { IsTrue (are_valid names.now) }
     ensures line { (means : Meanings) → AreMeanings means
         → result ≡ judged_line number (line_of (means.item names.now) text.now) }
@@ -95,7 +96,7 @@ fn broken_by(line: Option<TraceLine>) -> u8
 }
 
 /// The rule that this text breaks as a line behind the last one.
-pub(crate) fn rule_behind(names: &Names, text: &[u8]) -> u8
+pub fn rule_behind(names: &Names, text: &[u8]) -> u8
     requires { IsTrue (are_valid names.now) }
     ensures { (means : Meanings) → AreMeanings means
         → result ≡ rule_behind (line_of (means.item names.now) text.now) }

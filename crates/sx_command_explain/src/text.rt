@@ -48,7 +48,7 @@ pub(crate) fn put_kept<K: Sink>(output: &mut K, kept: &Kept) -> Result<(), Faile
 }
 
 /// Appends a number of at most 20 digits.
-fn put_number<const N: usize>(text: &mut ArrayVec<u8, N>, number: u64)
+pub fn put_number<const N: usize>(text: &mut ArrayVec<u8, N>, number: u64)
     requires { length text.old.items + 20 ≤ N }
     ensures added { text.new.items ≡ text.old.items ++ decimal number }
     ensures short { length text.new.items ≤ length text.old.items + 20 }
@@ -69,7 +69,7 @@ fn illegal_text(number: u32) -> Text
 }
 
 /// Appends which item is the first that is forged, if one is.
-fn put_forged(text: &mut Text, forged: Option<u64>)
+pub fn put_forged(text: &mut Text, forged: Option<u64>)
     requires { length text.old.items + 28 ≤ 96 }
     ensures added { text.new.items ≡ text.old.items ++ forged_line forged }
     ensures short { length text.new.items ≤ length text.old.items + 28 }
@@ -171,7 +171,7 @@ pub(crate) fn finish_legal<K: Sink>(output: &mut K, judge: &Judge) -> u8
 }
 
 /// Writes which rule the line of this number breaks.
-pub(crate) fn break_off<K: Sink>(output: &mut K, rule: u8, number: u32) -> u8
+pub fn break_off<K: Sink>(output: &mut K, rule: u8, number: u32) -> u8
     ensures ends { CommandEnds K.tells (K.at output.old) (K.at output.new) result
         (broken_output rule number) }
     ensures memory { result ≢ out_of_memory }

@@ -30,7 +30,7 @@ use sx_told::{OUT_OF_MEMORY, READ_FAILED, Turned, WRITE_FAILED, finish};
 use sx_trace::items::Item;
 
 /// The rule that a trace ends with its last line.
-const NO_END: u8 = 3;
+pub const NO_END: u8 = 3;
 
 /// The next line of a trace, where it is held and there is room for what is said of it.
 fn next_held(lines: &mut Lines, kept: &Kept, into: &mut [u8; 4096]) -> Option<usize>

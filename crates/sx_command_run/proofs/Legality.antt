@@ -1,5 +1,5 @@
 -- The items of every run of a deployment that was accepted are legal, up to the first that is forged; and what that is.
-use Rattle.std.proofs.Common.{◌≡◌, ◌∙◌, ℕ, ◌+◌, ◌≤◌, Bool, true, false, List, [], ◌∷◌, length, nat_lt, refl, sym, ap, subst, arith, Result, Ok, Err}
+use Rattle.std.proofs.Common.{◌≡◌, ◌∙◌, ℕ, ◌+◌, ◌≤◌, Bool, true, false, List, [], ◌∷◌, length, nat_lt, refl, sym, ap, subst, arith, Option, Some, None, Result, Ok, Err}
 use Rattle.std.proofs.lemmas.Bool.{ltb-false}
 use Rattle.std.specs.Prelude.{if◌then◌else◌}
 use Rattle.sx_asm.specs.Assembled.{assembled}
@@ -13,10 +13,14 @@ use Rattle.sx_sched.specs.InForm.{IsLine}
 use Rattle.sx_sched.specs.Reading.{said_line}
 use Rattle.sx_sched.proofs.Form.{said_in_form}
 use Rattle.sx_deploy.specs.Deployment.{Deployed, IsRead}
-use Rattle.sx_model.specs.Legal.{Legal, before}
+use Rattle.sx_mean.specs.Application.{AppTree}
+use Rattle.sx_trace.specs.declared.items.Item.{Item}
+use Rattle.sx_model.specs.Legal.{before}
+use Rattle.sx_command_head.specs.Begun.{Deploys}
 use Rattle.sx_run.specs.Accepted.{AreImages, setting_of}
-use Rattle.sx_run.specs.AcceptedLaw.{AreLines}
-use Rattle.sx_run.proofs.AcceptedRunsLegal.{accepted_runs_legal}
+use Rattle.sx_run.specs.Law.{OfRuns}
+use Rattle.sx_run.specs.AcceptedLaw.{AreLines, OfAcceptedRuns}
+use Rattle.sx_run.proofs.AcceptedRuns.{of_accepted}
 use Rattle.sx_forged.specs.Forgery.{ForgedIsForgery}
 use Rattle.sx_forged.proofs.Unmade.{accepted_forged}
 use Rattle.sx_links.specs.LinksUnseen.{LinksAreUnseen}
@@ -71,11 +75,17 @@ schedule_kept names number (Fault ∷ more) h = none_kept names number _ h refl
 schedule_kept names number (answer.Line text ∷ more) h =
     line_kept names number text (judged_line assembled names number text) (schedule assembled names (number + 1) more) refl h (schedule_kept names (number + 1) more)
 
-pub items_legal : (mac : Mac) (text : List ℕ) (d : Deployed) (texts : List (List ℕ)) → IsTag mac → IsRead text (Ok d) → AreImages mac d texts
-    → (more : List Answer) → Legal d.app (before (items_of assembled mac d texts more))
-items_legal mac text d texts tag read images more =
+-- what holds of all accepted runs holds of these
+items_hold : (Holds : AppTree → List Item → Type 0) → OfAcceptedRuns Holds → (mac : Mac) (text : List ℕ) (d : Deployed) (texts : List (List ℕ)) → IsTag mac → IsRead text (Ok d) → AreImages mac d texts
+    → (more : List Answer) → Holds d.app (before (items_of assembled mac d texts more))
+items_hold Holds runs mac text d texts tag read images more =
     let k = schedule_kept d.names 1 more (omega arith) in
-    accepted_runs_legal text d read mac texts tag images (schedule assembled d.names 1 more).lines (omega (arith, k.few)) k.form
+    runs text d read mac texts tag images (schedule assembled d.names 1 more).lines (omega (arith, k.few)) k.form
+
+pub holds_by : (Holds : AppTree → List Item → Type 0) → OfRuns Holds → (mac : Mac) (deployment : Option (List ℕ)) (texts : List (List ℕ)) (d : Deployed) → IsTag mac → Deploys deployment d → AreImages mac d texts
+    → (schedule : List Answer) → Holds d.app (before (items_of assembled mac d texts schedule))
+holds_by Holds runs mac None texts d tag deploys images schedule = absurd deploys
+holds_by Holds runs mac (Some text) texts d tag deploys images schedule = items_hold Holds (of_accepted Holds runs) mac text d texts tag deploys images schedule
 
 pub items_forged : (mac : Mac) (text : List ℕ) (d : Deployed) (texts : List (List ℕ)) → IsTag mac → IsRead text (Ok d) → AreImages mac d texts
     → (more : List Answer) → ForgedIsForgery (setting_of mac d texts) (schedule assembled d.names 1 more).lines

@@ -4,13 +4,21 @@ use Rattle.sx_asm.specs.Assembled.{assembled}
 use Rattle.sx_io.specs.Reading.{Answer}
 use Rattle.sx_told.specs.Told.{CommandAt}
 use Rattle.sx_tag.specs.Mac.{Mac, IsTag}
-use Rattle.sx_model.specs.Legal.{Legal, before}
+use Rattle.std.specs.Prelude.{All}
+use Rattle.sx_model.specs.Legal.{Legal}
+use Rattle.sx_model.specs.order.Legal.{LegalInOrder}
+use Rattle.sx_model.specs.order.Turns.{OneAtATime}
+use Rattle.sx_model.specs.order.Given.{IsGiven}
+use Rattle.sx_run.proofs.RunsLegal.{runs_legal}
+use Rattle.sx_run.proofs.RunsInOrder.{runs_in_order}
+use Rattle.sx_run.proofs.turns.RunsTakeTurns.{runs_take_turns}
+use Rattle.sx_run.proofs.turns.RunsAreGiven.{runs_are_given}
 use Rattle.sx_deploy.specs.Deployment.{Deployed}
 use Rattle.sx_run.specs.Accepted.{AreImages, setting_of}
 use Rattle.sx_command_head.specs.Begun.{Deploys}
 use Rattle.sx_command_deploy.specs.Afterwards.{DeployTold}
 use Rattle.sx_command_deploy.proofs.Said.{deploy_not_two, deploy_says}
-use Rattle.sx_command_run.specs.Run.{items_of, run_deployed}
+use Rattle.sx_command_run.specs.Run.{run_deployed}
 use Rattle.sx_command_run.specs.Runs.{RunSays, RunsWith, run_may, run_part}
 use Rattle.sx_guard.proofs.Performing.{runs_guarded}
 use Rattle.sx_forged.specs.Forgery.{ForgedIsForgery}
@@ -18,14 +26,9 @@ use Rattle.sx_links.specs.LinksUnseen.{LinksAreUnseen}
 use Rattle.sx_links.specs.Unlinks.{HasMoved}
 use Rattle.sx_command_world.specs.Compiled.{compiled_texts}
 use Rattle.sx_command_world.specs.Schedule.{schedule}
-use Rattle.sx_command_run.proofs.Legality.{items_legal, items_forged, links_unseen}
+use Rattle.sx_command_run.proofs.Legality.{holds_by, items_forged, links_unseen}
 use Rattle.sx_command_run.proofs.Moving.{deployed_hides, deployed_moved}
 use Rattle.sx_command_run.proofs.Owing.{run_owes}
-
-legal_by : (mac : Mac) (deployment : Option (List ℕ)) (texts : List (List ℕ)) (d : Deployed) → IsTag mac → Deploys deployment d → AreImages mac d texts
-    → (schedule : List Answer) → Legal d.app (before (items_of assembled mac d texts schedule))
-legal_by mac None texts d tag deploys images schedule = absurd deploys
-legal_by mac (Some text) texts d tag deploys images schedule = items_legal mac text d texts tag deploys images schedule
 
 forged_by : (mac : Mac) (deployment : Option (List ℕ)) (texts : List (List ℕ)) (d : Deployed) → IsTag mac → Deploys deployment d → AreImages mac d texts
     → (answers : List Answer) → ForgedIsForgery (setting_of mac d texts) (schedule assembled d.names 1 answers).lines
@@ -45,7 +48,10 @@ moved_by mac (Some text) texts d tag deploys images made = deployed_moved mac te
 -- what holds of images that realize their modules
 runs_with : (mac : Mac) → IsTag mac → (deployment : Option (List ℕ)) (texts : List (List ℕ)) → ((d : Deployed) → Deploys deployment d → AreImages mac d texts) → RunsWith assembled mac deployment texts
 runs_with mac tag deployment texts realize = record {
-  legal = λ d deploys schedule. legal_by mac deployment texts d tag deploys (realize d deploys) schedule;
+  legal = λ d deploys schedule. holds_by Legal runs_legal mac deployment texts d tag deploys (realize d deploys) schedule;
+  order = λ d deploys schedule. holds_by LegalInOrder runs_in_order mac deployment texts d tag deploys (realize d deploys) schedule;
+  turns = λ d deploys schedule. holds_by OneAtATime runs_take_turns mac deployment texts d tag deploys (realize d deploys) schedule;
+  given = λ d deploys schedule. holds_by (λ app items. All IsGiven items) runs_are_given mac deployment texts d tag deploys (realize d deploys) schedule;
   forged = λ d deploys answers. forged_by mac deployment texts d tag deploys (realize d deploys) answers;
   links = λ d deploys made answers. links_by mac deployment texts d tag deploys (realize d deploys) made answers;
   moved = λ d deploys made. moved_by mac deployment texts d tag deploys (realize d deploys) made;

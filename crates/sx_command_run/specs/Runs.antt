@@ -1,13 +1,18 @@
 -- What the command `run` promises, of its streams at its start (m0) and at its end (m1). Of the
 -- assembler nothing is said here but that the code of an `asm` line is what it gives.
-use Rattle.std.specs.Prelude.{ℕ, ◌+◌, ◌≡◌, Bool, List, length, Option, Ok}
+use Rattle.std.specs.Prelude.{ℕ, ◌+◌, ◌≡◌, Bool, List, length, Option, Ok, All}
 use Rattle.sx_io.specs.Reading.{Answer}
 use Rattle.sx_told.specs.Told.{CommandAt, out_of_memory}
 use Rattle.sx_tag.specs.Mac.{Mac}
 use Rattle.sx_trace.specs.declared.items.Item.{Item}
 use Rattle.sx_model.specs.Legal.{Legal, before}
 use Rattle.sx_model.specs.Consequences.{TellsReader}
+use Rattle.sx_model.specs.order.Legal.{LegalInOrder}
+use Rattle.sx_model.specs.order.Turns.{OneAtATime}
+use Rattle.sx_model.specs.order.Given.{IsGiven}
 use Rattle.sx_explain.specs.Causes.{HasCauses}
+use Rattle.sx_explain.specs.Finished.{EventsAreFinished}
+use Rattle.sx_explain.specs.Sending.{TakenBehind}
 use Rattle.sx_deploy.specs.Deployment.{Deployed, IsRead}
 use Rattle.sx_run.specs.Accepted.{setting_of}
 use Rattle.sx_command_head.specs.Begun.{Deploys}
@@ -28,15 +33,22 @@ use Rattle.sx_command_world.specs.Statuses.{schedule_status}
 use Rattle.sx_command_world.specs.Turning.{MayRunOut}
 
 -- Whatever the schedule is, the items of its run with these images are legal up to the first that
--- is forged (`legal`); at this one a tag was accepted that nobody who holds its key had made
--- (`forged`). If the images are the compiler's, which they are (`made` of `DeploysWith`), the keys of
--- connections show in nothing but tags up to it (`links`), and there are settings with any other
--- such keys (`moved`). The run is a script, in which each thing that happens leaves each
--- private section alone (`guarded`).
+-- is forged (`legal`), with each act in the order of its handler (`order`); a node shows one event
+-- at a time (`turns`), and values are in range (`given`). At the first that is forged a tag was
+-- accepted that nobody who holds its key had made (`forged`). If the images are the compiler's,
+-- which they are (`made` of `DeploysWith`), the keys of connections show in nothing but tags up to
+-- it (`links`), and there are settings with any other such keys (`moved`). The run is a script, in
+-- which each thing that happens leaves each private section alone (`guarded`).
 pub record RunsWith (assemble : Assembler) (mac : Mac) (deployment : Option (List ℕ))
     (texts : List (List ℕ)) : Type 0 where
   pub legal : (d : Deployed) → Deploys deployment d → (schedule : List Answer)
       → Legal d.app (before (items_of assemble mac d texts schedule))
+  pub order : (d : Deployed) → Deploys deployment d → (schedule : List Answer)
+      → LegalInOrder d.app (before (items_of assemble mac d texts schedule))
+  pub turns : (d : Deployed) → Deploys deployment d → (schedule : List Answer)
+      → OneAtATime d.app (before (items_of assemble mac d texts schedule))
+  pub given : (d : Deployed) → Deploys deployment d → (schedule : List Answer)
+      → All IsGiven (before (items_of assemble mac d texts schedule))
   pub forged : (d : Deployed) → Deploys deployment d → (answers : List Answer)
       → ForgedIsForgery (setting_of mac d texts) (schedule assemble d.names 1 answers).lines
   pub links : (d : Deployed) → Deploys deployment d → texts ≡ compiled_texts d
@@ -68,15 +80,21 @@ RunSays assemble mac = DeploySays mac (run_part assemble mac)
 -- What `run` promises, and beside it what a reader may take from each legal trace: that follows
 -- from what is legal. So does what each reading, taking and output in it rests on (`causes`): the
 -- word that is taken was sent by a handler of the module that the connection comes from, and the
--- value that is put out is the next that the handler of the module's latest event emits. Of the
--- keys of nodes and modules a run shows nothing but tags (`keys`), so names in place of them do as
--- well (`named`). Unless a key is found by code of no deployed module, none is guessed (`found`).
+-- value that is put out is the next that the handler of the module's latest event emits. From order
+-- and turns it follows that an event is finished before its node shows anything else (`finished`),
+-- and that what a handler emits before it sends was put out before the word is taken (`behind`). Of
+-- the keys of nodes and modules a run shows nothing but tags (`keys`), so names in place of them do
+-- as well (`named`). Unless a key is found by code of no deployed module, none is guessed (`found`).
 pub record RunTold (assemble : Assembler) (mac : Mac) (tells to_tell : Bool) (m0 m1 : CommandAt)
     (status : ℕ) : Type 0 where
   pub says : RunSays assemble mac tells to_tell m0 m1 status
   pub reader : (d : Deployed) (items : List Item) → Legal d.app items → TellsReader d.app items
   pub causes : (text : List ℕ) (d : Deployed) → IsRead text (Ok d) → (items : List Item)
       → Legal d.app items → HasCauses d.app items
+  pub finished : (d : Deployed) (items : List Item) → LegalInOrder d.app items
+      → OneAtATime d.app items → EventsAreFinished d.app items
+  pub behind : (text : List ℕ) (d : Deployed) → IsRead text (Ok d) → (items : List Item)
+      → LegalInOrder d.app items → TakenBehind d.app items
   pub keys : RunsKeysUnseen
   pub named : NamesAgree
   pub found : KeysFound

@@ -1,6 +1,6 @@
--- In a legal trace each reading, each taking and each output gets its cause.
+-- In a legal trace each reading, each taking and each output gets its cause; and what holds of one
+-- with acts in their order.
 use Rattle.std.specs.Prelude.{◌≡◌, ℕ, true, Bool, false, List, ◌∷◌, ◌++◌, ◌≤◌, length, Some, None}
-use Rattle.std.specs.Prelude.{◌+◌}
 use Rattle.sx_mean.specs.Application.{AppTree}
 use Rattle.sx_mean.specs.Validity.{is_valid}
 use Rattle.sx_trace.specs.declared.items.Item.{Item}
@@ -11,6 +11,10 @@ use Rattle.sx_model.specs.Legal.{Legal, after, before}
 use Rattle.sx_explain.specs.declared.judge.Judged.TheVariants.{Because, Illegal}
 use Rattle.sx_explain.specs.Judging.{judged}
 use Rattle.sx_explain.specs.Causes.{HasCauses}
+use Rattle.sx_explain.specs.Sending.{TakenBehind}
+use Rattle.sx_explain.specs.Finished.{EventsAreFinished}
+use Rattle.sx_model.specs.order.Legal.{LegalInOrder}
+use Rattle.sx_model.specs.order.Turns.{OneAtATime}
 
 -- items of the three kinds that have causes
 abbrev pub has_cause : Item → Bool
@@ -50,3 +54,14 @@ IllegalIsRefused =
 abbrev pub LegalHasCauses : Type 0
 LegalHasCauses = (app : AppTree) (items : List Item) → is_valid app ≡ true → Legal app items
     → HasCauses app items
+
+-- In a legal trace with acts in their order each word that is taken was sent so.
+abbrev pub InOrderTakesBehind : Type 0
+InOrderTakesBehind = (app : AppTree) (items : List Item) → length app.links ≤ 256
+    → LegalInOrder app items → TakenBehind app items
+
+-- Where besides a node shows one event at a time, each event is finished before its node shows
+-- anything else.
+abbrev pub InOrderFinishes : Type 0
+InOrderFinishes = (app : AppTree) (items : List Item) → LegalInOrder app items
+    → OneAtATime app items → EventsAreFinished app items

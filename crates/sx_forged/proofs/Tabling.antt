@@ -68,10 +68,10 @@ all (b ∷ bs) f le =
     ap (λ (n : ℕ). decoded n 0 (code (b ∷ bs))) fuel ∙ first b rest 0 (code bs) ∙ ap (λ (n : ℕ). n ∷ decoded rest 0 (code bs)) same
     ∙ ap (λ (xs : List ℕ). b ∷ xs) (all bs rest (omega (arith, big, le)))
 
-bytes_in : ℕ → List ℕ
+pub bytes_in : ℕ → List ℕ
 bytes_in n = decoded n 0 n
 
-read_back : (bs : List ℕ) → bytes_in (code bs) ≡ bs
+pub read_back : (bs : List ℕ) → bytes_in (code bs) ≡ bs
 unfolding bytes_in
 read_back bs = all bs (code bs) (omega arith)
 

@@ -1,12 +1,15 @@
 -- What a call that reads the head of an input took, and answered.
 use Rattle.std.specs.Prelude.{◌≡◌, ℕ, List, Bool, Result, Ok, Err}
 use Rattle.sx_io.specs.Streams.{SourceAt}
+use Rattle.sx_io.specs.Reading.{Answer, Limit}
 use Rattle.sx_io.specs.Next.{Ahead}
+use Rattle.sx_told.specs.Told.{Output}
+use Rattle.sx_told.specs.Parts.{Notes}
 use Rattle.sx_told.specs.Reads.{Reads, anything}
 use Rattle.sx_told.specs.Got.{Got}
 use Rattle.sx_head.specs.declared.head.HeadFault.{HeadFault}
 use Rattle.sx_head.specs.declared.head.HeadFault.TheVariants as fault
-use Rattle.sx_head.specs.Head.{Found, TooLong, NoMark, Unread, head, head_lines}
+use Rattle.sx_head.specs.Head.{Head, Found, TooLong, NoMark, Unread, head, head_lines}
 
 -- What a call took of the input, and answered: the head, and the answers to come after it; or why
 -- there is none. Memory runs out only where there is a head: that it is too long, or has no mark,
@@ -23,6 +26,37 @@ HeadRead tells s0 s1 now (Err fault.Failed) =
 HeadRead tells s0 s1 now (Err fault.OutOfMemory) =
     (text : List ℕ) × Got tells head_lines head_lines s0 s1 now head
     (λ more. Found text more) Unread anything
+
+-- what a command writes of its input, and what is noted of that
+pub record Noted : Type 0 where
+  pub output : Output
+  pub notes : List (List ℕ)
+
+-- What a call that reads another text took, and answered, where F was of all that comes and g is of
+-- the text that comes.
+abbrev pub TextTaken : Bool → Limit → SourceAt → SourceAt → Ahead → (List Answer → Noted)
+    → (Head → Noted) → (List Answer → Type 0) → Result (List ℕ) HeadFault → Type 0
+TextTaken tells limit s0 s2 now F g also (Ok text) =
+    Got tells limit head_lines s0 s2 now F (λ more. g (Found text more)) (g Unread) also
+TextTaken tells limit s0 s2 now F g also (Err fault.TooLong) =
+    Reads tells limit s0 s2 F (g Unread) (λ answers. (F answers ≡ g TooLong) × also answers)
+TextTaken tells limit s0 s2 now F g also (Err fault.NoMark) =
+    Reads tells limit s0 s2 F (g Unread) (λ answers. (F answers ≡ g NoMark) × also answers)
+TextTaken tells limit s0 s2 now F g also (Err fault.Failed) =
+    Reads tells limit s0 s2 F (g Unread) (λ answers. (F answers ≡ g Unread) × also answers)
+TextTaken tells limit s0 s2 now F g also (Err fault.OutOfMemory) =
+    (text : List ℕ) × Got tells limit head_lines s0 s2 now F
+    (λ more. g (Found text more)) (g Unread) also
+
+-- So it is wherever a command has come, of which the text that follows decides the rest.
+abbrev pub TextRead : Bool → SourceAt → SourceAt → Ahead → Ahead → Result (List ℕ) HeadFault
+    → Type 0
+TextRead tells s1 s2 old now result =
+    (limit : Limit) (s0 : SourceAt) (F : List Answer → Noted) (g : Head → Noted)
+    (aside : List Answer → List ℕ) (noted : List ℕ)
+    → Got tells limit head_lines s0 s1 old F (λ answers. g (head answers)) (g Unread)
+    (Notes aside noted)
+    → TextTaken tells limit s0 s2 now F g (Notes aside noted) result
 
 -- a call's answer, with the text's bytes in place of what holds them
 abbrev pub seen_text : {V : Type 0} → (V → List ℕ) → Result V HeadFault → Result (List ℕ) HeadFault

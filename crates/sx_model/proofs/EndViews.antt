@@ -28,11 +28,11 @@ pub record ChangedAt (change : EndView → Option EndView) (c : ℕ) (side : Sid
   pub made : change old ≡ Some new
   pub is : view_at c side es ws ≡ Some new
 
-one_more : {A : Type 0} → (o : Option A) (x : A) (vs ws : List A) → (o >>? (λ w. Some (w ∷ vs))) ≡ Some ws → (w : A) × (o ≡ Some w) × (w ∷ vs ≡ ws)
+pub one_more : {A : Type 0} → (o : Option A) (x : A) (vs ws : List A) → (o >>? (λ w. Some (w ∷ vs))) ≡ Some ws → (w : A) × (o ≡ Some w) × (w ∷ vs ≡ ws)
 one_more None x vs ws e = absurd cc
 one_more (Some w) x vs ws e = (w, refl, same_Some (w ∷ vs) ws e)
 
-behind_one : {A : Type 0} → (o : Option (List A)) (v : A) (ws : List A) → (o >>? (λ vs. Some (v ∷ vs))) ≡ Some ws → (us : List A) × (o ≡ Some us) × (v ∷ us ≡ ws)
+pub behind_one : {A : Type 0} → (o : Option (List A)) (v : A) (ws : List A) → (o >>? (λ vs. Some (v ∷ vs))) ≡ Some ws → (us : List A) × (o ≡ Some us) × (v ∷ us ≡ ws)
 behind_one None v ws e = absurd cc
 behind_one (Some us) v ws e = (us, refl, same_Some (v ∷ us) ws e)
 

@@ -30,16 +30,16 @@ record OneEnd (app : AppTree) (m c : ℕ) (side : Side) : Type 0 where
   pub is_link : slice_get app.links c ≡ Some link
   pub own : module_at side link ≡ m
 
-abbrev fresh : Standing
+abbrev pub fresh : Standing
 fresh = record { present = None; asked = None; vouched = []; attested = None }
 
-first_standing : (qs : List PartTree) (m : ℕ) (q : PartTree) → slice_get qs m ≡ Some q
+pub first_standing : (qs : List PartTree) (m : ℕ) (q : PartTree) → slice_get qs m ≡ Some q
     → slice_get (map (λ p. fresh) qs) m ≡ Some fresh
 first_standing [] m q e = absurd cc
 first_standing (r ∷ qs) zero q e = refl
 first_standing (r ∷ qs) (suc m) q e = first_standing qs m q e
 
-first_epoch : (ls : List Link) (c : ℕ) (l : Link) → slice_get ls c ≡ Some l → slice_get {X = ℕ} (map (λ l. 0) ls) c ≡ Some 0
+pub first_epoch : (ls : List Link) (c : ℕ) (l : Link) → slice_get ls c ≡ Some l → slice_get {X = ℕ} (map (λ l. 0) ls) c ≡ Some 0
 first_epoch [] c l e = absurd cc
 first_epoch (r ∷ ls) zero l e = refl
 first_epoch (r ∷ ls) (suc c) l e = first_epoch ls c l e

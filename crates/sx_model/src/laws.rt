@@ -1,12 +1,14 @@
 //! What holds of legal traces: of every one, and of worked runs, by computing. Each law is a
 //! function that does nothing: its contract is the law.
 
-ghost use Rattle.std.specs.Prelude.{List};
+ghost use Rattle.std.specs.Prelude.{◌≤◌, List, length};
 ghost use Rattle.sx_mean.specs.Application.{AppTree};
 ghost use Rattle.sx_model.specs.Consequences.{OpensRise, OutsAreCaused, ReadsAreSensed, TakesRise};
 ghost use Rattle.sx_model.specs.Laws.{DoneNeedsEmits, DriverIsAlone, EventsAreTaken};
 ghost use Rattle.sx_model.specs.Laws.{LightingIsLegal, RenewalIsLegal, VouchedAreAttested};
 ghost use Rattle.sx_model.specs.Legal.{Legal};
+ghost use Rattle.sx_model.specs.order.Laws.{OrderIsKept, TurnsAreKept};
+ghost use Rattle.sx_model.specs.order.Legal.{LegalInOrder};
 ghost use Rattle.sx_trace.specs.declared.items.Item.{Item};
 
 /// In a legal trace the numbers that are taken over a connection rise strictly, so no event of it
@@ -31,6 +33,12 @@ pub fn reads_are_sensed()
 /// since then it neither was done nor did anything but write, and its node wasn't reset.
 pub fn outs_are_caused()
     ensures { (app : AppTree) (items : List Item) → Legal app items → OutsAreCaused app items }
+{}
+
+/// A trace that is legal with acts in their order is legal.
+pub fn in_order_is_legal()
+    ensures { (app : AppTree) (items : List Item) → length app.links ≤ 256 → LegalInOrder app items
+        → Legal app items }
 {}
 
 /// The lighting application, from its loading to the lamp's output.
@@ -63,4 +71,14 @@ pub fn vouched_are_attested()
 /// After a reset connections are renewed, and ends open once in each epoch, none with an old one.
 pub fn renewal_is_legal()
     ensures { RenewalIsLegal }
+{}
+
+/// What a handler emits before it sends is put out before the word is taken.
+pub fn order_is_kept()
+    ensures { OrderIsKept }
+{}
+
+/// Traces that are legal though a node shows two events at once, or a sensor gives what none can.
+pub fn turns_are_kept()
+    ensures { TurnsAreKept }
 {}

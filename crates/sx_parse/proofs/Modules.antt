@@ -14,9 +14,10 @@ use Rattle.sx_grammar.specs.Text.{Spells, place_of}
 use Rattle.sx_grammar.specs.Machine.{Handlers, Refused}
 use Rattle.sx_grammar.specs.Machine as machine
 use Rattle.sx_grammar.proofs.Faults.{read_is_module, refused_is_fault, refused_no_module}
+use Rattle.sx_grammar.proofs.OneModule.{one_module}
 use Rattle.sx_grammar.proofs.Texts.{one_module_of_text}
 use Rattle.sx_parse.specs.Declaring.{Declared, HandlersEnd, HandlersBreak, AnswersText, holding}
-use Rattle.sx_parse.specs.Parsed.{at, IsError, Read, ParseTold}
+use Rattle.sx_parse.specs.Parsed.{at, IsError, IsErrorIn, Read, ParseTold, TokensTold}
 use Rattle.sx_parse.specs.declared.error.ParseError.{ParseError}
 use Rattle.sx_parse.specs.declared.error.ParseError.TheVariants.{Fault, OutOfMemory}
 
@@ -45,9 +46,9 @@ told_fault text (Err (Fault f)) h = record {
   tokens = h.tokens;
   end = h.end;
   lexed = h.lexed;
-  fault = h.token;
-  here = refused_is_fault h.tokens h.token h.answers.answers;
-  place = same_place (at f) (place_of h.end h.token) h.line h.column;
+  fault = h.stopped.token;
+  here = refused_is_fault h.tokens h.stopped.token h.stopped.answers.answers;
+  place = same_place (at f) (place_of h.end h.stopped.token) h.stopped.line h.stopped.column;
 }
 told_fault text (Err OutOfMemory) h = tt
 
@@ -55,5 +56,23 @@ pub told_only : (text : List ℕ) (r : Result Module ParseError) → ParseTold t
 told_only text (Ok n) h m s = one_module_of_text text (module_of n) m (spelled text n h) s
 told_only text (Err (Fault f)) h m s =
     let same : s.tokens ≡ h.tokens = (one_reading start s.end h.end text s.tokens h.tokens s.lexed h.lexed).0 in
-    absurd (refused_no_module h.tokens h.token h.answers.answers m (subst (λ ts. IsModule (given_tokens ts) m) same s.stands))
+    absurd (refused_no_module h.tokens h.stopped.token h.stopped.answers.answers m (subst (λ ts. IsModule (given_tokens ts) m) same s.stands))
 told_only text (Err OutOfMemory) h m s = refl
+
+pub tokens_found : (ts : List Placed) (end : Place) (r : Result Module ParseError) → TokensTold ts end r → IfOk r (λ m. IsModule (given_tokens ts) (module_of m))
+tokens_found ts end (Ok m) h = read_is_module ts (module_of m) h.answers
+tokens_found ts end (Err e) h = tt
+
+pub tokens_fault : (ts : List Placed) (end : Place) (r : Result Module ParseError) → TokensTold ts end r → IfErr r (λ e. IsErrorIn ts end e)
+tokens_fault ts end (Ok m) h = tt
+tokens_fault ts end (Err (Fault f)) h = record {
+  fault = h.token;
+  here = refused_is_fault ts h.token h.answers.answers;
+  place = same_place (at f) (place_of end h.token) h.line h.column;
+}
+tokens_fault ts end (Err OutOfMemory) h = tt
+
+pub tokens_only : (ts : List Placed) (end : Place) (r : Result Module ParseError) → TokensTold ts end r → (m : ModuleTree) → IsModule (given_tokens ts) m → MatchResult r (λ n. module_of n ≡ m) (λ e. e ≡ OutOfMemory)
+tokens_only ts end (Ok n) h m s = one_module (given_tokens ts) (module_of n) m (read_is_module ts (module_of n) h.answers) s
+tokens_only ts end (Err (Fault f)) h m s = absurd (refused_no_module ts h.token h.answers.answers m s)
+tokens_only ts end (Err OutOfMemory) h m s = refl

@@ -3,9 +3,11 @@
 ghost use Rattle.std.specs.Prelude.{◌≡◌, MatchResult, IfOk, IfErr};
 ghost use Rattle.sx_lang.specs.Tree.{ModuleTree};
 ghost use Rattle.sx_lang.specs.View.{module_of};
+ghost use Rattle.sx_grammar.specs.Tokens.{given_tokens};
+ghost use Rattle.sx_grammar.specs.Grammar.{IsModule};
 ghost use Rattle.sx_grammar.specs.Text.{Spells, place_of};
 ghost use Rattle.sx_parse.specs.Declaring.{ReachesModule, RefusesText};
-ghost use Rattle.sx_parse.specs.Parsed.{IsError, ParseTold};
+ghost use Rattle.sx_parse.specs.Parsed.{IsError, IsErrorIn, ParseTold, TokensTold};
 ghost use Rattle.sx_parse.specs.declared.error.ParseError.TheVariants.{OutOfMemory};
 
 use crate::declaration::declarations;
@@ -42,15 +44,21 @@ fn fault_at(token: Option<Placed>, end: Place) -> ParseFault
     }
 }
 
+fn read_tokens(alloc: Global, tokens: &[Placed], end: Place) -> Result<Module, ParseError>
+    ensures { TokensTold tokens.now end result }
+{
+    match module_of_tokens(alloc, tokens) {
+        Ok(module) => Ok(module),
+        Err(Stop::Fault(token)) => Err(ParseError::Fault(fault_at(token, end))),
+        Err(Stop::Memory) => Err(ParseError::OutOfMemory),
+    }
+}
+
 fn module_of_text(alloc: Global, text: &str) -> Result<Module, ParseError>
     ensures { ParseTold text.now result }
 {
     let tokens = tokens_of(alloc, text.as_bytes())?;
-    match module_of_tokens(alloc, &tokens.list) {
-        Ok(module) => Ok(module),
-        Err(Stop::Fault(token)) => Err(ParseError::Fault(fault_at(token, tokens.end))),
-        Err(Stop::Memory) => Err(ParseError::OutOfMemory),
-    }
+    read_tokens(alloc, &tokens.list, tokens.end)
 }
 
 /// The module that a text spells.
@@ -68,4 +76,19 @@ pub fn parse(alloc: Global, text: &str) -> Result<Module, ParseError>
     ensures fault { IfErr result (λ e. IsError text.now e) }
 {
     module_of_text(alloc, text)
+}
+
+/// The module that these tokens are, whatever text they are from, and whose text ends at `end`.
+///
+/// The errors are those of `parse`.
+pub fn parse_tokens(alloc: Global, tokens: &[Placed], end: Place) -> Result<Module, ParseError>
+    // what is read is in the grammar
+    ensures found { IfOk result (λ m. IsModule (given_tokens tokens.now) (module_of m)) }
+    // what is in the grammar is read, unless memory runs out
+    ensures only { (m : ModuleTree) → IsModule (given_tokens tokens.now) m
+        → MatchResult result (λ n. module_of n ≡ m) (λ e. e ≡ OutOfMemory) }
+    // a fault is at the first token that can't follow those before it
+    ensures fault { IfErr result (λ e. IsErrorIn tokens.now end e) }
+{
+    read_tokens(alloc, tokens, end)
 }

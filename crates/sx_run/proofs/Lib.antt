@@ -1,9 +1,16 @@
--- Read tie first: the tie of Tied is the invariant of a run. RunsLegal puts the parts together.
--- RenewsAsTheModel is of the deployer alone.
+-- Read tie first: the tie of Tied is the invariant of a run. ActsKeep: every act keeps it; ActsWalk: what
+-- more holds of each item where it stands. RunsInOrder puts the parts together, turns has what holds of
+-- each item, and AcceptedRuns goes on from a text. RenewsAsTheModel is of the deployer alone.
 pub mod tie
 pub mod steps
 pub mod acts
+pub mod ActsKeep
+pub mod ActsWalk
+pub mod RunsInOrder
 pub mod RunsLegal
+pub mod turns
+pub mod RunsFinish
+pub mod RunsTakeBehind
 pub mod accepted
-pub mod AcceptedRunsLegal
+pub mod AcceptedRuns
 pub mod RenewsAsTheModel

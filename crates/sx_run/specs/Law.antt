@@ -2,7 +2,7 @@
 use Rattle.std.specs.Prelude.{◌≡◌, ℕ, ◌+◌, ◌<◌, ◌≤◌, ◌⊎◌, List, [], ◌∷◌, length, slice_get, Some}
 use Rattle.std.specs.Prelude.{None, true}
 use Rattle.sx_lang.specs.Sizes.{module_data_size}
-use Rattle.sx_mean.specs.Application.{declared_kind, PartTree, is_sensor}
+use Rattle.sx_mean.specs.Application.{declared_kind, AppTree, PartTree, is_sensor}
 use Rattle.sx_mean.specs.declared.apps.AppDevice.{AppDevice}
 use Rattle.sx_check.specs.Rules.{first_broken}
 use Rattle.sx_rules.specs.declared.section.Layout.{Layout}
@@ -17,6 +17,7 @@ use Rattle.sx_invoke.specs.Devices.{HasDevices}
 use Rattle.sx_mean.specs.Ends.{ends_of}
 use Rattle.sx_model.specs.Step.{kind_is}
 use Rattle.sx_model.specs.Legal.{Legal, before}
+use Rattle.sx_trace.specs.declared.items.Item.{Item}
 use Rattle.sx_run.specs.Setting.{Site, Setting, windows_at}
 use Rattle.sx_run.specs.State.{switched_on}
 use Rattle.sx_run.specs.Run.{run}
@@ -97,8 +98,12 @@ abbrev pub LinesInForm : Setting → List Line → Type 0
 LinesInForm set [] = Unit {0}
 LinesInForm set (line ∷ lines) = LineInForm set line × LinesInForm set lines
 
+-- so it is of the items of every run, up to the first forged one
+abbrev pub OfRuns : (AppTree → List Item → Type 0) → Type 0
+OfRuns Holds = (set : Setting) → IsSoundSetting set → (lines : List Line) → length lines ≤ 65536
+    → LinesInForm set lines
+    → Holds set.app (before (run set (switched_on set) lines).items)
+
 -- every run is legal up to its first forged item
 abbrev pub RunsLegal : Type 0
-RunsLegal = (set : Setting) → IsSoundSetting set → (lines : List Line) → length lines ≤ 65536
-    → LinesInForm set lines
-    → Legal set.app (before (run set (switched_on set) lines).items)
+RunsLegal = OfRuns Legal

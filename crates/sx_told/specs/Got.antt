@@ -1,11 +1,11 @@
 -- What a call took of its input where another goes on with what is to come.
-use Rattle.std.specs.Prelude.{ℕ, ◌≡◌, ◌≤◌, Bool, List, [], ◌∷◌, ◌++◌, IsTrue, length}
+use Rattle.std.specs.Prelude.{ℕ, ◌+◌, ◌≡◌, ◌≤◌, Bool, List, [], ◌∷◌, ◌++◌, IsTrue, length}
 use Rattle.sx_io.specs.Streams.{SourceAt, NoReadFault, NoEnd, OneEnd}
 use Rattle.sx_io.specs.Reading.{Ending, Ended, Broken, Answer, End, Limit, scan, longest}
 use Rattle.sx_io.specs.Next.{Ahead}
 use Rattle.sx_io.specs.declared.lines.ReaderState.{ReaderState}
 use Rattle.sx_io.specs.declared.lines.ReaderState.TheVariants as reader
-use Rattle.sx_told.specs.Reads.{IsOneLine, Asked}
+use Rattle.sx_told.specs.Reads.{IsOneLine, IsBound, Asked}
 
 -- what F is of these lines and whatever is after them, f is of what is after them
 abbrev pub Follows : {A : Type 0} → ReaderState → Limit → Limit → List ℕ → (List Answer → A)
@@ -35,6 +35,8 @@ pub record Got {A : Type 0} (tells : Bool) (limit limit' : Limit) (s0 s1 : Sourc
   pub holds : HoldsBehind now.state limit (before ++ line) also
   pub one : IsOneLine line
   pub few : length now.held ≤ longest
+  pub bound : (most : ℕ) → IsBound limit most → IsBound limit' most
+  pub short : (most : ℕ) → IsBound limit most → length line ≤ most + 1
   pub due : F (scan limit Broken [] before) ≡ owed
   pub no_fault : NoReadFault s0 s1
   pub at_end : now.state ≡ reader.AtEnd → (now.held ≡ []) × (IsTrue tells → OneEnd s0 s1)

@@ -6,7 +6,7 @@ use Rattle.sx_asm.specs.Assembled.{assembled}
 use Rattle.sx_tag.specs.Mac.{Mac}
 use Rattle.sx_top.specs.declared.words.Command.{Command}
 use Rattle.sx_top.specs.declared.words.Command.TheVariants.{Run, Check, Explain, Snap, Gen, Asm}
-use Rattle.sx_top.specs.declared.words.Command.TheVariants.{Dis, Drive}
+use Rattle.sx_top.specs.declared.words.Command.TheVariants.{Dis, Drive, Holds, Watch}
 use Rattle.sx_command_asm.specs.Assembling.{AsmTold}
 use Rattle.sx_top.specs.Commands.{command_of}
 use Rattle.sx_command_asm.specs.Disassembling.{DisTold}
@@ -17,6 +17,8 @@ use Rattle.sx_command_check.specs.Promise.{CheckTold}
 use Rattle.sx_command_explain.specs.Explains.{ExplainSays}
 use Rattle.sx_command_drive.specs.Drives.{DriveSays}
 use Rattle.sx_command_snap.specs.Snaps.{SnapSays}
+use Rattle.sx_command_watch.specs.Watches.{WatchSays}
+use Rattle.sx_command_holds.specs.Promise.{HoldsTold}
 
 -- Words that are no command: one line says so, without memory, and nothing is read.
 pub record MisusedTold (to_tell : Bool) (m0 m1 : CommandAt) (status : ℕ) : Type 0 where
@@ -37,8 +39,10 @@ CommandTold mac (Some Run) tells to_tell m0 m1 status =
     RunTold assembled mac tells to_tell m0 m1 status
 CommandTold mac (Some Check) tells to_tell m0 m1 status = CheckTold tells to_tell m0 m1 status
 CommandTold mac (Some Explain) tells to_tell m0 m1 status = ExplainSays tells to_tell m0 m1 status
+CommandTold mac (Some Watch) tells to_tell m0 m1 status = WatchSays tells to_tell m0 m1 status
 CommandTold mac (Some Drive) tells to_tell m0 m1 status = DriveSays mac tells to_tell m0 m1 status
 CommandTold mac (Some Snap) tells to_tell m0 m1 status = SnapSays mac tells to_tell m0 m1 status
+CommandTold mac (Some Holds) tells to_tell m0 m1 status = HoldsTold tells to_tell m0 m1 status
 CommandTold mac (Some (Gen n)) tells to_tell m0 m1 status = GenSays mac n to_tell m0 m1 status
 CommandTold mac (Some (Asm at)) tells to_tell m0 m1 status = AsmTold at tells to_tell m0 m1 status
 CommandTold mac (Some (Dis at)) tells to_tell m0 m1 status = DisTold at tells to_tell m0 m1 status

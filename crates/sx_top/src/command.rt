@@ -14,8 +14,10 @@ use sx_command_check::check_over;
 use sx_command_drive::drive_over;
 use sx_command_explain::explain_over;
 use sx_command_gen::gen_over;
+use sx_command_holds::holds_over;
 use sx_command_run::run_over;
 use sx_command_snap::snap_over;
+use sx_command_watch::watch_over;
 use sx_io::{Sink, Source};
 use sx_tag::Hmac;
 use sx_told::finish;
@@ -26,20 +28,24 @@ const MISUSED: u8 = 2;
 /// Does all that the program does, and gives its exit status. `words` are those of the command line
 /// after the program's name.
 ///
-/// The commands are `run`, `check`, `explain`, `drive`, `snap`, `gen N` for 1 to 8,000 samples, and
-/// `asm A` and `dis A` with an address A. `run`, `check`, `explain`, `drive` and `snap` read a
-/// deployment and the line `%%` after it. `check` writes where each module stands, and `end`. `run`
-/// writes each module's image, `trace`, the items of the schedule that follows, one a line, and
-/// `end`; a line's items are written before the next line is read. `explain` reads such an output
-/// behind the deployment, and writes which item caused which, how many are legal, and `end`.
-/// `drive` reads readings, each a sensor and its value: it writes the images, the honest run with
-/// each line of its schedule after `> ` and the items that the line shows, how many steps of nodes
-/// it took, and `end`; what a reading shows is written before the next line is read. `snap` reads a
-/// schedule, a second line `%%` and queries: it writes the images, the answers about where the run
-/// stands after any of its lines, and `end`. `gen` reads nothing: it writes the images of a stated
-/// deployment and what it counted in the run of a stated schedule that carries this many samples,
-/// and `end`. `asm` reads a text of assembly, and `dis` bytes in hexadecimal; both write the
-/// listing of the code at the address, and `end`.
+/// The commands are `run`, `check`, `explain`, `watch`, `drive`, `snap`, `holds`, `gen N` for 1 to
+/// 8,000 samples, and `asm A` and `dis A` with an address A. `run`, `check`, `explain`, `watch`,
+/// `drive`, `snap` and `holds` read a deployment and the line `%%` after it. `check` writes where each module
+/// stands, and `end`. `run` writes each module's image, `trace`, the items of the schedule that
+/// follows, one a line, and `end`; a line's items are written before the next line is read.
+/// `explain` reads such an output behind the deployment, and writes which item caused which, how
+/// many are legal, and `end`. `watch` reads a property, a second line `%%` and such an output, and
+/// writes which item is the first that breaks the property, or how many were watched where none
+/// does, and `end`. `drive` reads readings, each a sensor and its value: it writes the images, the
+/// honest run with each line of its schedule after `> ` and the items that the line shows, how many
+/// steps of nodes it took, and `end`; what a reading shows is written before the next line is read.
+/// `snap` reads a schedule, a second line `%%` and queries: it writes the images, the answers about
+/// where the run stands after any of its lines, and `end`. `holds` reads a property and a second
+/// line `%%`: it writes `holds` and `end` only if no run breaks the property before its first
+/// forged item, and else where it gave up. `gen` reads nothing: it writes the
+/// images of a stated deployment and what it counted in the run of a stated schedule that carries
+/// this many samples, and `end`. `asm` reads a text of assembly, and `dis` bytes in hexadecimal;
+/// both write the listing of the code at the address, and `end`.
 ///
 /// | Status | Last line | When |
 /// |---|---|---|
@@ -52,10 +58,13 @@ const MISUSED: u8 = 2;
 /// | 4 | `fault read` | a read failed |
 /// | 5 | none | a write failed: what was written is a prefix of what is defined |
 /// | 6 | none | memory ran out: what was written is a prefix of what is defined |
+/// | 7 | `fault property Pk place` | the property breaks rule Pk, the first that it breaks |
 /// | 8 | `illegal N` | item N of a trace isn't allowed by the sources after those before it |
 /// | 9 | `fault drive long` | the honest run needs more lines than a schedule may have, 65,536 |
 /// | 10 | `fault asm Ak line`, `fault hex Bk line` | rule Ak or Bk is broken; `-` is no line |
 /// | 11 | `fault query Yk line` | this line after the second `%%` is the first to break a rule |
+/// | 12 | `broken N` | item N of a trace is the first that breaks the property |
+/// | 13 | `unknown ..` | nothing was shown of the property |
 ///
 /// Every line, a fault's too, goes to `output` and ends with a newline.
 #[tactic(auto, unfolding(sx_command::specs::Refusals::usage_line))]
@@ -73,8 +82,10 @@ pub fn top<S: Source, K: Sink>(alloc: Global, words: &[String], input: &mut S, o
         Some(Command::Run) => run_over(alloc, Hmac, input, output),
         Some(Command::Check) => check_over(alloc, input, output),
         Some(Command::Explain) => explain_over(alloc, input, output),
+        Some(Command::Watch) => watch_over(alloc, input, output),
         Some(Command::Drive) => drive_over(alloc, Hmac, input, output),
         Some(Command::Snap) => snap_over(alloc, Hmac, input, output),
+        Some(Command::Holds) => holds_over(alloc, input, output),
         Some(Command::Gen(samples)) => gen_over(alloc, Hmac, samples, output),
         Some(Command::Asm(at)) => asm_over(alloc, at, input, output),
         Some(Command::Dis(at)) => dis_over(at, input, output),

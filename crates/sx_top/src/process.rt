@@ -12,7 +12,6 @@ ghost use Rattle.sx_top.specs.Promises.{ProgramTold};
 
 use crate::command::top;
 use std::alloc::Global;
-use std::io::{Read, Write};
 use std::process::ExitCode;
 use std::{env, io};
 use sx_io::{Sink, Source, StdSink, StdSource};
@@ -31,19 +30,15 @@ fn words(rt: &HostRuntime) -> io::Result<Vec<String>> {
 
 /// Does what the words say, over these streams, and gives the exit status. It is apart from
 /// `run_process` to have a contract: of the streams of the process itself nothing is known.
-pub fn run_over_streams<R: Read + Drop, W: Write + Drop>(
+pub fn run_over_streams<S: Source, K: Sink>(
     alloc: Global,
     words: &[String],
-    input: &mut StdSource<R>,
-    output: &mut StdSink<W>,
+    input: &mut S,
+    output: &mut K,
 ) -> ExitCode
-    ensures told { ProgramTold hmac_sha256 (map string_bytes words.now)
-        ⟦<StdSource<R> as Source>⟧.tells ⟦<StdSink<W> as Sink>⟧.tells
-        (command_at (⟦<StdSource<R> as Source>⟧.at input.old)
-        (⟦<StdSink<W> as Sink>⟧.at output.old))
-        (command_at (⟦<StdSource<R> as Source>⟧.at input.new)
-        (⟦<StdSink<W> as Sink>⟧.at output.new))
-        (exit_status result) }
+    ensures told { ProgramTold hmac_sha256 (map string_bytes words.now) S.tells K.tells
+        (command_at (S.at input.old) (K.at output.old))
+        (command_at (S.at input.new) (K.at output.new)) (exit_status result) }
 {
     ExitCode::from(top(alloc, words, input, output))
 }

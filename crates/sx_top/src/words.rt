@@ -14,10 +14,14 @@ pub(crate) enum Command {
     Run,
     Check,
     Explain,
+    /// Which item of a trace is the first that breaks a property.
+    Watch,
     /// The honest run of readings.
     Drive,
     /// Answers about a run after any of its lines.
     Snap,
+    /// Whether a property is broken in no run.
+    Holds,
     /// The run of the workload that carries this many samples.
     Gen(u32),
     /// The listing of a text's code for this address.
@@ -37,10 +41,14 @@ fn plain_command(word: &[u8]) -> Option<Command>
         Some(Command::Check)
     } else if word == b"explain".as_slice() {
         Some(Command::Explain)
+    } else if word == b"watch".as_slice() {
+        Some(Command::Watch)
     } else if word == b"drive".as_slice() {
         Some(Command::Drive)
     } else if word == b"snap".as_slice() {
         Some(Command::Snap)
+    } else if word == b"holds".as_slice() {
+        Some(Command::Holds)
     } else {
         None
     }

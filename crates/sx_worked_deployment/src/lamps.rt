@@ -6,6 +6,7 @@ ghost use Rattle.sx_trace.specs.ValidNames.{are_valid};
 
 use crate::deploy::is_as_written;
 use crate::model::both_run;
+use crate::properties::{are_refused, are_watched};
 use crate::sched::{a_sense_is_written, are_written};
 use crate::trace::are_items;
 use std::alloc::Global;
@@ -21,7 +22,8 @@ fn lamps(alloc: Global) -> Result<Deployment, DeployError>
     read_deployment(alloc, HEAD.as_bytes())
 }
 
-/// What is read of it, the lines of items and of schedules with its names, and its runs.
+/// What is read of it, the lines of items and of schedules with its names, its runs,
+/// and its properties.
 fn all_hold(rt: &impl Abort, alloc: Global, d: &Deployment) -> Result<(), Fail>
     requires { IsTrue (are_valid d.now.names) }
 {
@@ -29,6 +31,8 @@ fn all_hold(rt: &impl Abort, alloc: Global, d: &Deployment) -> Result<(), Fail>
     are_written(rt, &d.names);
     a_sense_is_written(rt, &d.names);
     is_as_written(rt, alloc, d)?;
+    are_watched(rt, alloc, d)?;
+    are_refused(rt, alloc, d);
     both_run(rt, alloc, d)
 }
 

@@ -6,12 +6,12 @@
 //! is proved a second time for its tests.
 //!
 //! Streams and lines: `io` has numbers and lines that are read in pieces, `told` texts that are
-//! written. The language: `lex` has tokens, `texts` what is printed of modules, `mean` what modules
-//! do at events and their sizes, up to the highest expressions and the deepest blocks, and `asm` a
-//! word that is shown. Deployments: `lamps` has one and tries it, `deploy` what is read of it, `trace`
-//! the lines of items, `sched` lines of schedules that are written, `model` runs of the source;
-//! `wire` has packets, `ledger` entries, `bulk` the workload, and `deployer` answers, keys and
-//! renewals.
+//! written. The language: `lex` has tokens, `texts` what is printed of modules, `mean` what
+//! modules do at events and their sizes, up to the highest expressions and the deepest blocks, and
+//! `asm` a word that is shown. Deployments: `lamps` has one and tries it, `deploy` what is read of
+//! it, `trace` the lines of items, `sched` lines of schedules that are written, `model` runs of
+//! the source, `properties` where they break what is said of them; `wire` has packets, `ledger`
+//! entries, `bulk` the workload, and `deployer` answers, keys and renewals.
 //!
 //! Modules are read from their texts, and what is alike is rows of a constant table with one
 //! function that takes a row, since both are cheap to prove.
@@ -37,6 +37,8 @@ mod lex;
 mod mean;
 #[cfg(test)]
 mod model;
+#[cfg(test)]
+mod properties;
 #[cfg(test)]
 mod sched;
 #[cfg(test)]

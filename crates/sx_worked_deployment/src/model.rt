@@ -102,6 +102,15 @@ fn items(alloc: Global, d: &Deployment, text: &str) -> Result<Vec<Item>, Fail> {
     Ok(items)
 }
 
+/// The items of the run that lights the lamp.
+pub(crate) fn connected(alloc: Global, d: &Deployment) -> Result<Vec<Item>, Fail> {
+    let mut all = items(alloc, d, CONNECTED)?;
+    for item in &items(alloc, d, LIT)? {
+        all.push(*item)?;
+    }
+    Ok(all)
+}
+
 /// Takes an item, and says whether it's allowed.
 fn takes(model: &mut Model, d: &Deployment, item: &Item) -> Result<bool, AllocError> {
     if d.app.valid() && model.taken() <= 1_000 {

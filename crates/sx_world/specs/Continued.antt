@@ -4,6 +4,8 @@ use Rattle.sx_trace.specs.declared.items.Item.{Item}
 use Rattle.sx_sched.specs.Lines.{Line}
 use Rattle.sx_model.specs.Legal.{Legal, before}
 use Rattle.sx_model.specs.Consequences.{TellsReader}
+use Rattle.sx_model.specs.order.Legal.{LegalInOrder}
+use Rattle.sx_model.specs.order.Turns.{OneAtATime}
 use Rattle.sx_run.specs.Setting.{Setting}
 use Rattle.sx_run.specs.State.{World}
 use Rattle.sx_run.specs.Law.{LinesInForm}
@@ -31,7 +33,8 @@ pub record LeadTo (set : Setting) (lines : List Line) (held : Held) : Type 0 whe
 
 -- The run of these lines goes on with one more. The world stands where the longer run leads, and
 -- what the line adds to the run's items was appended. All items of the longer run are legal up to
--- the first that is forged, with what a reader may take from that.
+-- the first that is forged, with what a reader may take from that; each act comes in its order, and
+-- a node shows one event at a time.
 pub record RunGoesOn (set : Setting) (lines : List Line) (line : Line) (left : Held)
     (old new : List Item) : Type 0 where
   pub stands : Stands set left (whole_run set (lines ++ line ∷ [])).world
@@ -40,6 +43,8 @@ pub record RunGoesOn (set : Setting) (lines : List Line) (line : Line) (left : H
   pub items : (whole_run set (lines ++ line ∷ [])).items ≡ (whole_run set lines).items ++ added
   pub legal : Legal set.app (before (whole_run set (lines ++ line ∷ [])).items)
   pub tells : TellsReader set.app (before (whole_run set (lines ++ line ∷ [])).items)
+  pub order : LegalInOrder set.app (before (whole_run set (lines ++ line ∷ [])).items)
+  pub turns : OneAtATime set.app (before (whole_run set (lines ++ line ∷ [])).items)
 
 -- Whatever lines led here, their run goes on, and stays legal.
 abbrev pub StaysLegal : Setting → Line → Held → Held → List Item → List Item → Type 0

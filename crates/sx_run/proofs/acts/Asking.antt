@@ -15,10 +15,12 @@ use Rattle.sx_ledger.specs.declared.entry.Maker.TheVariants as maker
 use Rattle.sx_machine.specs.State.{State}
 use Rattle.sx_mean.specs.Application.{PartTree, AppTree}
 use Rattle.sx_mean.specs.Ends.{ends_of}
-use Rattle.sx_model.specs.State.{Attestation, Standing, Model}
+use Rattle.sx_model.specs.State.{Attestation}
+use Rattle.sx_model.specs.order.State.{Standing, Model}
 use Rattle.sx_mean.specs.declared.apps.Link.{Link}
 use Rattle.sx_invoke.specs.ModuleState.{link_of, epoch_of}
-use Rattle.sx_model.specs.Step.{is_vouched, step}
+use Rattle.sx_model.specs.Step.{is_vouched}
+use Rattle.sx_model.specs.order.Step.{step}
 use Rattle.sx_model.specs.Renewal.{may_attest, boot_of, renewed}
 use Rattle.sx_tag.specs.Wrap.{wrapped}
 use Rattle.sx_run.specs.Setting.{Site, Setting}

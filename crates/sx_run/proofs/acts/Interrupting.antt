@@ -24,7 +24,8 @@ use Rattle.sx_invoke.specs.ModuleState.{state_of}
 use Rattle.sx_image.specs.Watched.{marks_of_touches}
 use Rattle.sx_mean.specs.Application.{PartTree}
 use Rattle.sx_mean.specs.Ends.{ends_of}
-use Rattle.sx_model.specs.State.{Reading, Standing, Model}
+use Rattle.sx_model.specs.State.{Reading}
+use Rattle.sx_model.specs.order.State.{Standing, Model}
 use Rattle.sx_run.specs.Setting.{Site, Setting, is_at_site, device_number}
 use Rattle.sx_run.specs.State.{World}
 use Rattle.sx_run.specs.Acts.{with_node, after_interrupt}
@@ -33,7 +34,7 @@ use Rattle.sx_run.specs.Law.{IsSoundSetting}
 use Rattle.sx_run.proofs.tie.Lists.{get_within, some_inj}
 use Rattle.sx_run.proofs.tie.Verdicts.{judge, Fares, fares_map}
 use Rattle.sx_run.proofs.tie.Tied.{SameState, NodeTied, ModuleTied, Absent, Rests, Runs, Tied}
-use Rattle.sx_run.proofs.acts.Compose.{Keeps}
+use Rattle.sx_run.proofs.acts.Keeping.{Keeps}
 use Rattle.sx_run.proofs.steps.Stretch.{readings_all}
 use Rattle.sx_run.proofs.steps.Bystanders.{DevicesTied, Apart, replayed, replayed_shapes, at_site_same, kept_bytes}
 use Rattle.sx_run.proofs.steps.Steps.{nonzero, readings_long, readings_other, apart_there}

@@ -19,7 +19,7 @@ use Rattle.sx_machine.proofs.Stays.{set_is_node, put_is_node, busy_idle}
 use Rattle.sx_image.specs.Image.{private_bytes, public_bytes}
 use Rattle.sx_mean.specs.Application.{PartTree}
 use Rattle.sx_mean.specs.Ends.{ends_of}
-use Rattle.sx_model.specs.State.{Standing, Model}
+use Rattle.sx_model.specs.order.State.{Standing, Model}
 use Rattle.sx_run.specs.Setting.{Site, Setting}
 use Rattle.sx_run.specs.State.{World}
 use Rattle.sx_run.specs.Acts.{with_node, refused_item, done_on}
@@ -30,7 +30,7 @@ use Rattle.sx_run.proofs.steps.Bystanders.{at_site_same}
 use Rattle.sx_run.proofs.steps.Steps.{nonzero}
 use Rattle.sx_run.proofs.steps.Nodes.{tied_node}
 use Rattle.sx_run.proofs.tie.Tied.{SameState, ModuleTied, Absent, Rests, Runs, Tied}
-use Rattle.sx_run.proofs.acts.Compose.{Keeps}
+use Rattle.sx_run.proofs.acts.Keeping.{Keeps}
 use Rattle.sx_machine.proofs.PublicKept.{clear_of_range, none_any, put_other}
 use Rattle.sx_machine.proofs.Meanings.{same_bytes}
 

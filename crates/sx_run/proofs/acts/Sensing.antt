@@ -13,8 +13,9 @@ use Rattle.sx_machine.specs.State.{State}
 use Rattle.sx_machine.specs.Acts.{busy, unless, sense as sense_on}
 use Rattle.sx_machine.proofs.Stays.{sense_is_node, busy_idle}
 use Rattle.sx_mean.specs.Application.{PartTree, is_sensor}
-use Rattle.sx_model.specs.State.{Reading, Standing, Model}
-use Rattle.sx_model.specs.Step.{step, with_device}
+use Rattle.sx_model.specs.State.{Reading}
+use Rattle.sx_model.specs.order.State.{Standing, Model}
+use Rattle.sx_model.specs.order.Step.{step, with_device}
 use Rattle.sx_run.specs.Setting.{Site, Setting, devices_at, device_number}
 use Rattle.sx_run.specs.State.{World}
 use Rattle.sx_run.specs.Acts.{with_node, done_on}
@@ -27,7 +28,7 @@ use Rattle.sx_run.proofs.steps.Steps.{nonzero, increasing}
 use Rattle.sx_run.proofs.steps.Foreign.{position_some}
 use Rattle.sx_run.proofs.acts.Outside.{same_tied, refused_fares}
 use Rattle.sx_run.proofs.tie.Tied.{NodeTied, ModuleTied, Absent, Rests, Runs, Tied}
-use Rattle.sx_run.proofs.acts.Compose.{Keeps}
+use Rattle.sx_run.proofs.acts.Keeping.{Keeps}
 use Rattle.sx_lists.proofs.Lists.{get_same, get_some}
 use Rattle.sx_machine.proofs.Devices.{sensed_shapes, position_is}
 

@@ -22,7 +22,8 @@ use Rattle.sx_machine.specs.Node.{IsNode}
 use Rattle.sx_image.specs.Image.{private_bytes, public_bytes}
 use Rattle.sx_mean.specs.Application.{PartTree, AppTree}
 use Rattle.sx_mean.specs.Ends.{ends_of}
-use Rattle.sx_model.specs.State.{Reading, Standing}
+use Rattle.sx_model.specs.State.{Reading}
+use Rattle.sx_model.specs.order.State.{Standing}
 use Rattle.sx_run.specs.Setting.{Site, Setting, is_at_site, same_layout, device_number}
 use Rattle.sx_run.proofs.tie.Lists.{get_other, some_inj}
 use Rattle.sx_run.proofs.tie.Tied.{SameState, DeviceTied, ModuleTied, Absent, Rests, Runs, shapes}

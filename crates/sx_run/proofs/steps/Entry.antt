@@ -30,7 +30,7 @@ use Rattle.sx_image.specs.Image.{Enters, private_bytes, public_bytes, setup_at, 
 use Rattle.sx_invoke.specs.Devices.{Drives, HasDevices}
 use Rattle.sx_image.specs.Realizes.{Exited}
 use Rattle.sx_mean.specs.Ends.{ends_of}
-use Rattle.sx_model.specs.State.{Present}
+use Rattle.sx_model.specs.order.State.{Present}
 use Rattle.sx_run.specs.Setting.{Site, Setting, same_layout, is_at_site, windows_at}
 use Rattle.sx_run.specs.Law.{image_at, devices_of, IsDeployedModule}
 use Rattle.sx_run.proofs.tie.Lists.{some_inj}

@@ -30,8 +30,9 @@ use Rattle.sx_machine.specs.Step.{step, own_of}
 use Rattle.sx_machine.proofs.PlanGuard.{barred}
 use Rattle.sx_image.specs.Watched.{marks_of_touches, violation_of}
 use Rattle.sx_mean.specs.Application.{PartTree, is_sensor}
-use Rattle.sx_model.specs.State.{Reading, Standing, Model, contains}
-use Rattle.sx_model.specs.Step.{is_undriven, step as source_step}
+use Rattle.sx_model.specs.State.{Reading, contains}
+use Rattle.sx_model.specs.order.State.{Standing, Model}
+use Rattle.sx_model.specs.order.Step.{is_undriven, step as source_step}
 use Rattle.sx_run.specs.Setting.{Site, Setting, module_of, deployed, is_at_site, device_number, devices_at, windows_at, kind_of}
 use Rattle.sx_run.specs.Ledger.{Made, is_made}
 use Rattle.sx_run.specs.State.{World}

@@ -9,6 +9,8 @@ use Rattle.sx_lang.specs.declared.sides.Side.{Side}
 use Rattle.sx_lang.specs.declared.sides.Side.TheVariants.{From, To}
 use Rattle.sx_mean.specs.declared.apps.Link.{Link}
 use Rattle.sx_mean.specs.declared.events.End.{End}
+use Rattle.sx_mean.specs.declared.events.Act.{Act}
+use Rattle.sx_mean.specs.declared.events.Act.TheVariants.{Send, Emit}
 use Rattle.sx_mean.specs.declared.events.SourceEvent.{SourceEvent}
 use Rattle.sx_mean.specs.declared.events.SourceEvent.TheVariants as event
 use Rattle.sx_mean.specs.React.{react}
@@ -22,9 +24,11 @@ use Rattle.sx_invoke.specs.Progress.{Progress, Invoked, Returns, Violates}
 use Rattle.sx_invoke.specs.Entries.{end_found}
 use Rattle.sx_mean.specs.Application.{PartTree, AppTree, is_sensor}
 use Rattle.sx_mean.specs.Ends.{ends_of}
-use Rattle.sx_model.specs.State.{Reading, EndView, Pending, Present, Vouched as Vow, Attestation, Standing, Model, FIELDS, contains}
-use Rattle.sx_model.specs.Reaction.{flow_of, after_event}
-use Rattle.sx_model.specs.Step.{idle, changed_views, kind_is, waits, is_vouched, step}
+use Rattle.sx_model.specs.State.{Reading, EndView, Vouched as Vow, Attestation, FIELDS, contains}
+use Rattle.sx_model.specs.order.State.{Pending, Present, Standing, Model}
+use Rattle.sx_model.specs.order.Reaction.{flow_of, after_event, sent_first, from_emit, flowing}
+use Rattle.sx_model.specs.Step.{changed_views, kind_is, waits, is_vouched}
+use Rattle.sx_model.specs.order.Step.{idle, step}
 use Rattle.sx_model.specs.Renewal.{takes, opens, is_below, may_open}
 use Rattle.sx_run.specs.Setting.{device_number}
 use Rattle.sx_wire.specs.Headers.{begins, is_ask, is_set_key_header, is_event_header, challenge_in, link_in, epoch_in, last_in, value_in}
@@ -32,14 +36,14 @@ use Rattle.sx_run.specs.Ledger.{Made, NO_TARGET, made_entry, is_made}
 use Rattle.sx_run.specs.Observation.{Observed, is_driver, read_item, write_item, side_in, has_end, sender_of, unless_made, has_wrapped, has_unwrapped}
 use Rattle.sx_run.proofs.tie.Lists.{some_inj}
 use Rattle.sx_run.proofs.tie.Ends.{found_at, renumbered, takes_at, opens_at, below_at, open_stays, opens_stays, open_same, takes_leaves, newly_open, open_small, EndOf, has_link, linked, has_end-found}
-use Rattle.sx_run.proofs.tie.Flows.{Flows, flows_same, flows_all, AllSending}
+use Rattle.sx_run.proofs.tie.Flows.{Flows, flows_same, flows_first, AllSending}
 use Rattle.sx_model.specs.Legal.{is_forged}
-use Rattle.sx_model.proofs.Idle.{idle_as}
+use Rattle.sx_model.proofs.order.Idle.{idle_as}
 use Rattle.sx_run.proofs.tie.Unique.{distinct, sending_open}
 use Rattle.sx_run.proofs.tie.Verdicts.{judge, Fares}
 use Rattle.sx_run.proofs.tie.Tied.{place_in, HasLength, SameEnds, SameState, WasSent, Settled}
 use Rattle.sx_run.proofs.tie.Tied.{Settles, idle_with, Reacts, OwnSensor, Vouched, Begun, Refuses}
-use Rattle.sx_run.proofs.tie.Tied.{Opens, Vouches, Takes, Samples, Owes, Yet, Now, KnownKey, Known}
+use Rattle.sx_run.proofs.tie.Tied.{Opens, Vouches, Takes, Samples, OwnActs, own_acts, Owes, Yet, Now, KnownKey, Known}
 use Rattle.sx_run.proofs.tie.Tied.{open_at, AtLeast, IsSane, DeviceTied}
 use Rattle.sx_run.proofs.tie.Entries.{made_behind}
 use Rattle.sx_run.proofs.tie.Moves.{readings_after, IsOwn, Moved, same_module, known_moved, sane_moved}
@@ -103,18 +107,25 @@ module _ (app : AppTree) (m : ℕ) (q : PartTree) (x : Standing) (pr : Present) 
       let qq : q ≡ q2 = some_inj q q2 (sym part ∙ pk) in
       some_inj boot b (sym boots ∙ subst (λ (z : PartTree). slice_get mo.boots z.node ≡ Some b) (sym qq) bk)
 
-  -- an event in the source, of which the mark tells
-  reacted : (mark : Mark) (st : ModuleState) (views : List EndView) (e : SourceEvent) (devices : List Reading) (ms : List Mark) (result : Invoked)
-      → devices ≡ readings_after app q.node mark mo.devices → st.cells ≡ pr.cells → SameEnds (ends_of app m) st.ends views mo.sent
-      → ((c : ℕ) (side : Side) → open_at c side (ends_of app m) views ≡ open_at c side (ends_of app m) pr.ends)
-      → Reacts app q.node m q st e result ms → Next app m q x mo mark ledger ms result (behind views e devices)
-  reacted mark st views e devices ms result de ce same opens h =
-      let p = idle_with pr.cells views in
-      let f = flow_of q.tree (ends_of app m) e p mo.sent in
-      let y : Standing = record { present = Some (after_event q.tree e f p); asked = x.asked; vouched = x.vouched; attested = x.attested } in
-      let flows : Flows (OwnOpen views) mo.sent f.sent =
-      flows_all (OwnOpen views) (ends_of app m) views (react q.tree e pr.cells).acts (record { sent = mo.sent; emits = []; pieces = 0 }) (own_open st views same) in
-      let moved : Moved app q.node m mark x y mo (behind views e devices) =
+  -- with another presence of the module, and more that it sent
+  abbrev sent_with : Present → List (List ℕ) → List Reading → Model
+  sent_with p2 sent2 devices = record {
+    boots = mo.boots;
+    devices = devices;
+    modules = slice_set mo.modules m (record { present = Some p2; asked = x.asked; vouched = x.vouched; attested = x.attested });
+    epochs = mo.epochs;
+    sent = sent2;
+    asks = mo.asks;
+  }
+
+  -- the module sends over its own open ends
+  sent_next : (mark : Mark) (p2 : Present) (sent2 : List (List ℕ)) (devices : List Reading) (ms : List Mark) (result : Invoked)
+      → devices ≡ readings_after app q.node mark mo.devices → Flows (OwnOpen p2.ends) mo.sent sent2
+      → ((c : ℕ) (side : Side) → open_at c side (ends_of app m) p2.ends ≡ open_at c side (ends_of app m) pr.ends)
+      → ((devices : List Window) → Owes app q.node m q devices p2 sent2 ms result) → Next app m q x mo mark ledger ms result (sent_with p2 sent2 devices)
+  sent_next mark p2 sent2 devices ms result de flows opens owes =
+      let y : Standing = record { present = Some p2; asked = x.asked; vouched = x.vouched; attested = x.attested } in
+      let moved : Moved app q.node m mark x y mo (sent_with p2 sent2 devices) =
       record {
         boots = refl;
         asks = refl;
@@ -122,30 +133,25 @@ module _ (app : AppTree) (m : ℕ) (q : PartTree) (x : Standing) (pr : Present) 
         modules = refl;
         asked = refl;
         attested = refl;
-        vouched = λ a b t.
-            t;
+        vouched = λ a b t. t;
         devices = de;
-        sent = flows_weaken (OwnOpen views) (IsOwn app m) mo.sent f.sent (λ c o. o.1) flows;
+        sent = flows_weaken (OwnOpen p2.ends) (IsOwn app m) mo.sent sent2 (λ c o. o.1) flows;
       } in
       record {
         y = y;
         moved = moved;
-        pr = after_event q.tree e f p;
+        pr = p2;
         present = refl;
-        owes = λ devices. Now f.emits f.pieces refl (subst (λ cells. Settles app q.node m q.device
-            (after_event q.tree e (flow_of q.tree (ends_of app m) e (idle_with cells views) mo.sent) (idle_with cells views)).cells views
-            (flow_of q.tree (ends_of app m) e (idle_with cells views) mo.sent).sent
-            (flow_of q.tree (ends_of app m) e (idle_with cells views) mo.sent).pieces result ms
-            (flow_of q.tree (ends_of app m) e (idle_with cells views) mo.sent).emits) ce (h views mo.sent same));
-        sane = sane_moved app q.node m mark x y mo (behind views e devices) there moved sane
+        owes = owes;
+        sane = sane_moved app q.node m mark x y mo (sent_with p2 sent2 devices) there moved sane
             (λ q2 b pk bk.
             let t = sane.timely m q2 x b pk there bk in
             record {
               vouched = λ a k v. elim (t.vouched a k v) [ inl lt ↦ inl lt | inr r ↦ inr (r.0, refl) ];
               attested = λ k v. elim (t.attested k v) [ inl lt ↦ inl lt | inr r ↦ inr (r.0, refl) ];
-              opened = λ p2 c side n pe o.
-                  let pp : after_event q.tree e f p ≡ p2 = some_inj (after_event q.tree e f p) p2 pe in
-                  let o2 : open_at c side (ends_of app m) views ≡ Some n = subst (λ (z : Present). open_at c side (ends_of app m) z.ends ≡ Some n) (sym pp) o in
+              opened = λ p3 c side n pe o.
+                  let pp : p2 ≡ p3 = some_inj p2 p3 pe in
+                  let o2 : open_at c side (ends_of app m) p2.ends ≡ Some n = subst (λ (z : Present). open_at c side (ends_of app m) z.ends ≡ Some n) (sym pp) o in
                   t.opened pr c side n present (sym (opens c side) ∙ o2);
             })
             (λ c l q2 b words lk own pk bk wk.
@@ -161,7 +167,7 @@ module _ (app : AppTree) (m : ℕ) (q : PartTree) (x : Standing) (pr : Present) 
                       elim hs.3 [
                         | inl lt ↦ inl lt
                         | inr o ↦ inr (
-                          after_event q.tree e f p,
+                          p2,
                           refl,
                           subst (λ z. AtLeast (epoch_of c) z)
                               (sym (opens (link_of c) From ∙ ap (λ (z : Present). open_at (link_of c) From (ends_of app m) z.ends)
@@ -173,10 +179,28 @@ module _ (app : AppTree) (m : ℕ) (q : PartTree) (x : Standing) (pr : Present) 
                   ]
               | inr now ↦
                   let a = t.opened pr (link_of c) From (epoch_of c) present (sym (opens (link_of c) From) ∙ now.0) in
-                  inr (a.0, a.1, a.3, inr (after_event q.tree e f p, refl, subst (λ z. AtLeast (epoch_of c) z) (sym now.0) (at_least_same (epoch_of c))))
+                  inr (a.0, a.1, a.3, inr (p2, refl, subst (λ z. AtLeast (epoch_of c) z) (sym now.0) (at_least_same (epoch_of c))))
             ]);
-        known = λ k h. known_moved app q.node m mark x y mo (behind views e devices) there moved k.maker k (known k h);
+        known = λ k h. known_moved app q.node m mark x y mo (sent_with p2 sent2 devices) there moved k.maker k (known k h);
       }
+
+  -- an event in the source, of which the mark tells
+  reacted : (mark : Mark) (st : ModuleState) (views : List EndView) (e : SourceEvent) (devices : List Reading) (ms : List Mark) (result : Invoked)
+      → devices ≡ readings_after app q.node mark mo.devices → st.cells ≡ pr.cells → SameEnds (ends_of app m) st.ends views mo.sent
+      → ((c : ℕ) (side : Side) → open_at c side (ends_of app m) views ≡ open_at c side (ends_of app m) pr.ends)
+      → Reacts app q.node m q st e result ms → Next app m q x mo mark ledger ms result (behind views e devices)
+  reacted mark st views e devices ms result de ce same opens h =
+      let p = idle_with pr.cells views in
+      let f = flow_of q.tree (ends_of app m) e p mo.sent in
+      let acts = (react q.tree e pr.cells).acts in
+      let flows : Flows (OwnOpen views) mo.sent f.sent =
+      flows_first (OwnOpen views) (ends_of app m) views acts (flowing mo.sent 0) (own_open st views same) in
+      sent_next mark (after_event q.tree e f p) f.sent devices ms result de flows opens
+      (λ devices. Now (from_emit acts) f.pieces refl (own_acts app m views (from_emit acts) (own_open st views same)) (subst (λ cells. Settles app q.node m q.device
+      (after_event q.tree e (flow_of q.tree (ends_of app m) e (idle_with cells views) mo.sent) (idle_with cells views)).cells views
+      (flow_of q.tree (ends_of app m) e (idle_with cells views) mo.sent).sent
+      (flow_of q.tree (ends_of app m) e (idle_with cells views) mo.sent).pieces result ms
+      (from_emit (react q.tree e cells).acts)) ce (h views mo.sent same)))
 
   fares_one : (i : Item) (t : Model) (good : Model → Type 0) → is_forged i ≡ false → step app mo i ≡ Some t → good t → Fares (judge app mo (i ∷ [])) good
   fares_one i t good f e g = rw (f, e) g
@@ -328,7 +352,7 @@ module _ (app : AppTree) (m : ℕ) (q : PartTree) (x : Standing) (pr : Present) 
       too_old b e lt = let lt2 = subst (λ (z : Attestation). z.boot < boot) e lt in absurd (omega (arith, lt2, now))
 
   abbrev opened_with : List EndView → Present
-  opened_with views = record { cells = pr.cells; ends = views; pending = Some (record { emits = []; pieces = 0 }) }
+  opened_with views = record { cells = pr.cells; ends = views; pending = Some (record { acts = []; pieces = 0 }) }
 
   opened_step : (link epoch : ℕ) (side : Side) (views : List EndView) → pr.pending ≡ None → changed_views (opens epoch) link side (ends_of app m) pr.ends ≡ Some views
       → may_open x.attested boot link epoch (slice_index mo.epochs link) ≡ true
@@ -411,7 +435,7 @@ module _ (app : AppTree) (m : ℕ) (q : PartTree) (x : Standing) (pr : Present) 
         | inl old ↦ (sane.timely m q x boot part there boots).opened pr c s n present old
         | inr new_ ↦ (g.a, g.attested, g.now, subst (λ z. n ≤ slice_index mo.epochs z) (sym new_.0) (subst (λ z. z ≤ slice_index mo.epochs link) (sym new_.1) g.reached))
       ])
-      (λ devices. Now [] 0 refl (
+      (λ devices. Now [] 0 refl tt (
         refl,
         refl,
         pieces,
@@ -457,7 +481,7 @@ module _ (app : AppTree) (m : ℕ) (q : PartTree) (x : Standing) (pr : Present) 
   vouched_settled st (Returns status p) same h = (refl, h.0, h.1, subst (λ z. SameState (ends_of app m) z pr.cells pr.ends mo.sent) (sym h.2) same)
 
   abbrev pending_one : Present
-  pending_one = record { cells = pr.cells; ends = pr.ends; pending = Some (record { emits = []; pieces = 1 }) }
+  pending_one = record { cells = pr.cells; ends = pr.ends; pending = Some (record { acts = []; pieces = 1 }) }
 
   abbrev vouched_as : ℕ → Standing
   vouched_as a = record { present = Some pending_one; asked = x.asked; vouched = x.vouched ++ record { challenge = a; boot = boot } ∷ []; attested = x.attested }
@@ -497,7 +521,7 @@ module _ (app : AppTree) (m : ℕ) (q : PartTree) (x : Standing) (pr : Present) 
         moved = moved;
         pr = pending_one;
         present = refl;
-        owes = λ devices. Now [] 1 refl (vouched_settled st result same h);
+        owes = λ devices. Now [] 1 refl tt (vouched_settled st result same h);
         sane = sane_moved app q.node m mark x y mo mo2 there moved sane
             (λ q2 b pk bk.
             let t = sane.timely m q2 x b pk there bk in
@@ -535,10 +559,10 @@ module _ (app : AppTree) (m : ℕ) (q : PartTree) (x : Standing) (pr : Present) 
   set_same (z ∷ xs) (suc i) v e = ap (λ w. z ∷ w) (set_same xs i v e)
 
   -- a word that was sent is wrapped
-  wrap_fares : (header body : List ℕ) (own : Bool) (emits : List ℕ) (pieces : ℕ) (ms : List Mark) (result : Invoked) → pr.pending ≡ Some (record { emits = emits; pieces = pieces })
-      → Settles app q.node m q.device pr.cells pr.ends mo.sent pieces result (Wrapped header body own ∷ ms) emits
+  wrap_fares : (header body : List ℕ) (own : Bool) (acts : List Act) (pieces : ℕ) (ms : List Mark) (result : Invoked) → pr.pending ≡ Some (record { acts = acts; pieces = pieces }) → OwnActs app m pr.ends acts
+      → Settles app q.node m q.device pr.cells pr.ends mo.sent pieces result (Wrapped header body own ∷ ms) acts
       → (let o = has_wrapped m boot header body own ledger in Fares (judge app mo o.items) (Next app m q x mo (Wrapped header body own) o.ledger ms result))
-  wrap_fares header body own emits pieces ms result pend h =
+  wrap_fares header body own acts pieces ms result pend mine h =
       let mark = Wrapped header body own in
       let entry : Made = made_entry (maker.Module m) NO_TARGET 0 header body in
       let no_ask : is_ask header ≡ false = false_from_ne_true (is_ask header) (λ a. ask_not_event header a h.0) in
@@ -564,7 +588,7 @@ module _ (app : AppTree) (m : ℕ) (q : PartTree) (x : Standing) (pr : Present) 
         moved = moved;
         pr = pr;
         present = present;
-        owes = λ devices. Now emits pieces pend h.3;
+        owes = λ devices. Now acts pieces pend mine h.3;
         sane = sane;
         known = λ k was. elim (made_behind ledger entry k was) [
           | inl old ↦ known k old
@@ -572,28 +596,31 @@ module _ (app : AppTree) (m : ℕ) (q : PartTree) (x : Standing) (pr : Present) 
         ];
       })
 
-  abbrev pending_with : List ℕ → ℕ → Present
-  pending_with emits pieces = record { cells = pr.cells; ends = pr.ends; pending = Some (record { emits = emits; pieces = pieces }) }
+  abbrev pending_with : List Act → ℕ → Present
+  pending_with acts pieces = record { cells = pr.cells; ends = pr.ends; pending = Some (record { acts = acts; pieces = pieces }) }
 
-  written_step : (v e : ℕ) (emits : List ℕ) (pieces : ℕ) → pr.pending ≡ Some (record { emits = e ∷ emits; pieces = pieces })
-      → v ≡ e → step app mo (item.Out m v) ≡ Some (with_end_of (pending_with emits pieces))
-  written_step v e emits pieces pend same = rw (there, present, pend, same, eq-eqb e e refl) refl
+  written_step : (v e : ℕ) (acts : List Act) (pieces : ℕ) → pr.pending ≡ Some (record { acts = Emit e ∷ acts; pieces = pieces })
+      → v ≡ e → (let f = sent_first (ends_of app m) pr.ends acts (flowing mo.sent pieces) in step app mo (item.Out m v) ≡ Some (sent_with (pending_with (from_emit acts) f.pieces) f.sent mo.devices))
+  written_step v e acts pieces pend same = rw (there, present, pend, same, eq-eqb e e refl) refl
 
   driver_here : (d : ℕ) → q.device ≡ Some d → is_driver app (Some m) d ≡ true
   driver_here d e = rw (part, e) (eq-eqb d d refl)
 
-  -- an emit that is owed is written
-  write_fares : (k v : ℕ) (emits : List ℕ) (pieces : ℕ) (ms : List Mark) (result : Invoked) → pr.pending ≡ Some (record { emits = emits; pieces = pieces })
-      → Settles app q.node m q.device pr.cells pr.ends mo.sent pieces result (Actuated k v ∷ ms) emits
+  -- an emit that is owed is written, and what comes before the next is sent
+  write_fares : (k v : ℕ) (acts : List Act) (pieces : ℕ) (ms : List Mark) (result : Invoked) → pr.pending ≡ Some (record { acts = acts; pieces = pieces }) → OwnActs app m pr.ends acts
+      → Settles app q.node m q.device pr.cells pr.ends mo.sent pieces result (Actuated k v ∷ ms) acts
       → Fares (judge app mo (write_item app (Some m) (device_number app q.node k) v ∷ [])) (Next app m q x mo (Actuated k v) ledger ms result)
-  write_fares k v [] pieces ms result pend h = absurd h
-  write_fares k v (e ∷ emits) pieces ms result pend h =
+  write_fares k v [] pieces ms result pend mine h = absurd h
+  write_fares k v (Send output w ∷ acts) pieces ms result pend mine h = absurd h
+  write_fares k v (Emit e ∷ acts) pieces ms result pend mine h =
+      let f = sent_first (ends_of app m) pr.ends acts (flowing mo.sent pieces) in
+      let p2 = pending_with (from_emit acts) f.pieces in
       let seen : write_item app (Some m) (device_number app q.node k) v ≡ item.Out m v = rw (driver_here (device_number app q.node k) h.0) refl in
       subst (λ i. Fares (judge app mo (i ∷ [])) (Next app m q x mo (Actuated k v) ledger ms result)) (sym seen)
-      (fares_one (item.Out m v) (with_end_of (pending_with emits pieces)) (Next app m q x mo (Actuated k v) ledger ms result) refl (written_step v e emits pieces pend h.1)
-      (stood (Actuated k v) (pending_with emits pieces) ms result refl (λ k c o. o)
-      (λ c s k o. (sane.timely m q x boot part there boots).opened pr c s k present o)
-      (λ devices. Now emits pieces refl h.2)))
+      (fares_one (item.Out m v) (sent_with p2 f.sent mo.devices) (Next app m q x mo (Actuated k v) ledger ms result) refl (written_step v e acts pieces pend h.1)
+      (sent_next (Actuated k v) p2 f.sent mo.devices ms result refl
+      (flows_first (OwnOpen pr.ends) (ends_of app m) pr.ends acts (flowing mo.sent pieces) mine) (λ c side. refl)
+      (λ devices. Now (from_emit acts) f.pieces refl (own_acts app m pr.ends (from_emit acts) mine) h.2)))
 
   -- the module reads its sensor
   abbrev stale_devices : ℕ → ℕ → List Reading
@@ -638,18 +665,18 @@ module _ (app : AppTree) (m : ℕ) (q : PartTree) (x : Standing) (pr : Present) 
       let r = readings k w own.there own.sensor in
       sample_fares devices st k w rest result r.0 pend same own fresh r.1 r.2 h
 
-  settles_fares : (mark : Mark) (emits : List ℕ) (pieces : ℕ) (rest : List Mark) (result : Invoked) → pr.pending ≡ Some (record { emits = emits; pieces = pieces })
-      → Settles app q.node m q.device pr.cells pr.ends mo.sent pieces result (mark ∷ rest) emits → MarkFares mark rest result
-  settles_fares (Wrapped header body own) emits pieces rest result pend h = wrap_fares header body own emits pieces rest result pend h
-  settles_fares (Unwrapped header body own) emits pieces rest result pend h = absurd h
-  settles_fares (Sampled k v) emits pieces rest result pend h = absurd h
-  settles_fares (Actuated k v) emits pieces rest result pend h = write_fares k v emits pieces rest result pend h
+  settles_fares : (mark : Mark) (acts : List Act) (pieces : ℕ) (rest : List Mark) (result : Invoked) → pr.pending ≡ Some (record { acts = acts; pieces = pieces }) → OwnActs app m pr.ends acts
+      → Settles app q.node m q.device pr.cells pr.ends mo.sent pieces result (mark ∷ rest) acts → MarkFares mark rest result
+  settles_fares (Wrapped header body own) acts pieces rest result pend mine h = wrap_fares header body own acts pieces rest result pend mine h
+  settles_fares (Unwrapped header body own) acts pieces rest result pend mine h = absurd h
+  settles_fares (Sampled k v) acts pieces rest result pend mine h = absurd h
+  settles_fares (Actuated k v) acts pieces rest result pend mine h = write_fares k v acts pieces rest result pend mine h
 
   -- each mark of what is owed is allowed, or forged
   pub mark_fares : (sizes : length mo.sent ≡ FIELDS) (devices : List Window) (readings : Readings devices) (mark : Mark) (rest : List Mark) (result : Invoked)
       → Owes app q.node m q devices pr mo.sent (mark ∷ rest) result → MarkFares mark rest result
   mark_fares sizes devices readings mark rest result (Yet st pend same h) = begun_fares sizes devices readings st mark rest result pend same h
-  mark_fares sizes devices readings mark rest result (Now emits pieces pend h) = settles_fares mark emits pieces rest result pend h
+  mark_fares sizes devices readings mark rest result (Now acts pieces pend mine h) = settles_fares mark acts pieces rest result pend mine h
 
   -- The exit: the module is done, and the source has it idle in the state that its private section then represents.
 
@@ -665,7 +692,7 @@ module _ (app : AppTree) (m : ℕ) (q : PartTree) (x : Standing) (pr : Present) 
     pub ends : pr2.ends ≡ pr.ends
     pub state : SameState (ends_of app m) p.state pr2.cells pr2.ends mo.sent
 
-  done_step : (k : ℕ) → pr.pending ≡ Some (record { emits = []; pieces = k }) → step app mo (item.Done m 1 k) ≡ Some (with_end_of (idle_with pr.cells pr.ends))
+  done_step : (k : ℕ) → pr.pending ≡ Some (record { acts = []; pieces = k }) → step app mo (item.Done m 1 k) ≡ Some (with_end_of (idle_with pr.cells pr.ends))
   done_step k pend = rw (part, there, present, pend, eq-eqb k k refl) refl
 
   not_one : (status : ℕ) → nat_le 2 status ≡ true → (status == 1) ≡ false
@@ -705,9 +732,9 @@ module _ (app : AppTree) (m : ℕ) (q : PartTree) (x : Standing) (pr : Present) 
         ends = refl;
         state = subst (λ z. SameState (ends_of app m) z pr.cells pr.ends mo.sent) (sym pst) same;
       })
-  done_owes devices readings status p (Now emits pieces pend h) =
-      let pend2 : pr.pending ≡ Some (record { emits = []; pieces = length p.pieces }) =
-      pend ∙ ap (λ (z : List ℕ). Some (record { emits = z; pieces = pieces })) h.0 ∙ ap (λ k. Some (record { emits = []; pieces = k })) (sym h.2) in
+  done_owes devices readings status p (Now acts pieces pend mine h) =
+      let pend2 : pr.pending ≡ Some (record { acts = []; pieces = length p.pieces }) =
+      pend ∙ ap (λ (z : List Act). Some (record { acts = z; pieces = pieces })) h.0 ∙ ap (λ k. Some (record { acts = []; pieces = k })) (sym h.2) in
       subst (λ s. Fares (judge app mo (item.Done m s (length p.pieces) ∷ [])) (Finished p)) (sym h.1)
       (fares_one (item.Done m 1 (length p.pieces)) (with_end_of (idle_with pr.cells pr.ends)) (Finished p) refl (done_step (length p.pieces) pend2)
       (record {

@@ -16,8 +16,10 @@ use Rattle.sx_mean.specs.declared.apps.AppDevice.{AppDevice}
 use Rattle.sx_invoke.specs.ModuleState.{link_of, epoch_of}
 use Rattle.sx_mean.specs.Application.{PartTree, AppTree}
 use Rattle.sx_mean.specs.Ends.{ends_of}
-use Rattle.sx_model.specs.State.{Reading, Present, Standing, Model}
-use Rattle.sx_model.specs.Step.{step, reset_at, absent_at, stale_at, is_vouched}
+use Rattle.sx_model.specs.State.{Reading}
+use Rattle.sx_model.specs.order.State.{Present, Standing, Model}
+use Rattle.sx_model.specs.Step.{stale_at, is_vouched}
+use Rattle.sx_model.specs.order.Step.{step, reset_at, absent_at}
 use Rattle.sx_machine.proofs.Devices.{stale_shapes}
 use Rattle.sx_run.specs.Setting.{Site, Setting, device_number, devices_at, windows_at}
 use Rattle.sx_wire.specs.Headers.{challenge_in}

@@ -24,13 +24,15 @@ use Rattle.sx_machine.specs.declared.kinds.Event.TheVariants as event
 use Rattle.sx_machine.specs.declared.kinds.Seen.{Seen}
 use Rattle.sx_machine.specs.State.{State}
 use Rattle.sx_machine.specs.Step.{Shown, step, own_of}
-use Rattle.sx_model.specs.Step.{first_present, is_vouched, step as source_step}
+use Rattle.sx_model.specs.Step.{is_vouched}
+use Rattle.sx_model.specs.order.Step.{first_present, step as source_step}
 use Rattle.sx_invoke.specs.ModuleState.{initial_ends, state_of, link_of, epoch_of}
 use Rattle.sx_image.specs.Watched.{violation_of}
 use Rattle.sx_image.specs.Image.{private_bytes}
 use Rattle.sx_mean.specs.Application.{PartTree}
 use Rattle.sx_mean.specs.Ends.{ends_of}
-use Rattle.sx_model.specs.State.{Reading, Present, Standing, Model}
+use Rattle.sx_model.specs.State.{Reading}
+use Rattle.sx_model.specs.order.State.{Present, Standing, Model}
 use Rattle.sx_machine.proofs.Apart.{lives_without}
 use Rattle.sx_machine.proofs.Devices.{position_is}
 use Rattle.sx_run.specs.Setting.{Site, Setting, module_of, deployed, is_at_site}

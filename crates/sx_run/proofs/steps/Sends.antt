@@ -21,15 +21,15 @@ use Rattle.sx_mean.specs.Ends.{is_sending}
 use Rattle.sx_mean.specs.Application.{PartTree, AppTree}
 use Rattle.sx_mean.specs.Ends.{ends_of}
 use Rattle.sx_model.specs.State.{EndView}
-use Rattle.sx_model.specs.Reaction.{Flow, MOST_SENT, field_at, field_of, sent_over, sends, sent_to, all_done}
+use Rattle.sx_model.specs.Reaction.{Flow, MOST_SENT, field_at, field_of, sent_over, sends, sent_to}
 use Rattle.sx_model.specs.Changes.{is_from}
-use Rattle.sx_model.proofs.Emits.{emits_to}
+use Rattle.sx_model.specs.order.Reaction.{sent_first, from_emit, flowing}
 use Rattle.sx_run.specs.Setting.{device_number}
 use Rattle.sx_wire.specs.Headers.{last_in, value_in}
 use Rattle.sx_run.specs.Observation.{sender_of}
 use Rattle.sx_run.proofs.tie.Lists.{get_other, get_end, get_before}
 use Rattle.sx_run.proofs.tie.Ends.{has_link, EndOf, epoch_open, epoch_closed}
-use Rattle.sx_run.proofs.tie.Flows.{Flows, flows_on, flows_to, flows_all, AllSending}
+use Rattle.sx_run.proofs.tie.Flows.{Flows, flows_on, flows_to, flows_first, AllSending}
 use Rattle.sx_run.proofs.tie.Unique.{Distinct, distinct}
 use Rattle.sx_run.proofs.tie.Frames.{ends_frame}
 use Rattle.sx_run.proofs.tie.Tied.{HasLength, Counts, SameEnd, SameEnds, WasSent, Settles, HasEnd}
@@ -151,7 +151,7 @@ module _ (app : AppTree) (m n : ℕ) (q : PartTree) (s : Setup) (c : Call) (cell
     pub beside : p.devices ≡ devices
 
   -- the rest of the acts does what is owed
-  abbrev DoesOwed : Course → List ℕ → List Mark → Type 0
+  abbrev DoesOwed : Course → List Act → List Mark → Type 0
   DoesOwed course emits before =
       (ms : List Mark) × (marks_in (finished course) ≡ before ++ ms) × Settles app n m q.device cells views final pieces (finished course) ms emits
 
@@ -176,7 +176,7 @@ module _ (app : AppTree) (m n : ℕ) (q : PartTree) (s : Setup) (c : Call) (cell
   sealed x v = Wrapped (event_header x) (two v) false
 
   -- a copy, and then the rest
-  copy_owed : (r : Result (List ℕ) Violation) (k v : ℕ) (piece : List ℕ) (p : Progress) (f : Flow) (emits : List ℕ) (rest : Progress → Course) (x : EndState)
+  copy_owed : (r : Result (List ℕ) Violation) (k v : ℕ) (piece : List ℕ) (p : Progress) (f : Flow) (emits : List Act) (rest : Progress → Course) (x : EndState)
       → WasSent app m final (event_header x) (two v)
       → ((p1 : Progress) → p1.state ≡ (wrap_counted k x v p).state → p1.pieces ≡ p.pieces ++ piece ∷ [] → p1.devices ≡ p.devices → DoesOwed (rest p1) emits p1.marks)
       → DoesOwed (and_on (copied_to r (record (wrap_counted k x v p) { pieces = p.pieces ++ piece ∷ [] })) rest) emits p.marks
@@ -198,7 +198,7 @@ module _ (app : AppTree) (m n : ℕ) (q : PartTree) (s : Setup) (c : Call) (cell
   whole_field : (field link : ℕ) → link_of field ≡ link → link + 256 * epoch_of field ≡ field
   whole_field field link e = omega (arith, e)
 
-  open_packet : (k v : ℕ) (e : End) (view : EndView) (p : Progress) (f : Flow) (emits : List ℕ)
+  open_packet : (k v : ℕ) (e : End) (view : EndView) (p : Progress) (f : Flow) (emits : List Act)
       (rest : Progress → Course) (o : Option (List ℕ)) (b : Bool) → PlaceAt es views k e view → e.side ≡ From → Stand p f
       → (end_of p.state.ends k).is_open ≡ true → slice_get f.sent (end_of p.state.ends k).field ≡ o → HasLength o (end_of p.state.ends k).number → nat_lt (end_of p.state.ends k).number 65535 ≡ b
       → Flows Any (sent_over (end_of p.state.ends k).field v o f).sent final
@@ -227,7 +227,7 @@ module _ (app : AppTree) (m n : ℕ) (q : PartTree) (s : Setup) (c : Call) (cell
       let over : sent_over (end_of p.state.ends k).field v (Some words) f ≡ f = rw full refl in
       on p (subst (λ (z : Flow). Stand p z) (sym over) st)
 
-  packet_owed : (k v : ℕ) (e : End) (view : EndView) (p : Progress) (f : Flow) (emits : List ℕ) (rest : Progress → Course) (b : Bool) → PlaceAt es views k e view → e.side ≡ From → Stand p f
+  packet_owed : (k v : ℕ) (e : End) (view : EndView) (p : Progress) (f : Flow) (emits : List Act) (rest : Progress → Course) (b : Bool) → PlaceAt es views k e view → e.side ≡ From → Stand p f
       → (end_of p.state.ends k).is_open ≡ b
       → Flows Any (after_packet e view v f).sent final
       → ((p1 : Progress) → Stand p1 (after_packet e view v f) → DoesOwed (rest p1) emits p1.marks)
@@ -259,7 +259,7 @@ module _ (app : AppTree) (m n : ℕ) (q : PartTree) (s : Setup) (c : Call) (cell
   suffix_on k e ends v vs f j x w p = subst (λ i. PlaceAt es views i x w) (omega arith) (f (suc j) x w p)
 
   -- what follows the k-th end
-  abbrev Later : ℕ → ℕ → ℕ → List End → List EndView → List ℕ → (Progress → Course) → Type 0
+  abbrev Later : ℕ → ℕ → ℕ → List End → List EndView → List Act → (Progress → Course) → Type 0
   Later output v k ends vs emits rest = (p : Progress) (f : Flow) → Stand p f → Flows Any (sent_to ends vs output v f).sent final
       → ((p1 : Progress) → Stand p1 (sent_to ends vs output v f) → DoesOwed (rest p1) emits p1.marks)
       → DoesOwed (and_on (with_packets s c output v k ends p) rest) emits p.marks
@@ -267,7 +267,7 @@ module _ (app : AppTree) (m n : ℕ) (q : PartTree) (s : Setup) (c : Call) (cell
   abbrev sent_by : ℕ → ℕ → End → EndView → Flow → Flow
   sent_by output v e w f = if sends output e w then sent_over (field_of e w) v (slice_get f.sent (field_of e w)) f else f
 
-  no_packet : (output v k : ℕ) (e : End) (ends : List End) (w : EndView) (vs : List EndView) (p : Progress) (f : Flow) (emits : List ℕ) (rest : Progress → Course)
+  no_packet : (output v k : ℕ) (e : End) (ends : List End) (w : EndView) (vs : List EndView) (p : Progress) (f : Flow) (emits : List Act) (rest : Progress → Course)
       → is_sending output e.side e.port ≡ false → sends output e w ≡ false → Later output v (k + 1) ends vs emits rest → Stand p f
       → Flows Any (sent_to (e ∷ ends) (w ∷ vs) output v f).sent final
       → ((p1 : Progress) → Stand p1 (sent_to (e ∷ ends) (w ∷ vs) output v f) → DoesOwed (rest p1) emits p1.marks)
@@ -278,7 +278,7 @@ module _ (app : AppTree) (m n : ℕ) (q : PartTree) (s : Setup) (c : Call) (cell
       (ih p f st (subst (λ (z : Flow). Flows Any (sent_to ends vs output v z).sent final) g flows)
       (λ p1 h. on p1 (subst (λ (z : Flow). Stand p1 (sent_to ends vs output v z)) (sym g) h)))
 
-  a_packet : (output v k : ℕ) (e : End) (ends : List End) (w : EndView) (vs : List EndView) (p : Progress) (f : Flow) (emits : List ℕ) (rest : Progress → Course)
+  a_packet : (output v k : ℕ) (e : End) (ends : List End) (w : EndView) (vs : List EndView) (p : Progress) (f : Flow) (emits : List Act) (rest : Progress → Course)
       → e.side ≡ From → is_sending output e.side e.port ≡ true → sends output e w ≡ is_some w.epoch → PlaceAt es views k e w → Later output v (k + 1) ends vs emits rest → Stand p f
       → Flows Any (sent_to (e ∷ ends) (w ∷ vs) output v f).sent final
       → ((p1 : Progress) → Stand p1 (sent_to (e ∷ ends) (w ∷ vs) output v f) → DoesOwed (rest p1) emits p1.marks)
@@ -292,7 +292,7 @@ module _ (app : AppTree) (m n : ℕ) (q : PartTree) (s : Setup) (c : Call) (cell
       (flows_on Any (after_packet e w v f).sent (sent_to ends vs output v (after_packet e w v f)).sent final (flows_to Any ends vs output v (after_packet e w v f) (all_unit ends vs)) flows2)
       (λ p1 h. ih p1 (after_packet e w v f) h flows2 (λ p2 h2. on p2 (subst (λ (z : Flow). Stand p2 (sent_to ends vs output v z)) (sym g) h2)))))
 
-  either_packet : (output v k : ℕ) (e : End) (ends : List End) (w : EndView) (vs : List EndView) (p : Progress) (f : Flow) (emits : List ℕ) (rest : Progress → Course) (t : Side) (b : Bool)
+  either_packet : (output v k : ℕ) (e : End) (ends : List End) (w : EndView) (vs : List EndView) (p : Progress) (f : Flow) (emits : List Act) (rest : Progress → Course) (t : Side) (b : Bool)
       → e.side ≡ t → (e.port == output) ≡ b → PlaceAt es views k e w → Later output v (k + 1) ends vs emits rest → Stand p f
       → Flows Any (sent_to (e ∷ ends) (w ∷ vs) output v f).sent final
       → ((p1 : Progress) → Stand p1 (sent_to (e ∷ ends) (w ∷ vs) output v f) → DoesOwed (rest p1) emits p1.marks)
@@ -305,7 +305,7 @@ module _ (app : AppTree) (m n : ℕ) (q : PartTree) (s : Setup) (c : Call) (cell
       no_packet output v k e ends w vs p f emits rest (sending_as output e.side e.port side ∙ port) (sends_as output e w side ∙ ap (λ t. t && is_some w.epoch) port) ih st flows on
 
   -- a packet for each open sending end of the output
-  packets_owed : (output v k : ℕ) (ends : List End) (vs : List EndView) (emits : List ℕ) (rest : Progress → Course) → SameSize ends vs → Suffix k ends vs → Later output v k ends vs emits rest
+  packets_owed : (output v k : ℕ) (ends : List End) (vs : List EndView) (emits : List Act) (rest : Progress → Course) → SameSize ends vs → Suffix k ends vs → Later output v k ends vs emits rest
   packets_owed output v k [] [] emits rest size suffix p f st flows on = on p st
   packets_owed output v k [] (w ∷ vs) emits rest size suffix p f st flows on = absurd size
   packets_owed output v k (e ∷ ends) [] emits rest size suffix p f st flows on = absurd size
@@ -313,46 +313,47 @@ module _ (app : AppTree) (m n : ℕ) (q : PartTree) (s : Setup) (c : Call) (cell
       either_packet output v k e ends w vs p f emits rest e.side (e.port == output) refl refl (subst (λ i. PlaceAt es views i e w) (omega arith) (suffix 0 e w (refl, refl)))
       (packets_owed output v (k + 1) ends vs emits rest size (suffix_on k e ends w vs suffix)) st flows on
 
-  -- the emits of acts
-  abbrev emits_of : List Act → List ℕ
-  emits_of [] = []
-  emits_of (Send output v ∷ acts) = emits_of acts
-  emits_of (Emit v ∷ acts) = v ∷ emits_of acts
-
   suffix_all : Suffix 0 es views
   suffix_all j e v p = subst (λ i. PlaceAt es views i e v) (omega arith) p
 
+module _ (app : AppTree) (m n : ℕ) (q : PartTree) (s : Setup) (c : Call) (cells : List ℕ) (views : List EndView) (few : length app.links ≤ 256) (devices : List Window) where
+  abbrev all_es : List End
+  all_es = ends_of app m
+
+  abbrev Standing : Progress → Flow → Type 0
+  Standing p f = (final : List (List ℕ)) (pieces : ℕ) → Stand app m n q s c cells views few final pieces devices p f
+
+  abbrev Owed : Course → List (List ℕ) → ℕ → List Act → List Mark → Type 0
+  Owed course sent pieces acts before =
+      (ms : List Mark) × (marks_in (finished course) ≡ before ++ ms) × Settles app n m q.device cells views sent pieces (finished course) ms acts
+
   -- the acts, one after the other
-  acts_owed : (ends_same : s.ends ≡ es) (acts : List Act) (p : Progress) (f : Flow) → Emits app n q s devices acts → SameSize es views → Stand p f
-      → (all_done es views acts f).pieces ≡ pieces → final ≡ (all_done es views acts f).sent
-      → DoesOwed (with_acts s c acts p) (emits_of acts) p.marks
-  acts_owed ends_same [] p f em size st count last =
-      ([], sym (append-nil p.marks), (refl, refl, st.count ∙ count, record { same = st.kept; each = subst (λ z. SameEnds es p.state.ends views z) (sym last) st.ends }))
-  acts_owed ends_same (Emit v ∷ acts) p f em size st count last =
+  acts_owed : (ends_same : s.ends ≡ all_es) (acts : List Act) (p : Progress) (f : Flow) → Emits app n q s devices acts → SameSize all_es views → Standing p f
+      → Owed (with_acts s c acts p) (sent_first all_es views acts f).sent (sent_first all_es views acts f).pieces (from_emit acts) p.marks
+  acts_owed ends_same [] p f em size st =
+      let t = st f.sent f.pieces in
+      ([], sym (append-nil p.marks), (refl, refl, t.count, record { same = t.kept; each = t.ends }))
+  acts_owed ends_same (Emit v ∷ acts) p f em size st =
+      let t = st f.sent f.pieces in
       let k = em.0.0 in
       let p1 : Progress = record p { marks = p.marks ++ Actuated k v ∷ [] } in
-      let f1 : Flow = record { sent = f.sent; emits = f.emits ++ v ∷ []; pieces = f.pieces } in
-      let one : actuated v (own_window s p.devices) p ≡ p1 = ap (λ d. actuated v (own_window s d) p) st.beside ∙ ap (λ o. actuated v o p) em.0.2 in
-      let h = acts_owed ends_same acts p1 f1 em.1 size (record { ends = st.ends; count = st.count; kept = st.kept; beside = st.beside }) count last in
-      subst (λ (z : Progress). DoesOwed (with_acts s c acts z) (v ∷ emits_of acts) p.marks) (sym one)
+      let one : actuated v (own_window s p.devices) p ≡ p1 = ap (λ d. actuated v (own_window s d) p) t.beside ∙ ap (λ o. actuated v o p) em.0.2 in
+      let h = acts_owed ends_same acts p1 (flowing f.sent f.pieces) em.1 size (λ final pieces. record { ends = t.ends; count = t.count; kept = t.kept; beside = t.beside }) in
+      subst (λ (z : Progress). Owed (with_acts s c acts z) f.sent f.pieces (Emit v ∷ acts) p.marks) (sym one)
       (Actuated k v ∷ h.0, h.1 ∙ append_assoc p.marks (Actuated k v ∷ []) h.0, (em.0.3, refl, h.2))
-  acts_owed ends_same (Send output v ∷ acts) p f em size st count last =
-      let f1 = sent_to es views output v f in
-      let flows : Flows Any f1.sent final = subst (λ z. Flows Any f1.sent z) (sym last) (flows_all Any es views acts f1 (all_unit es views)) in
-      subst (λ z. DoesOwed (and_on (with_packets s c output v 0 z p) (with_acts s c acts)) (emits_of acts) p.marks) (sym ends_same)
-      (packets_owed output v 0 es views (emits_of acts) (with_acts s c acts) size suffix_all p f st flows
-      (λ p1 h. acts_owed ends_same acts p1 f1 em size h count last))
-
-  emits_all : (acts : List Act) (f : Flow) → (all_done es views acts f).emits ≡ f.emits ++ emits_of acts
-  emits_all [] f = sym (append-nil f.emits)
-  emits_all (Send output v ∷ acts) f = emits_all acts (sent_to es views output v f) ∙ ap (λ l. l ++ emits_of acts) (emits_to es views output v f)
-  emits_all (Emit v ∷ acts) f = emits_all acts (record { sent = f.sent; emits = f.emits ++ v ∷ []; pieces = f.pieces }) ∙ append_assoc f.emits (v ∷ []) (emits_of acts)
+  acts_owed ends_same (Send output v ∷ acts) p f em size st =
+      let f1 = sent_to all_es views output v f in
+      let g = sent_first all_es views acts f1 in
+      let flows : Flows (λ c. Unit {0}) f1.sent g.sent = flows_first (λ c. Unit {0}) all_es views acts f1 (all_unit all_es views) in
+      subst (λ z. Owed (and_on (with_packets s c output v 0 z p) (with_acts s c acts)) g.sent g.pieces (from_emit acts) p.marks) (sym ends_same)
+      (packets_owed app m n q s c cells views few g.sent g.pieces devices output v 0 all_es views (from_emit acts) (with_acts s c acts) size
+      (suffix_all app m n q s c cells views few g.sent g.pieces devices) p f (st g.sent g.pieces) flows
+      (λ p1 h. acts_owed ends_same acts p1 f1 em size (λ final pieces. record { ends = h.ends; count = h.count; kept = h.kept; beside = h.beside })))
 
   -- the acts of an event, from the state in which it finds the module
-  pub event_owed : (ends_same : s.ends ≡ es) (acts : List Act) (p : Progress) (sent : List (List ℕ))
-      → Emits app n q s devices acts → SameEnds es p.state.ends views sent → p.pieces ≡ [] → p.state.cells ≡ cells → p.devices ≡ devices
-      → (let f = all_done es views acts (record { sent = sent; emits = []; pieces = 0 }) in f.pieces ≡ pieces → final ≡ f.sent → DoesOwed (with_acts s c acts p) f.emits p.marks)
-  event_owed ends_same acts p sent em same none kept beside count last =
-      subst (λ l. DoesOwed (with_acts s c acts p) l p.marks) (sym (emits_all acts (record { sent = sent; emits = []; pieces = 0 })))
-      (acts_owed ends_same acts p (record { sent = sent; emits = []; pieces = 0 }) em (same_size es p.state.ends views sent same)
-      (record { ends = same; count = ap length none; kept = kept; beside = beside }) count last)
+  pub event_owed : (ends_same : s.ends ≡ all_es) (acts : List Act) (p : Progress) (sent : List (List ℕ))
+      → Emits app n q s devices acts → SameEnds all_es p.state.ends views sent → p.pieces ≡ [] → p.state.cells ≡ cells → p.devices ≡ devices
+      → (let f = sent_first all_es views acts (flowing sent 0) in Owed (with_acts s c acts p) f.sent f.pieces (from_emit acts) p.marks)
+  event_owed ends_same acts p sent em same none kept beside =
+      acts_owed ends_same acts p (flowing sent 0) em (same_size all_es p.state.ends views sent same)
+      (λ final pieces. record { ends = same; count = ap length none; kept = kept; beside = beside })

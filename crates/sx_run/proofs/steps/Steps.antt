@@ -1,5 +1,5 @@
 -- One instruction of a node: of a deployed module's code, or a violation.
-use Rattle.std.proofs.Common.{◌≡◌, ◌≢◌, ℕ, zero, suc, ◌+◌, ◌-◌, ◌<◌, ◌⊎◌, inl, inr, ◌==◌}
+use Rattle.std.proofs.Common.{◌≡◌, ◌≢◌, ℕ, zero, suc, ◌+◌, ◌<◌, ◌⊎◌, inl, inr, ◌==◌}
 use Rattle.std.proofs.Common.{Bool, true, false, if◌then◌else◌, List, [], ◌∷◌, ◌++◌, length}
 use Rattle.std.proofs.Common.{Option, Some, None, refl, sym, ◌∙◌, ap, subst, arith}
 use Rattle.std.specs.Prelude.{slice_get, slice_set}
@@ -33,7 +33,8 @@ use Rattle.sx_machine.specs.Node.{IsNode}
 use Rattle.sx_image.specs.Image.{private_bytes, setup_at, call_at}
 use Rattle.sx_image.specs.Realizes.{Exited}
 use Rattle.sx_mean.specs.Ends.{ends_of}
-use Rattle.sx_model.specs.State.{Reading, Present, Standing, Model}
+use Rattle.sx_model.specs.State.{Reading}
+use Rattle.sx_model.specs.order.State.{Present, Standing, Model}
 use Rattle.sx_machine.proofs.Devices.{position_is}
 use Rattle.sx_run.specs.Setting.{Site, Setting, module_of, is_at_site, device_number, devices_at, windows_at}
 use Rattle.sx_run.specs.Ledger.{Made, is_made}

@@ -31,7 +31,8 @@ use Rattle.sx_invoke.specs.Acts.{copied_to, with_acts, handled, own_window}
 use Rattle.sx_invoke.specs.Invocation.{returns_inside, is_sensor_driver, is_no_entry, has_bad_windows, entered, invoke}
 use Rattle.sx_mean.specs.Ends.{ends_of}
 use Rattle.sx_model.specs.State.{EndView}
-use Rattle.sx_model.specs.Reaction.{Flow, flow_of}
+use Rattle.sx_model.specs.Reaction.{Flow}
+use Rattle.sx_model.specs.order.Reaction.{flow_of, from_emit}
 use Rattle.sx_wire.specs.Headers.{begins, is_ask, is_set_key_header, value_in}
 use Rattle.sx_wire.proofs.Fields.{field_low}
 use Rattle.sx_run.specs.Observation.{side_in}
@@ -134,9 +135,9 @@ module _ (app : AppTree) (m n : ℕ) (q : PartTree) (s : Setup) (c : Call) (st :
   owed : (mark : Mark) (st1 : ModuleState) (e : SourceEvent) (d : List Window) → shapes d ≡ shapes devices
       → (views : List EndView) (sent : List (List ℕ)) → SameEnds (ends_of app m) st1.ends views sent
       → (ms : List Mark) × (marks_in (finished (after mark st1 e d)) ≡ mark ∷ ms)
-      × Settles app n m q.device (react q.tree e st1.cells).cells views (flow e st1 views sent).sent (flow e st1 views sent).pieces (finished (after mark st1 e d)) ms (flow e st1 views sent).emits
+      × Settles app n m q.device (react q.tree e st1.cells).cells views (flow e st1 views sent).sent (flow e st1 views sent).pieces (finished (after mark st1 e d)) ms (from_emit (react q.tree e st1.cells).acts)
   owed mark st1 e d sh views sent same =
-      event_owed app m n q s c (react q.tree e st1.cells).cells views few (flow e st1 views sent).sent (flow e st1 views sent).pieces d ends_same (react q.tree e st1.cells).acts
+      event_owed app m n q s c (react q.tree e st1.cells).cells views few d ends_same (react q.tree e st1.cells).acts
       (record {
         state = record { cells = (react q.tree e st1.cells).cells; ends = st1.ends };
         mem = mem;
@@ -144,7 +145,7 @@ module _ (app : AppTree) (m n : ℕ) (q : PartTree) (s : Setup) (c : Call) (st :
         marks = mark
             ∷ [];
         pieces = [];
-      }) sent (emits d sh e st1.cells) same refl refl refl refl refl
+      }) sent (emits d sh e st1.cells) same refl refl refl
 
   reacts : (mark : Mark) (st1 : ModuleState) (e : SourceEvent) (d : List Window) → shapes d ≡ shapes devices
       → (views1 : List EndView) (sent1 : List (List ℕ)) → SameEnds (ends_of app m) st1.ends views1 sent1
@@ -156,7 +157,7 @@ module _ (app : AppTree) (m n : ℕ) (q : PartTree) (s : Setup) (c : Call) (st :
         λ views sent same.
             let o = owed mark st1 e d sh views sent same in
             subst (λ ms. Settles app n m q.device (react q.tree e st1.cells).cells views (flow e st1 views sent).sent
-            (flow e st1 views sent).pieces (finished (after mark st1 e d)) ms (flow e st1 views sent).emits)
+            (flow e st1 views sent).pieces (finished (after mark st1 e d)) ms (from_emit (react q.tree e st1.cells).acts))
             (tail_same mark o.0 one.0 (marks_in (finished (after mark st1 e d))) o.1 one.1) o.2,
       )
 

@@ -15,7 +15,8 @@ use Rattle.sx_invoke.specs.Marks.{Mark, Wrapped, Unwrapped}
 use Rattle.sx_image.specs.Watched.{marks_of_touches, marks_of_event, marks_of}
 use Rattle.sx_invoke.specs.Progress.{Invoked}
 use Rattle.sx_mean.specs.Application.{PartTree, AppTree}
-use Rattle.sx_model.specs.State.{Reading, Present, Standing, Model, FIELDS}
+use Rattle.sx_model.specs.State.{Reading, FIELDS}
+use Rattle.sx_model.specs.order.State.{Present, Standing, Model}
 use Rattle.sx_model.specs.Step.{is_vouched}
 use Rattle.sx_run.specs.Setting.{Setting}
 use Rattle.sx_run.specs.Ledger.{Made, is_made, header_of, body_of}

@@ -24,7 +24,8 @@ use Rattle.sx_image.specs.Realizes.{Underway, Aborted, Exited}
 use Rattle.sx_mean.specs.Application.{PartTree, AppTree}
 use Rattle.sx_mean.specs.Ends.{ends_of}
 use Rattle.sx_lang.specs.declared.sides.Side.TheVariants.{From}
-use Rattle.sx_model.specs.State.{Present, Standing, Model, FIELDS}
+use Rattle.sx_model.specs.State.{FIELDS}
+use Rattle.sx_model.specs.order.State.{Present, Standing, Model}
 use Rattle.sx_model.specs.Step.{is_vouched}
 use Rattle.sx_run.specs.Setting.{Setting}
 use Rattle.sx_run.specs.Ledger.{Made, is_made}

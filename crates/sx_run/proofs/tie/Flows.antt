@@ -10,6 +10,7 @@ use Rattle.sx_mean.specs.declared.events.Act.{Act}
 use Rattle.sx_mean.specs.declared.events.Act.TheVariants.{Send, Emit}
 use Rattle.sx_model.specs.State.{EndView}
 use Rattle.sx_model.specs.Reaction.{Flow, MOST_SENT, field_of, sent_over, sends, sent_to, done, all_done}
+use Rattle.sx_model.specs.order.Reaction.{sent_first}
 use Rattle.sx_model.specs.Changes.{is_from}
 use Rattle.sx_run.proofs.tie.Lists.{get_other, length_set, some_inj}
 use Rattle.sx_lists.proofs.Lists.{get_same}
@@ -87,3 +88,15 @@ pub flows_all : (P : ℕ → Type 0) (es : List End) (vs : List EndView) (acts :
 flows_all P es vs [] f h = flows_same P f.sent
 flows_all P es vs (a ∷ acts) f h =
     flows_on P f.sent (done es vs a f).sent (all_done es vs acts (done es vs a f)).sent (flows_act P es vs a f h) (flows_all P es vs acts (done es vs a f) h)
+
+-- the sends before the first emit
+pub flows_first : (P : ℕ → Type 0) (es : List End) (vs : List EndView) (acts : List Act) (f : Flow) → AllSending P es vs → Flows P f.sent (sent_first es vs acts f).sent
+flows_first P es vs [] f h = flows_same P f.sent
+flows_first P es vs (Emit v ∷ acts) f h = flows_same P f.sent
+flows_first P es vs (Send output v ∷ acts) f h =
+    flows_on P f.sent (sent_to es vs output v f).sent (sent_first es vs acts (sent_to es vs output v f)).sent (flows_to P es vs output v f h) (flows_first P es vs acts (sent_to es vs output v f) h)
+
+pub all_sending : (P Q : ℕ → Type 0) (es : List End) (vs : List EndView) → ((f : ℕ) → P f → Q f) → AllSending P es vs → AllSending Q es vs
+all_sending P Q [] vs j h = tt
+all_sending P Q (e ∷ es) [] j h = tt
+all_sending P Q (e ∷ es) (v ∷ vs) j h = (λ s o. j (field_of e v) (h.0 s o), all_sending P Q es vs j h.1)

@@ -9,7 +9,8 @@ use Rattle.sx_invoke.specs.Marks.{Mark, Wrapped, Unwrapped, Sampled, Actuated}
 use Rattle.sx_invoke.specs.ModuleState.{link_of, epoch_of}
 use Rattle.sx_mean.specs.Application.{PartTree, AppTree}
 use Rattle.sx_mean.specs.Ends.{ends_of}
-use Rattle.sx_model.specs.State.{Reading, Standing, Model}
+use Rattle.sx_model.specs.State.{Reading}
+use Rattle.sx_model.specs.order.State.{Standing, Model}
 use Rattle.sx_model.specs.Step.{is_vouched}
 use Rattle.sx_run.specs.Setting.{device_number}
 use Rattle.sx_run.specs.Ledger.{Made}

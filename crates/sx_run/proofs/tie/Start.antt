@@ -7,7 +7,8 @@ use Rattle.sx_bus.specs.declared.devices.Kind.{Kind}
 use Rattle.sx_bus.specs.declared.devices.Window.{Window}
 use Rattle.sx_bus.specs.Devices.{powered_on}
 use Rattle.sx_machine.specs.State.{State, power_on as node_on}
-use Rattle.sx_model.specs.State.{power_on, Reading, Standing, FIELDS}
+use Rattle.sx_model.specs.State.{Reading, FIELDS}
+use Rattle.sx_model.specs.order.State.{power_on, Standing}
 use Rattle.sx_mean.specs.Application.{AppTree}
 use Rattle.sx_model.specs.Renewal.{boot_of}
 use Rattle.sx_mean.specs.declared.apps.Link.{Link}

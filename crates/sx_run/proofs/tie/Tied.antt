@@ -5,6 +5,10 @@ use Rattle.sx_lang.specs.declared.sides.Side.{Side}
 use Rattle.sx_lang.specs.declared.sides.Side.TheVariants.{From, To}
 use Rattle.sx_mean.specs.declared.apps.Link.{Link}
 use Rattle.sx_mean.specs.declared.events.End.{End}
+use Rattle.sx_mean.specs.declared.events.Act.{Act}
+use Rattle.sx_mean.specs.declared.events.Act.TheVariants.{Send, Emit}
+use Rattle.sx_mean.specs.React.{react}
+use Rattle.sx_run.proofs.tie.Flows.{AllSending}
 use Rattle.sx_mean.specs.declared.events.SourceEvent.{SourceEvent}
 use Rattle.sx_mean.specs.declared.events.SourceEvent.TheVariants as event
 use Rattle.sx_ledger.specs.declared.entry.Maker.{Maker}
@@ -28,8 +32,9 @@ use Rattle.sx_image.specs.Image.{private_bytes, setup_at}
 use Rattle.sx_image.specs.Realizes.{Underway, Aborted, Exited}
 use Rattle.sx_mean.specs.Application.{PartTree, AppTree, is_sensor}
 use Rattle.sx_mean.specs.Ends.{ends_of, same_side}
-use Rattle.sx_model.specs.State.{Reading, EndView, Present, Attestation, Standing, Model, FIELDS}
-use Rattle.sx_model.specs.Reaction.{flow_of, after_event}
+use Rattle.sx_model.specs.State.{Reading, EndView, Attestation, FIELDS}
+use Rattle.sx_model.specs.order.State.{Present, Standing, Model}
+use Rattle.sx_model.specs.order.Reaction.{flow_of, after_event, sent_first, from_emit, flowing}
 use Rattle.sx_model.specs.Step.{is_vouched, kind_is}
 use Rattle.sx_model.specs.Renewal.{boot_of}
 use Rattle.sx_run.specs.Setting.{Site, Setting, is_at_site, device_number, windows_at}
@@ -85,22 +90,43 @@ pub record WasSent (app : AppTree) (m : ℕ) (sent : List (List ℕ)) (header bo
   pub there : slice_get sent (place_in header) ≡ Some words
   pub word : slice_get words (last_in header) ≡ Some (value_in body)
 
--- how it ends, where these emits and pieces are owed and no mark is to come
-abbrev pub Settled : List End → List ℕ → List EndView → List (List ℕ) → ℕ → List ℕ → Invoked → Type 0
-Settled es cells views sent pieces emits (Violates v p) = Unit {0}
-Settled es cells views sent pieces emits (Returns status p) =
-    (emits ≡ []) × (status ≡ 1) × (length p.pieces ≡ pieces) × SameState es p.state cells views sent
+-- the epoch with which an end is open
+abbrev pub open_at : ℕ → Side → List End → List EndView → Option ℕ
+open_at link side [] views = None
+open_at link side (e ∷ es) [] = None
+open_at link side (e ∷ es) (v ∷ views) = if (e.link == link) && same_side e.side side then v.epoch else open_at link side es views
 
--- after the event: each wrap is of a word that was sent, and the writes are the emits that are owed
-abbrev pub Settles : AppTree → ℕ → ℕ → Option ℕ → List ℕ → List EndView → List (List ℕ) → ℕ → Invoked → List Mark → List ℕ → Type 0
-Settles app n m d cells views sent pieces result [] emits = Settled (ends_of app m) cells views sent pieces emits result
-Settles app n m d cells views sent pieces result (Wrapped header body own ∷ ms) emits =
-    (is_event_header header ≡ true) × (length body ≡ 2) × WasSent app m sent header body × Settles app n m d cells views sent pieces result ms emits
+-- the field of an open sending end of the module's own
+abbrev pub OwnOpen : AppTree → ℕ → List EndView → ℕ → Type 0
+OwnOpen app m views f = (open_at (link_of f) From (ends_of app m) views ≡ Some (epoch_of f)) × ((l : Link) × (slice_get app.links (link_of f) ≡ Some l) × (l.from ≡ m))
+
+-- where an act is owed, what it may send over is its module's own
+abbrev pub OwnActs : AppTree → ℕ → List EndView → List Act → Type 0
+OwnActs app m views [] = Unit {0}
+OwnActs app m views (a ∷ acts) = AllSending (OwnOpen app m views) (ends_of app m) views
+
+pub own_acts : (app : AppTree) (m : ℕ) (views : List EndView) (acts : List Act) → AllSending (OwnOpen app m views) (ends_of app m) views → OwnActs app m views acts
+own_acts app m views [] h = tt
+own_acts app m views (a ∷ acts) h = h
+
+-- how it ends, where these acts and pieces are owed and no mark is to come
+abbrev pub Settled : List End → List ℕ → List EndView → List (List ℕ) → ℕ → List Act → Invoked → Type 0
+Settled es cells views sent pieces acts (Violates v p) = Unit {0}
+Settled es cells views sent pieces acts (Returns status p) =
+    (acts ≡ []) × (status ≡ 1) × (length p.pieces ≡ pieces) × SameState es p.state cells views sent
+
+-- after the event: each wrap is of a word that was sent by then, and the writes are the emits that are owed
+abbrev pub Settles : AppTree → ℕ → ℕ → Option ℕ → List ℕ → List EndView → List (List ℕ) → ℕ → Invoked → List Mark → List Act → Type 0
+Settles app n m d cells views sent pieces result [] acts = Settled (ends_of app m) cells views sent pieces acts result
+Settles app n m d cells views sent pieces result (Wrapped header body own ∷ ms) acts =
+    (is_event_header header ≡ true) × (length body ≡ 2) × WasSent app m sent header body × Settles app n m d cells views sent pieces result ms acts
 Settles app n m d cells views sent pieces result (Actuated k v ∷ ms) [] = ⊥
-Settles app n m d cells views sent pieces result (Actuated k v ∷ ms) (e ∷ emits) =
-    (d ≡ Some (device_number app n k)) × (v ≡ e) × Settles app n m d cells views sent pieces result ms emits
-Settles app n m d cells views sent pieces result (Unwrapped header body own ∷ ms) emits = ⊥
-Settles app n m d cells views sent pieces result (Sampled k v ∷ ms) emits = ⊥
+Settles app n m d cells views sent pieces result (Actuated k v ∷ ms) (Send output w ∷ acts) = ⊥
+Settles app n m d cells views sent pieces result (Actuated k v ∷ ms) (Emit e ∷ acts) =
+    (d ≡ Some (device_number app n k)) × (v ≡ e)
+    × Settles app n m d cells views (sent_first (ends_of app m) views acts (flowing sent pieces)).sent (sent_first (ends_of app m) views acts (flowing sent pieces)).pieces result ms (from_emit acts)
+Settles app n m d cells views sent pieces result (Unwrapped header body own ∷ ms) acts = ⊥
+Settles app n m d cells views sent pieces result (Sampled k v ∷ ms) acts = ⊥
 
 abbrev pub idle_with : List ℕ → List EndView → Present
 idle_with cells views = record { cells = cells; ends = views; pending = None }
@@ -112,7 +138,7 @@ Reacts app n m q st e result ms =
     Settles app n m q.device (after_event q.tree e (flow_of q.tree (ends_of app m) e (idle_with st.cells views) sent) (idle_with st.cells views)).cells views
     (flow_of q.tree (ends_of app m) e (idle_with st.cells views) sent).sent
     (flow_of q.tree (ends_of app m) e (idle_with st.cells views) sent).pieces result ms
-    (flow_of q.tree (ends_of app m) e (idle_with st.cells views) sent).emits
+    (from_emit (react q.tree e st.cells).acts)
 
 -- the module's sensor, of these devices of its node, is the k-th
 pub record OwnSensor (app : AppTree) (n : ℕ) (q : PartTree) (devices : List Window) (k : ℕ) (w : Window) : Type 0 where
@@ -164,8 +190,8 @@ pub data Begun (app : AppTree) (n m : ℕ) (q : PartTree) (devices : List Window
 -- The invocation's marks to come and its end are those that the source owes: nothing happened yet, or an event is pending.
 pub data Owes (app : AppTree) (n m : ℕ) (q : PartTree) (devices : List Window) (pr : Present) (sent : List (List ℕ)) (ms : List Mark) (result : Invoked) : Type 0 where
   Yet : (st : ModuleState) → pr.pending ≡ None → SameState (ends_of app m) st pr.cells pr.ends sent → Begun app n m q devices st ms result → Owes app n m q devices pr sent ms result
-  Now : (emits : List ℕ) (pieces : ℕ) → pr.pending ≡ Some (record { emits = emits; pieces = pieces })
-      → Settles app n m q.device pr.cells pr.ends sent pieces result ms emits → Owes app n m q devices pr sent ms result
+  Now : (acts : List Act) (pieces : ℕ) → pr.pending ≡ Some (record { acts = acts; pieces = pieces }) → OwnActs app m pr.ends acts
+      → Settles app n m q.device pr.cells pr.ends sent pieces result ms acts → Owes app n m q devices pr sent ms result
 
 -- A module at its node.
 
@@ -252,12 +278,6 @@ Known app mo (maker.Module m) e =
     (is_ask e.header ≡ true → KnownVouch mo m e) × (is_event_header e.header ≡ true → WasSent app m mo.sent e.header e.body)
 
 -- What holds of the source's state alone.
-
--- the epoch with which an end is open
-abbrev pub open_at : ℕ → Side → List End → List EndView → Option ℕ
-open_at link side [] views = None
-open_at link side (e ∷ es) [] = None
-open_at link side (e ∷ es) (v ∷ views) = if (e.link == link) && same_side e.side side then v.epoch else open_at link side es views
 
 -- A module vouched, and was attested, at its node's present boot only where it is present since then. One that has an open end was
 -- attested at this boot, and its connection has that epoch or a later one.

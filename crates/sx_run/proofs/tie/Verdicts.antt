@@ -3,9 +3,10 @@ use Rattle.std.proofs.Common.{◌≡◌, Bool, true, false, List, [], ◌∷◌,
 use Rattle.std.specs.Prelude.{IsSome, if◌then◌else◌}
 use Rattle.sx_trace.specs.declared.items.Item.{Item}
 use Rattle.sx_mean.specs.Application.{AppTree}
-use Rattle.sx_model.specs.State.{Model}
-use Rattle.sx_model.specs.Step.{step}
-use Rattle.sx_model.specs.Legal.{after, before, is_forged}
+use Rattle.sx_model.specs.order.State.{Model}
+use Rattle.sx_model.specs.order.Step.{step}
+use Rattle.sx_model.specs.Legal.{before, is_forged}
+use Rattle.sx_model.specs.order.Legal.{after}
 
 -- an item that isn't allowed breaks the run, and after a forged one nothing is owed
 pub data Verdict : Type 0 where

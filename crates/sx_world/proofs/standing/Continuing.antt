@@ -1,5 +1,5 @@
 -- The run of the lines that led to the program's world goes on with the line that it acts.
-use Rattle.std.proofs.Common.{◌≡◌, ◌+◌, ◌<◌, List, [], ◌∷◌, ◌++◌, length, sym, ◌∙◌, ap, subst, arith, length-append}
+use Rattle.std.proofs.Common.{◌≡◌, ◌+◌, ◌<◌, ◌≤◌, List, [], ◌∷◌, ◌++◌, length, sym, ◌∙◌, ap, subst, arith, length-append}
 use Rattle.std.proofs.lemmas.List.{append_assoc, append-nil}
 use Rattle.sx_tag.specs.Mac.{Mac}
 use Rattle.sx_trace.specs.declared.items.Item.{Item}
@@ -21,6 +21,8 @@ use Rattle.sx_run.proofs.acts.Counting.{run_counts}
 use Rattle.sx_run.proofs.accepted.FormedLines.{in_form}
 use Rattle.sx_world.proofs.standing.Readying.{run_then, formed_then}
 use Rattle.sx_run.proofs.RunsLegal.{runs_legal}
+use Rattle.sx_run.proofs.RunsInOrder.{runs_in_order}
+use Rattle.sx_run.proofs.turns.RunsTakeTurns.{runs_take_turns}
 
 run_items : (set : Setting) (lines : List Line) (line : Line) (w : World)
     → (run set w (lines ++ line ∷ [])).items ≡ (run set w lines).items ++ (after_line set (line_counted (run set w lines).world) line).items
@@ -51,7 +53,8 @@ goes_on mac d sites acc sound old new line was came form few acts lines led =
     let formed = formed_then mac d sites acc sound lines line led.formed (in_form mac d sites acc line form) in
     let long = length-append lines (line ∷ []) in
     let many = as_many set lines old led in
-    let legal = runs_legal set sound (lines ++ line ∷ []) (omega (arith, long, many, few)) formed in
+    let within : length (lines ++ line ∷ []) ≤ 65536 = omega (arith, long, many, few) in
+    let legal = runs_legal set sound (lines ++ line ∷ []) within formed in
     record {
       stands = subst (λ (v : World). Stands set new v) (sym (run_then mac d sites acc sound lines line (switched_on set))) did.0;
       added = (after_line set (line_counted w) line).items;
@@ -59,4 +62,6 @@ goes_on mac d sites acc sound old new line was came form few acts lines led =
       items = run_items set lines line (switched_on set);
       legal = legal;
       tells = tells set.app (before (run set (switched_on set) (lines ++ line ∷ [])).items) legal;
+      order = runs_in_order set sound (lines ++ line ∷ []) within formed;
+      turns = runs_take_turns set sound (lines ++ line ∷ []) within formed;
     }

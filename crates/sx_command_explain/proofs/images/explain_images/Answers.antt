@@ -15,18 +15,18 @@ lines-init g c = record { few = omega arith; begun = λ means is limit m0 define
 
 pub returns-in-End-clause-rest : goal.returns-in-End-clause-rest
 returns-in-End-clause-rest g c = λ means is limit m0 defined aside noted b.
-    let f = start_from (app_as c.args.deployment.now.app) (means.item c.args.deployment.now.names) c.lines.number in
+    let f = start_from (explain_start (app_as c.args.deployment.now.app) (means.item c.args.deployment.now.names)) c.lines.number in
     told-end {f = f} refl (c.lines.invariant.begun means is limit m0 defined aside noted b) c.in-End.ensures.passes.next c.break_off.ensures.ends
 
 pub returns-in-TooLong-clause-rest : goal.returns-in-TooLong-clause-rest
 returns-in-TooLong-clause-rest g c = λ means is limit m0 defined aside noted b.
-    let f = start_from (app_as c.args.deployment.now.app) (means.item c.args.deployment.now.names) c.lines.number in
+    let f = start_from (explain_start (app_as c.args.deployment.now.app) (means.item c.args.deployment.now.names)) c.lines.number in
     told-too-long {f = f} refl (c.lines.invariant.begun means is limit m0 defined aside noted b) c.in-TooLong.ensures.passes.next c.break_off-in-TooLong.ensures.ends
 
 pub returns-in-Failed-clause-rest : goal.returns-in-Failed-clause-rest
 unfolding read_line
 returns-in-Failed-clause-rest g c = λ means is limit m0 defined aside noted b.
-    let f = start_from (app_as c.args.deployment.now.app) (means.item c.args.deployment.now.names) c.lines.number in
+    let f = start_from (explain_start (app_as c.args.deployment.now.app) (means.item c.args.deployment.now.names)) c.lines.number in
     told-failed {f = f} refl (c.lines.invariant.begun means is limit m0 defined aside noted b) c.in-Failed.ensures.passes.next c.finish.ensures.ends
 
 pub returns-in-Trace-clause-rest : goal.returns-in-Trace-clause-rest
@@ -36,7 +36,7 @@ returns-in-Trace-clause-rest g c = λ means is limit m0 defined aside noted b.
     let p = c.in-Text.ensures.passes in
     let is_trace = sym (passed_line c.in-Text.count c.pass.new.front p.into c.in-Trace.ensures.room p.fronts c.lines.number) ∙ sym c.in-Trace.ensures.line in
     c.explain_trace.ensures.rest means is limit m0 defined aside noted
-    (behind_trace app item c.lines.number (c.lines.invariant.begun means is limit m0 defined aside noted b) p.next is_trace)
+    (behind_trace (explain_start app item) refl c.lines.number (c.lines.invariant.begun means is limit m0 defined aside noted b) p.next is_trace)
 
 pub returns-in-Other-clause-rest : goal.returns-in-Other-clause-rest
 returns-in-Other-clause-rest g c = λ means is limit m0 defined aside noted b.
@@ -44,7 +44,7 @@ returns-in-Other-clause-rest g c = λ means is limit m0 defined aside noted b.
     let item = means.item c.args.deployment.now.names in
     let p = c.in-Text.ensures.passes in
     let is_other = sym (passed_line c.in-Text.count c.pass.new.front p.into c.in-Other.ensures.room p.fronts c.lines.number) ∙ sym c.in-Other.ensures.line in
-    told-stop (given app item c.lines.number (c.lines.invariant.begun means is limit m0 defined aside noted b) p.next)
+    told-stop (given (explain_start app item) refl c.lines.number (c.lines.invariant.begun means is limit m0 defined aside noted b) p.next)
     (λ more. ends-same _ _ _ _ _ _ (ap (λ l. explain_start app item (on_image c.lines.number l more (start (c.lines.number + 1) more))) is_other) c.break_off-in-Other.ensures.ends)
 
 pub returns-in-End-clause-wanted : goal.returns-in-End-clause-wanted
@@ -72,6 +72,6 @@ lines-preserved g c =
     let few = c.in-Image.ensures.few refl in record {
       few = omega (arith, few);
       begun = λ means is limit m0 defined aside noted b.
-          behind_image (app_as c.args.deployment.now.app) (means.item c.args.deployment.now.names) c.lines.number (c.lines.invariant.begun means is limit m0 defined aside noted b) p.next is_image;
+          behind_image (explain_start (app_as c.args.deployment.now.app) (means.item c.args.deployment.now.names)) refl c.lines.number (c.lines.invariant.begun means is limit m0 defined aside noted b) p.next is_image;
       gave = images_more p.into c.in-Text.count c.lines.invariant.gave p.next is_image;
     }

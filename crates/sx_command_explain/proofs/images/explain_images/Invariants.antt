@@ -4,7 +4,7 @@ use Rattle.sx_told.specs.Told.{CommandAt, Output, command_at}
 use Rattle.sx_told.specs.Parts.{Begun, Notes}
 use Rattle.sx_deploy.specs.SeenDeployment.{deployed_as}
 use Rattle.sx_command_explain.specs.Meant.{AreMeanings, Meanings}
-use Rattle.sx_command_explain.specs.Explain.{explain_deployed}
+use Rattle.sx_command_explain.specs.Explain.{explain_deployed, explain_start}
 use Rattle.sx_command_explain.specs.Trace.{image_lines}
 use Rattle.sx_command_explain.proofs.Starting.{start_from}
 use Rattle.sx_command_explain.proofs.Wanted.{GaveImages}
@@ -19,7 +19,7 @@ invariant-lines g l =
           → Begun g.S.Source.tells g.K.Sink.tells limit image_lines m0 (command_at (g.S.Source.at l.fn.input) (g.K.Sink.at l.fn.output)) l.fn.lines defined
           (explain_deployed means d) (Notes aside noted)
           → Begun g.S.Source.tells g.K.Sink.tells limit image_lines m0 (command_at (g.S.Source.at l.input) (g.K.Sink.at l.output)) l.lines defined
-          (start_from d.app (means.item d.names) l.number) (Notes aside noted);
+          (start_from (explain_start d.app (means.item d.names)) l.number) (Notes aside noted);
       gave : GaveImages g.S.Source.tells (g.S.Source.at l.fn.input) (g.S.Source.at l.input) l.fn.lines l.lines l.number;
     }
 

@@ -1,5 +1,9 @@
+use Rattle.std.proofs.Common.{ℕ, ◌≤◌, length, arith}
 use Rattle.sx_model.proofs.Telling.{tells}
 use Rattle.sx_explain.proofs.Caused.{legal_has_causes}
+use Rattle.sx_explain.proofs.Finishes.{in_order_finishes}
+use Rattle.sx_explain.proofs.TakesBehind.{in_order_takes_behind}
+use Rattle.sx_deploy.proofs.Sound.{sound}
 use Rattle.sx_deploy.proofs.ValidApp.{app_valid}
 use Rattle.sx_forged.proofs.Naming.{names_agree}
 use Rattle.sx_forged.proofs.Scripts.{runs_keys_unseen}
@@ -15,4 +19,6 @@ returns g c = record {
   named = names_agree;
   found = keys_found;
   causes = λ text d read items legal. legal_has_causes d.app items (app_valid text d read) legal;
+  finished = λ d items order turns. in_order_finishes d.app items order turns;
+  behind = λ text d read items order. let few = (sound text d read).few_links in in_order_takes_behind d.app items (omega (arith, few)) order;
 }

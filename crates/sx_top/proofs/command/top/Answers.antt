@@ -2,14 +2,16 @@ use Rattle.std.proofs.Common.{◌∙◌, arith, map, refl, sym, subst, ap, Optio
 use Rattle.std.specs.Prelude.{string_bytes}
 use Rattle.sx_tag.specs.Mac.{hmac_sha256}
 use Rattle.sx_top.specs.declared.words.Command.{Command}
-use Rattle.sx_top.specs.declared.words.Command.TheVariants.{Run, Check, Explain, Drive, Snap, Gen, Asm, Dis}
+use Rattle.sx_top.specs.declared.words.Command.TheVariants.{Run, Check, Explain, Drive, Snap, Gen, Asm, Dis, Holds, Watch}
 use Rattle.sx_top.specs.Chosen.{CarriesFew}
 use Rattle.sx_command.specs.Refusals.{usage_line}
 use Rattle.sx_command_run.proofs.Said.{says_not_two}
 use Rattle.sx_command_check.proofs.Promised.{check_not_two}
 use Rattle.sx_command_explain.proofs.Promised.{explain_not_two}
+use Rattle.sx_command_watch.proofs.Promised.{watch_not_two}
 use Rattle.sx_command_drive.proofs.Said.{says_not_two as drive_not_two}
 use Rattle.sx_command_snap.proofs.Said.{says_not_two as snap_not_two}
+use Rattle.sx_command_holds.proofs.Promised.{holds_not_two}
 use Rattle.sx_command_gen.proofs.Generated.{gen_not_two}
 use Rattle.sx_command_asm.proofs.Statused.{asm_not_two, dis_not_two}
 use Rattle.sx_top.proofs.Usage.{program}
@@ -33,6 +35,12 @@ returns-in-Some-Explain-clause-told g c =
     (sym c.command_of.ensures.command ∙ c.in-Some-Explain.is ∙ ap Some c.in-Some-Explain.field-0-is) c.explain_over.ensures
     (λ two. absurd (explain_not_two c.explain_over.ensures two))
 
+pub returns-in-Some-Watch-clause-told : goal.returns-in-Some-Watch-clause-told
+returns-in-Some-Watch-clause-told g c =
+    program hmac_sha256 (map string_bytes c.args.words.now) (Some Watch)
+    (sym c.command_of.ensures.command ∙ c.in-Some-Watch.is ∙ ap Some c.in-Some-Watch.field-0-is) c.watch_over.ensures
+    (λ two. absurd (watch_not_two c.watch_over.ensures two))
+
 pub returns-in-Some-Drive-clause-told : goal.returns-in-Some-Drive-clause-told
 returns-in-Some-Drive-clause-told g c =
     program hmac_sha256 (map string_bytes c.args.words.now) (Some Drive)
@@ -44,6 +52,12 @@ returns-in-Some-Snap-clause-told g c =
     program hmac_sha256 (map string_bytes c.args.words.now) (Some Snap)
     (sym c.command_of.ensures.command ∙ c.in-Some-Snap.is ∙ ap Some c.in-Some-Snap.field-0-is) c.snap_over.ensures
     (λ two. absurd (snap_not_two hmac_sha256 c.snap_over.ensures two))
+
+pub returns-in-Some-Holds-clause-told : goal.returns-in-Some-Holds-clause-told
+returns-in-Some-Holds-clause-told g c =
+    program hmac_sha256 (map string_bytes c.args.words.now) (Some Holds)
+    (sym c.command_of.ensures.command ∙ c.in-Some-Holds.is ∙ ap Some c.in-Some-Holds.field-0-is) c.holds_over.ensures
+    (λ two. absurd (holds_not_two c.holds_over.ensures two))
 
 pub gen_over-requires : goal.gen_over-requires
 gen_over-requires g c =

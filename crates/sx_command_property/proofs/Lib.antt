@@ -1,0 +1,2 @@
+-- Known: what the texts mean.
+pub mod Known

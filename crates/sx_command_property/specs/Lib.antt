@@ -1,0 +1,4 @@
+-- Begin with Meant: what a property's text means to a command. Refused has what is written of one
+-- that breaks a rule.
+pub mod Meant
+pub mod Refused

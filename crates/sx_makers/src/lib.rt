@@ -1,0 +1,9 @@
+//! Makers of schedules, who see a run and remember all that they saw, and the distinguisher that
+//! each of them is.
+//!
+//! `specs/Makers.antt` has those who see everything but the keys of nodes and modules,
+//! `specs/LinkMakers.antt` those who don't see into deployed modules, `specs/Time.antt` what the
+//! number of instructions shows, and `specs/Impostors.antt` what a module's identity tells.
+#![tactic(auto)]
+
+pub mod laws;

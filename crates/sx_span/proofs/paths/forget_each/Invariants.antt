@@ -1,0 +1,8 @@
+use Rattle.std.proofs.Common.{◌≡◌, ◌++◌, map}
+use Rattle.sx_span.specs.Paths.{forget_range}
+use Rattle.sx_span.specs.View.{paths_in}
+use Rattle.sx_span.proofs.paths.forget_each.Given as goal
+
+abbrev pub invariant-loop-trail : goal.invariant-loop-trail
+invariant-loop-trail l = paths_in l.found.items ++ map (forget_range l.outer) (paths_in l.trail-iterator.rest.items)
+    ≡ paths_in l.fn.found.items ++ map (forget_range l.outer) (paths_in l.fn.trails.items)

@@ -1,0 +1,11 @@
+use Rattle.std.proofs.Common.{◌≡◌, drop}
+use Rattle.sx_mean.specs.View.{app_as}
+use Rattle.sx_table.specs.Rows.{row_as, table_as}
+use Rattle.sx_watch.specs.Watched.{property_as}
+use Rattle.sx_check.specs.Source.{source_tree}
+use Rattle.sx_table.specs.Shut.{reads_of}
+use Rattle.sx_table.proofs.shut.reads_of.Given as goal
+
+abbrev pub invariant-loop-i : goal.invariant-loop-i
+invariant-loop-i l = reads_of (app_as l.app) (property_as l.property) (table_as l.table) (row_as l.row) l.m (source_tree l.code) l.d (drop l.i-index l.list)
+    ≡ reads_of (app_as l.app) (property_as l.property) (table_as l.table) (row_as l.row) l.m (source_tree l.code) l.d l.list

@@ -1,0 +1,23 @@
+-- A property that followed the items of a trace so far.
+use Rattle.std.specs.Prelude.{◌≡◌, ◌+◌, Bool, true, false, List, [], ◌∷◌, ◌++◌, length, Some}
+use Rattle.sx_trace.specs.declared.items.Item.{Item}
+use Rattle.sx_watch.specs.declared.watcher.Heard.{Heard}
+use Rattle.sx_watch.specs.declared.watcher.Watcher.{Watcher}
+use Rattle.sx_watch.specs.Topics.{Notice}
+use Rattle.sx_watch.specs.Watched.{PropertyTree, broken_at, broken_from, property_as}
+
+-- what the code heard as plain data
+abbrev pub noticed_as : Heard → Notice
+noticed_as h = record { topic = h.topic; value = h.value }
+
+-- These items didn't break the property: whether others behind them do is found from the cells.
+pub record Follows (p : PropertyTree) (items : List Item) (w : Watcher) : Type 0 where
+  pub property : property_as w.property ≡ p
+  pub unbroken : (more : List Item) → broken_at p (items ++ more)
+      ≡ broken_from p (length items + 1) w.store.cells.items more
+
+-- An item came behind them. It is the first that breaks the property, or none does yet.
+abbrev pub Heeds : PropertyTree → List Item → Item → Watcher → Bool → Type 0
+Heeds p items item new true =
+    (more : List Item) → broken_at p (items ++ item ∷ more) ≡ Some (length items + 1)
+Heeds p items item new false = Follows p (items ++ item ∷ []) new
