@@ -1,43 +1,47 @@
 -- How the parts of the command end.
-use Rattle.std.proofs.Common.{◌≡◌, ◌∙◌, ℕ, Bool, List, [], ◌∷◌, length, refl, sym, ap, subst, arith, Result, Ok, Err}
+use Rattle.std.proofs.Common.{◌≡◌, ◌∙◌, ℕ, Bool, List, [], ◌∷◌, refl, sym, ap, subst, arith, Result, Ok, Err}
 use Rattle.std.specs.Prelude.{IfErr, IfOk, OnErr}
 use Rattle.sx_io.specs.Streams.{SourceAt, SinkAt}
 use Rattle.sx_io.specs.Reading.{Answer}
 use Rattle.sx_io.specs.Next.{Ahead}
-use Rattle.sx_told.specs.Told.{CommandAt, CommandEnds, Output, Told, command_at, out_of_memory, unread_output, write_failed}
+use Rattle.sx_told.specs.Told.{CommandEnds, Output, Told, command_at, out_of_memory, unread_output, write_failed}
 use Rattle.sx_told.specs.Reads.{Reads, anything}
 use Rattle.sx_told.specs.Got.{Got}
 use Rattle.sx_told.specs.Parts.{Notes}
 use Rattle.sx_told.proofs.Laws.{begun-got, ends-out-of-memory, ends-same, prefix-none, told-reads, told-stop}
 use Rattle.sx_told.proofs.Takings.{got-also, got-map, got-same}
 use Rattle.sx_stage.specs.Fault.{fault}
-use Rattle.sx_stage.specs.Gives.{GivesOne}
+use Rattle.sx_stage.specs.Gives as stage
 use Rattle.sx_stage.specs.declared.fault.Place.TheVariants.{Nowhere}
 use Rattle.sx_stage.specs.declared.fault.DeployError.{DeployError}
 use Rattle.sx_stage.specs.declared.fault.DeployError.TheVariants as deploy
 use Rattle.sx_stage.specs.declared.fault.DeployFault.{DeployFault}
 use Rattle.sx_head.specs.Head.{Head, Found, TooLong, NoMark, Unread, head, head_lines}
-use Rattle.sx_head.specs.HeadRead.{HeadRead, Noted, TextRead, TextTaken}
+use Rattle.sx_head.specs.HeadRead.{HeadRead, Noted, TextRead}
 use Rattle.sx_head.specs.declared.head.HeadFault.{HeadFault}
 use Rattle.sx_head.specs.declared.head.HeadFault.TheVariants as none
+use Rattle.sx_trace.specs.Names.{NameLists}
+use Rattle.sx_mean.specs.Application.{AppTree}
 use Rattle.sx_deploy.specs.Deployment.{Deployed, IsRead}
 use Rattle.sx_deploy.specs.SeenDeployment.{deployed_as}
 use Rattle.sx_deploy.specs.declared.deployment.Deployment.{Deployment}
 use Rattle.sx_deploy.proofs.Meanings.{one_meaning}
 use Rattle.sx_watch.specs.declared.property.Property.{Property}
+use Rattle.sx_watch.specs.declared.reading.PropertyError.{PropertyError}
+use Rattle.sx_watch.specs.declared.reading.PropertyError.TheVariants as property
 use Rattle.sx_watch.specs.declared.reading.PropertyFault.{PropertyFault}
-use Rattle.sx_watch.specs.Watched.{PropertyTree, property_as}
+use Rattle.sx_watch.specs.Read.{GivesOne}
+use Rattle.sx_watch.specs.Watched.{PropertyTree}
 use Rattle.sx_watch.specs.Text.{IsProperty}
 use Rattle.sx_watch.proofs.Meanings.{one_property}
-use Rattle.sx_never.specs.Never.{IsNeverBroken}
 use Rattle.sx_command_head.specs.Ends.{EndsRefused}
 use Rattle.sx_command_head.specs.Found.{IsFound}
 use Rattle.sx_command_head.specs.Headless.{EndsHeadless}
 use Rattle.sx_command_head.specs.Refused.{fault_output}
 use Rattle.sx_command_property.specs.Refused.{fault_words, no_property_output, refused_output}
-use Rattle.sx_command_holds.specs.Holds.{AreMeanings, Decision, Holds, Unknown, Meanings, decided_output, holds_all, holds_found, holds_head, holds_property, holds_second}
+use Rattle.sx_command_holds.specs.Holds.{Decision, Unknown, Meanings, unknown_line, holds_all, holds_found, holds_head, holds_property, holds_second}
 use Rattle.sx_command_holds.specs.Promise.{NeverBehind, NeverFound, NeverProperty, NeverSecond, SaysOf}
-use Rattle.sx_command_holds.specs.Ending.{AnswersOf, DeployedEnds, EndsBehind, EndsOf, GivesUp, TextEnds, ToldOf}
+use Rattle.sx_command_holds.specs.Ending.{AnswersOf, DeployedEnds, EndsOf, GivesUp, TextEnds, ToldOf}
 
 -- ---- statuses
 
@@ -56,6 +60,13 @@ quiet_says means status answers six zero = record { memory = λ e. absurd (six e
 
 -- ---- a property
 
+pub gives_up : {to_tell : Bool} {k0 k1 : SinkAt} {status : ℕ} (t items words : List ℕ) → t ≡ items → items ≡ unknown_line words
+    → CommandEnds to_tell k0 k1 status (record { text = t; status = 13 }) → GivesUp to_tell k0 k1 status
+gives_up t items words same e w =
+    let shown : List ℕ → Output = λ v. record { text = v; status = 13 } in
+    let ends = ends-same _ _ _ _ _ _ (ap shown (sym (same ∙ e))) w in
+    (Unknown words, ends, ends_zero ends (λ x. omega (arith, x)))
+
 pub property_ends : {to_tell : Bool} {k0 k1 : SinkAt} {status : ℕ} (d : Deployed) (text : List ℕ) (p : PropertyTree) → IsProperty d.names d.app text (Ok p)
     → AnswersOf to_tell k0 k1 status d p → EndsOf to_tell k0 k1 status d text
 property_ends {to_tell} {k0} {k1} {status} d text p read (decision, ends, never) = (
@@ -65,14 +76,21 @@ property_ends {to_tell} {k0} {k1} {status} d text p read (decision, ends, never)
       (ends-same _ _ _ _ _ _ (ap (holds_property decision) e) ends, λ zero. subst (NeverProperty d) (sym e) (never zero)),
 )
 
-pub fault_ends : {to_tell : Bool} {k0 k1 : SinkAt} {status : ℕ} (d : Deployed) (text : List ℕ) (f : PropertyFault) → IsProperty d.names d.app text (Err f)
-    → CommandEnds to_tell k0 k1 status (refused_output (fault_words f)) → EndsOf to_tell k0 k1 status d text
-fault_ends {to_tell} {k0} {k1} {status} d text f read ends = (
+pub fault_ends : {to_tell : Bool} {k0 k1 : SinkAt} {status : ℕ} (d : Deployed) (text : List ℕ) (f said : PropertyFault) → said ≡ f → IsProperty d.names d.app text (Err f)
+    → CommandEnds to_tell k0 k1 status (refused_output (fault_words said)) → EndsOf to_tell k0 k1 status d text
+fault_ends {to_tell} {k0} {k1} {status} d text f said same read given = (
   Unknown [],
   λ means is.
       let e : means.property d.names d.app text ≡ Err f = one_property d.names d.app text (means.property d.names d.app text) (Err f) (is.property d.names d.app text) read in
+      let ends = ends-same _ _ _ _ _ _ (ap (λ (v : PropertyFault). refused_output (fault_words v)) (sym same)) given in
       (ends-same _ _ _ _ _ _ (ap (holds_property (Unknown [])) e) ends, λ zero. absurd (ends_zero ends (λ x. omega (arith, x)) zero)),
 )
+
+-- what reading gave, where its fault is this one
+pub fault_read : (n : NameLists) (app : AppTree) (text : List ℕ) (r : Result Property PropertyError) (x : PropertyError) (f : PropertyFault) → r ≡ Err x → x ≡ property.Fault f
+    → GivesOne r (IsProperty n app text) → IsProperty n app text (Err f)
+fault_read n app text r x f is fault given =
+    subst (λ (v : Result Property PropertyError). GivesOne v (IsProperty n app text)) (is ∙ ap Err fault) given
 
 pub starved_ends : (to_tell : Bool) (k : SinkAt) (d : Deployed) (text : List ℕ) → EndsOf to_tell k k out_of_memory d text
 starved_ends to_tell k d text = (Unknown [], λ means is. (starved to_tell k _, λ zero. absurd (omega (arith, zero))))
@@ -80,21 +98,21 @@ starved_ends to_tell k d text = (Unknown [], λ means is. (starved to_tell k _, 
 -- ---- the property behind a deployment
 
 -- the texts of both heads, where they are there
-pair_of : List ℕ → Head → List (List ℕ)
+abbrev pair_of : List ℕ → Head → List (List ℕ)
 pair_of text (Found t more) = text ∷ t ∷ []
 pair_of text _ = []
 
-texts_of : Head → List (List ℕ)
+abbrev texts_of : Head → List (List ℕ)
 texts_of (Found text more) = pair_of text (head more)
 texts_of _ = []
 
-noted : Meanings → Decision → Head → Noted
+abbrev noted : Meanings → Decision → Head → Noted
 noted means decision h = record { output = holds_head means decision h; notes = texts_of h }
 
-behind_of : Meanings → Decision → Deployed → List ℕ → Head → Noted
+abbrev behind_of : Meanings → Decision → Deployed → List ℕ → Head → Noted
 behind_of means decision d text h = record { output = holds_second means decision d h; notes = pair_of text h }
 
-nothing : List Answer → List ℕ
+abbrev nothing : List Answer → List ℕ
 nothing answers = []
 
 -- what was read, in the words of what is written
@@ -164,48 +182,55 @@ second_none : {tells to_tell : Bool} {s0 s2 : SourceAt} {k0 k1 : SinkAt} {status
 second_none means decision d text h o e r w six n =
     told-reads (λ n. n.output) o refl r (λ answers q. (ap (λ n. n.output) q.0 ∙ e, quiet_says means _ answers six (ends_zero w n))) w
 
+-- what reading the second text gave, where its fault is this one
+pub read_as : {tells : Bool} {s1 : SourceAt} {old : Ahead} (s2 : SourceAt) (now : Ahead) (x y : HeadFault) → x ≡ y → TextRead tells s1 s2 old now (Err x) → TextRead tells s1 s2 old now (Err y)
+read_as {tells} {s1} {old} s2 now x y e read = subst (λ (v : HeadFault). TextRead tells s1 s2 old now (Err v)) e read
+
+pub not_six : (status : ℕ) → ((status ≡ write_failed → ⊥) → status ≡ 4) → status ≡ out_of_memory → ⊥
+not_six status four six = omega (arith, six, four (λ five. omega (arith, five, six)))
+
 pub rest_found : {tells to_tell : Bool} {s1 s2 : SourceAt} {k0 k1 : SinkAt} {old now : Ahead} {status : ℕ} (d : Deployed) (t other : List ℕ) → other ≡ t
     → TextRead tells s1 s2 old now (Ok t) → EndsOf to_tell k0 k1 status d other → DeployedEnds tells to_tell s1 s2 old k0 k1 status d
-rest_found d t other same read (decision, ends) = (
+rest_found {to_tell = to_tell} {k0 = k0} {k1 = k1} {status = status} d t other same read (decision, ends) = (
   decision,
   λ means is text e s0 b.
-      let w = subst (λ (v : List ℕ). CommandEnds _ _ _ _ (holds_property decision (means.property d.names d.app v)) × (_ ≡ 0 → NeverProperty d (means.property d.names d.app v))) same (ends means is) in
+      let w = subst (λ (v : List ℕ). CommandEnds to_tell k0 k1 status (holds_property decision (means.property d.names d.app v)) × (status ≡ 0 → NeverProperty d (means.property d.names d.app v))) same (ends means is) in
       second_found means decision d text t e (read head_lines s0 _ (behind_of means decision d text) nothing [] (begun means decision d text e b)) w.0 w.1,
 )
 
-pub rest_long : {tells to_tell : Bool} {s1 s2 : SourceAt} {k0 k1 : SinkAt} {old now : Ahead} {status : ℕ} (d : Deployed)
+pub rest_long : {tells to_tell : Bool} {s1 s2 : SourceAt} {k0 k1 : SinkAt} {old : Ahead} {status : ℕ} (now : Ahead) (d : Deployed)
     → TextRead tells s1 s2 old now (Err none.TooLong) → CommandEnds to_tell k0 k1 status no_property_output → (status ≡ out_of_memory → ⊥)
     → DeployedEnds tells to_tell s1 s2 old k0 k1 status d
-rest_long d read w six = (
+rest_long now d read w six = (
   Unknown [],
   λ means is text e s0 b.
       second_none means (Unknown []) d text TooLong no_property_output refl
       (read head_lines s0 _ (behind_of means (Unknown []) d text) nothing [] (begun means (Unknown []) d text e b)) w six (λ x. omega (arith, x)),
 )
 
-pub rest_open : {tells to_tell : Bool} {s1 s2 : SourceAt} {k0 k1 : SinkAt} {old now : Ahead} {status : ℕ} (d : Deployed)
+pub rest_open : {tells to_tell : Bool} {s1 s2 : SourceAt} {k0 k1 : SinkAt} {old : Ahead} {status : ℕ} (now : Ahead) (d : Deployed)
     → TextRead tells s1 s2 old now (Err none.NoMark) → CommandEnds to_tell k0 k1 status no_property_output → (status ≡ out_of_memory → ⊥)
     → DeployedEnds tells to_tell s1 s2 old k0 k1 status d
-rest_open d read w six = (
+rest_open now d read w six = (
   Unknown [],
   λ means is text e s0 b.
       second_none means (Unknown []) d text NoMark no_property_output refl
       (read head_lines s0 _ (behind_of means (Unknown []) d text) nothing [] (begun means (Unknown []) d text e b)) w six (λ x. omega (arith, x)),
 )
 
-pub rest_failed : {tells to_tell : Bool} {s1 s2 : SourceAt} {k0 k1 : SinkAt} {old now : Ahead} {status : ℕ} (d : Deployed)
+pub rest_failed : {tells to_tell : Bool} {s1 s2 : SourceAt} {k0 k1 : SinkAt} {old : Ahead} {status : ℕ} (now : Ahead) (d : Deployed)
     → TextRead tells s1 s2 old now (Err none.Failed) → CommandEnds to_tell k0 k1 status unread_output → (status ≡ out_of_memory → ⊥)
     → DeployedEnds tells to_tell s1 s2 old k0 k1 status d
-rest_failed d read w six = (
+rest_failed now d read w six = (
   Unknown [],
   λ means is text e s0 b.
       second_none means (Unknown []) d text Unread unread_output refl
       (read head_lines s0 _ (behind_of means (Unknown []) d text) nothing [] (begun means (Unknown []) d text e b)) w six (λ x. omega (arith, x)),
 )
 
-pub rest_starved : {tells to_tell : Bool} {s1 s2 : SourceAt} {old now : Ahead} (k : SinkAt) (d : Deployed)
+pub rest_starved : {tells to_tell : Bool} {s1 s2 : SourceAt} {old : Ahead} (now : Ahead) (k : SinkAt) (d : Deployed)
     → TextRead tells s1 s2 old now (Err none.OutOfMemory) → DeployedEnds tells to_tell s1 s2 old k k out_of_memory d
-rest_starved {to_tell = to_tell} k d read = (
+rest_starved {to_tell = to_tell} now k d read = (
   Unknown [],
   λ means is text e s0 b.
       let r = read head_lines s0 _ (behind_of means (Unknown []) d text) nothing [] (begun means (Unknown []) d text e b) in
@@ -234,7 +259,7 @@ starved_behind to_tell k means text b =
     }) b)) (λ more. starved to_tell k _)
 
 pub text_ends : {tells to_tell : Bool} {s1 s2 : SourceAt} {k0 k1 : SinkAt} {old : Ahead} {status : ℕ} (text : List ℕ) (r : Result Deployment DeployError)
-    → GivesOne deployed_as r (IsRead text)
+    → stage.GivesOne deployed_as r (IsRead text)
     → IfOk r (λ d. DeployedEnds tells to_tell s1 s2 old k0 k1 status (deployed_as d)) → IfErr r (λ e. EndsRefused to_tell k0 k1 status e) → OnErr r (s2 ≡ s1)
     → TextEnds tells to_tell s1 s2 old k0 k1 status text
 text_ends text (Ok d) read (decision, ends) bad unread = (decision, λ means is. ends means is text (one_meaning text (means.deployment text) (Ok (deployed_as d)) (is.deployment text) read))

@@ -5,7 +5,7 @@ use Rattle.sx_io.specs.Streams.{SourceAt}
 use Rattle.sx_io.specs.Counts.{Rose}
 use Rattle.sx_io.specs.Reading.{Answer, Ended, Limit, scan}
 use Rattle.sx_told.specs.Reads.{AtEnd, AtFault, Decides, Enough, Left}
-use Rattle.sx_told.specs.Told.{CommandAt, CommandEnds, Told}
+use Rattle.sx_told.specs.Told.{CommandAt, CommandEnds}
 use Rattle.sx_told.proofs.Endings.{faultless}
 use Rattle.sx_head.specs.Head.{head, head_lines}
 use Rattle.sx_command.proofs.Ends.{faults_of}
@@ -18,7 +18,7 @@ use Rattle.sx_told.proofs.Laws.{told-some}
 use Rattle.sx_command_holds.proofs.Statuses.{all_not_four, head_not_two}
 
 -- what the texts mean
-known : Meanings
+abbrev known : Meanings
 known = record { deployment = deployments.known; property = properties.known }
 
 are_known : AreMeanings known

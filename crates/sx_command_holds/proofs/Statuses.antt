@@ -1,13 +1,13 @@
 -- The statuses of `holds`.
-use Rattle.std.proofs.Common.{◌≡◌, ℕ, ◌+◌, List, [], ◌∷◌, ◌++◌, length, nat_lt, arith, Result, Ok, Err}
-use Rattle.sx_io.specs.Reading.{Answer, Line, End, Long, Fault, newline}
+use Rattle.std.proofs.Common.{◌≡◌, ℕ, ◌+◌, List, [], ◌∷◌, length, nat_lt, arith, Result, Ok, Err}
+use Rattle.sx_io.specs.Reading.{Answer, Line, End, Long, Fault}
 use Rattle.sx_told.proofs.Endings.{pick, Faultless}
 use Rattle.sx_head.specs.Head.{Head, Found, TooLong, NoMark, Unread, head, head_behind, is_mark, most_bytes}
 use Rattle.sx_deploy.specs.Deployment.{Deployed}
 use Rattle.sx_stage.specs.declared.fault.DeployFault.{DeployFault}
 use Rattle.sx_watch.specs.declared.reading.PropertyFault.{PropertyFault}
 use Rattle.sx_watch.specs.Watched.{PropertyTree}
-use Rattle.sx_command_holds.specs.Holds.{Decision, Holds, Unknown, Meanings, decided_output, holds_all, holds_found, holds_head, holds_property, holds_second}
+use Rattle.sx_command_holds.specs.Holds.{Decision, Holds, Unknown, Meanings, holds_all, holds_found, holds_head, holds_property, holds_second}
 
 property_not_four : (decision : Decision) (r : Result PropertyTree PropertyFault) → (holds_property decision r).status ≡ 4 → ⊥
 property_not_four Holds (Ok p) e = omega (arith, e)

@@ -1,8 +1,8 @@
 -- How the parts of the command end. Nobody has to believe this file.
-use Rattle.std.specs.Prelude.{◌≡◌, ℕ, Bool, List, [], Result, Ok}
+use Rattle.std.specs.Prelude.{◌≡◌, ℕ, Bool, List, Ok}
 use Rattle.sx_io.specs.Streams.{SourceAt, SinkAt}
 use Rattle.sx_io.specs.Next.{Ahead}
-use Rattle.sx_told.specs.Told.{CommandAt, CommandEnds, Told, command_at, out_of_memory}
+use Rattle.sx_told.specs.Told.{CommandAt, CommandEnds, Told, command_at}
 use Rattle.sx_told.specs.Reads.{anything}
 use Rattle.sx_told.specs.Got.{Got}
 use Rattle.sx_head.specs.Head.{Found, Unread, head, head_lines}

@@ -1,6 +1,6 @@
 -- What the command `holds` writes: a function of the two heads of the input, of what texts of
 -- deployments and properties mean, and of what was decided.
-use Rattle.std.specs.Prelude.{ℕ, List, [], ◌++◌, codes, Result, Ok, Err}
+use Rattle.std.specs.Prelude.{ℕ, List, ◌++◌, codes, Result, Ok, Err}
 use Rattle.sx_io.specs.Reading.{Answer}
 use Rattle.sx_told.specs.Told.{Output, unread_output}
 use Rattle.sx_stage.specs.declared.fault.Place.TheVariants.{Nowhere}

@@ -3,7 +3,7 @@ use Rattle.std.specs.Prelude.{◌≡◌, ℕ, Bool, List, Result, Ok, Err, IsTru
 use Rattle.sx_io.specs.Reading.{Answer}
 use Rattle.sx_told.specs.Told.{CommandAt, Told, out_of_memory}
 use Rattle.sx_stage.specs.declared.fault.DeployFault.{DeployFault}
-use Rattle.sx_head.specs.Head.{Head, Found, TooLong, NoMark, Unread, head, head_lines}
+use Rattle.sx_head.specs.Head.{Head, Found, head, head_lines}
 use Rattle.sx_deploy.specs.Deployment.{Deployed}
 use Rattle.sx_watch.specs.declared.reading.PropertyFault.{PropertyFault}
 use Rattle.sx_watch.specs.Watched.{PropertyTree}
