@@ -54,7 +54,7 @@ ODDS = [
     )),
 ]
 OF_FORGED = ("sx_forged", "sx_links")
-OF_PROPERTIES = ("sx_watch", "sx_command_property", "sx_command_watch")
+OF_PROPERTIES = ("sx_watch", "sx_never", "sx_command_property", "sx_command_watch", "sx_command_holds")
 # The images are a function of the deployment; which one, the compiler says, and nobody has to believe that.
 FUNCTIONS = {("sx_command_world.Compiled", "compiled_texts")}
 
