@@ -49,7 +49,8 @@ ODDS = [
         "Impostors.IdentitiesDiffer", "Impostors.ImpostorsHaveOtherNames", "Impostors.NamesAreUnlawful",
     )),
     *(f"sx_uses.{law}" for law in (
-        "UsesAlone.UsesAlone", "Whole.ScriptsAlone", "Whole.RunsAlone", "GivenLogged.GivenAreLogged", "GivenLogged.HeldAreLogged",
+        "UsesAlone.UsesAlone", "Whole.ScriptsAlone", "Whole.RunsAlone", "Whole.KeysAreHeld",
+        "GivenLogged.GivenAreLogged", "GivenLogged.HeldAreLogged",
         "Fresh.UnmadeWasNotGiven", "Fresh.ForgedWasNotGiven", "Unasked.UnaskedIsUnseen", "Hit.ForgedIsHit", "Hit.AnswersHitFresh",
     )),
 ]
