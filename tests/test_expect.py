@@ -58,9 +58,22 @@ class Expectations(Room):
              "test_it.sancus:11: `carry logic lamp` gives packet 11 24, take lamp down 0 1, out lamp 1, done lamp 1 0, and nothing was expected"),
             ("#: never forged", "#: never out", "test_it.sancus:2: line 10, `carry logic lamp`, gives `out lamp 1`"),
             ("#: legal", "#: legel",
-             "test_it.sancus:3: `legel` is no expectation: deployment, never, legal; did you mean `legal`?"),
+             "test_it.sancus:3: `legel` is no expectation: deployment, never, legal, keeps, holds; did you mean `legal`?"),
         ):  # fmt: skip
             self.fails(old, new, said)
+
+    def test_properties(self):
+        for name in ("bright", "last_reading"):
+            self.file(f"{name}.property", (EXAMPLES / f"properties/{name}.property").read_text())
+        self.file("none.property", "on out lamp(v) { emit 1; }\n")
+        asked = [f"#: {kind} {name}.property" for kind in ("keeps", "holds") for name in ("bright", "last_reading")]
+        ran = self.tried(CASE + "\n".join([*asked, "#: holds none.property", "#: keeps no.property", ""]))
+        self.assertEqual(ran.status, 1)
+        said = [it.strip() for it in ran.lines[1:]]
+        self.assertEqual([it.split(":")[1] for it in said], ["17", "18", "19"])
+        self.assertRegex(said[0], "`holds` answers `unknown .*` to last_reading.property")
+        self.assertRegex(said[1], "`holds` answers `fault property .*` to none.property")
+        self.assertEqual(said[2], "test_it.sancus:19: no.property can't be read: No such file or directory")
 
     def test_illegal(self):
         forged = (EXAMPLES / "forged.txt").read_text()

@@ -8,6 +8,8 @@
     #> !out lamp                    and none that begins so
     #: never out lamp 0             no line gives such an item
     #: legal                        the sources allow the whole run
+    #: keeps bright.property        the run doesn't break this property, up to its first `forged`
+    #: holds bright.property        the program proves that no run does
 
 `#> -` means that the line gives nothing.
 """
@@ -25,12 +27,12 @@ from sancus.errors import Fault, Refused
 from sancus.model.asking import Program
 from sancus.model.rules import near
 from sancus.model.shown import text_of
-from sancus.model.texts import Input, split_lines
+from sancus.model.texts import MARK, Input, split_lines
 from sancus.schedule import Schedule
 
 WANTED, RULE = "#>", "#:"
 NOTHING, NOT = "-", "!"
-RULES = ("deployment", "never", "legal")
+RULES = ("deployment", "never", "legal", "keeps", "holds")
 
 
 @dataclass(frozen=True)
@@ -176,7 +178,7 @@ def try_rules(case: Case, schedule: Schedule, made: Result) -> None:
     """Compares the whole run with what is expected of it."""
     for it in case.rules:
         kind, _, rest = it.text.partition(" ")
-        made.expectations += kind in ("never", "legal")
+        made.expectations += kind in RULES[1:]
         match kind:
             case "deployment":
                 pass
@@ -186,6 +188,12 @@ def try_rules(case: Case, schedule: Schedule, made: Result) -> None:
                 verdict = schedule.run().explain()
                 if not verdict or verdict.forged:
                     made.fail(it.line, "; ".join(verdict.words[-2:]))
+            case "keeps":
+                run = schedule.run()
+                trace = "".join(f"{line}\n" for line in ("trace", *run.texts, run.trace.last))
+                try_property("watch", it, rest, case, schedule.app, trace.encode(errors="surrogateescape"), made)
+            case "holds":
+                try_property("holds", it, rest, case, schedule.app, b"", made)
             case _:
                 made.fail(it.line, f"`{it.text}` is no expectation: {', '.join(RULES)}{near(kind, list(RULES))}")
 
@@ -196,6 +204,20 @@ def try_never(rule: Comment, wanted: str, case: Case, made: Result) -> None:
     if found:
         step, item = found
         made.fail(rule.line, f"line {step.line}, `{step.text}`, gives `{item}`")
+
+
+def try_property(command: str, rule: Comment, name: str, case: Case, app: App, trace: bytes, made: Result) -> None:
+    """Asks the program about a property, whose path is from the file's folder."""
+    try:
+        text = (case.path.parent / name).read_bytes()
+    except OSError as error:
+        made.fail(rule.line, f"{name} can't be read: {error.strerror}")
+        return
+    end = b"" if text.endswith(b"\n") else b"\n"
+    answer = app.program.answer([command], app.input(text + end + MARK + b"\n" + trace))
+    if answer.status:
+        said = text_of(answer.lines[-1]) if answer.lines else f"status {answer.status}"
+        made.fail(rule.line, f"`{command}` answers `{said}` to {name}")
 
 
 # --- Writing ---

@@ -348,6 +348,8 @@ The program runs as the lines are written, so packets, boots and pieces are thos
             ("#> !ITEM, #> -", "it gives no item that begins so; it gives nothing"),
             ("#: never ITEM", "no line gives an item that begins so"),
             ("#: legal", "the sources allow the whole run"),
+            ("#: keeps PROPERTY", "the run doesn't break this property, up to its first `forged`"),
+            ("#: holds PROPERTY", "the program proves that no run does"),
         ),
         after="With pytest, test_*.sancus are collected where the package is installed.",
     ),
