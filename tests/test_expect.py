@@ -66,14 +66,16 @@ class Expectations(Room):
         for name in ("bright", "last_reading"):
             self.file(f"{name}.property", (EXAMPLES / f"properties/{name}.property").read_text())
         self.file("none.property", "on out lamp(v) { emit 1; }\n")
-        asked = [f"#: {kind} {name}.property" for kind in ("keeps", "holds") for name in ("bright", "last_reading")]
-        ran = self.tried(CASE + "\n".join([*asked, "#: holds none.property", "#: keeps no.property", ""]))
+        self.file("dark.property", "on out lamp(v) { if v { fail; } }\n")
+        rules = ["keeps bright", "holds bright", "keeps dark", "holds last_reading", "holds none", "keeps no"]
+        ran = self.tried(CASE + "".join(f"#: {it}.property\n" for it in rules))
         self.assertEqual(ran.status, 1)
-        said = [it.strip() for it in ran.lines[1:]]
-        self.assertEqual([it.split(":")[1] for it in said], ["17", "18", "19"])
-        self.assertRegex(said[0], "`holds` answers `unknown .*` to last_reading.property")
-        self.assertRegex(said[1], "`holds` answers `fault property .*` to none.property")
-        self.assertEqual(said[2], "test_it.sancus:19: no.property can't be read: No such file or directory")
+        said = [it.strip() for it in ran.lines if it.startswith("  test_it")]
+        self.assertRegex(said[0], "^test_it.sancus:16: item [0-9]+, `out lamp 1`, breaks dark.property$")
+        self.assertEqual(said[1], "test_it.sancus:17: it isn't proved that no run breaks last_reading.property: "
+                         "`sancus holds` looks for one")  # fmt: skip
+        self.assertRegex(said[2], "^test_it.sancus:18: none.property: fault property P[0-9] ")
+        self.assertEqual(said[3:], ["test_it.sancus:19: no.property can't be read: No such file or directory"])
 
     def test_illegal(self):
         forged = (EXAMPLES / "forged.txt").read_text()

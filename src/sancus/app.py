@@ -97,6 +97,22 @@ class App:
             raise Fault(last, Teller(kept_of(self.input(text), ""), "drive", self.program.ask).told(last))
         return Run(self, *of_drive(answer))
 
+    # --- Properties ---
+
+    def holds(self, text: Union[str, bytes]) -> bool:
+        """Whether the program proves that no run breaks a property, up to its first `forged`. What is no property is a
+        Fault."""
+        return self.said_of("holds", bytes_of(text)) == "holds"
+
+    def said_of(self, command: str, text: bytes, trace: bytes = b"") -> str:
+        """The first line of what the program says of a property."""
+        end = b"" if text.endswith(b"\n") else b"\n"
+        data = self.input(text + end + MARK + b"\n" + trace)
+        first = text_of(self.program.answer([command], data).output.partition(b"\n")[0])
+        if first.startswith("fault "):
+            raise Fault(first, Teller(kept_of(data, self.name), command, self.program.ask).told(first))
+        return first
+
 
 def bytes_of(lines: Lines) -> bytes:
     """A schedule as the program reads it."""

@@ -27,7 +27,7 @@ from sancus.errors import Fault, Refused
 from sancus.model.asking import Program
 from sancus.model.rules import near
 from sancus.model.shown import text_of
-from sancus.model.texts import MARK, Input, split_lines
+from sancus.model.texts import Input, split_lines
 from sancus.schedule import Schedule
 
 WANTED, RULE = "#>", "#:"
@@ -188,12 +188,8 @@ def try_rules(case: Case, schedule: Schedule, made: Result) -> None:
                 verdict = schedule.run().explain()
                 if not verdict or verdict.forged:
                     made.fail(it.line, "; ".join(verdict.words[-2:]))
-            case "keeps":
-                run = schedule.run()
-                trace = "".join(f"{line}\n" for line in ("trace", *run.texts, run.trace.last))
-                try_property("watch", it, rest, case, schedule.app, trace.encode(errors="surrogateescape"), made)
-            case "holds":
-                try_property("holds", it, rest, case, schedule.app, b"", made)
+            case "keeps" | "holds":
+                try_property(it, rest, case, schedule, made)
             case _:
                 made.fail(it.line, f"`{it.text}` is no expectation: {', '.join(RULES)}{near(kind, list(RULES))}")
 
@@ -206,18 +202,22 @@ def try_never(rule: Comment, wanted: str, case: Case, made: Result) -> None:
         made.fail(rule.line, f"line {step.line}, `{step.text}`, gives `{item}`")
 
 
-def try_property(command: str, rule: Comment, name: str, case: Case, app: App, trace: bytes, made: Result) -> None:
+def try_property(rule: Comment, name: str, case: Case, schedule: Schedule, made: Result) -> None:
     """Asks the program about a property, whose path is from the file's folder."""
     try:
         text = (case.path.parent / name).read_bytes()
+        if rule.text.startswith("holds"):
+            if not schedule.app.holds(text):
+                made.fail(rule.line, f"it isn't proved that no run breaks {name}: `sancus holds` looks for one")
+            return
+        run = schedule.run()
+        broken = run.broken_at(text)
+        if broken:
+            made.fail(rule.line, f"item {broken}, `{run.texts[broken - 1]}`, breaks {name}")
     except OSError as error:
         made.fail(rule.line, f"{name} can't be read: {error.strerror}")
-        return
-    end = b"" if text.endswith(b"\n") else b"\n"
-    answer = app.program.answer([command], app.input(text + end + MARK + b"\n" + trace))
-    if answer.status:
-        said = text_of(answer.lines[-1]) if answer.lines else f"status {answer.status}"
-        made.fail(rule.line, f"`{command}` answers `{said}` to {name}")
+    except Fault as fault:
+        made.fail(rule.line, f"{name}: {fault}")
 
 
 # --- Writing ---

@@ -124,9 +124,21 @@ class Run:
     # --- Why ---
 
     @cached_property
+    def printed(self) -> bytes:
+        """The trace as it is judged, without images."""
+        return "".join(f"{it}\n" for it in ("trace", *self.texts, self.trace.last)).encode(errors="surrogateescape")
+
+    def broken_at(self, text: Union[str, bytes]) -> Optional[int]:
+        """The number of the first item that breaks a property, if one does before the first `forged`. What is no
+        property is a Fault."""
+        from sancus.app import bytes_of
+
+        word, _, number = self.app.said_of("watch", bytes_of(text), self.printed).partition(" ")
+        return int(number) if word == "broken" else None
+
+    @cached_property
     def explained(self) -> causes.Explained:
-        trace = "".join(f"{it}\n" for it in ("trace", *self.texts, self.trace.last))
-        text = self.app.input(trace.encode(errors="surrogateescape"))
+        text = self.app.input(self.printed)
         return causes.judged(kept_of(text, self.app.name), Input(text), self.app.program)
 
     def explain(self) -> Verdict:
