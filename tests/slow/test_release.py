@@ -40,8 +40,7 @@ class Repository(Room):
         for name in (".ci", "src"):
             shutil.copytree(TOP / name, self.top / name, ignore=shutil.ignore_patterns("__pycache__"))
         self.command("../bin/rt", RT)
-        for name in ("mypy", "ruff"):
-            self.command(f"../bin/{name}", "")
+        self.command("../bin/mypy", "")
 
     def write(self, name, text):
         path = self.top / name
@@ -108,8 +107,10 @@ class Notes(Repository):
 
     def test_a_checker_that_finds_something(self):
         self.release()
-        self.command("../bin/mypy", "echo wrong type; exit 1")
-        self.ends(self.call(self.top / ".ci/run"), 1, "1 passed, 0 failed\n", "wrong type")
+        for version, status, said in ("1.0.1", 1, "wrong type"), ("1.13.0", 0, ""):
+            answers = f"[ \"$1\" != --version ] || exec echo mypy {version} '(compiled: yes)'"
+            self.command("../bin/mypy", f"{answers}\necho wrong type\nexit 1")
+            self.ends(self.call(self.top / ".ci/run"), status, "1 passed, 0 failed\n", said)
 
     def test_tests_that_fail_after_the_gate(self):
         self.release()
