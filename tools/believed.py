@@ -9,7 +9,7 @@ A definition is reached where its name stands in one that is reached. Its lines 
 the kit's own definitions don't count. Of some definitions a reader believes only that they are functions (FUNCTIONS);
 what stands behind these isn't reached. Two tiers: the core is about runs, for every sound setting and every list of
 lines in form; the rest is what leads there from the text that is read, and to the text that is written. What `forged`
-and keys say (the crates sx_forged and sx_links, and what is reached through them alone) is counted by itself, and in no
+and keys say (the crates law_forgery and law_connections, and what is reached through them alone) is counted by itself, and in no
 other number; of this, what the keys of connections show has a line of its own. So have what says how seldom a `forged` comes, and
 what properties of applications mean.
 """
@@ -23,41 +23,41 @@ CRATES = Path(__file__).resolve().parent.parent / "crates"
 
 SOURCE = ["sx_model.Legal.Legal", "sx_model.Legal.before"]
 CORE = SOURCE + [
-    "sx_run.Law.RunsLegal",
-    "sx_guard.Guarded.GuardedRun",
+    "spec_run.Law.RunsLegal",
+    "law_isolation.Guarded.GuardedRun",
     "sx_trace.Items.item_words", "sx_trace.Items.spaced_words",
     "sx_tag.Mac.hmac_sha256",
 ]
 # The record of the command `run` with the moments that it is about, and what the whole program promises.
-HEADLINE = ["*.Runs.RunSays", "sx_told.Told.command_at"]
+HEADLINE = ["*.Runs.RunSays", "command_promise.Told.command_at"]
 PROGRAM = ["*.Promises.ProgramTold"]
 # What the first `forged` of a run says, and what keys show.
-FORGED = [f"sx_forged.{law}" for law in (
+FORGED = [f"law_forgery.{law}" for law in (
     "Forgery.ForgedUnmade", "Forgery.ForgedShown", "Logged.LedgerTells",
     "Unseen.KeysUnseen", "Unseen.RunsKeysUnseen", "Unseen.PlayersSeeTheSame", "Named.NamesAgree", "Named.TagsTabled",
 )]
 # What the keys of connections show.
-LINKS = [f"sx_links.{law}" for law in ("LinksUnseen.LinksAreUnseen", "Unlinks.HasMoved", "Found.KeysFound")]
+LINKS = [f"law_connections.{law}" for law in ("LinksUnseen.LinksAreUnseen", "Unlinks.HasMoved", "Found.KeysFound")]
 # What a property's text means, and when it is broken; what `watch` says of it is reached from the program.
 PROPERTIES = ["sx_watch.Text.IsProperty", "sx_watch.Watched.broken_at"]
 # How seldom a `forged` comes: counts, makers of schedules, and what a run asks of tags.
 ODDS = [
-    "sx_counting.Guesses.FewGuessesHit", "sx_counting.Pads.CiphersAreRandom",
-    *(f"sx_makers.{law}" for law in (
+    "law_counting.Guesses.FewGuessesHit", "law_counting.Pads.CiphersAreRandom",
+    *(f"law_makers.{law}" for law in (
         "Makers.MakersSeeTheSame", "Makers.DistinguisherIsRun", "Makers.DistinguisherKnowsNoKey",
         "LinkMakers.LinkMakersSeeTheSame", "Time.StepsShowNoKey", "Time.RegistersShowNoLink",
         "Impostors.IdentitiesDiffer", "Impostors.ImpostorsHaveOtherNames", "Impostors.NamesAreUnlawful",
     )),
-    *(f"sx_uses.{law}" for law in (
+    *(f"law_uses.{law}" for law in (
         "UsesAlone.UsesAlone", "Whole.ScriptsAlone", "Whole.RunsAlone", "Whole.KeysAreHeld",
         "GivenLogged.GivenAreLogged", "GivenLogged.HeldAreLogged",
         "Fresh.UnmadeWasNotGiven", "Fresh.ForgedWasNotGiven", "Unasked.UnaskedIsUnseen", "Hit.ForgedIsHit", "Hit.AnswersHitFresh",
     )),
 ]
-OF_FORGED = ("sx_forged", "sx_links")
-OF_PROPERTIES = ("sx_watch", "sx_never", "sx_command_property", "sx_command_watch", "sx_command_holds")
+OF_FORGED = ("law_forgery", "law_connections")
+OF_PROPERTIES = ("sx_watch", "law_never", "command_property", "command_watch", "command_holds")
 # The images are a function of the deployment; which one, the compiler says, and nobody has to believe that.
-FUNCTIONS = {("sx_command_world.Compiled", "compiled_texts")}
+FUNCTIONS = {("command_world.Compiled", "compiled_texts")}
 
 WORD = re.compile(r"[^\s(){}\[\],;:.=→λ∷×⊎≡≤<+*/%&|?!«»]+")
 # The operator `>>=`, which a `do` block stands for, as WORD finds it.
@@ -263,7 +263,7 @@ def main():
     program = repository.reached(CORE + HEADLINE + PROGRAM, OF_FORGED + OF_PROPERTIES)
     properties = repository.reached(CORE + HEADLINE + PROGRAM + PROPERTIES, OF_FORGED) - program
     forged = repository.reached(CORE + HEADLINE + PROGRAM + FORGED + LINKS) - program - properties
-    links = forged - repository.reached(CORE + HEADLINE + PROGRAM + FORGED, ("sx_links",))
+    links = forged - repository.reached(CORE + HEADLINE + PROGRAM + FORGED, ("law_connections",))
     odds = repository.reached(CORE + HEADLINE + PROGRAM + FORGED + LINKS + ODDS) - program - properties - forged
     repository.show("The source: application, model, legal run and items", source)
     repository.show("The core, beside it", core - source)

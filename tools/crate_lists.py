@@ -62,8 +62,8 @@ def without_first_page(crates):
 def main():
     crates = dependencies()
     architecture = (TOP / "docs" / "ARCHITECTURE.md").read_text()
-    program = [name for name in crates if not name.startswith("sx_worked") and name != "sx_lists"]
-    picture = [name for name in of_picture(architecture) if name != "sx_lists"]
+    program = [name for name in crates if not name.startswith("test_program") and name != "lemmas"]
+    picture = [name for name in of_picture(architecture) if name != "lemmas"]
     wrong = differences("crates/", [file.name for file in (TOP / "crates").iterdir() if (file / "src").is_dir()], crates)
     wrong += differences("ARCHITECTURE's table", of_table(architecture), crates)
     wrong += differences("ARCHITECTURE's picture", picture, program)

@@ -18,7 +18,7 @@ after the three backquotes say what a fenced block is:
     LANGUAGE in=NAME     the block is in this file, whatever the spaces
 
 What else a block holds isn't looked at. Each link to a file of the repository, or to a heading of one, must lead there, and
-each path in a crate between backquotes must be that of a file or a folder, as of `sx_run/specs/Run.antt`, which
+each path in a crate between backquotes must be that of a file or a folder, as of `spec_run/specs/Run.antt`, which
 may be written without its ending.
 
 Of an example the run must end well, and show each item that its first lines name between backquotes; it is one of `drive`,

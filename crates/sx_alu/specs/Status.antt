@@ -2,7 +2,7 @@
 -- bit 0, Z bit 1, N bit 2, V bit 8.
 use Rattle.std.specs.Prelude.{ℕ, ◌+◌, ◌*◌, ◌/◌, ◌%◌, ◌==◌}
 use Rattle.sx_alu.specs.declared.flags.Flags.{Flags}
-use Rattle.sx_lists.specs.Truth.{truth}
+use Rattle.lemmas.specs.Truth.{truth}
 
 -- the flags that a status register holds: C in bit 0, Z in bit 1, N in bit 2, V in bit 8
 abbrev pub flags_of : ℕ → Flags

@@ -7,7 +7,7 @@ use Rattle.sx_alu.specs.declared.calculation.Calc.{Calc}
 use Rattle.sx_alu.specs.declared.calculation.Calc.TheVariants.{Add, AddCarry, Sub, SubCarry, And}
 use Rattle.sx_alu.specs.declared.calculation.Calc.TheVariants.{AndNot, Or, Xor, Rrc, Rra, Swap}
 use Rattle.sx_alu.specs.declared.calculation.Calc.TheVariants.{Extend}
-use Rattle.sx_lists.specs.Truth.{truth}
+use Rattle.lemmas.specs.Truth.{truth}
 
 -- how many numbers a word or a byte has
 abbrev pub limit : Bool → ℕ

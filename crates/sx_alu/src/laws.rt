@@ -8,7 +8,7 @@ ghost use Rattle.sx_alu.specs.Table.{limit, row, differ, sum_row, difference_row
 ghost use Rattle.sx_alu.specs.Widths.{signed};
 ghost use Rattle.sx_alu.specs.declared.flags.Flags.{Flags};
 ghost use Rattle.sx_alu.specs.declared.calculation.Calc.TheVariants.{Sub};
-ghost use Rattle.sx_lists.specs.Truth.{truth};
+ghost use Rattle.lemmas.specs.Truth.{truth};
 
 /// After a subtraction of s from d, as for a comparison: C says that s is at most d, Z that they
 /// are equal, and N differs from V exactly where d is below s as signed numbers. The value is the

@@ -5,7 +5,7 @@ ghost use Rattle.sx_alu.specs.Table.{limit, half, is_negative, row, sum_row};
 ghost use Rattle.sx_alu.specs.Widths.{has_width};
 ghost use Rattle.sx_alu.specs.Table.{difference_row, carried, differ, tested, shifted, extended};
 ghost use Rattle.sx_alu.specs.Table.{with_flags};
-ghost use Rattle.sx_lists.specs.Truth.{truth};
+ghost use Rattle.lemmas.specs.Truth.{truth};
 
 use crate::calculation::Calc;
 use crate::flags::Flags;

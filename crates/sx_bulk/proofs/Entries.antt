@@ -11,7 +11,7 @@ use Rattle.toml.specs.Data.{Members}
 use Rattle.toml.specs.Parse.{parse_document}
 use Rattle.toml.proofs.OnLiterals.{toml_on_literals}
 use Rattle.sx_lang.specs.declared.tree.DeviceKind.TheVariants.{Sensor, Actuator}
-use Rattle.sx_stage.specs.Fault.{◌>>=◌}
+use Rattle.sx_entries.specs.Fault.{◌>>=◌}
 use Rattle.sx_entries.specs.Documents.{table_of}
 use Rattle.sx_entries.specs.Arrays.{RowLists, rows_of}
 use Rattle.sx_entries.specs.Entries.{EntryLists, entries_of}

@@ -14,9 +14,9 @@ use Rattle.sx_lex.specs.Lexed.{Lexed, at_end, space, newline, token, along, belo
 use Rattle.sx_lex.proofs.Names.{longest_name}
 use Rattle.sx_lex.proofs.Numbers as numbers
 use Rattle.sx_lex.proofs.Signs.{no_pair, longest_sign}
-use Rattle.sx_grammar.specs.Machine.{ReadOutcome, Read, Of_module, read, begun, nothing}
-use Rattle.sx_grammar.specs.Text.{Spells}
-use Rattle.sx_grammar.proofs.Faults.{read_is_module}
+use Rattle.spec_grammar.specs.Machine.{ReadOutcome, Read, Of_module, read, begun, nothing}
+use Rattle.spec_grammar.specs.Text.{Spells}
+use Rattle.spec_grammar.proofs.Faults.{read_is_module}
 
 -- the token at the start of a text, if any, and the place and the text after it
 abbrev Turn : Type 0

@@ -4,7 +4,7 @@ use Rattle.sx_lang.specs.declared.tree.DeviceKind.TheVariants.{Sensor, Actuator}
 use Rattle.sx_lang.specs.declared.tree.Decl.TheVariants as decl
 use Rattle.sx_lang.specs.declared.tree.BinOp.TheVariants.{Gt}
 use Rattle.sx_lang.specs.Tree.{Variable, Constant, Combined, Chooses, Sends, Emits, Done, Then, ModuleTree}
-use Rattle.sx_grammar.specs.Text.{Spells}
+use Rattle.spec_grammar.specs.Text.{Spells}
 use Rattle.sx_bulk.proofs.Lexing.{read_as, spells}
 
 unfoldable pub eye_text : List ℕ

@@ -4,7 +4,7 @@ use Rattle.std.specs.Prelude.{slice_index, slice_set}
 use Rattle.std.proofs.lemmas.Bool.{cases_eq, cases_lt}
 use Rattle.std.proofs.lemmas.List.{length-set, get_or-set_same, get_or-set_other, set_past, length-replicate}
 use Rattle.sx_bus.specs.Memory.{blank, AreMemoryBytes}
-use Rattle.sx_lists.proofs.Lists.{zero_at}
+use Rattle.lemmas.proofs.Lists.{zero_at}
 
 pub AreMemoryBytes-set : (mem : List ℕ) (i v : ℕ) → AreMemoryBytes mem → v < 256 → AreMemoryBytes (slice_set mem i v)
 AreMemoryBytes-set mem i v h p = record {

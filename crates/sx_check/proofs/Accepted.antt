@@ -16,7 +16,7 @@ use Rattle.sx_check.specs.Rules.{breaks, first_broken, is_too_deep}
 use Rattle.sx_check.specs.Accepted.{HasLength, IsAcceptedModule, IsCount, IsFine, IsProper}
 use Rattle.sx_check.proofs.Keeps.{In, keeps, none_is, uses_in}
 use Rattle.sx_check.proofs.Distinct.{all_not, apart, none_counted, pairs_weaker, same-refl, same-true, same_input-refl}
-use Rattle.sx_lists.proofs.Truths.{and_not}
+use Rattle.lemmas.proofs.Truths.{and_not}
 
 -- Declarations
 

@@ -8,7 +8,7 @@ use Rattle.sx_lang.specs.View.{statement_of, block_of}
 use Rattle.sx_check.specs.Names.{defined}
 use Rattle.sx_check.specs.Scopes.{definitions}
 use Rattle.sx_check.specs.Uses.{Use, statement_uses, block_uses}
-use Rattle.sx_lists.proofs.Lists.{rest_is}
+use Rattle.lemmas.proofs.Lists.{rest_is}
 
 definitions-push : (xs : List Stmt) (s : Stmt) → definitions (block_of (xs ++ s ∷ [])) ≡ definitions (block_of xs) ++ defined (statement_of s)
 definitions-push [] s = append-nil (defined (statement_of s))

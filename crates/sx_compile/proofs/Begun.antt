@@ -10,17 +10,17 @@ use Rattle.sx_mean.specs.Application.{declared_kind}
 use Rattle.sx_rules.specs.declared.section.Layout.{Layout}
 use Rattle.sx_rules.specs.declared.section.Section.{Section}
 use Rattle.sx_tag.specs.Mac.{IsTag, Mac}
-use Rattle.sx_machine.specs.Memory.{put_word}
-use Rattle.sx_machine.specs.State.{State}
-use Rattle.sx_invoke.specs.ModuleState.{state_of}
-use Rattle.sx_invoke.specs.Devices.{HasDevices}
+use Rattle.spec_machine.specs.Memory.{put_word}
+use Rattle.spec_machine.specs.State.{State}
+use Rattle.spec_invocation.specs.ModuleState.{state_of}
+use Rattle.spec_invocation.specs.Devices.{HasDevices}
 use Rattle.sx_image.specs.Image.{Enters, Image, call_at, private_bytes, progress_at, setup_at}
 use Rattle.sx_stub.specs.Invokes.{CallBegun}
 use Rattle.sx_stub.proofs.Mem.{AllBytes-bytes_from, AllBytes-put_word, get-put_other, word-put_other, word-put_same}
 use Rattle.sx_stub.proofs.Packets.{bytes_from_get}
 use Rattle.sx_stub.proofs.Slots.{state_same}
 use Rattle.sx_tmpl.specs.Performs.{entry_conf}
-use Rattle.sx_machine.proofs.Lengths.{length-bytes_from, length-put_word}
+use Rattle.spec_machine.proofs.Lengths.{length-bytes_from, length-put_word}
 
 -- memory that has the private section's data from 512 on represents its state
 pub state_in_memory : (tree : ModuleTree) (ends : List End) (l : Layout) (mem priv : List ℕ) → length priv ≡ l.priv_to - l.priv_from

@@ -11,12 +11,12 @@ use Rattle.sx_rules.specs.declared.access.Violation.{Violation}
 use Rattle.sx_rules.specs.declared.section.Layout.{Layout}
 use Rattle.sx_rules.specs.declared.section.Section.{Section}
 use Rattle.sx_tag.specs.Mac.{IsTag, Mac}
-use Rattle.sx_machine.specs.State.{State}
-use Rattle.sx_reach.proofs.Reaching.{weaken}
-use Rattle.sx_invoke.specs.Invocation.{invoke}
-use Rattle.sx_invoke.specs.Progress.{Invoked, marks_in}
-use Rattle.sx_invoke.specs.Setup.{Setup}
-use Rattle.sx_invoke.proofs.PiecesMarked.{pieces_marked}
+use Rattle.spec_machine.specs.State.{State}
+use Rattle.sx_image.proofs.Reaching.{weaken}
+use Rattle.spec_invocation.specs.Invocation.{invoke}
+use Rattle.spec_invocation.specs.Progress.{Invoked, marks_in}
+use Rattle.spec_invocation.specs.Setup.{Setup}
+use Rattle.spec_invocation.proofs.PiecesMarked.{pieces_marked}
 use Rattle.sx_image.specs.Watched.{Watched, watch}
 use Rattle.sx_image.specs.Image.{Enters, Image, call_at, progress_at, public_bytes, setup_at}
 use Rattle.sx_image.specs.Realizes.{Aborted, DoesInvocation, Exited, Underway, begins}

@@ -6,17 +6,17 @@ use Rattle.std.proofs.lemmas.List.{append-nil}
 use Rattle.sx_rules.specs.declared.access.Violation.{Violation}
 use Rattle.sx_rules.specs.declared.access.Violation.TheVariants as bad
 use Rattle.sx_lang.specs.Sizes.{module_data_size}
-use Rattle.sx_machine.specs.State.{State}
-use Rattle.sx_reach.specs.Reach.{Comes, Stops, Here, Next, Ends}
-use Rattle.sx_reach.proofs.Reaching.{and_then, weaken}
+use Rattle.spec_machine.specs.State.{State}
+use Rattle.sx_image.specs.Reach.{Comes, Stops, Here, Next, Ends}
+use Rattle.sx_image.proofs.Reaching.{and_then, weaken}
 use Rattle.sx_tag.specs.Mac.{IsTag}
-use Rattle.sx_invoke.specs.Protocol.{no_entry, bad_window}
-use Rattle.sx_invoke.specs.Windows.{in_window_size, out_window_size}
-use Rattle.sx_invoke.specs.Marks.{Mark, HasPrefix}
-use Rattle.sx_invoke.specs.Setup.{Setup, Call}
-use Rattle.sx_invoke.specs.Windows.{is_bad_window}
-use Rattle.sx_invoke.specs.Progress.{Progress, Invoked, Returns, Violates, marks_in, pieces_in}
-use Rattle.sx_invoke.specs.Invocation.{invoke, entered, has_bad_windows, is_no_entry, returns_inside}
+use Rattle.spec_invocation.specs.Protocol.{no_entry, bad_window}
+use Rattle.spec_invocation.specs.Windows.{in_window_size, out_window_size}
+use Rattle.spec_invocation.specs.Marks.{Mark, HasPrefix}
+use Rattle.spec_invocation.specs.Setup.{Setup, Call}
+use Rattle.spec_invocation.specs.Windows.{is_bad_window}
+use Rattle.spec_invocation.specs.Progress.{Progress, Invoked, Returns, Violates, marks_in, pieces_in}
+use Rattle.spec_invocation.specs.Invocation.{invoke, entered, has_bad_windows, is_no_entry, returns_inside}
 use Rattle.sx_image.specs.Watched.{Watched, watch}
 use Rattle.sx_image.specs.Image.{call_at, private_bytes, progress_at}
 use Rattle.sx_image.specs.Realizes.{Aborted, Exited, Stand, Underway, begins}
@@ -29,7 +29,7 @@ use Rattle.sx_ir.specs.Sound.{is_sound_op}
 use Rattle.sx_stub.specs.Invokes.{CallBegun, EndsSo, Invokes, LeavesSo, ShowsCall}
 use Rattle.sx_tmpl.specs.Unseen.{SameSlots, StepShowsNone}
 use Rattle.sx_rules.specs.declared.section.Layout.{Layout}
-use Rattle.sx_machine.specs.Memory.{put_word}
+use Rattle.spec_machine.specs.Memory.{put_word}
 use Rattle.sx_compile.proofs.Spared.{slots_trans, word_spared}
 use Rattle.sx_tmpl.specs.Performs.{IsRegular, LeftFrom, Never, Performs, NodeRuns, With, entry_conf}
 use Rattle.sx_compile.proofs.Begun.{state_in_memory}

@@ -16,17 +16,17 @@ use Rattle.sx_mean.specs.React.{react, run, handler_at, value_of, handler_of_nam
 use Rattle.sx_rules.specs.declared.access.Violation.{Violation}
 use Rattle.sx_bus.specs.declared.devices.Window.{Window}
 use Rattle.sx_tag.specs.Wrap.{wrapped}
-use Rattle.sx_machine.specs.Memory.{word}
-use Rattle.sx_invoke.specs.Setup.{Setup, Call}
-use Rattle.sx_invoke.specs.Marks as mark
-use Rattle.sx_invoke.specs.ModuleState.{EndState, end_of}
-use Rattle.sx_invoke.specs.Windows.{write_bytes}
-use Rattle.sx_invoke.specs.Progress.{Progress, Course, Going, Broken, and_on, finished, pieces_in}
-use Rattle.sx_invoke.specs.Acts.{with_piece, copied_to, with_packet, event_packet, wrap_counted, with_packets, with_act, with_acts, actuated, own_window, handled}
+use Rattle.spec_machine.specs.Memory.{word}
+use Rattle.spec_invocation.specs.Setup.{Setup, Call}
+use Rattle.spec_invocation.specs.Marks as mark
+use Rattle.spec_invocation.specs.ModuleState.{EndState, end_of}
+use Rattle.spec_invocation.specs.Windows.{write_bytes}
+use Rattle.spec_invocation.specs.Progress.{Progress, Course, Going, Broken, and_on, finished, pieces_in}
+use Rattle.spec_invocation.specs.Acts.{with_piece, copied_to, with_packet, event_packet, wrap_counted, with_packets, with_act, with_acts, actuated, own_window, handled}
 use Rattle.sx_mean.specs.Ends.{is_sending}
-use Rattle.sx_invoke.specs.Entries.{attest, sample_read, number_taken, end_keyed}
-use Rattle.sx_invoke.specs.Protocol.{event_size, key_size, value_size, last_number}
-use Rattle.sx_invoke.proofs.ByEntry.{by_entry}
+use Rattle.spec_invocation.specs.Entries.{attest, sample_read, number_taken, end_keyed}
+use Rattle.spec_invocation.specs.Protocol.{event_size, key_size, value_size, last_number}
+use Rattle.spec_invocation.proofs.ByEntry.{by_entry}
 use Rattle.sx_mean.specs.EndLaws.{senders}
 use Rattle.sx_mean.proofs.Ends.{senders-cons}
 use Rattle.sx_mean.proofs.SendsCounted.{block_sent, sends_by, sent_by}

@@ -10,15 +10,15 @@ use Rattle.sx_rules.specs.declared.access.Violation.{Violation}
 use Rattle.sx_rules.specs.declared.section.Layout.{Layout}
 use Rattle.sx_rules.specs.declared.section.Section.{Section}
 use Rattle.sx_tag.specs.Mac.{IsTag, Mac}
-use Rattle.sx_machine.specs.Memory.{word}
-use Rattle.sx_machine.specs.State.{State}
-use Rattle.sx_reach.specs.Reach.{Comes, Ends, Here, Next, Stops}
-use Rattle.sx_reach.proofs.Reaching.{and_then, weaken}
-use Rattle.sx_invoke.specs.Marks.{HasPrefix, Mark}
-use Rattle.sx_invoke.specs.Pieces.{made_bytes}
-use Rattle.sx_invoke.specs.Progress.{Broken, Course, Going, Progress, Violates, bytes_in, finished, marks_in, pieces_in}
-use Rattle.sx_invoke.specs.Setup.{Call, Setup}
-use Rattle.sx_invoke.proofs.PiecesMarked.{OnCourse, handled_made}
+use Rattle.spec_machine.specs.Memory.{word}
+use Rattle.spec_machine.specs.State.{State}
+use Rattle.sx_image.specs.Reach.{Comes, Ends, Here, Next, Stops}
+use Rattle.sx_image.proofs.Reaching.{and_then, weaken}
+use Rattle.spec_invocation.specs.Marks.{HasPrefix, Mark}
+use Rattle.spec_invocation.specs.Pieces.{made_bytes}
+use Rattle.spec_invocation.specs.Progress.{Broken, Course, Going, Progress, Violates, bytes_in, finished, marks_in, pieces_in}
+use Rattle.spec_invocation.specs.Setup.{Call, Setup}
+use Rattle.spec_invocation.proofs.PiecesMarked.{OnCourse, handled_made}
 use Rattle.sx_image.specs.Image.{private_bytes, progress_at, setup_at}
 use Rattle.sx_image.specs.Realizes.{Aborted, begins}
 use Rattle.sx_image.specs.Watched.{Watched, watch}
@@ -39,7 +39,7 @@ use Rattle.sx_tmpl.specs.Text.{addresses, bytes_of, text_words}
 use Rattle.sx_tmpl.proofs.Texts.Going.{op_breaks, op_goes_on}
 use Rattle.sx_tmpl.proofs.Running.MidRun.{Held, Runs, Stands}
 use Rattle.sx_tmpl.proofs.Texts.SoundOps.{AreSound, are_sound}
-use Rattle.sx_invoke.specs.Windows.{is_bad_window}
+use Rattle.spec_invocation.specs.Windows.{is_bad_window}
 use Rattle.sx_compile.specs.Body.{BeginsHandler, Handling, HasHandled, course_at, kept_on}
 use Rattle.sx_compile.specs.Compiled.{HasSections}
 use Rattle.std.proofs.Common.{None, inl, inr, ◌%◌}
@@ -58,7 +58,7 @@ use Rattle.sx_compile.proofs.Narrow.{AreBelow, bytes_below, ops_below}
 use Rattle.sx_compile.proofs.CompiledRealizes.{room_of}
 use Rattle.sx_compile.proofs.Regular.{runs_regular}
 use Rattle.sx_compile.proofs.Written.{handled_written, stand_same}
-use Rattle.sx_machine.proofs.Lengths.{length-bytes_from}
+use Rattle.spec_machine.proofs.Lengths.{length-bytes_from}
 
 module _ (f : Fixed) (st : Stands f) (all : List Mark) (window : f.to ≡ pieces_end (is_bad_window f.setup f.from 384) f.from (made_bytes all)) (tag : IsTag f.setup.mac) (code : Code)
     (sound : AreSound code.ops.items code.parts.items f.setup.section.layout)

@@ -18,15 +18,15 @@ use Rattle.sx_bus.specs.declared.devices.Window.{Window}
 use Rattle.sx_bus.specs.Devices.{cleared, HaveSamples}
 use Rattle.sx_bus.proofs.Changed.{HaveSamples-cleared}
 use Rattle.sx_tag.specs.Wrap.{unwrapped, wrapped}
-use Rattle.sx_machine.specs.Memory.{even, word, put_word, put_bytes, bytes_from}
-use Rattle.sx_machine.proofs.PublicKept.{put_other}
-use Rattle.sx_reach.specs.Reach.{Goes, Stops}
-use Rattle.sx_invoke.specs.Marks.{Mark, HasPrefix}
-use Rattle.sx_invoke.specs.Marks as mark
-use Rattle.sx_invoke.specs.Setup.{Setup}
-use Rattle.sx_invoke.specs.ModuleState.{EndState, end_state}
-use Rattle.sx_invoke.specs.Windows.{is_bad_window, read_byte, read_bytes, then_, two, write_bytes}
-use Rattle.sx_invoke.specs.Acts.{event_packet, event_header, own_window}
+use Rattle.spec_machine.specs.Memory.{even, word, put_word, put_bytes, bytes_from}
+use Rattle.spec_machine.proofs.PublicKept.{put_other}
+use Rattle.sx_image.specs.Reach.{Goes, Stops}
+use Rattle.spec_invocation.specs.Marks.{Mark, HasPrefix}
+use Rattle.spec_invocation.specs.Marks as mark
+use Rattle.spec_invocation.specs.Setup.{Setup}
+use Rattle.spec_invocation.specs.ModuleState.{EndState, end_state}
+use Rattle.spec_invocation.specs.Windows.{is_bad_window, read_byte, read_bytes, then_, two, write_bytes}
+use Rattle.spec_invocation.specs.Acts.{event_packet, event_header, own_window}
 use Rattle.sx_ir.specs.declared.ir.Ir.{Ir}
 use Rattle.sx_ir.specs.declared.ir.Ir.TheVariants as ir
 use Rattle.sx_ir.specs.declared.ir.IrOp.{IrOp}
@@ -36,7 +36,7 @@ use Rattle.sx_ir.specs.Meaning as m
 use Rattle.sx_ir.specs.Meaning.{OperationResult, saved, do_at, do_op, keeps_slots, names_no_key, next, when, on_top, pushed, pieces}
 use Rattle.sx_ir.specs.Sound.{are_sealed, is_even, is_free, is_sound_op, may_change}
 use Rattle.sx_stub.proofs.Mem.{word_same}
-use Rattle.sx_lists.specs.Truth.{truth}
+use Rattle.lemmas.specs.Truth.{truth}
 use Rattle.sx_tmpl.proofs.Running.Outcomes.{ok_same}
 
 -- a place to return to is the one that was, or the next one

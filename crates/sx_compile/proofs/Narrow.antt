@@ -7,7 +7,7 @@ use Rattle.std.proofs.lemmas.Option.{slice_get_within}
 use Rattle.sx_lang.specs.Tree.{ModuleTree}
 use Rattle.sx_mean.specs.declared.events.End.{End}
 use Rattle.sx_rules.specs.declared.section.Layout.{Layout}
-use Rattle.sx_machine.specs.Memory.{bytes_from}
+use Rattle.spec_machine.specs.Memory.{bytes_from}
 use Rattle.sx_ir.specs.declared.ir.Ir.{Ir}
 use Rattle.sx_ir.specs.declared.ir.Ir.TheVariants as ir
 use Rattle.sx_lower.specs.Lowered.{handlers_code}

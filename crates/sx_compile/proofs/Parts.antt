@@ -8,8 +8,8 @@ use Rattle.sx_lang.specs.Sizes.{handler_cost, handlers_cost, module_cost}
 use Rattle.sx_lang.specs.Tree.{HandlerTree}
 use Rattle.sx_mean.specs.declared.events.End.{End}
 use Rattle.sx_mean.proofs.Handlers.{number_handler}
-use Rattle.sx_reach.proofs.Reaching.{weaken}
-use Rattle.sx_invoke.specs.Setup.{Setup}
+use Rattle.sx_image.proofs.Reaching.{weaken}
+use Rattle.spec_invocation.specs.Setup.{Setup}
 use Rattle.sx_ir.specs.declared.ir.Ir.{Ir}
 use Rattle.sx_ir.specs.Conf.{Conf, Halt}
 use Rattle.sx_ir.specs.Invoking.{PartDoes}

@@ -4,9 +4,9 @@ use Rattle.std.specs.Prelude.{slice_get}
 use Rattle.std.specs.List.{list_all}
 use Rattle.sx_rules.specs.declared.access.Violation.{Violation}
 use Rattle.sx_bus.specs.Devices.{HaveSamples}
-use Rattle.sx_reach.specs.Reach.{Comes, Goes, Stops, Here, Next, Ends}
-use Rattle.sx_invoke.specs.Marks.{Mark, HasPrefix}
-use Rattle.sx_invoke.specs.Setup.{Call, Setup}
+use Rattle.sx_image.specs.Reach.{Comes, Goes, Stops, Here, Next, Ends}
+use Rattle.spec_invocation.specs.Marks.{Mark, HasPrefix}
+use Rattle.spec_invocation.specs.Setup.{Call, Setup}
 use Rattle.sx_ir.specs.declared.ir.Ir.{Ir}
 use Rattle.sx_ir.specs.Conf.{Conf, Halt, Violates, Stuck}
 use Rattle.sx_ir.specs.Meaning.{OperationResult, saved, do_at, has_key_mark, no_count, op_step, op_count, part_from, CodeReaches, OnViolation}

@@ -1,7 +1,7 @@
 -- What an invocation comes to is one thing.
 use Rattle.std.proofs.Common.{◌≡◌, ℕ}
 use Rattle.sx_rules.specs.declared.access.Violation.{Violation}
-use Rattle.sx_invoke.specs.Progress.{Progress, Returns, Violates}
+use Rattle.spec_invocation.specs.Progress.{Progress, Returns, Violates}
 
 pub returns_same : (a b : ℕ) (x y : Progress) → Returns a x ≡ Returns b y → x ≡ y
 returns_same a b x y h = cc

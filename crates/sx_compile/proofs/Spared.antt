@@ -12,16 +12,16 @@ use Rattle.sx_bus.specs.declared.devices.Kind.TheVariants as kind
 use Rattle.sx_bus.specs.declared.devices.Window.{Window}
 use Rattle.sx_bus.specs.Devices.{cleared}
 use Rattle.sx_tag.specs.Wrap.{unwrapped, wrapped}
-use Rattle.sx_machine.specs.Memory.{even, word, put_word, put_bytes, bytes_from}
-use Rattle.sx_machine.proofs.Lengths.{length-bytes_from}
-use Rattle.sx_machine.proofs.PublicKept.{put_other}
-use Rattle.sx_reach.specs.Reach.{Goes, Stops}
-use Rattle.sx_invoke.specs.Marks as mark
-use Rattle.sx_invoke.specs.Marks.{Mark}
-use Rattle.sx_invoke.specs.Setup.{Setup}
-use Rattle.sx_invoke.specs.ModuleState.{EndState, end_state}
-use Rattle.sx_invoke.specs.Windows.{is_bad_window, read_bytes, write_bytes}
-use Rattle.sx_invoke.specs.Acts.{event_packet, own_window}
+use Rattle.spec_machine.specs.Memory.{even, word, put_word, put_bytes, bytes_from}
+use Rattle.spec_machine.proofs.Lengths.{length-bytes_from}
+use Rattle.spec_machine.proofs.PublicKept.{put_other}
+use Rattle.sx_image.specs.Reach.{Goes, Stops}
+use Rattle.spec_invocation.specs.Marks as mark
+use Rattle.spec_invocation.specs.Marks.{Mark}
+use Rattle.spec_invocation.specs.Setup.{Setup}
+use Rattle.spec_invocation.specs.ModuleState.{EndState, end_state}
+use Rattle.spec_invocation.specs.Windows.{is_bad_window, read_bytes, write_bytes}
+use Rattle.spec_invocation.specs.Acts.{event_packet, own_window}
 use Rattle.sx_ir.specs.declared.ir.Ir.{Ir}
 use Rattle.sx_ir.specs.declared.ir.Ir.TheVariants as ir
 use Rattle.sx_ir.specs.declared.ir.IrOp.{IrOp}
@@ -32,7 +32,7 @@ use Rattle.sx_ir.specs.Meaning.{OperationResult, saved, do_at, do_op, is_key_mar
 use Rattle.sx_ir.specs.Sound.{is_even, is_sound_op, may_change}
 use Rattle.sx_ir.proofs.Shown.{number_spared}
 use Rattle.sx_stub.proofs.Mem.{get-put_other}
-use Rattle.sx_lists.specs.Truth.{truth}
+use Rattle.lemmas.specs.Truth.{truth}
 use Rattle.sx_tmpl.specs.Unseen.{SameSlots}
 use Rattle.sx_tag.proofs.TagBytes.{tag_short}
 use Rattle.sx_tmpl.proofs.Operations.Sealing.{crypt_short}

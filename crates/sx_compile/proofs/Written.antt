@@ -17,26 +17,26 @@ use Rattle.sx_rules.specs.Access.{may}
 use Rattle.sx_bus.specs.declared.devices.Window.{Window}
 use Rattle.sx_bus.specs.Devices.{device_at}
 use Rattle.sx_tag.specs.Wrap.{wrapped, crypt}
-use Rattle.sx_machine.specs.Memory.{word}
-use Rattle.sx_machine.specs.Memory.{bytes_from}
-use Rattle.sx_invoke.specs.Setup.{Setup, Call}
+use Rattle.spec_machine.specs.Memory.{word}
+use Rattle.spec_machine.specs.Memory.{bytes_from}
+use Rattle.spec_invocation.specs.Setup.{Setup, Call}
 use Rattle.sx_tag.specs.Mac.{IsTag}
-use Rattle.sx_invoke.specs.Marks as mark
-use Rattle.sx_invoke.specs.ModuleState.{end_of}
-use Rattle.sx_invoke.specs.Windows.{write_byte, write_bytes, then_, unless_device, is_bad_window, in_window_size, out_window_size}
-use Rattle.sx_invoke.specs.Progress.{Progress, Invoked, Returns, Course, Going, Broken, and_on, finished}
-use Rattle.sx_invoke.specs.Acts.{with_piece, copied_to, with_packet, event_packet, wrap_counted, with_packets, with_act, with_acts, actuated, own_window, handled}
+use Rattle.spec_invocation.specs.Marks as mark
+use Rattle.spec_invocation.specs.ModuleState.{end_of}
+use Rattle.spec_invocation.specs.Windows.{write_byte, write_bytes, then_, unless_device, is_bad_window, in_window_size, out_window_size}
+use Rattle.spec_invocation.specs.Progress.{Progress, Invoked, Returns, Course, Going, Broken, and_on, finished}
+use Rattle.spec_invocation.specs.Acts.{with_piece, copied_to, with_packet, event_packet, wrap_counted, with_packets, with_act, with_acts, actuated, own_window, handled}
 use Rattle.sx_mean.specs.Ends.{is_sending}
-use Rattle.sx_invoke.specs.Invocation.{invoke, has_bad_windows}
-use Rattle.sx_invoke.specs.Entries.{attest, sample_read, number_taken, end_keyed}
-use Rattle.sx_invoke.specs.Protocol.{all_done, event_size, key_size, value_size, last_number}
-use Rattle.sx_invoke.proofs.ByEntry.{by_entry}
+use Rattle.spec_invocation.specs.Invocation.{invoke, has_bad_windows}
+use Rattle.spec_invocation.specs.Entries.{attest, sample_read, number_taken, end_keyed}
+use Rattle.spec_invocation.specs.Protocol.{all_done, event_size, key_size, value_size, last_number}
+use Rattle.spec_invocation.proofs.ByEntry.{by_entry}
 use Rattle.sx_image.specs.Realizes.{KeepsOutside, Stand, is_piece_address}
-use Rattle.sx_invoke.specs.Progress.{bytes_in}
+use Rattle.spec_invocation.specs.Progress.{bytes_in}
 use Rattle.sx_stub.proofs.Mem.{bytes_from_same}
 use Rattle.sx_stub.proofs.Packets.{bytes_from_get}
-use Rattle.sx_invoke.proofs.PiecesMarked.{bytes_more, packet_length, tag_length}
-use Rattle.sx_machine.proofs.Lengths.{length-bytes_from}
+use Rattle.spec_invocation.proofs.PiecesMarked.{bytes_more, packet_length, tag_length}
+use Rattle.spec_machine.proofs.Lengths.{length-bytes_from}
 use Rattle.sx_tmpl.proofs.Running.Outcomes.{ok_same}
 use Rattle.sx_tmpl.proofs.Texts.Entering.{window_short}
 use Rattle.sx_compile.proofs.Returning.{returns_same, violates_returns}

@@ -5,17 +5,17 @@ use Rattle.sx_lang.specs.declared.tree.Decl.{Decl}
 use Rattle.sx_lang.specs.declared.tree.Decl.TheVariants.{Device, Input, Output, Var, Array}
 use Rattle.sx_mean.specs.declared.events.End.{End}
 use Rattle.sx_mean.specs.Places.{initial_cells, first_cells}
-use Rattle.sx_machine.specs.Memory.{word}
-use Rattle.sx_machine.specs.Memory.{bytes_from}
+use Rattle.spec_machine.specs.Memory.{word}
+use Rattle.spec_machine.specs.Memory.{bytes_from}
 use Rattle.sx_mean.specs.Offsets.{end_at, cell_at}
-use Rattle.sx_invoke.specs.ModuleState.{EndState, end_state, end_states, initial_ends, closed_end, cells_from, state_of}
+use Rattle.spec_invocation.specs.ModuleState.{EndState, end_state, end_states, initial_ends, closed_end, cells_from, state_of}
 use Rattle.sx_lang.specs.Words.{DeclHasWords, DeclsHaveWords}
 use Rattle.sx_stub.proofs.Mem.{bytes_from_same}
 use Rattle.sx_stub.proofs.Slots.{end_state_is}
-use Rattle.sx_lists.proofs.Lists.{zero_at}
+use Rattle.lemmas.proofs.Lists.{zero_at}
 
 zero_word : (n a : ℕ) → word (replicate n 0) a ≡ 0
-zero_word n a = let p = zero_at n (Rattle.sx_machine.specs.Memory.even a) in let q = zero_at n (Rattle.sx_machine.specs.Memory.even a + 1) in omega (arith, p, q)
+zero_word n a = let p = zero_at n (Rattle.spec_machine.specs.Memory.even a) in let q = zero_at n (Rattle.spec_machine.specs.Memory.even a + 1) in omega (arith, p, q)
 
 zero_key : (n a : ℕ) → bytes_from (replicate n 0) a 16 ≡ replicate 16 0
 unfolding bytes_from

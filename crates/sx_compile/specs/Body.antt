@@ -14,18 +14,18 @@ use Rattle.sx_rules.specs.declared.section.Layout.{Layout}
 use Rattle.sx_rules.specs.declared.section.Section.{Section}
 use Rattle.sx_rules.specs.Access.{Lives}
 use Rattle.sx_tag.specs.Mac.{Mac}
-use Rattle.sx_machine.specs.Memory.{bytes_from, word}
-use Rattle.sx_machine.specs.Node.{IsNode}
-use Rattle.sx_machine.specs.State.{State}
-use Rattle.sx_machine.specs.Step.{own_of, pc_of}
-use Rattle.sx_reach.specs.Reach.{Comes}
-use Rattle.sx_invoke.specs.Acts.{handled}
-use Rattle.sx_invoke.specs.Devices.{HasDevices}
-use Rattle.sx_invoke.specs.Marks.{HasPrefix}
-use Rattle.sx_invoke.specs.ModuleState.{state_of}
-use Rattle.sx_invoke.specs.Progress.{Course, Going, Progress, finished, marks_in, pieces_in}
-use Rattle.sx_invoke.specs.Setup.{Call, Setup}
-use Rattle.sx_invoke.specs.Windows.{is_bad_window, out_window_size}
+use Rattle.spec_machine.specs.Memory.{bytes_from, word}
+use Rattle.spec_machine.specs.Node.{IsNode}
+use Rattle.spec_machine.specs.State.{State}
+use Rattle.spec_machine.specs.Step.{own_of, pc_of}
+use Rattle.sx_image.specs.Reach.{Comes}
+use Rattle.spec_invocation.specs.Acts.{handled}
+use Rattle.spec_invocation.specs.Devices.{HasDevices}
+use Rattle.spec_invocation.specs.Marks.{HasPrefix}
+use Rattle.spec_invocation.specs.ModuleState.{state_of}
+use Rattle.spec_invocation.specs.Progress.{Course, Going, Progress, finished, marks_in, pieces_in}
+use Rattle.spec_invocation.specs.Setup.{Call, Setup}
+use Rattle.spec_invocation.specs.Windows.{is_bad_window, out_window_size}
 use Rattle.sx_image.specs.Image.{private_bytes, progress_at, setup_at}
 use Rattle.sx_image.specs.Realizes.{Aborted, KeepsOutside, Stand, begins}
 use Rattle.sx_image.specs.Watched.{Watched, watch}

@@ -7,11 +7,11 @@ use Rattle.sx_mean.specs.declared.events.End.{End}
 use Rattle.sx_rules.specs.declared.section.Layout.{Layout}
 use Rattle.sx_rules.specs.declared.section.Section.{Section}
 use Rattle.sx_tag.specs.Mac.{Mac, IsTag}
-use Rattle.sx_invoke.specs.Invocation.{invoke}
-use Rattle.sx_invoke.specs.ModuleState.{initial_state, state_of}
-use Rattle.sx_invoke.specs.Progress.{Progress, pieces_in}
-use Rattle.sx_invoke.specs.Setup.{Call, Setup}
-use Rattle.sx_machine.specs.State.{State}
+use Rattle.spec_invocation.specs.Invocation.{invoke}
+use Rattle.spec_invocation.specs.ModuleState.{initial_state, state_of}
+use Rattle.spec_invocation.specs.Progress.{Progress, pieces_in}
+use Rattle.spec_invocation.specs.Setup.{Call, Setup}
+use Rattle.spec_machine.specs.State.{State}
 use Rattle.sx_image.specs.Image.{Enters, Image, call_at, progress_at, setup_at}
 use Rattle.sx_image.specs.Realizes.{Aborted, Exited, Realizes, begins}
 use Rattle.sx_ir.specs.declared.ir.Code.{Code}

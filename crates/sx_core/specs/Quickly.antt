@@ -4,7 +4,7 @@
 --     EndsStep      a plan was run, and the step says so
 use Rattle.std.specs.Prelude.{◌≡◌, Bool, true, false, Result, Ok}
 use Rattle.sx_rules.specs.declared.access.Violation.{Violation}
-use Rattle.sx_machine.specs.Plan.{Plan}
+use Rattle.spec_machine.specs.Plan.{Plan}
 use Rattle.sx_executor.specs.Machine.{Machine, RunsPlan}
 use Rattle.sx_core.specs.declared.quick.Stepped.{Stepped}
 use Rattle.sx_core.specs.declared.quick.Stepped.TheVariants.{Quiet, Answered}

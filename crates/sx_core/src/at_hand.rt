@@ -13,9 +13,9 @@ ghost use Rattle.sx_isa.specs.declared.instruction.Operand.TheVariants.{Reg, Inc
 ghost use Rattle.sx_isa.specs.declared.instruction.Operand.TheVariants.{Immediate, Indexed, Const};
 ghost use Rattle.sx_alu.specs.Table.{limit};
 ghost use Rattle.sx_alu.specs.Widths.{has_width};
-ghost use Rattle.sx_machine.specs.Plan.{Done, Store};
-ghost use Rattle.sx_machine.specs.Registers.{at_pc};
-ghost use Rattle.sx_machine.specs.Rows.{two, one, onto, on_memory, into_register, in_place, pushed};
+ghost use Rattle.spec_machine.specs.Plan.{Done, Store};
+ghost use Rattle.spec_machine.specs.Registers.{at_pc};
+ghost use Rattle.spec_machine.specs.Rows.{two, one, onto, on_memory, into_register, in_place, pushed};
 ghost use Rattle.sx_executor.specs.Machine.{RunsPlan, Loads};
 ghost use Rattle.sx_core.specs.Quickly.{RunsQuietly, EndsStep};
 

@@ -1,8 +1,8 @@
 //! Jumps: the condition, and where PC goes.
 
 ghost use Rattle.std.specs.Prelude.{◌≡◌, if◌then◌else◌};
-ghost use Rattle.sx_machine.specs.Registers.{onward};
-ghost use Rattle.sx_machine.specs.Rows.{jump_taken, distance, jump};
+ghost use Rattle.spec_machine.specs.Registers.{onward};
+ghost use Rattle.spec_machine.specs.Rows.{jump_taken, distance, jump};
 ghost use Rattle.sx_executor.specs.Machine.{RunsPlan};
 ghost use Rattle.sx_core.specs.Quickly.{RunsQuietly};
 

@@ -3,7 +3,7 @@
 //!
 //! `step_plain` executes one instruction and `interrupt` accepts an interrupt, on an `Executor`.
 //! Each is exactly a run of the executor over the instruction's plan, so every access is checked by
-//! the access table and by the devices. sx_machine defines the plans of instructions (`Rows.antt`),
+//! the access table and by the devices. spec_machine defines the plans of instructions (`Rows.antt`),
 //! that of an interrupt (`Acts.antt`) and the executor (`Run.antt`). Nothing here takes memory.
 #![tactic(auto)]
 

@@ -2,9 +2,9 @@
 
 ghost use Rattle.std.specs.Prelude.{IsTrue, slice_index};
 ghost use Rattle.sx_alu.specs.Widths.{has_width};
-ghost use Rattle.sx_machine.specs.Plan.{Done, Store};
-ghost use Rattle.sx_machine.specs.Registers.{at_pc};
-ghost use Rattle.sx_machine.specs.Rows.{in_memory, in_place, pushed, one, reti};
+ghost use Rattle.spec_machine.specs.Plan.{Done, Store};
+ghost use Rattle.spec_machine.specs.Registers.{at_pc};
+ghost use Rattle.spec_machine.specs.Rows.{in_memory, in_place, pushed, one, reti};
 ghost use Rattle.sx_executor.specs.Machine.{RunsPlan};
 
 use crate::operand::read_source;

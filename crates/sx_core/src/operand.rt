@@ -2,7 +2,7 @@
 
 ghost use Rattle.std.specs.Prelude.{◌<◌, IfOk};
 ghost use Rattle.sx_alu.specs.Table.{limit};
-ghost use Rattle.sx_machine.specs.Rows.{from_source};
+ghost use Rattle.spec_machine.specs.Rows.{from_source};
 ghost use Rattle.sx_executor.specs.Machine.{GivesValue};
 
 use sx_bus::Bus;

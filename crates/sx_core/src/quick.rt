@@ -11,11 +11,11 @@ ghost use Rattle.sx_isa.specs.declared.instruction.Operand.TheVariants.{Reg, Con
 ghost use Rattle.sx_isa.specs.declared.instruction.Operand.TheVariants.{Symbolic, Absolute};
 ghost use Rattle.sx_alu.specs.Table.{limit};
 ghost use Rattle.sx_rules.specs.declared.access.Access.TheVariants.{Read, Write};
-ghost use Rattle.sx_machine.specs.Registers.{onward, at_pc, reg};
-ghost use Rattle.sx_machine.specs.Rows.{row, with_words, program, jump, two, onto, on_memory};
-ghost use Rattle.sx_machine.specs.Rows.{into_register, writes};
-ghost use Rattle.sx_machine.specs.Run.{may_at, device_of};
-ghost use Rattle.sx_machine.specs.Answers.{followed};
+ghost use Rattle.spec_machine.specs.Registers.{onward, at_pc, reg};
+ghost use Rattle.spec_machine.specs.Rows.{row, with_words, program, jump, two, onto, on_memory};
+ghost use Rattle.spec_machine.specs.Rows.{into_register, writes};
+ghost use Rattle.spec_machine.specs.Run.{may_at, device_of};
+ghost use Rattle.spec_machine.specs.Answers.{followed};
 ghost use Rattle.sx_executor.specs.Machine.{ran, RunsPlan};
 ghost use Rattle.sx_executor.specs.Shortcuts.{instruction_of, words_of, is_general};
 ghost use Rattle.sx_executor.specs.Shortcuts.{single_of, double_of};
@@ -364,7 +364,7 @@ fn with_extension<B: Bus, const CALLER: u8>(
 /// knows that no device was touched. Each caller has a number, and so code of its own, which the
 /// compiler puts into it.
 #[inline]
-#[tactic(auto, unfolding(sx_machine::specs::Rows::program, sx_isa::specs::Reading::length_of))]
+#[tactic(auto, unfolding(spec_machine::specs::Rows::program, sx_isa::specs::Reading::length_of))]
 pub fn step_quick<B: Bus, const CALLER: u8>(executor: &mut Executor<B>, first: u16) -> Stepped
     ensures { EndsStep (program first executor.old.regs) executor.old result executor.new }
 {

@@ -3,10 +3,10 @@
 ghost use Rattle.std.specs.Prelude.{◌≡◌, ℕ, ◌*◌, ◌≤◌, List};
 ghost use Rattle.sx_isa.specs.Reading.{length_of};
 ghost use Rattle.sx_isa.specs.Extending.{extended};
-ghost use Rattle.sx_machine.specs.Registers.{onward};
-ghost use Rattle.sx_machine.specs.Rows.{row, with_words, program};
-ghost use Rattle.sx_machine.specs.Acts.{interrupt};
-ghost use Rattle.sx_machine.specs.Answers.{followed};
+ghost use Rattle.spec_machine.specs.Registers.{onward};
+ghost use Rattle.spec_machine.specs.Rows.{row, with_words, program};
+ghost use Rattle.spec_machine.specs.Acts.{interrupt};
+ghost use Rattle.spec_machine.specs.Answers.{followed};
 ghost use Rattle.sx_executor.specs.Machine.{ran, RunsPlan};
 
 use crate::jump::jump;
@@ -91,7 +91,7 @@ fn execute<B: Bus>(
 
 /// Executes the instruction at PC, whose first word this is.
 #[inline(never)]
-#[tactic(auto, unfolding(sx_machine::specs::Rows::program))]
+#[tactic(auto, unfolding(spec_machine::specs::Rows::program))]
 fn step_decoded<B: Bus>(executor: &mut Executor<B>, decoded: Decoded) -> Result<(), Violation>
     ensures { RunsPlan (program decoded.first executor.old.regs) executor.old result
         executor.new }
@@ -105,7 +105,7 @@ fn step_decoded<B: Bus>(executor: &mut Executor<B>, decoded: Decoded) -> Result<
 
 /// Executes the instruction at PC with this first word, which wasn't decoded before.
 #[inline(never)]
-#[tactic(auto, unfolding(sx_machine::specs::Rows::program))]
+#[tactic(auto, unfolding(spec_machine::specs::Rows::program))]
 fn step_anew<B: Bus>(executor: &mut Executor<B>, first: u16) -> Result<(), Violation>
     ensures { RunsPlan (program first executor.old.regs) executor.old result executor.new }
 {
@@ -146,7 +146,7 @@ pub fn step_plain<B: Bus>(executor: &mut Executor<B>, first: u16) -> Result<(), 
 /// Pushes PC and then SR, clears SR, and loads PC from the vector of the line. After a violation
 /// nothing is said of registers and memory: the caller resets the node. TI's guide says what an
 /// interrupt pushes and loads; that it runs as code outside every module is our own rule.
-#[tactic(auto, unfolding(sx_machine::specs::Acts::interrupt))]
+#[tactic(auto, unfolding(spec_machine::specs::Acts::interrupt))]
 pub fn interrupt<B: Bus>(executor: &mut Executor<B>, line: u8) -> Result<(), Violation>
     requires { line ≤ 14 }
     ensures { RunsPlan (interrupt line executor.old.regs) executor.old result executor.new }

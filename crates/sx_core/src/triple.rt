@@ -5,9 +5,9 @@ ghost use Rattle.sx_isa.specs.Reading.{length_of};
 ghost use Rattle.sx_isa.specs.Extending.{extended};
 ghost use Rattle.sx_isa.specs.declared.instruction.Operand.TheVariants.{Absolute, Immediate};
 ghost use Rattle.sx_isa.specs.declared.instruction.Operand.TheVariants.{Indexed};
-ghost use Rattle.sx_machine.specs.Registers.{onward, at_pc};
-ghost use Rattle.sx_machine.specs.Rows.{row, with_words, program, two};
-ghost use Rattle.sx_machine.specs.Answers.{followed};
+ghost use Rattle.spec_machine.specs.Registers.{onward, at_pc};
+ghost use Rattle.spec_machine.specs.Rows.{row, with_words, program, two};
+ghost use Rattle.spec_machine.specs.Answers.{followed};
 ghost use Rattle.sx_executor.specs.Machine.{ran, RunsPlan};
 ghost use Rattle.sx_executor.specs.Shortcuts.{instruction_of, words_of, triple_of};
 ghost use Rattle.sx_core.specs.Quickly.{EndsStep};
@@ -170,7 +170,7 @@ fn with_both<B: Bus>(executor: &mut Executor<B>, form: Triple, x: u16, z: u16, p
 /// Executes the instruction at PC of this shortcut, which is one of three words. Its code stays out
 /// of the way of what most steps do.
 #[inline(never)]
-#[tactic(auto, unfolding(sx_machine::specs::Rows::program, sx_isa::specs::Reading::length_of))]
+#[tactic(auto, unfolding(spec_machine::specs::Rows::program, sx_isa::specs::Reading::length_of))]
 pub fn step_triple<B: Bus>(executor: &mut Executor<B>, shortcut: Shortcut) -> Result<(), Violation>
     ensures { RunsPlan (program shortcut.first executor.old.regs) executor.old result
         executor.new }

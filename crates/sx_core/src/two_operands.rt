@@ -4,8 +4,8 @@ ghost use Rattle.std.specs.Prelude.{◌≡◌, ◌<◌, ℕ, Bool, IsTrue, IfSom
 ghost use Rattle.sx_alu.specs.declared.flags.Flags.{Flags};
 ghost use Rattle.sx_alu.specs.Table.{limit, row};
 ghost use Rattle.sx_alu.specs.Widths.{has_width};
-ghost use Rattle.sx_machine.specs.Rows.{computed, reads, writes, two};
-ghost use Rattle.sx_machine.specs.Rows.{into_register, into_memory, on_memory, onto};
+ghost use Rattle.spec_machine.specs.Rows.{computed, reads, writes, two};
+ghost use Rattle.spec_machine.specs.Rows.{into_register, into_memory, on_memory, onto};
 ghost use Rattle.sx_executor.specs.Machine.{RunsPlan};
 
 use crate::operand::read_source;

@@ -1,10 +1,10 @@
 -- What each rule gave where a text means a deployment.
 use Rattle.std.proofs.Common.{◌≡◌, ℕ, List, [], ◌∷◌, ◌++◌, length, map, Option, Some, None, Result, Ok, Err, refl, sym, subst, ap, ◌∙◌, append_assoc, append-nil}
 use Rattle.toml.specs.Data.{Members}
-use Rattle.sx_stage.specs.Fault.{◌>>=◌, passes}
-use Rattle.sx_stage.specs.Stage.{made_after}
-use Rattle.sx_stage.specs.declared.fault.DeployFault.{DeployFault}
-use Rattle.sx_stage.proofs.Each.{bind-Ok, Each}
+use Rattle.sx_entries.specs.Fault.{◌>>=◌, passes}
+use Rattle.sx_entries.specs.Stage.{made_after}
+use Rattle.sx_entries.specs.declared.fault.DeployFault.{DeployFault}
+use Rattle.sx_entries.proofs.Each.{bind-Ok, Each}
 use Rattle.sx_entries.specs.Documents.{table_of}
 use Rattle.sx_entries.specs.Arrays.{RowLists, rows_of}
 use Rattle.sx_entries.specs.Entries.{EntryLists, entries_of}

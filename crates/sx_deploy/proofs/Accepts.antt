@@ -3,8 +3,8 @@ use Rattle.std.proofs.Common.{ℕ, List, Result, Ok, Err, IfOk, IsTrue}
 use Rattle.sx_mean.specs.Validity.{is_valid}
 use Rattle.sx_mean.specs.View.{app_as}
 use Rattle.sx_trace.specs.ValidNames.{are_valid}
-use Rattle.sx_stage.specs.Gives.{GivesOne}
-use Rattle.sx_stage.specs.declared.fault.DeployError.{DeployError}
+use Rattle.sx_entries.specs.Gives.{GivesOne}
+use Rattle.sx_entries.specs.declared.fault.DeployError.{DeployError}
 use Rattle.sx_deploy.specs.Deployment.{IsRead}
 use Rattle.sx_deploy.specs.SeenDeployment.{deployed_as}
 use Rattle.sx_deploy.specs.declared.deployment.Deployment.{Deployment}

@@ -5,10 +5,10 @@ use Rattle.std.specs.List.{list_any}
 use Rattle.std.proofs.lemmas.Bool.Decides.{nat_tests}
 use Rattle.std.proofs.lemmas.Bool.{eq-eqb, or_parts}
 use Rattle.sx_mean.specs.declared.apps.Link.{Link}
-use Rattle.sx_stage.specs.Stage.{made_after}
-use Rattle.sx_stage.specs.declared.fault.Sort.TheVariants.{Module}
-use Rattle.sx_stage.proofs.Each.{Each, bind-Ok, each-snoc}
-use Rattle.sx_stage.proofs.Tested.{made-keeps}
+use Rattle.sx_entries.specs.Stage.{made_after}
+use Rattle.sx_entries.specs.declared.fault.Sort.TheVariants.{Module}
+use Rattle.sx_entries.proofs.Each.{Each, bind-Ok, each-snoc}
+use Rattle.sx_entries.proofs.Tested.{made-keeps}
 use Rattle.sx_entries.specs.declared.entries.DeviceEntry.{DeviceEntry}
 use Rattle.sx_entries.proofs.Kept.{in_entry-Ok}
 use Rattle.sx_deploy.specs.declared.placing.Placement.{Placement}

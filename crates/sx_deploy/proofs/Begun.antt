@@ -2,10 +2,10 @@
 use Rattle.std.proofs.Common.{◌≡◌, ℕ, ◌+◌, suc, List, [], ◌∷◌, ◌++◌, ◌<◌, ◌≤◌, ◌∙◌, length, drop, get_or, Result, Ok, Err, sym, ap, subst, arith}
 use Rattle.std.proofs.Common.{append_assoc, append-nil, length-append, length-drop, drop-cons, add-one}
 use Rattle.std.proofs.lemmas.List.{nil_from_length}
-use Rattle.sx_stage.specs.Gives.{GivesOne}
-use Rattle.sx_stage.specs.declared.fault.DeployFault.{DeployFault}
-use Rattle.sx_stage.specs.declared.fault.DeployError.{DeployError}
-use Rattle.sx_stage.specs.declared.fault.DeployError.TheVariants.{Fault, OutOfMemory}
+use Rattle.sx_entries.specs.Gives.{GivesOne}
+use Rattle.sx_entries.specs.declared.fault.DeployFault.{DeployFault}
+use Rattle.sx_entries.specs.declared.fault.DeployError.{DeployError}
+use Rattle.sx_entries.specs.declared.fault.DeployError.TheVariants.{Fault, OutOfMemory}
 use Rattle.sx_entries.specs.declared.entries.ModuleEntry.{ModuleEntry}
 use Rattle.sx_deploy.specs.Sources.{AreCoded, none_left, each, later, here, Coded, IsCoded}
 

@@ -8,7 +8,7 @@ use Rattle.sx_mean.specs.Application.{declared_kind, is_at, is_driven, same_kind
 use Rattle.sx_mean.specs.Validity.{same_device}
 use Rattle.sx_mean.specs.declared.apps.AppDevice.{AppDevice}
 use Rattle.sx_mean.specs.declared.apps.Link.{Link}
-use Rattle.sx_stage.proofs.Each.{Each}
+use Rattle.sx_entries.proofs.Each.{Each}
 use Rattle.sx_entries.specs.Law.{IsThere}
 use Rattle.sx_entries.specs.declared.entries.DeviceEntry.{DeviceEntry}
 use Rattle.sx_entries.specs.declared.entries.Start.{Start}

@@ -1,9 +1,9 @@
 -- What rule 6 leaves.
 use Rattle.std.proofs.Common.{◌≡◌, ℕ, ◌≤◌, List, [], ◌∷◌, ◌++◌, length, None, Bool, true, false, nat_lt, arith, refl, zero, suc, get_or, ◌<◌, ◌+◌, length-append, if◌then◌else◌, Some}
 use Rattle.std.proofs.lemmas.Bool.{ltb-false}
-use Rattle.sx_stage.specs.Lines.{entries, first_bad, whole}
-use Rattle.sx_stage.specs.declared.fault.Sort.TheVariants.{Node, Device, Module, Connection}
-use Rattle.sx_stage.proofs.Tested.{clear, entries-None, whole-None}
+use Rattle.sx_entries.specs.Lines.{entries, first_bad, whole}
+use Rattle.sx_entries.specs.declared.fault.Sort.TheVariants.{Node, Device, Module, Connection}
+use Rattle.sx_entries.proofs.Tested.{clear, entries-None, whole-None}
 use Rattle.sx_entries.specs.Entries.{EntryLists}
 use Rattle.sx_deploy.specs.Counts.{counts_fault, is_crowded}
 

@@ -10,9 +10,9 @@ use Rattle.sx_lang.specs.Sizes.{module_weight, module_data_size}
 use Rattle.sx_mean.specs.Application.{ends_from, ends_to}
 use Rattle.sx_mean.specs.declared.apps.Link.{Link}
 use Rattle.sx_rules.specs.declared.section.Layout.{Layout}
-use Rattle.sx_stage.specs.Stage.{made_after}
-use Rattle.sx_stage.specs.Lines.{first_bad}
-use Rattle.sx_stage.proofs.Each.{Each, all-each, bind-Ok, each-at}
+use Rattle.sx_entries.specs.Stage.{made_after}
+use Rattle.sx_entries.specs.Lines.{first_bad}
+use Rattle.sx_entries.proofs.Each.{Each, all-each, bind-Ok, each-at}
 use Rattle.sx_entries.specs.Law.{IsThere}
 use Rattle.sx_entries.specs.declared.entries.DeviceEntry.{DeviceEntry}
 use Rattle.sx_entries.specs.declared.entries.Start.{Start}

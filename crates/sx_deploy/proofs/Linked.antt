@@ -12,10 +12,10 @@ use Rattle.sx_check.specs.Rules.{first_broken}
 use Rattle.sx_check.proofs.Distinct.{count_by-cons}
 use Rattle.sx_mean.specs.Validity.{has_port, is_port}
 use Rattle.sx_mean.specs.declared.apps.Link.{Link}
-use Rattle.sx_stage.specs.Stage.{made_after}
-use Rattle.sx_stage.specs.declared.fault.Sort.TheVariants.{Connection}
-use Rattle.sx_stage.proofs.Each.{Each, bind-Ok, each-snoc}
-use Rattle.sx_stage.proofs.Tested.{made-keeps}
+use Rattle.sx_entries.specs.Stage.{made_after}
+use Rattle.sx_entries.specs.declared.fault.Sort.TheVariants.{Connection}
+use Rattle.sx_entries.proofs.Each.{Each, bind-Ok, each-snoc}
+use Rattle.sx_entries.proofs.Tested.{made-keeps}
 use Rattle.sx_entries.specs.Entries.{place_among}
 use Rattle.sx_entries.specs.declared.entries.LinkEntry.{LinkEntry}
 use Rattle.sx_entries.specs.declared.rows.EndRow.{EndRow}

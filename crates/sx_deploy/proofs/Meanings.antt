@@ -2,12 +2,12 @@
 use Rattle.std.proofs.Common.{◌≡◌, ◌⊎◌, inl, inr, ℕ, ◌+◌, List, [], ◌∷◌, Result, Ok, Err, refl, sym, ap, ◌∙◌}
 use Rattle.sx_lang.specs.Tree.{ModuleTree}
 use Rattle.sx_lex.specs.declared.tokens.Place.{Place}
-use Rattle.sx_grammar.specs.Text.{Spells, IsFirstFault}
-use Rattle.sx_grammar.proofs.Texts.{one_module_of_text, module_or_fault}
-use Rattle.sx_grammar.proofs.OneFault.{one_fault, no_fault}
-use Rattle.sx_stage.specs.Fault.{◌>>=◌, cut, fault}
-use Rattle.sx_stage.specs.declared.fault.Place.TheVariants.{Source}
-use Rattle.sx_stage.specs.declared.fault.DeployFault.{DeployFault}
+use Rattle.spec_grammar.specs.Text.{Spells, IsFirstFault}
+use Rattle.spec_grammar.proofs.Texts.{one_module_of_text, module_or_fault}
+use Rattle.spec_grammar.proofs.OneFault.{one_fault, no_fault}
+use Rattle.sx_entries.specs.Fault.{◌>>=◌, cut, fault}
+use Rattle.sx_entries.specs.declared.fault.Place.TheVariants.{Source}
+use Rattle.sx_entries.specs.declared.fault.DeployFault.{DeployFault}
 use Rattle.sx_entries.specs.declared.entries.ModuleEntry.{ModuleEntry}
 use Rattle.sx_entries.specs.Documents.{table_of}
 use Rattle.sx_entries.specs.Entries.{EntryLists}

@@ -1,8 +1,8 @@
 -- How the answers of the stages make the outcome of a text.
 use Rattle.std.proofs.Common.{List, Result, Ok, Err, refl, sym}
-use Rattle.sx_stage.specs.Gives.{Gives, GivesOne}
-use Rattle.sx_stage.specs.declared.fault.DeployError.{DeployError}
-use Rattle.sx_stage.specs.declared.fault.DeployError.TheVariants.{Fault, OutOfMemory}
+use Rattle.sx_entries.specs.Gives.{Gives, GivesOne}
+use Rattle.sx_entries.specs.declared.fault.DeployError.{DeployError}
+use Rattle.sx_entries.specs.declared.fault.DeployError.TheVariants.{Fault, OutOfMemory}
 use Rattle.sx_entries.specs.Entries.{EntryLists}
 use Rattle.sx_deploy.specs.Sources.{AreCoded, Coded}
 use Rattle.sx_deploy.specs.Deployment.{Deployed, deployed, IsFrom}

@@ -1,7 +1,7 @@
 -- Modules and the entries that they come from, one beside the other.
 use Rattle.std.proofs.Common.{◌≡◌, ℕ, ◌+◌, ◌<◌, ◌==◌, List, [], ◌∷◌, length, count_by, cond, min, refl, ap, sym, subst, ◌∙◌, Ok, arith, suc}
 use Rattle.sx_lang.specs.Tree.{ModuleTree}
-use Rattle.sx_stage.proofs.Each.{Each}
+use Rattle.sx_entries.proofs.Each.{Each}
 use Rattle.sx_check.proofs.Distinct.{count_by-cons}
 use Rattle.sx_entries.specs.declared.entries.ModuleEntry.{ModuleEntry}
 use Rattle.sx_deploy.specs.Sources.{AreCoded, none_left, each, Coded, coded}

@@ -3,12 +3,12 @@ use Rattle.std.proofs.Common.{◌≡◌, ℕ, ◌+◌, List, [], ◌∷◌, map,
 use Rattle.std.specs.Prelude.{slice_get}
 use Rattle.sx_lang.specs.Words.{TreeHasWords}
 use Rattle.sx_check.specs.Rules.{first_broken}
-use Rattle.sx_grammar.proofs.SpelledWords.{spelled_words}
+use Rattle.spec_grammar.proofs.SpelledWords.{spelled_words}
 use Rattle.sx_mean.specs.Application.{PartTree, is_sensor}
 use Rattle.sx_mean.specs.Validity.{is_valid}
 use Rattle.sx_mean.specs.declared.apps.AppDevice.{AppDevice}
 use Rattle.sx_mean.proofs.ValidApplications.{valid_applications}
-use Rattle.sx_stage.proofs.Each.{Each}
+use Rattle.sx_entries.proofs.Each.{Each}
 use Rattle.sx_entries.specs.declared.entries.DeviceEntry.{DeviceEntry}
 use Rattle.sx_entries.specs.declared.entries.ModuleEntry.{ModuleEntry}
 use Rattle.sx_deploy.specs.Sources.{AreCoded, none_left, each, Coded}

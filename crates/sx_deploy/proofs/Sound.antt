@@ -6,7 +6,7 @@ use Rattle.std.proofs.lemmas.List.{length-map}
 use Rattle.sx_lang.specs.Words.{IsWord}
 use Rattle.sx_mean.specs.Application.{ends_from, ends_to}
 use Rattle.sx_mean.proofs.ValidApplications.{valid_applications}
-use Rattle.sx_stage.proofs.Each.{Each, all-each}
+use Rattle.sx_entries.proofs.Each.{Each, all-each}
 use Rattle.sx_entries.specs.Law.{AreEntries}
 use Rattle.sx_entries.specs.declared.entries.NodeEntry.{NodeEntry}
 use Rattle.sx_entries.specs.declared.entries.DeviceEntry.{DeviceEntry}

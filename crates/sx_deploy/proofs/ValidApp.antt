@@ -9,12 +9,12 @@ use Rattle.sx_mean.specs.Application.{AppTree, PartTree, declared_kind, ends_fro
 use Rattle.sx_mean.specs.Validity.{any_part, is_crowded, is_loose, is_misplaced, is_overloaded, is_stray, is_too_large, is_valid, is_wrong, same_device}
 use Rattle.sx_mean.specs.declared.apps.AppDevice.{AppDevice}
 use Rattle.sx_mean.specs.declared.apps.Link.{Link}
-use Rattle.sx_stage.specs.Fault.{passes}
-use Rattle.sx_stage.specs.Stage.{made_after}
-use Rattle.sx_stage.specs.Lines.{entries, first_bad}
-use Rattle.sx_stage.specs.declared.fault.Sort.TheVariants.{Device, Module}
-use Rattle.sx_stage.proofs.Each.{Each, bind-Ok, each-at}
-use Rattle.sx_stage.proofs.Tested.{entries-None}
+use Rattle.sx_entries.specs.Fault.{passes}
+use Rattle.sx_entries.specs.Stage.{made_after}
+use Rattle.sx_entries.specs.Lines.{entries, first_bad}
+use Rattle.sx_entries.specs.declared.fault.Sort.TheVariants.{Device, Module}
+use Rattle.sx_entries.proofs.Each.{Each, bind-Ok, each-at}
+use Rattle.sx_entries.proofs.Tested.{entries-None}
 use Rattle.sx_entries.specs.Entries.{EntryLists}
 use Rattle.sx_entries.specs.Law.{AreEntries, IsThere}
 use Rattle.sx_entries.specs.declared.entries.NodeEntry.{NodeEntry}

@@ -4,10 +4,10 @@ use Rattle.sx_check.specs.Rules.{first_broken}
 use Rattle.sx_check.specs.declared.rules.Rule.{Rule}
 use Rattle.sx_check.specs.declared.rules.Rule.TheVariants.{Duplicate, Unknown, Kind, Depth, Locals}
 use Rattle.sx_check.specs.declared.rules.Rule.TheVariants.{Repeat, Packets, Cost, Nodes, Cells}
-use Rattle.sx_stage.specs.Fault.{cut, fault}
-use Rattle.sx_stage.specs.Stage.{made_after}
-use Rattle.sx_stage.specs.declared.fault.Place.TheVariants.{Broken}
-use Rattle.sx_stage.specs.declared.fault.DeployFault.{DeployFault}
+use Rattle.sx_entries.specs.Fault.{cut, fault}
+use Rattle.sx_entries.specs.Stage.{made_after}
+use Rattle.sx_entries.specs.declared.fault.Place.TheVariants.{Broken}
+use Rattle.sx_entries.specs.declared.fault.DeployFault.{DeployFault}
 use Rattle.sx_deploy.specs.Sources.{Coded}
 
 -- the number under which a rule of the language is printed

@@ -1,8 +1,8 @@
 -- Rule 6: not too many entries, and at most 8 modules on a node.
 use Rattle.std.specs.Prelude.{Bool, ◌==◌, nat_lt, count_by, List, [], ◌∷◌, length, Option}
-use Rattle.sx_stage.specs.Lines.{entries, first_of, whole}
-use Rattle.sx_stage.specs.declared.fault.Sort.TheVariants.{Node, Device, Module, Connection}
-use Rattle.sx_stage.specs.declared.fault.DeployFault.{DeployFault}
+use Rattle.sx_entries.specs.Lines.{entries, first_of, whole}
+use Rattle.sx_entries.specs.declared.fault.Sort.TheVariants.{Node, Device, Module, Connection}
+use Rattle.sx_entries.specs.declared.fault.DeployFault.{DeployFault}
 use Rattle.sx_entries.specs.Entries.{EntryLists}
 use Rattle.sx_entries.specs.declared.entries.NodeEntry.{NodeEntry}
 use Rattle.sx_entries.specs.declared.entries.ModuleEntry.{ModuleEntry}

@@ -5,8 +5,8 @@ use Rattle.sx_mean.specs.Application.{AppTree, PartTree, is_sensor}
 use Rattle.sx_mean.specs.declared.apps.Link.{Link}
 use Rattle.sx_rules.specs.declared.section.Layout.{Layout}
 use Rattle.sx_trace.specs.Names.{NameLists}
-use Rattle.sx_stage.specs.Fault.{◌>>=◌, passes}
-use Rattle.sx_stage.specs.declared.fault.DeployFault.{DeployFault}
+use Rattle.sx_entries.specs.Fault.{◌>>=◌, passes}
+use Rattle.sx_entries.specs.declared.fault.DeployFault.{DeployFault}
 use Rattle.sx_entries.specs.Documents.{table_of}
 use Rattle.sx_entries.specs.Arrays.{rows_of}
 use Rattle.sx_entries.specs.Entries.{EntryLists, entries_of}

@@ -9,7 +9,7 @@ use Rattle.sx_mean.specs.Application.{is_sensor}
 use Rattle.sx_mean.specs.Application.{sends_too_much}
 use Rattle.sx_mean.specs.declared.apps.AppDevice.{AppDevice}
 use Rattle.sx_rules.specs.declared.section.Layout.{Layout}
-use Rattle.sx_stage.specs.declared.fault.DeployFault.{DeployFault}
+use Rattle.sx_entries.specs.declared.fault.DeployFault.{DeployFault}
 use Rattle.sx_deploy.specs.declared.placing.Placement.{Placement}
 use Rattle.sx_deploy.specs.Places.{Span, span, text_of, data_of}
 use Rattle.sx_deploy.specs.Deployment.{Deployed, IsRead}

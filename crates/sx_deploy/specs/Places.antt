@@ -7,11 +7,11 @@ use Rattle.sx_lang.specs.Sizes.{module_weight, module_data_size}
 use Rattle.sx_mean.specs.Application.{ends_from, ends_to}
 use Rattle.sx_mean.specs.declared.apps.Link.{Link}
 use Rattle.sx_rules.specs.declared.section.Layout.{Layout}
-use Rattle.sx_stage.specs.Fault.{◌>>=◌, passes}
-use Rattle.sx_stage.specs.Stage.{in_entry, made_after}
-use Rattle.sx_stage.specs.Lines.{entries}
-use Rattle.sx_stage.specs.declared.fault.Sort.TheVariants.{Device, Module}
-use Rattle.sx_stage.specs.declared.fault.DeployFault.{DeployFault}
+use Rattle.sx_entries.specs.Fault.{◌>>=◌, passes}
+use Rattle.sx_entries.specs.Stage.{in_entry, made_after}
+use Rattle.sx_entries.specs.Lines.{entries}
+use Rattle.sx_entries.specs.declared.fault.Sort.TheVariants.{Device, Module}
+use Rattle.sx_entries.specs.declared.fault.DeployFault.{DeployFault}
 use Rattle.sx_entries.specs.declared.entries.DeviceEntry.{DeviceEntry}
 use Rattle.sx_entries.specs.declared.entries.Start.{Start}
 use Rattle.sx_entries.specs.declared.entries.Start.TheVariants as start

@@ -1,9 +1,9 @@
 -- Why a module has no tree.
 use Rattle.std.specs.Prelude.{ℕ}
-use Rattle.sx_stage.specs.Fault.{cut, fault}
-use Rattle.sx_stage.specs.declared.fault.Place.TheVariants.{Source}
-use Rattle.sx_stage.specs.declared.fault.DeployError.{DeployError}
-use Rattle.sx_stage.specs.declared.fault.DeployError.TheVariants as deploy
+use Rattle.sx_entries.specs.Fault.{cut, fault}
+use Rattle.sx_entries.specs.declared.fault.Place.TheVariants.{Source}
+use Rattle.sx_entries.specs.declared.fault.DeployError.{DeployError}
+use Rattle.sx_entries.specs.declared.fault.DeployError.TheVariants as deploy
 use Rattle.sx_parse.specs.declared.error.ParseError.{ParseError}
 use Rattle.sx_parse.specs.declared.error.ParseError.TheVariants as parse
 

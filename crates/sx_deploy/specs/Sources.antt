@@ -2,10 +2,10 @@
 use Rattle.std.specs.Prelude.{◌≡◌, ℕ, ◌+◌, List, [], ◌∷◌, Result, Ok, Err}
 use Rattle.sx_lang.specs.Tree.{ModuleTree}
 use Rattle.sx_lex.specs.declared.tokens.Place.{Place}
-use Rattle.sx_grammar.specs.Text.{Spells, IsFirstFault}
-use Rattle.sx_stage.specs.Fault.{cut, fault}
-use Rattle.sx_stage.specs.declared.fault.Place.TheVariants.{Source}
-use Rattle.sx_stage.specs.declared.fault.DeployFault.{DeployFault}
+use Rattle.spec_grammar.specs.Text.{Spells, IsFirstFault}
+use Rattle.sx_entries.specs.Fault.{cut, fault}
+use Rattle.sx_entries.specs.declared.fault.Place.TheVariants.{Source}
+use Rattle.sx_entries.specs.declared.fault.DeployFault.{DeployFault}
 use Rattle.sx_entries.specs.declared.entries.ModuleEntry.{ModuleEntry}
 use Rattle.sx_entries.specs.declared.entries.Start.{Start}
 

@@ -9,11 +9,11 @@ use Rattle.sx_mean.specs.Application.{declared_kind, is_driven, ends_from, ends_
 use Rattle.sx_mean.specs.declared.apps.AppDevice.{AppDevice}
 use Rattle.sx_mean.specs.declared.apps.Link.{Link}
 use Rattle.sx_trace.specs.Names.{place_of}
-use Rattle.sx_stage.specs.Fault.{◌>>=◌, passes}
-use Rattle.sx_stage.specs.Stage.{in_entry, made_after}
-use Rattle.sx_stage.specs.Lines.{entries}
-use Rattle.sx_stage.specs.declared.fault.Sort.TheVariants.{Module, Connection}
-use Rattle.sx_stage.specs.declared.fault.DeployFault.{DeployFault}
+use Rattle.sx_entries.specs.Fault.{◌>>=◌, passes}
+use Rattle.sx_entries.specs.Stage.{in_entry, made_after}
+use Rattle.sx_entries.specs.Lines.{entries}
+use Rattle.sx_entries.specs.declared.fault.Sort.TheVariants.{Module, Connection}
+use Rattle.sx_entries.specs.declared.fault.DeployFault.{DeployFault}
 use Rattle.sx_entries.specs.Arrays.{◌>>?◌}
 use Rattle.sx_entries.specs.Entries.{place_among}
 use Rattle.sx_entries.specs.declared.entries.DeviceEntry.{DeviceEntry}

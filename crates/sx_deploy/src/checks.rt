@@ -1,6 +1,6 @@
 //! Rule 8: each source keeps the rules of the language.
 ghost use Rattle.std.specs.Prelude.{◌≡◌, map};
-ghost use Rattle.sx_stage.specs.Gives.{Gives, TakesNoMemory};
+ghost use Rattle.sx_entries.specs.Gives.{Gives, TakesNoMemory};
 ghost use Rattle.sx_deploy.specs.Checks.{checked_all, checked_nth, number};
 ghost use Rattle.sx_deploy.specs.Seen.{checked_as, parsed_as};
 
@@ -10,8 +10,8 @@ use sx_check::checked::Checked;
 use sx_check::checks::check;
 use sx_check::rules::Rule;
 use sx_entries::entries::Start;
+use sx_entries::fault::{DeployError, DeployFault, Place, cut};
 use sx_lang::names::Name;
-use sx_stage::fault::{DeployError, DeployFault, Place, cut};
 
 /// A module whose source keeps the rules of the language.
 #[derive(Drop)]

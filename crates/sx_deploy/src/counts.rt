@@ -3,8 +3,8 @@ ghost use Rattle.std.specs.Prelude.{◌≡◌, ◌==◌, count_by};
 ghost use Rattle.sx_deploy.specs.Counts.{counts_fault, is_crowded};
 
 use sx_entries::entries::{Entries, ModuleEntry, NodeEntry};
-use sx_stage::fault::{DeployFault, Sort};
-use sx_stage::lines::{Line, entries, whole};
+use sx_entries::fault::{DeployFault, Sort};
+use sx_entries::lines::{Line, entries, whole};
 
 fn modules_on(modules: &[ModuleEntry], node: usize) -> usize
     ensures { result ≡ count_by (λ m. m.node == node) modules.now }

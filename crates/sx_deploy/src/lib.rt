@@ -22,4 +22,4 @@ mod placing;
 mod sources;
 mod ties;
 
-pub use sx_stage::fault::{DeployError, DeployFault, Place, Sort};
+pub use sx_entries::fault::{DeployError, DeployFault, Place, Sort};

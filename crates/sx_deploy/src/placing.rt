@@ -3,8 +3,8 @@ ghost use Rattle.std.specs.Prelude.{◌≡◌, ◌≤◌, ◌^◌, [], map};
 ghost use Rattle.std.specs.List.{list_any};
 ghost use Rattle.sx_lang.specs.Sizes.{module_data_size, module_weight};
 ghost use Rattle.sx_check.specs.Source.{source_tree};
-ghost use Rattle.sx_stage.specs.Gives.{Gives};
-ghost use Rattle.sx_stage.specs.Stage.{made_after};
+ghost use Rattle.sx_entries.specs.Gives.{Gives};
+ghost use Rattle.sx_entries.specs.Stage.{made_after};
 ghost use Rattle.sx_deploy.specs.Places.{drives, holds_word, is_bad_place, is_misplaced};
 ghost use Rattle.sx_deploy.specs.Places.{is_outside, is_own, is_taken, meet, meets_module};
 ghost use Rattle.sx_deploy.specs.Places.{placed_module, placement_of, placements_of, sections_of};
@@ -17,12 +17,12 @@ use crate::ties::ends_at;
 use std::alloc::Global;
 use sx_check::checked::Checked;
 use sx_entries::entries::{DeviceEntry, Start};
+use sx_entries::fault::{DeployError, Sort};
+use sx_entries::lines::{Line, entries};
+use sx_entries::stages::{Derive, derived, in_entry, passes};
 use sx_lang::sizes::{data_size, weight};
 use sx_mean::apps::Link;
 use sx_rules::Layout;
-use sx_stage::fault::{DeployError, Sort};
-use sx_stage::lines::{Line, entries};
-use sx_stage::stages::{Derive, derived, in_entry, passes};
 
 /// Where a module stands: its node and its sections.
 #[derive(Clone, Copy, Drop)]

@@ -1,17 +1,17 @@
 //! Rule 7: each source is in the grammar.
 ghost use Rattle.std.specs.Prelude.{◌≡◌, map};
-ghost use Rattle.sx_stage.specs.Gives.{GivesOne};
+ghost use Rattle.sx_entries.specs.Gives.{GivesOne};
 ghost use Rattle.sx_deploy.specs.Seen.{parsed_as};
 ghost use Rattle.sx_deploy.specs.Sources.{AreCoded, IsCoded};
 ghost use Rattle.sx_deploy.specs.SourceErrors.{source_error};
 
 use std::alloc::Global;
 use sx_entries::entries::{ModuleEntry, Start};
+use sx_entries::fault::{DeployError, DeployFault, Place, cut};
 use sx_lang::names::Name;
 use sx_lang::tree::Module;
 use sx_parse::error::ParseError;
 use sx_parse::parse::parse;
-use sx_stage::fault::{DeployError, DeployFault, Place, cut};
 
 /// A module whose source is in the grammar.
 #[derive(Drop)]

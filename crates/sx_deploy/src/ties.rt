@@ -3,10 +3,10 @@ ghost use Rattle.std.specs.Prelude.{◌≡◌, ◌+◌, [], map, nat_lt, option_
 ghost use Rattle.std.specs.Option.{option_copied};
 ghost use Rattle.sx_mean.specs.Application.{ends_from, ends_to, sends_too_much};
 ghost use Rattle.sx_check.specs.Source.{source_tree};
-ghost use Rattle.sx_stage.specs.Gives.{Gives};
-ghost use Rattle.sx_stage.specs.Lines.{entries};
-ghost use Rattle.sx_stage.specs.Stage.{made_after};
-ghost use Rattle.sx_stage.specs.declared.fault.Sort.TheVariants.{Module};
+ghost use Rattle.sx_entries.specs.Gives.{Gives};
+ghost use Rattle.sx_entries.specs.Lines.{entries};
+ghost use Rattle.sx_entries.specs.Stage.{made_after};
+ghost use Rattle.sx_entries.specs.declared.fault.Sort.TheVariants.{Module};
 ghost use Rattle.sx_trace.specs.Names.{place_of};
 ghost use Rattle.sx_deploy.specs.Seen.{checked_as};
 ghost use Rattle.sx_deploy.specs.SeenPort.{port_as};
@@ -19,15 +19,15 @@ use crate::owners::Owners;
 use std::alloc::Global;
 use sx_check::checked::Checked;
 use sx_entries::entries::{LinkEntry, Start};
+use sx_entries::fault::{DeployError, DeployFault, Sort};
+use sx_entries::lines::{Line, entries};
 use sx_entries::rows::EndRow;
+use sx_entries::stages::{Derive, derived, in_entry, passes};
 use sx_lang::names::Name;
 use sx_lang::tree::Decl;
 use sx_mean::apps::{
     AppDevice, Link, declared_kind, ends_from, ends_to, is_driven, sends_too_much,
 };
-use sx_stage::fault::{DeployError, DeployFault, Sort};
-use sx_stage::lines::{Line, entries};
-use sx_stage::stages::{Derive, derived, in_entry, passes};
 
 /// A number as a byte, cut at 255.
 pub fn byte(number: usize) -> u8

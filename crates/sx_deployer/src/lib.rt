@@ -8,7 +8,7 @@
 //! `specs/Granting.antt` has the deployer of an application, as whole runs have it: what it knows,
 //! asks, answers, keys and grants. `specs/Keeping.antt` has what the code keeps, which knows modules
 //! by their ends alone, when it accepts an answer and what follows. It renews as
-//! the source model does (`renews_as_the_model` of sx_run).
+//! the source model does (`renews_as_the_model` of spec_run).
 #![tactic(auto)]
 
 pub use deployer::{Deployer, Verdict};

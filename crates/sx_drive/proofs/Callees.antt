@@ -9,7 +9,7 @@ use Rattle.sx_mean.specs.View.{part_as}
 use Rattle.sx_deploy.specs.Law.{IsSoundDeployment}
 use Rattle.sx_deploy.specs.SeenDeployment.{deployed_as}
 use Rattle.sx_deploy.specs.declared.deployment.Deployment.{Deployment}
-use Rattle.sx_run.proofs.tie.Lists.{get_within}
+use Rattle.spec_run.proofs.tie.Lists.{get_within}
 use Rattle.sx_drive.specs.Honest.{Callee, callee_at, target_of, receiver_of, driver_of}
 use Rattle.sx_drive.specs.Driving.{IsCallee, driver_at}
 

@@ -4,7 +4,7 @@ use Rattle.std.proofs.lemmas.List.{at_drop_more, at_drop_all, length-map}
 use Rattle.sx_tag.specs.Mac.{Mac}
 use Rattle.sx_deploy.specs.declared.deployment.Deployment.{Deployment}
 use Rattle.sx_mean.specs.View.{part_as}
-use Rattle.sx_run.specs.Setting.{Setting}
+use Rattle.spec_run.specs.Setting.{Setting}
 use Rattle.sx_world.proofs.passing.Passed.{one_less}
 use Rattle.sx_drive.specs.declared.said.Said.{Said as Told}
 use Rattle.sx_drive.specs.Honest.{Honest, Driven, MOST_LINES, still, then_, each, made_by, takes_one, takes, collects, if_there, callee_at, sets_up}

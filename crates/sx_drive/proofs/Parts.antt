@@ -6,7 +6,7 @@ use Rattle.sx_tag.specs.Mac.{Mac}
 use Rattle.sx_mean.specs.Application.{AppTree}
 use Rattle.sx_deploy.specs.SeenDeployment.{deployed_as}
 use Rattle.sx_deploy.specs.declared.deployment.Deployment.{Deployment}
-use Rattle.sx_run.specs.Setting.{Setting}
+use Rattle.spec_run.specs.Setting.{Setting}
 use Rattle.sx_drive.specs.declared.said.Said.{Said as Told}
 use Rattle.sx_drive.specs.Honest.{Callee, Honest, Driven, then_, each, packets_of, if_there, receiver_of, queues}
 use Rattle.sx_drive.specs.Driving.{Kept, Follows, GoesOn, SaysFront, LosesNothing, Did, Wanted, Does, all_said, queued}

@@ -8,10 +8,10 @@ use Rattle.sx_tag.specs.Mac.{Mac}
 use Rattle.sx_trace.specs.declared.items.Item.{Item}
 use Rattle.sx_sched.specs.Lines.{Line}
 use Rattle.sx_deploy.specs.declared.deployment.Deployment.{Deployment}
-use Rattle.sx_run.specs.Setting.{Setting, Site}
-use Rattle.sx_run.specs.State.{World, switched_on}
-use Rattle.sx_run.specs.Run.{run}
-use Rattle.sx_run.proofs.acts.Counting.{run_counts}
+use Rattle.spec_run.specs.Setting.{Setting, Site}
+use Rattle.spec_run.specs.State.{World, switched_on}
+use Rattle.spec_run.specs.Run.{run}
+use Rattle.spec_run.proofs.acts.Counting.{run_counts}
 use Rattle.sx_world.specs.Held.{Held}
 use Rattle.sx_observe.specs.Observing.{IsFront}
 use Rattle.sx_world.specs.Standing.{Stands, IsGoing}
@@ -19,7 +19,7 @@ use Rattle.sx_world.specs.Continued.{Acts, ActsInPart}
 use Rattle.sx_world.specs.Whole.{next}
 use Rattle.sx_observe.specs.InMemory.{setting_at}
 use Rattle.sx_world.specs.InMemory.{world_setting}
-use Rattle.sx_run.specs.Law.{IsSoundSetting}
+use Rattle.spec_run.specs.Law.{IsSoundSetting}
 use Rattle.sx_drive.specs.declared.said.Said.{Said as Told}
 use Rattle.sx_drive.specs.Honest.{SaidLine, SaidItem, Honest, Driven, MOST_LINES, Said, left_out, performed, says}
 use Rattle.sx_drive.specs.Driving.{Kept, Follows, GoesOn, LosesNothing, SaysLast, Did, Wanted, Does, all_said, said_of, is_full, left}

@@ -3,7 +3,7 @@ use Rattle.std.proofs.Common.{◌≡◌, ◌++◌, List, [], Result, Ok, Err, Is
 use Rattle.std.proofs.lemmas.List.{append_assoc, append-nil}
 use Rattle.sx_tag.specs.Mac.{Mac}
 use Rattle.sx_deploy.specs.declared.deployment.Deployment.{Deployment}
-use Rattle.sx_run.specs.Setting.{Setting}
+use Rattle.spec_run.specs.Setting.{Setting}
 use Rattle.sx_world.specs.Held.{Held}
 use Rattle.sx_drive.specs.declared.said.Said.{Said as Told}
 use Rattle.sx_drive.specs.Honest.{Said, Honest, Driven, still, then_}

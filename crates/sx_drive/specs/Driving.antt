@@ -12,8 +12,8 @@ use Rattle.sx_sched.specs.Lines.{Line}
 use Rattle.sx_sched.specs.Seen.{line_of}
 use Rattle.sx_deploy.specs.declared.deployment.Deployment.{Deployment}
 use Rattle.sx_deploy.specs.Deployment.{Deployed}
-use Rattle.sx_run.specs.Setting.{Setting}
-use Rattle.sx_run.specs.Law.{IsSoundSetting}
+use Rattle.spec_run.specs.Setting.{Setting}
+use Rattle.spec_run.specs.Law.{IsSoundSetting}
 use Rattle.sx_world.specs.Held.{Held}
 use Rattle.sx_world.specs.InMemory.{world_setting}
 use Rattle.sx_world.specs.Standing.{Stands}

@@ -11,8 +11,8 @@ use Rattle.sx_sched.specs.Lines.{Line, Take, Give, Sense, Ask, Answer, Load, Cal
 use Rattle.sx_mean.specs.declared.apps.Link.{Link}
 use Rattle.sx_mean.specs.Application.{AppTree, PartTree}
 use Rattle.sx_mean.specs.Validity.{same_device}
-use Rattle.sx_run.specs.Setting.{Setting}
-use Rattle.sx_run.specs.State.{World, Acted, switched_on}
+use Rattle.spec_run.specs.Setting.{Setting}
+use Rattle.spec_run.specs.State.{World, Acted, switched_on}
 use Rattle.sx_world.specs.Whole.{next}
 
 -- what an honest run says: a line of its schedule, and each item that the line showed

@@ -4,7 +4,7 @@ ghost use Rattle.std.specs.Prelude.{◌≡◌, ◌<◌, false, true, length};
 ghost use Rattle.std.specs.Prelude.{IfOk, IsErr, OnErr, OnOk};
 ghost use Rattle.sx_deploy.specs.Law.{IsSoundDeployment};
 ghost use Rattle.sx_deploy.specs.SeenDeployment.{deployed_as};
-ghost use Rattle.sx_run.specs.State.{nodes_from};
+ghost use Rattle.spec_run.specs.State.{nodes_from};
 ghost use Rattle.sx_world.specs.InMemory.{image_setting};
 ghost use Rattle.sx_drive.specs.Honest.{setup, start};
 ghost use Rattle.sx_drive.specs.Driving.{Does, Follows, GoesOn};

@@ -4,9 +4,9 @@ use Rattle.std.proofs.lemmas.List.{map-append}
 use Rattle.toml.specs.Data.{Members}
 use Rattle.sx_trace.specs.Names.{deployer}
 use Rattle.sx_trace.specs.ValidNames.{has_name}
-use Rattle.sx_stage.specs.Stage.{made_after}
-use Rattle.sx_stage.specs.declared.fault.Sort.TheVariants.{Node, Device, Module, Connection}
-use Rattle.sx_stage.proofs.Each.{Each, each-snoc, all-each, bind-Ok, made-each}
+use Rattle.sx_entries.specs.Stage.{made_after}
+use Rattle.sx_entries.specs.declared.fault.Sort.TheVariants.{Node, Device, Module, Connection}
+use Rattle.sx_entries.proofs.Each.{Each, each-snoc, all-each, bind-Ok, made-each}
 use Rattle.sx_entries.specs.Rows.{node_row, device_row, module_row, link_row}
 use Rattle.sx_entries.specs.Arrays.{RowLists, arrays_of, in_top, listed, made_in, rows_in, rows_of}
 use Rattle.sx_entries.specs.Entries.{EntryLists, device_made, device_named, fresh, link_made, link_named, module_made, module_named, node_made, node_named, not_reserved, place_among, start_named}

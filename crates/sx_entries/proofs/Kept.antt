@@ -8,12 +8,12 @@ use Rattle.std.proofs.lemmas.Bool.{and_parts, or_parts, not-true}
 use Rattle.sx_lang.specs.Form.{is_name}
 use Rattle.sx_trace.specs.Names.{deployer}
 use Rattle.sx_trace.specs.ValidNames.{has_name, no_repeat}
-use Rattle.sx_stage.specs.Stage.{in_entry}
-use Rattle.sx_stage.specs.declared.fault.Sort.{Sort}
+use Rattle.sx_entries.specs.Stage.{in_entry}
+use Rattle.sx_entries.specs.declared.fault.Sort.{Sort}
 use Rattle.sx_entries.specs.Entries.{has_entry, fresh, place_among, not_reserved}
 use Rattle.sx_entries.specs.Law.{AreNamed}
 use Rattle.sx_entries.proofs.RowForms.{IsForm}
-use Rattle.sx_lists.proofs.Texts.{bytes_eq-sym}
+use Rattle.lemmas.proofs.Texts.{bytes_eq-sym}
 
 -- a name that isn't among the others, after them
 still_new : (names : List (List ℕ)) (x y : List ℕ) → has_name names y ≡ false → bytes_eq y x ≡ false → has_name (names ++ x ∷ []) y ≡ false

@@ -5,7 +5,7 @@ use Rattle.std.specs.Str.{bytes_eq}
 use Rattle.std.proofs.lemmas.Bool.Decides.{nat_tests}
 use Rattle.sx_trace.specs.Names.{place_of}
 use Rattle.sx_trace.proofs.Indexed.{position-map}
-use Rattle.sx_lists.proofs.Numbers.{less_by_one}
+use Rattle.lemmas.proofs.Numbers.{less_by_one}
 
 -- the place of a name among the names is the place of its entry
 pub place_entry : {B : Type 0} (name_of : B → List ℕ) (entries : List B) (name : List ℕ) (o : Option ℕ) → o ≡ place_of (map name_of entries) name

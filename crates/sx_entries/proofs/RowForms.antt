@@ -5,9 +5,9 @@ use Rattle.std.proofs.lemmas.Bool.{ltb-true}
 use Rattle.toml.specs.Data.{Members, Items, no_items, item, as_integer, as_table, get_member}
 use Rattle.sx_lang.specs.Words.{IsWord}
 use Rattle.sx_lang.specs.Form.{is_name}
-use Rattle.sx_stage.specs.Stage.{in_entry}
-use Rattle.sx_stage.proofs.Each.{Each, each-snoc, bind-Ok}
-use Rattle.sx_stage.specs.declared.fault.Sort.{Sort}
+use Rattle.sx_entries.specs.Stage.{in_entry}
+use Rattle.sx_entries.proofs.Each.{Each, each-snoc, bind-Ok}
+use Rattle.sx_entries.specs.declared.fault.Sort.{Sort}
 use Rattle.sx_entries.specs.Fields.{name_of, name_at, text_at, key_at, word_at, word_of, has_only}
 use Rattle.sx_entries.specs.Rows.{holds, node_row, device_row, module_row, link_row, kind_at, start_row, end_at}
 use Rattle.sx_entries.specs.Arrays.{made_in}

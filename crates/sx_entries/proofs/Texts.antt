@@ -4,9 +4,9 @@ use Rattle.std.specs.Str.{IsUtf8, is_utf8}
 use Rattle.std.proofs.lemmas.Bool.{cases_Bool}
 use Rattle.std.proofs.lemmas.Str.{IsUtf8-from_is_utf8, is_utf8-from_IsUtf8}
 use Rattle.toml.specs.Parse.{parse_document}
-use Rattle.sx_stage.specs.Fault.{fault}
+use Rattle.sx_entries.specs.Fault.{fault}
 use Rattle.sx_entries.specs.Documents.{table_of, document_of}
-use Rattle.sx_stage.specs.declared.fault.Place.TheVariants.{Nowhere}
+use Rattle.sx_entries.specs.declared.fault.Place.TheVariants.{Nowhere}
 
 pub table_of-text : (bs : List ℕ) → IsUtf8 bs → table_of bs ≡ document_of (parse_document bs)
 table_of-text bs h = rw (is_utf8-from_IsUtf8 bs h)

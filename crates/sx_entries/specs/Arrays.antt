@@ -4,12 +4,12 @@ use Rattle.std.specs.Prelude.{Option, Some, None, option_and_then, Result, Ok, E
 use Rattle.toml.specs.Data.{Data, Items, no_items, item, Members, get_member, as_table, as_array}
 use Rattle.sx_entries.specs.Fields.{key_at, name_of, has_only}
 use Rattle.sx_entries.specs.Rows.{holds, node_row, device_row, module_row, link_row}
-use Rattle.sx_stage.specs.Fault.{fault, ◌>>=◌}
-use Rattle.sx_stage.specs.Stage.{in_entry}
-use Rattle.sx_stage.specs.declared.fault.Sort.{Sort}
-use Rattle.sx_stage.specs.declared.fault.Sort.TheVariants.{Top, Node, Device, Module, Connection}
-use Rattle.sx_stage.specs.declared.fault.Place.TheVariants.{Kind}
-use Rattle.sx_stage.specs.declared.fault.DeployFault.{DeployFault}
+use Rattle.sx_entries.specs.Fault.{fault, ◌>>=◌}
+use Rattle.sx_entries.specs.Stage.{in_entry}
+use Rattle.sx_entries.specs.declared.fault.Sort.{Sort}
+use Rattle.sx_entries.specs.declared.fault.Sort.TheVariants.{Top, Node, Device, Module, Connection}
+use Rattle.sx_entries.specs.declared.fault.Place.TheVariants.{Kind}
+use Rattle.sx_entries.specs.declared.fault.DeployFault.{DeployFault}
 use Rattle.sx_entries.specs.declared.rows.NodeRow.{NodeRow}
 use Rattle.sx_entries.specs.declared.rows.DeviceRow.{DeviceRow}
 use Rattle.sx_entries.specs.declared.rows.ModuleRow.{ModuleRow}

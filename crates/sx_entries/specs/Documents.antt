@@ -3,9 +3,9 @@ use Rattle.std.specs.Prelude.{ℕ, if◌then◌else◌, List, Option, Some, None
 use Rattle.std.specs.Str.{is_utf8}
 use Rattle.toml.specs.Data.{Members}
 use Rattle.toml.specs.Parse.{parse_document}
-use Rattle.sx_stage.specs.Fault.{fault}
-use Rattle.sx_stage.specs.declared.fault.Place.TheVariants.{Nowhere}
-use Rattle.sx_stage.specs.declared.fault.DeployFault.{DeployFault}
+use Rattle.sx_entries.specs.Fault.{fault}
+use Rattle.sx_entries.specs.declared.fault.Place.TheVariants.{Nowhere}
+use Rattle.sx_entries.specs.declared.fault.DeployFault.{DeployFault}
 
 -- rule 3: the document, or the fault of a text that is none
 abbrev pub document_of : Option Members → Result Members DeployFault

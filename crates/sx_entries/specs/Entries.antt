@@ -4,11 +4,11 @@ use Rattle.std.specs.Prelude.{None, option_map, Result, Ok}
 use Rattle.std.specs.List.{list_any}
 use Rattle.std.specs.Str.{bytes_eq}
 use Rattle.sx_entries.specs.Arrays.{RowLists, ◌>>?◌}
-use Rattle.sx_stage.specs.Fault.{◌>>=◌}
+use Rattle.sx_entries.specs.Fault.{◌>>=◌}
 use Rattle.sx_trace.specs.Names.{deployer}
-use Rattle.sx_stage.specs.Stage.{in_entry, made_after}
-use Rattle.sx_stage.specs.declared.fault.Sort.TheVariants.{Node, Device, Module, Connection}
-use Rattle.sx_stage.specs.declared.fault.DeployFault.{DeployFault}
+use Rattle.sx_entries.specs.Stage.{in_entry, made_after}
+use Rattle.sx_entries.specs.declared.fault.Sort.TheVariants.{Node, Device, Module, Connection}
+use Rattle.sx_entries.specs.declared.fault.DeployFault.{DeployFault}
 use Rattle.sx_entries.specs.declared.rows.NodeRow.{NodeRow}
 use Rattle.sx_entries.specs.declared.rows.DeviceRow.{DeviceRow}
 use Rattle.sx_entries.specs.declared.rows.ModuleRow.{ModuleRow}

@@ -4,19 +4,19 @@ ghost use Rattle.toml.specs.Data.{Members, get_member, as_table};
 ghost use Rattle.toml.specs.View.{table_view, array_view, view};
 ghost use Rattle.sx_entries.specs.Fields.{key_at};
 ghost use Rattle.sx_entries.specs.Rows.{node_row, device_row, module_row, link_row};
-ghost use Rattle.sx_stage.specs.Gives.{Gives, TakesNoMemory};
+ghost use Rattle.sx_entries.specs.Gives.{Gives, TakesNoMemory};
 ghost use Rattle.sx_entries.specs.Arrays.{array_of, arrays_of, listed, made_in, rows_in, rows_of};
 ghost use Rattle.sx_entries.specs.Arrays.{secret_of};
 ghost use Rattle.sx_entries.specs.Seen.{items_seen, arrays_seen};
 
+use crate::fault::{DeployError, DeployFault, Place, Sort};
 use crate::fields::{has_key, has_only, key_at, name_of, value_at};
 use crate::rows::{
     DeviceRow, LinkRow, ModuleRow, NodeRow, device_row, link_row, module_row, node_row,
 };
+use crate::stages::in_entry;
 use std::alloc::Global;
 use std::marker::Model;
-use sx_stage::fault::{DeployError, DeployFault, Place, Sort};
-use sx_stage::stages::in_entry;
 use toml::{Table, Value};
 
 /// The rows of a document's arrays.

@@ -2,13 +2,13 @@
 ghost use Rattle.std.specs.Prelude.{◌≡◌, false, if◌then◌else◌};
 ghost use Rattle.std.specs.Str.{is_utf8};
 ghost use Rattle.toml.specs.View.{table_view};
-ghost use Rattle.sx_stage.specs.Fault.{fault};
-ghost use Rattle.sx_stage.specs.Gives.{Gives, TakesNoMemory};
-ghost use Rattle.sx_stage.specs.declared.fault.Place.TheVariants.{Nowhere};
+ghost use Rattle.sx_entries.specs.Fault.{fault};
+ghost use Rattle.sx_entries.specs.Gives.{Gives, TakesNoMemory};
+ghost use Rattle.sx_entries.specs.declared.fault.Place.TheVariants.{Nowhere};
 ghost use Rattle.sx_entries.specs.Documents.{table_of};
 
+use crate::fault::{DeployError, DeployFault, Place};
 use std::alloc::Global;
-use sx_stage::fault::{DeployError, DeployFault, Place};
 use toml::Table;
 
 const NO_DOCUMENT: DeployFault = DeployFault {

@@ -1,20 +1,20 @@
 //! Rule 5: names are in form, new in their array, and name an entry where they should.
 ghost use Rattle.std.specs.Prelude.{◌≡◌, length};
-ghost use Rattle.sx_stage.specs.Gives.{Gives, TakesNoMemory};
+ghost use Rattle.sx_entries.specs.Gives.{Gives, TakesNoMemory};
 ghost use Rattle.sx_entries.specs.Entries.{device_made, device_named, entries_of, fresh, link_made};
 ghost use Rattle.sx_entries.specs.Entries.{module_made, module_named, node_made, node_named};
 ghost use Rattle.sx_entries.specs.Entries.{not_reserved, start_named};
 
 use crate::arrays::Rows;
+use crate::fault::{DeployError, DeployFault, Sort, nth};
 use crate::fields::Source;
 use crate::listed::{HasName, Listed, Make, made};
 use crate::rows::{DeviceRow, EndRow, LinkRow, ModuleRow, NodeRow, StartRow};
+use crate::stages::in_entry;
 use std::alloc::Global;
 use std::marker::Model;
 use sx_lang::names::Name;
 use sx_lang::tree::DeviceKind;
-use sx_stage::fault::{DeployError, DeployFault, Sort, nth};
-use sx_stage::stages::in_entry;
 use sx_trace::names::DEPLOYER;
 
 /// A node, under a name of its own.

@@ -1,15 +1,15 @@
 //! Entries in order, each found by its name.
 ghost use Rattle.std.specs.Prelude.{◌≡◌, ℕ, List, [], ◌∷◌, ◌++◌, length, Result, OnOk, position};
 ghost use Rattle.std.specs.Str.{bytes_eq};
-ghost use Rattle.sx_stage.specs.Gives.{Gives, TakesNoMemory};
-ghost use Rattle.sx_stage.specs.Stage.{made_after};
-ghost use Rattle.sx_stage.specs.declared.fault.DeployFault.{DeployFault as FaultSeen};
+ghost use Rattle.sx_entries.specs.Gives.{Gives, TakesNoMemory};
+ghost use Rattle.sx_entries.specs.Stage.{made_after};
+ghost use Rattle.sx_entries.specs.declared.fault.DeployFault.{DeployFault as FaultSeen};
 ghost use Rattle.sx_entries.specs.Entries.{has_entry, place_among};
 
+use crate::fault::DeployError;
 use std::alloc::{AllocError, Global};
 use std::marker::Model;
 use sx_lang::names::Name;
-use sx_stage::fault::DeployError;
 use sx_trace::index::NameIndex;
 
 /// A type of entry with a name.

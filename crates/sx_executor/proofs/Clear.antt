@@ -4,8 +4,8 @@ use Rattle.sx_bus.specs.declared.devices.Window.{Window}
 use Rattle.sx_bus.specs.Devices.{on_word, places_of, device_at}
 use Rattle.std.specs.List.{position_from}
 use Rattle.std.proofs.lemmas.Bool.{or_parts}
-use Rattle.sx_machine.specs.Ranges.{meets, meets_device}
-use Rattle.sx_machine.specs.Run.{device_of, found}
+use Rattle.spec_machine.specs.Ranges.{meets, meets_device}
+use Rattle.spec_machine.specs.Run.{device_of, found}
 use Rattle.sx_executor.specs.Machine.{IsClear}
 use Rattle.sx_executor.proofs.Rights.{byte_apart}
 

@@ -7,8 +7,8 @@ use Rattle.sx_rules.specs.declared.access.Access.TheVariants.{Read, Write, Run}
 use Rattle.sx_rules.specs.declared.section.Section.{Section}
 use Rattle.sx_rules.specs.Access.{may, allows, in_public, in_private, holder, outside_private, in_order, extends}
 use Rattle.sx_rules.specs.Admission.{is_even}
-use Rattle.sx_machine.specs.Memory.{even}
-use Rattle.sx_machine.specs.Run.{may_at}
+use Rattle.spec_machine.specs.Memory.{even}
+use Rattle.spec_machine.specs.Run.{may_at}
 use Rattle.sx_executor.specs.declared.gap.Gap.{Gap}
 use Rattle.sx_executor.specs.declared.gap.Gaps.{Gaps}
 use Rattle.sx_executor.specs.Homes.{within}

@@ -9,8 +9,8 @@ use Rattle.sx_rules.specs.declared.section.Section.{Section}
 use Rattle.sx_rules.specs.declared.section.Layout.{Layout}
 use Rattle.sx_rules.specs.Access.{may, allows, in_public, in_private, holder, outside_private, in_order, extends, section_of}
 use Rattle.sx_rules.specs.Admission.{apart, is_even}
-use Rattle.sx_machine.specs.Memory.{even}
-use Rattle.sx_machine.specs.Run.{may_at}
+use Rattle.spec_machine.specs.Memory.{even}
+use Rattle.spec_machine.specs.Run.{may_at}
 use Rattle.sx_executor.specs.declared.home.Home.{Home}
 use Rattle.sx_executor.specs.Homes.{within, has_code, has_data, leaves, is_even_home, IsCode, IsData, KeepsHome}
 use Rattle.sx_executor.proofs.Rights.{all_weaker}

@@ -6,9 +6,9 @@ use Rattle.sx_rules.specs.declared.section.Section.{Section}
 use Rattle.sx_rules.specs.Access.{may, extends, outside_private, in_order}
 use Rattle.sx_rules.specs.Pages.{is_open}
 use Rattle.sx_rules.proofs.Away.{free}
-use Rattle.sx_machine.specs.Memory.{even}
-use Rattle.sx_machine.specs.Run.{may_at}
-use Rattle.sx_machine.specs.Step.{word_outside}
+use Rattle.spec_machine.specs.Memory.{even}
+use Rattle.spec_machine.specs.Run.{may_at}
+use Rattle.spec_machine.specs.Step.{word_outside}
 
 -- both bytes of a word lie on one page
 low_byte : (at : ℕ) → (at - at % 2) / 256 ≡ at / 256

@@ -8,10 +8,10 @@ use Rattle.sx_rules.specs.declared.section.Layout.{Layout}
 use Rattle.sx_rules.specs.Access.{Sections, may, allows, extends, outside_private, in_private, in_public}
 use Rattle.sx_rules.specs.Admission.{refusal, apart, clear_of, parts_apart}
 use Rattle.sx_rules.proofs.Admits.{admits}
-use Rattle.sx_machine.specs.Memory.{even}
-use Rattle.sx_machine.specs.Ranges.{meets, meets_private, meets_public}
-use Rattle.sx_machine.specs.Run.{may_at, may_range}
-use Rattle.sx_machine.specs.Step.{word_outside}
+use Rattle.spec_machine.specs.Memory.{even}
+use Rattle.spec_machine.specs.Ranges.{meets, meets_private, meets_public}
+use Rattle.spec_machine.specs.Run.{may_at, may_range}
+use Rattle.spec_machine.specs.Step.{word_outside}
 use Rattle.sx_executor.proofs.Reach.{all_open}
 
 unless_true : (a b : Bool) → a ≡ false → (not a || b) ≡ true

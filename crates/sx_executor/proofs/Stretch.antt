@@ -1,7 +1,7 @@
 -- The bytes from an address on, as a part of the memory's list.
 use Rattle.std.proofs.Common.{◌≡◌, ℕ, zero, suc, ◌+◌, ◌≤◌, List, [], ◌∷◌, ◌++◌, length, take, drop, refl, sym, ap, ◌∙◌, arith}
 use Rattle.std.proofs.lemmas.List.{take_more, get_or-drop, length-drop}
-use Rattle.sx_machine.specs.Memory.{bytes_from}
+use Rattle.spec_machine.specs.Memory.{bytes_from}
 
 pub bytes_of_stretch : (mem : List ℕ) (at n : ℕ) → at + n ≤ length mem → bytes_from mem at n ≡ take n (drop at mem)
 unfolding bytes_from

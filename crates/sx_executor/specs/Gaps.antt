@@ -8,9 +8,9 @@ use Rattle.sx_rules.specs.declared.access.Access.{Access}
 use Rattle.sx_rules.specs.declared.section.Section.{Section}
 use Rattle.sx_rules.specs.Access.{holder, in_order, extends}
 use Rattle.sx_rules.specs.Admission.{apart}
-use Rattle.sx_machine.specs.Memory.{even}
-use Rattle.sx_machine.specs.Run.{may_at}
-use Rattle.sx_machine.specs.Step.{word_outside}
+use Rattle.spec_machine.specs.Memory.{even}
+use Rattle.spec_machine.specs.Run.{may_at}
+use Rattle.spec_machine.specs.Step.{word_outside}
 use Rattle.sx_executor.specs.declared.gap.Gap.{Gap}
 use Rattle.sx_executor.specs.declared.gap.Gaps.{Gaps}
 use Rattle.sx_executor.specs.Homes.{within}

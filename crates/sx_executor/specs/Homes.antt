@@ -10,9 +10,9 @@ use Rattle.sx_rules.specs.declared.access.Access.TheVariants.{Read, Write}
 use Rattle.sx_rules.specs.declared.section.Section.{Section}
 use Rattle.sx_rules.specs.Access.{holder, in_order, extends}
 use Rattle.sx_rules.specs.Admission.{apart, is_even}
-use Rattle.sx_machine.specs.Memory.{even}
-use Rattle.sx_machine.specs.Run.{may_at}
-use Rattle.sx_machine.specs.Step.{word_outside}
+use Rattle.spec_machine.specs.Memory.{even}
+use Rattle.spec_machine.specs.Run.{may_at}
+use Rattle.spec_machine.specs.Step.{word_outside}
 use Rattle.sx_executor.specs.declared.home.Home.{Home}
 
 -- the byte lies in the part from `from` up to but not `to`

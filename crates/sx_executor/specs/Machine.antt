@@ -19,14 +19,14 @@ use Rattle.sx_rules.specs.Admission.{refusal}
 use Rattle.sx_bus.specs.Memory.{blank}
 use Rattle.sx_bus.specs.declared.devices.Window.{Window}
 use Rattle.sx_bus.specs.Devices.{all_stale, places_of}
-use Rattle.sx_machine.specs.declared.kinds.Touch.{Touch}
-use Rattle.sx_machine.specs.Memory.{even, put_bytes}
-use Rattle.sx_machine.specs.State.{no_sections}
-use Rattle.sx_machine.specs.Plan.{Plan}
-use Rattle.sx_machine.specs.Ranges.{meets_device}
-use Rattle.sx_machine.specs.Run.{Moment, untouched, Outcome, may_range, may_each, load, store}
-use Rattle.sx_machine.specs.Run.{after_read, after_write, exec}
-use Rattle.sx_machine.specs.Answers.{EndsPlain, followed}
+use Rattle.spec_machine.specs.declared.kinds.Touch.{Touch}
+use Rattle.spec_machine.specs.Memory.{even, put_bytes}
+use Rattle.spec_machine.specs.State.{no_sections}
+use Rattle.spec_machine.specs.Plan.{Plan}
+use Rattle.spec_machine.specs.Ranges.{meets_device}
+use Rattle.spec_machine.specs.Run.{Moment, untouched, Outcome, may_range, may_each, load, store}
+use Rattle.spec_machine.specs.Run.{after_read, after_write, exec}
+use Rattle.spec_machine.specs.Answers.{EndsPlain, followed}
 
 -- registers, memory, devices and sections, the module whose code runs (else 0), and the touches
 -- so far

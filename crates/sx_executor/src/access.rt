@@ -4,13 +4,13 @@ ghost use Rattle.std.specs.Prelude.{◌≡◌, ◌<◌, ℕ, Bool, true, None, l
 ghost use Rattle.sx_alu.specs.Table.{limit};
 ghost use Rattle.sx_rules.specs.declared.access.Access.TheVariants.{Read, Write};
 ghost use Rattle.sx_rules.specs.Access.{holder, in_order};
-ghost use Rattle.sx_machine.specs.Step.{word_outside};
-ghost use Rattle.sx_machine.specs.Run.{may_at, with_touch, device_of, fetch, sampled};
+ghost use Rattle.spec_machine.specs.Step.{word_outside};
+ghost use Rattle.spec_machine.specs.Run.{may_at, with_touch, device_of, fetch, sampled};
 ghost use Rattle.sx_executor.specs.Machine.{moment_of, extends_word, KeepsSections, Loads, Stores};
 
 use crate::executor::Executor;
+use spec_machine::Touch;
 use sx_bus::{Bus, Kind, Window};
-use sx_machine::Touch;
 use sx_rules::{Access, Violation};
 
 /// Puts a touch into the first place that is quiet.

@@ -2,7 +2,7 @@
 
 ghost use Rattle.std.specs.Prelude.{◌≡◌, ◌+◌, ◌-◌, ◌≤◌, true, false, IfOk, IfErr, OnOk};
 ghost use Rattle.sx_rules.specs.declared.access.Violation.TheVariants as bad;
-ghost use Rattle.sx_machine.specs.Ranges.{passes_end, meets_device};
+ghost use Rattle.spec_machine.specs.Ranges.{passes_end, meets_device};
 
 use crate::range::Range;
 use sx_rules::Violation;

@@ -4,7 +4,7 @@
 ghost use Rattle.std.specs.Prelude.{◌≡◌, ◌+◌, ◌≤◌, true, false, length, IfErr, OnOk};
 ghost use Rattle.sx_rules.specs.declared.access.Access.TheVariants.{Read, Write};
 ghost use Rattle.sx_rules.specs.declared.access.Violation.TheVariants as bad;
-ghost use Rattle.sx_machine.specs.Memory.{bytes_from};
+ghost use Rattle.spec_machine.specs.Memory.{bytes_from};
 ghost use Rattle.sx_executor.specs.Machine.{reaches, with_bytes, IsClear};
 
 use crate::buffer::Buffer;
@@ -51,7 +51,7 @@ impl<B: Bus> Executor<B> {
     }
 
     /// Copies the bytes from an address on. They may be read, and no device meets them.
-    #[tactic(auto, unfolding(sx_machine::specs::Memory::bytes_from), using(crate::proofs::Reach::each_open, crate::proofs::Clear::each_clear, std::proofs::lemmas::List::take_more_set))]
+    #[tactic(auto, unfolding(spec_machine::specs::Memory::bytes_from), using(crate::proofs::Reach::each_open, crate::proofs::Clear::each_clear, std::proofs::lemmas::List::take_more_set))]
     pub fn read_bytes(&self, at: u16, into: &mut [u8])
         requires within { at + length into.old ≤ 65536 }
         requires right { reaches self.now Read at (length into.old) ≡ true }

@@ -5,7 +5,7 @@
 
 ghost use Rattle.std.specs.Prelude.{◌≡◌, ◌<◌, false, None, MatchOption, IfSome, IsTrue, length};
 ghost use Rattle.sx_isa.specs.Reading.{length_of};
-ghost use Rattle.sx_machine.specs.Step.{is_module_word};
+ghost use Rattle.spec_machine.specs.Step.{is_module_word};
 
 use crate::decoded::Decoded;
 use crate::executor::Executor;

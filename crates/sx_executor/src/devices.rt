@@ -3,8 +3,8 @@
 ghost use Rattle.std.specs.Prelude.{◌≡◌};
 
 use crate::executor::Executor;
+use spec_machine::Touch;
 use sx_bus::Bus;
-use sx_machine::Touch;
 
 impl<B: Bus> Executor<B> {
     /// What the instruction did at devices.

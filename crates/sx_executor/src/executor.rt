@@ -15,10 +15,10 @@ ghost use Rattle.sx_bus.specs.Devices.{cleared, with_sample};
 ghost use Rattle.sx_rules.specs.declared.access.Access.TheVariants.{Read, Write};
 ghost use Rattle.sx_rules.specs.Access.{holder, section_of};
 ghost use Rattle.sx_rules.specs.Admission.{admitted, removed};
-ghost use Rattle.sx_machine.specs.Memory.{bytes_from, read_at, write_at, zeroed};
-ghost use Rattle.sx_machine.specs.Protect.{wiped};
-ghost use Rattle.sx_machine.specs.Registers.{reg};
-ghost use Rattle.sx_machine.specs.Run.{may_at, device_of, untouched};
+ghost use Rattle.spec_machine.specs.Memory.{bytes_from, read_at, write_at, zeroed};
+ghost use Rattle.spec_machine.specs.Protect.{wiped};
+ghost use Rattle.spec_machine.specs.Registers.{reg};
+ghost use Rattle.spec_machine.specs.Run.{may_at, device_of, untouched};
 ghost use Rattle.sx_executor.specs.Machine.{switched_on, cleared_by_reset, reaches, IsPublic};
 
 use crate::buffer::Buffer;
@@ -26,10 +26,10 @@ use crate::decoded::Decoded;
 use crate::decoding::{PLACES, SHORTCUT_PLACES};
 use crate::protection::Protection;
 use crate::shortcut::Shortcut;
+use spec_machine::Touch;
 use std::alloc::{AllocError as OutOfMemory, Global};
 use std::marker::Model;
 use sx_bus::{Bus, Copied, Windows};
-use sx_machine::Touch;
 use sx_rules::{Layout, Section, Table};
 
 /// The registers R0 to R15, the memory, the devices and the sections of a node, with the module
@@ -63,7 +63,7 @@ impl<B: Bus> Model for Executor<B> {
 }
 
 /// Makes the bytes of a buffer zero.
-#[tactic(auto, unfolding(sx_machine::specs::Memory::zeroed))]
+#[tactic(auto, unfolding(spec_machine::specs::Memory::zeroed))]
 fn zero<B: Bus>(bus: &mut B, buffer: Buffer)
     ensures { B.bytes bus.new ≡ zeroed (B.bytes bus.old) buffer.at buffer.count }
 {

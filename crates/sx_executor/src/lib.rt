@@ -2,7 +2,7 @@
 //!
 //! An `Executor` does the accesses of an instruction in the order of its plan: `load`, `store` and
 //! `fetch` ask the access table and then the devices, as the executor of the definitions does
-//! (`Run.antt` of sx_machine). Memory itself is seen in the file `executor.rt` alone, and all else
+//! (`Run.antt` of spec_machine). Memory itself is seen in the file `executor.rt` alone, and all else
 //! reaches it by that file's calls. Of these `read` and `write` require that the access was tested,
 //! so no byte is touched before its test. Apart from them only two calls read: `public_byte`, which
 //! requires the right (it asks of no device, since no module is admitted over one), and `byte`, for

@@ -6,10 +6,10 @@ ghost use Rattle.sx_rules.specs.declared.access.Access.{Access};
 ghost use Rattle.sx_rules.specs.declared.access.Access.TheVariants.{Read, Write};
 ghost use Rattle.sx_rules.specs.Access.{holder, in_order, extends};
 ghost use Rattle.sx_rules.specs.Admission.{admitted, removed};
-ghost use Rattle.sx_machine.specs.Memory.{even};
-ghost use Rattle.sx_machine.specs.State.{no_sections};
-ghost use Rattle.sx_machine.specs.Run.{may_at};
-ghost use Rattle.sx_machine.specs.Step.{word_outside};
+ghost use Rattle.spec_machine.specs.Memory.{even};
+ghost use Rattle.spec_machine.specs.State.{no_sections};
+ghost use Rattle.spec_machine.specs.Run.{may_at};
+ghost use Rattle.spec_machine.specs.Step.{word_outside};
 
 use crate::gap::{Gap, Gaps};
 use crate::home::Home;

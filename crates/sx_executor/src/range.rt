@@ -1,8 +1,8 @@
 //! Ranges of addresses, and what they meet.
 
 ghost use Rattle.std.specs.Prelude.{◌≡◌, ◌+◌, ◌-◌, ◌≤◌, MatchOption, false, true, IfSome};
-ghost use Rattle.sx_machine.specs.Ranges.{meets, passes_end};
-ghost use Rattle.sx_machine.specs.Ranges.{meets_private, meets_public, meets_device};
+ghost use Rattle.spec_machine.specs.Ranges.{meets, passes_end};
+ghost use Rattle.spec_machine.specs.Ranges.{meets_private, meets_public, meets_device};
 
 use crate::buffer::Buffer;
 use sx_rules::Section;

@@ -2,9 +2,9 @@
 
 ghost use Rattle.std.specs.Prelude.{◌≡◌, ◌<◌, true, slice_set};
 ghost use Rattle.sx_alu.specs.Table.{limit};
-ghost use Rattle.sx_machine.specs.Given.{concluded};
-ghost use Rattle.sx_machine.specs.Registers.{at_pc, cut_value, reg, kept_in, set_reg, incremented};
-ghost use Rattle.sx_machine.specs.Registers.{flags, set_flags};
+ghost use Rattle.spec_machine.specs.Given.{concluded};
+ghost use Rattle.spec_machine.specs.Registers.{at_pc, cut_value, reg, kept_in, set_reg, incremented};
+ghost use Rattle.spec_machine.specs.Registers.{flags, set_flags};
 ghost use Rattle.sx_executor.specs.Shortcuts.{is_general};
 
 use crate::executor::Executor;

@@ -13,7 +13,7 @@ ghost use Rattle.sx_isa.specs.declared.instruction.Operand.TheVariants.{Immediat
 ghost use Rattle.sx_isa.specs.declared.instruction.Operand.TheVariants.{Indexed};
 ghost use Rattle.sx_isa.specs.Reading.{instruction_at};
 ghost use Rattle.sx_isa.specs.Extending.{extended};
-ghost use Rattle.sx_machine.specs.Step.{is_module_word};
+ghost use Rattle.spec_machine.specs.Step.{is_module_word};
 ghost use Rattle.sx_executor.specs.Reads.{IsDecoded};
 ghost use Rattle.sx_executor.specs.Shortcuts.{instruction_of, words_of, is_fit, IsForm};
 ghost use Rattle.sx_executor.specs.Shortcuts.{double_of, triple_of};

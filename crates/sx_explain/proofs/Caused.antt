@@ -29,7 +29,7 @@ use Rattle.sx_model.specs.Legal.{Legal, after}
 use Rattle.sx_model.specs.Consequences.{begins_event, ends_event, ends_reading, senses}
 use Rattle.sx_model.proofs.Along.{some_of, next_of}
 use Rattle.sx_model.proofs.Steps.{Cases, by_step}
-use Rattle.sx_lists.proofs.Lists.{get_same}
+use Rattle.lemmas.proofs.Lists.{get_same}
 use Rattle.sx_model.proofs.ReadsAreSensed.{reads_are_sensed}
 use Rattle.sx_model.specs.Changes.{is_from}
 use Rattle.sx_model.proofs.Idle.{idle_is}

@@ -6,7 +6,7 @@ use Rattle.std.specs.List.{list_any}
 use Rattle.std.proofs.lemmas.Bool.{cases_eq, cases_lt, eq-eqb, eqb-true, ne_eqb, and_parts}
 use Rattle.std.proofs.lemmas.List.{append-nil, length-append, length-replicate, length-set}
 use Rattle.std.proofs.lemmas.Option.{same_Some, slice_get_past, slice_get_within}
-use Rattle.sx_lists.proofs.Truths.{or_none}
+use Rattle.lemmas.proofs.Truths.{or_none}
 use Rattle.sx_mean.specs.declared.events.Act.{Act}
 use Rattle.sx_mean.specs.declared.events.Act.TheVariants.{Send, Emit}
 use Rattle.sx_mean.specs.declared.events.End.{End}
@@ -23,7 +23,7 @@ use Rattle.sx_model.specs.Legal.{after, before, is_forged}
 use Rattle.sx_model.specs.Consequences.{begins_event}
 use Rattle.sx_model.proofs.Along.{some_of}
 use Rattle.sx_model.proofs.Steps.{Cases, by_step}
-use Rattle.sx_lists.proofs.Lists.{get_same, get_some}
+use Rattle.lemmas.proofs.Lists.{get_same, get_some}
 use Rattle.sx_model.proofs.Written.{get_other}
 use Rattle.sx_model.specs.Changes.{is_from}
 use Rattle.sx_explain.specs.Causes.{appended, cause, gives, latest, or_else, word_of}

@@ -9,7 +9,7 @@ use Rattle.sx_mean.specs.declared.events.End.{End}
 use Rattle.sx_model.specs.State.{EndView}
 use Rattle.sx_model.specs.Reaction.{Flow, MOST_SENT, all_done, done, field_of, sends, sent_over, sent_to}
 use Rattle.sx_model.specs.Step.{◌>>?◌}
-use Rattle.sx_lists.proofs.Lists.{get_same}
+use Rattle.lemmas.proofs.Lists.{get_same}
 use Rattle.sx_model.proofs.Written.{get_other}
 use Rattle.sx_explain.specs.Causes.{Among, word_of}
 

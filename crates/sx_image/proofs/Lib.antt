@@ -1,0 +1,2 @@
+-- One file: how stretches of a run compose.
+pub mod Reaching

@@ -7,15 +7,15 @@ use Rattle.sx_rules.specs.declared.section.Layout.{Layout}
 use Rattle.sx_rules.specs.declared.section.Section.{Section}
 use Rattle.sx_rules.specs.Access.{Lives}
 use Rattle.sx_tag.specs.Mac.{Mac}
-use Rattle.sx_machine.specs.Memory.{bytes_from}
-use Rattle.sx_machine.specs.Node.{IsNode}
-use Rattle.sx_machine.specs.State.{State}
-use Rattle.sx_machine.specs.Step.{pc_of}
-use Rattle.sx_invoke.specs.Protocol.{entry_register, input_register, output_register, back_register}
-use Rattle.sx_invoke.specs.Setup.{Setup, Call}
-use Rattle.sx_invoke.specs.ModuleState.{state_of}
-use Rattle.sx_invoke.specs.Devices.{HasDevices}
-use Rattle.sx_invoke.specs.Progress.{Progress}
+use Rattle.spec_machine.specs.Memory.{bytes_from}
+use Rattle.spec_machine.specs.Node.{IsNode}
+use Rattle.spec_machine.specs.State.{State}
+use Rattle.spec_machine.specs.Step.{pc_of}
+use Rattle.spec_invocation.specs.Protocol.{entry_register, input_register, output_register, back_register}
+use Rattle.spec_invocation.specs.Setup.{Setup, Call}
+use Rattle.spec_invocation.specs.ModuleState.{state_of}
+use Rattle.spec_invocation.specs.Devices.{HasDevices}
+use Rattle.spec_invocation.specs.Progress.{Progress}
 
 -- the bytes of a module's text, where it lies, and its provider
 pub record Image : Type 0 where

@@ -9,17 +9,17 @@ use Rattle.sx_rules.specs.declared.section.Section.{Section}
 use Rattle.sx_rules.specs.declared.access.Access.TheVariants.{Write}
 use Rattle.sx_rules.specs.Access.{may, in_private}
 use Rattle.sx_tag.specs.Mac.{Mac}
-use Rattle.sx_machine.specs.declared.kinds.Event.TheVariants as event
-use Rattle.sx_machine.specs.Memory.{even, bytes_from}
-use Rattle.sx_machine.specs.State.{State}
-use Rattle.sx_machine.specs.Step.{own_of}
-use Rattle.sx_reach.specs.Reach.{Comes}
-use Rattle.sx_invoke.specs.Setup.{Setup}
-use Rattle.sx_invoke.specs.ModuleState.{initial_state, state_of}
-use Rattle.sx_invoke.specs.Marks.{HasPrefix}
-use Rattle.sx_invoke.specs.Progress.{Progress, Invoked, Returns, Violates, marks_in, pieces_in}
-use Rattle.sx_invoke.specs.Progress.{bytes_in}
-use Rattle.sx_invoke.specs.Invocation.{invoke}
+use Rattle.spec_machine.specs.declared.kinds.Event.TheVariants as event
+use Rattle.spec_machine.specs.Memory.{even, bytes_from}
+use Rattle.spec_machine.specs.State.{State}
+use Rattle.spec_machine.specs.Step.{own_of}
+use Rattle.sx_image.specs.Reach.{Comes}
+use Rattle.spec_invocation.specs.Setup.{Setup}
+use Rattle.spec_invocation.specs.ModuleState.{initial_state, state_of}
+use Rattle.spec_invocation.specs.Marks.{HasPrefix}
+use Rattle.spec_invocation.specs.Progress.{Progress, Invoked, Returns, Violates, marks_in, pieces_in}
+use Rattle.spec_invocation.specs.Progress.{bytes_in}
+use Rattle.spec_invocation.specs.Invocation.{invoke}
 use Rattle.sx_image.specs.Watched.{Watched, watch}
 use Rattle.sx_image.specs.Image.{Image, Enters, private_bytes, setup_at, call_at, progress_at}
 

@@ -3,7 +3,7 @@ use Rattle.std.proofs.Common.{◌≡◌, ℕ, ◌+◌, ◌-◌, ◌*◌, ◌%◌
 use Rattle.std.specs.Prelude.{◌==◌, ◌||◌, not}
 use Rattle.std.proofs.lemmas.Bool.{and_from, eq-eqb, le-leb, lt-ltb, ne_eqb, not_from_false, or_from, or_left, or_parts, or_right}
 use Rattle.sx_ir.specs.Meaning.{has_key_mark, is_body_place, is_key_mark, is_key_place, is_shown, is_shown_element, spares_slots}
-use Rattle.sx_invoke.specs.Marks.{Mark}
+use Rattle.spec_invocation.specs.Marks.{Mark}
 
 -- behind the copied packet's plain body, and before the key of the first slot
 pub middle_shown : (ends o n : ℕ) → 72 ≤ o → o + n ≤ 520 → is_shown ends o n ≡ true

@@ -15,27 +15,27 @@ use Rattle.sx_bus.specs.declared.devices.Kind.TheVariants as kind
 use Rattle.sx_bus.specs.declared.devices.Window.{Window}
 use Rattle.sx_bus.specs.Devices.{cleared}
 use Rattle.sx_tag.specs.Wrap.{Wrapped, wrapped, unwrapped}
-use Rattle.sx_machine.specs.Memory.{even, word, put_word, bytes_from, put_bytes}
-use Rattle.sx_reach.specs.Reach.{Stepped, Goes, Stops, Comes}
+use Rattle.spec_machine.specs.Memory.{even, word, put_word, bytes_from, put_bytes}
+use Rattle.sx_image.specs.Reach.{Stepped, Goes, Stops, Comes}
 use Rattle.sx_mean.specs.Offsets as offsets
 use Rattle.sx_mean.specs.Working as working
-use Rattle.sx_invoke.specs.Protocol.{input_register, output_register, back_register}
-use Rattle.sx_invoke.specs.Protocol.{entry_register, event_size, key_size, last_number}
-use Rattle.sx_invoke.specs.Pieces.{tag_size, made_bytes}
-use Rattle.sx_invoke.specs.ModuleState.{EndState, end_state}
-use Rattle.sx_invoke.specs.Marks as mark
-use Rattle.sx_invoke.specs.Marks.{Mark}
-use Rattle.sx_invoke.specs.Setup.{Setup}
-use Rattle.sx_invoke.specs.Windows.{in_window_size, out_window_size, is_bad_window, two, read_bytes}
-use Rattle.sx_invoke.specs.Windows.{write_bytes}
-use Rattle.sx_invoke.specs.Acts.{event_header, event_packet, own_window}
+use Rattle.spec_invocation.specs.Protocol.{input_register, output_register, back_register}
+use Rattle.spec_invocation.specs.Protocol.{entry_register, event_size, key_size, last_number}
+use Rattle.spec_invocation.specs.Pieces.{tag_size, made_bytes}
+use Rattle.spec_invocation.specs.ModuleState.{EndState, end_state}
+use Rattle.spec_invocation.specs.Marks as mark
+use Rattle.spec_invocation.specs.Marks.{Mark}
+use Rattle.spec_invocation.specs.Setup.{Setup}
+use Rattle.spec_invocation.specs.Windows.{in_window_size, out_window_size, is_bad_window, two, read_bytes}
+use Rattle.spec_invocation.specs.Windows.{write_bytes}
+use Rattle.spec_invocation.specs.Acts.{event_header, event_packet, own_window}
 use Rattle.sx_ir.specs.Conf.{Conf, Halt, Violates, Stuck}
 use Rattle.sx_ir.specs.Counts.{count_of}
 use Rattle.sx_ir.specs.declared.ir.IrOp.{IrOp}
 use Rattle.sx_ir.specs.declared.ir.IrOp.TheVariants as op
 use Rattle.sx_ir.specs.declared.ir.Ir.{Ir}
 use Rattle.sx_ir.specs.declared.ir.Ir.TheVariants as ir
-use Rattle.sx_lists.specs.Truth.{truth}
+use Rattle.lemmas.specs.Truth.{truth}
 
 -- what an operation leads to
 abbrev pub OperationResult : Type 0

@@ -9,7 +9,7 @@ use Rattle.sx_isa.specs.declared.instruction.Op1.TheVariants.{Rrc, Swpb, Rra, Sx
 use Rattle.sx_isa.specs.Spelling.{op2_code, op1_code, offset_field}
 use Rattle.sx_isa.specs.Instructions.{IsOffset}
 use Rattle.sx_isa.specs.Reading.{op2_at, op1_at, offset_at}
-use Rattle.sx_lists.specs.Truth.{truth}
+use Rattle.lemmas.specs.Truth.{truth}
 
 -- reading a code gives the operation that has it
 pub op2_back : (op : Op2) →

@@ -11,7 +11,7 @@ use Rattle.sx_isa.specs.Instructions.{first_word, IsIllegal, IsInstruction, IsSo
 use Rattle.sx_isa.specs.Legal.{is_allowed, is_value}
 use Rattle.sx_isa.proofs.Codes.{op2_back, op1_back, bit_back, offset_back}
 use Rattle.sx_isa.proofs.Operands.{source_back, destination_back}
-use Rattle.sx_lists.specs.Truth.{truth}
+use Rattle.lemmas.specs.Truth.{truth}
 
 pub two_fields : (w op s ad y m d : ℕ) → w ≡ two_word op s ad y m d → s < 16 → ad < 2 → y < 2 → m < 4 →
     d < 16 →

@@ -9,7 +9,7 @@ use Rattle.sx_isa.specs.Spelling.{place_of, at, is_constant}
 use Rattle.sx_isa.specs.Legal.{is_value}
 use Rattle.sx_isa.specs.Instructions.{IsSource, IsDestination, IsGeneral, IsValuePlace}
 use Rattle.sx_isa.specs.Reading.{source_at, destination_at, takes_word}
-use Rattle.sx_lists.specs.Truth.{truth}
+use Rattle.lemmas.specs.Truth.{truth}
 
 -- a register is one of the three with meanings of their own, or a general one
 by_register : (P : ℕ → Type 0) (r : ℕ) → r < 16 → P 0 → P 2 → P 3 →

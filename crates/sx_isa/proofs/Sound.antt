@@ -18,7 +18,7 @@ use Rattle.sx_isa.proofs.Codes.{bit_at, offset_field-at, offset_at-valid, op2_co
 use Rattle.sx_isa.proofs.Operands.{source_stands, destination_stands, destination_none, value_place}
 use Rattle.sx_isa.proofs.FirstWords.{two_packed, one_packed, refused_cases, legal}
 use Rattle.sx_isa.proofs.Formats.{by_format}
-use Rattle.sx_lists.specs.Truth.{truth}
+use Rattle.lemmas.specs.Truth.{truth}
 
 two_of_some : {P : Type 0} (o : Option Op2) (b : Bool) (s : Operand) (d : Option Operand) (n : ℕ) (f : Instr × ℕ) → two_of o b s d n ≡ Some f →
     ((op : Op2) (dst : Operand) → o ≡ Some op → d ≡ Some dst → (Two op b s dst, n) ≡ f → P) → P

@@ -15,7 +15,7 @@ use Rattle.sx_isa.proofs.Codes.{op2_back, op1_back, bit_back, offset_back}
 use Rattle.sx_isa.proofs.Operands.{source_back, destination_back, words_few}
 use Rattle.sx_isa.proofs.FirstWords.{two_fields, one_fields}
 use Rattle.sx_isa.proofs.Formats.{by_format, jump_format, one_format, sancus_format, two_format}
-use Rattle.sx_lists.specs.Truth.{truth}
+use Rattle.lemmas.specs.Truth.{truth}
 
 two_of_parts : (o : Option Op2) (b byte : Bool) (s src : Operand) (d : Option Operand) (m n : ℕ) (op : Op2) (dst : Operand) →
     o ≡ Some op → b ≡ byte → s ≡ src → d ≡ Some dst → m ≡ n → two_of o b s d m ≡ Some

@@ -12,7 +12,7 @@ use Rattle.sx_isa.specs.Legal.{has_byte_form, writes_back, is_allowed, is_value}
 use Rattle.sx_isa.specs.Reading.{source_at, destination_at, takes_word, op2_at, op1_at, two_of, one_of, two_at, one_at, instruction_at}
 use Rattle.sx_isa.specs.Extending.{has_word, with_word, extended}
 use Rattle.sx_isa.proofs.Formats.{by_format}
-use Rattle.sx_lists.specs.Truth.{truth}
+use Rattle.lemmas.specs.Truth.{truth}
 
 abbrev with_words : ℕ → ℕ → Instr × ℕ → Instr × ℕ
 with_words w1 w2 f = (extended f.0 w1 w2, f.1)

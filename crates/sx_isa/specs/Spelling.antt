@@ -13,7 +13,7 @@ use Rattle.sx_isa.specs.declared.instruction.Op1.{Op1}
 use Rattle.sx_isa.specs.declared.instruction.Op1.TheVariants.{Rrc, Swpb, Rra, Sxt, Push, Call}
 use Rattle.sx_isa.specs.declared.instruction.Instr.{Instr}
 use Rattle.sx_isa.specs.declared.instruction.Instr.TheVariants.{Two, One, Reti, Jump, Sancus}
-use Rattle.sx_lists.specs.Truth.{truth}
+use Rattle.lemmas.specs.Truth.{truth}
 
 -- a number that a constant generator gives
 abbrev pub is_constant : ℕ → Bool

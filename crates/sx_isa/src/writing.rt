@@ -6,7 +6,7 @@ ghost use Rattle.sx_isa.specs.Instructions.{IsSource, IsDestination, IsInstructi
 ghost use Rattle.sx_isa.specs.Reading.{instruction_at};
 ghost use Rattle.sx_isa.specs.Spelling.{two_word, one_word, packed, place_of, at, spelling};
 ghost use Rattle.sx_isa.specs.Spelling.{op2_code, op1_code, offset_field};
-ghost use Rattle.sx_lists.specs.Truth.{truth};
+ghost use Rattle.lemmas.specs.Truth.{truth};
 
 use crate::fields::is_allowed;
 use crate::instruction::{Instr, Op1, Op2, Operand, Words};

@@ -9,11 +9,11 @@ use Rattle.sx_lang.specs.Tree.{Expression, Constant, Variable, Indexed, Applied,
 use Rattle.sx_lang.specs.Sizes.{declared_cells}
 use Rattle.sx_mean.specs.Places.{place, array_length, initial_cells}
 use Rattle.sx_mean.specs.Meaning.{HandlerState, word, element, value, local_place, new_local, define, assign, assign_element, forget}
-use Rattle.sx_machine.specs.Memory as memory
-use Rattle.sx_machine.specs.Memory.{even, put_word}
+use Rattle.spec_machine.specs.Memory as memory
+use Rattle.spec_machine.specs.Memory.{even, put_word}
 use Rattle.sx_mean.specs.Offsets.{cell_at}
 use Rattle.sx_mean.specs.Working.{event_at, local_at}
-use Rattle.sx_invoke.specs.ModuleState.{cells_from}
+use Rattle.spec_invocation.specs.ModuleState.{cells_from}
 use Rattle.sx_mean.specs.Scope.{index_of, names_of}
 use Rattle.sx_mean.specs.Variables.{first_value, IsVariable, FineExpression}
 use Rattle.sx_lower.proofs.Bytes.{bytes-put, word_small}
@@ -22,7 +22,7 @@ use Rattle.sx_mean.proofs.Variables.{is_element}
 use Rattle.sx_mean.proofs.Scope.{length-names, look_past, place_of_local, names_push, names_take, names_set}
 use Rattle.sx_lower.proofs.Source.{look_at, found_word}
 use Rattle.sx_mean.proofs.Words.{apply_word, combine_word, length-initial}
-use Rattle.sx_machine.proofs.Lengths.{length-put_word}
+use Rattle.spec_machine.proofs.Lengths.{length-put_word}
 
 -- the private section, of a module with this many ends, holds this state, whose locals have these names
 pub record Holds (ds : List Decl) (n : ℕ) (names : List (List ℕ)) (st : HandlerState) (priv : List ℕ) : Type 0 where

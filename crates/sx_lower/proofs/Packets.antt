@@ -10,18 +10,18 @@ use Rattle.sx_mean.specs.declared.events.End.{End}
 use Rattle.sx_mean.specs.Meaning.{HandlerState}
 use Rattle.sx_rules.specs.declared.access.Violation.{Violation}
 use Rattle.sx_bus.specs.declared.devices.Window.{Window}
-use Rattle.sx_reach.specs.Reach.{Goes}
-use Rattle.sx_machine.specs.Memory.{even, word, put_word}
-use Rattle.sx_invoke.specs.Marks.{Mark, Wrapped}
-use Rattle.sx_invoke.specs.Pieces.{made_bytes}
-use Rattle.sx_invoke.specs.Setup.{Setup, Call}
+use Rattle.sx_image.specs.Reach.{Goes}
+use Rattle.spec_machine.specs.Memory.{even, word, put_word}
+use Rattle.spec_invocation.specs.Marks.{Mark, Wrapped}
+use Rattle.spec_invocation.specs.Pieces.{made_bytes}
+use Rattle.spec_invocation.specs.Setup.{Setup, Call}
 use Rattle.sx_mean.specs.Offsets.{end_number_at}
 use Rattle.sx_mean.specs.Working.{pieces_at, saved_at}
-use Rattle.sx_invoke.specs.ModuleState.{EndState, end_of, with_end, end_state, end_states}
-use Rattle.sx_invoke.specs.Windows.{is_bad_window, two, write_bytes, out_window_size}
-use Rattle.sx_invoke.specs.Progress.{Progress, Course, Going, Broken, and_on}
-use Rattle.sx_invoke.specs.Acts.{copied_to, with_piece, event_header, event_packet, wrap_counted, with_packet, with_packets}
-use Rattle.sx_invoke.proofs.PiecesMarked.{made_more}
+use Rattle.spec_invocation.specs.ModuleState.{EndState, end_of, with_end, end_state, end_states}
+use Rattle.spec_invocation.specs.Windows.{is_bad_window, two, write_bytes, out_window_size}
+use Rattle.spec_invocation.specs.Progress.{Progress, Course, Going, Broken, and_on}
+use Rattle.spec_invocation.specs.Acts.{copied_to, with_piece, event_header, event_packet, wrap_counted, with_packet, with_packets}
+use Rattle.spec_invocation.proofs.PiecesMarked.{made_more}
 use Rattle.sx_mean.specs.Ends.{is_sending}
 use Rattle.sx_mean.specs.EndLaws.{senders}
 use Rattle.sx_mean.proofs.Ends.{senders-cons}
@@ -35,7 +35,7 @@ use Rattle.sx_lower.proofs.Slots.{end_among, ends_number, ends_other}
 use Rattle.sx_lower.proofs.Holds.{Holds, holds_other}
 use Rattle.sx_ir.proofs.Shown.{unkeyed_more}
 use Rattle.sx_lower.proofs.Run.{HasAt, at, do_one, do_last, passed, weaker, Comes_to}
-use Rattle.sx_machine.proofs.Lengths.{length-put_word}
+use Rattle.spec_machine.proofs.Lengths.{length-put_word}
 
 -- The private section, the memory outside, the devices and the marks show an invocation's progress, but for the cells.
 pub record Shows (s : Setup) (call : Call) (p : Progress) (priv mem : List ℕ) (devices : List Window) (marks : List Mark) : Type 0 where

@@ -22,18 +22,18 @@ use Rattle.sx_mean.specs.Meaning.{HandlerState, in_block, after_block}
 use Rattle.sx_mean.specs.React.{handler_at, value_of, start, run}
 use Rattle.sx_rules.specs.declared.access.Violation.{Violation}
 use Rattle.sx_bus.specs.declared.devices.Window.{Window}
-use Rattle.sx_reach.specs.Reach.{Goes}
-use Rattle.sx_machine.specs.Memory.{put_word}
-use Rattle.sx_invoke.specs.Marks.{Mark}
-use Rattle.sx_invoke.specs.Setup.{Setup, Call}
+use Rattle.sx_image.specs.Reach.{Goes}
+use Rattle.spec_machine.specs.Memory.{put_word}
+use Rattle.spec_invocation.specs.Marks.{Mark}
+use Rattle.spec_invocation.specs.Setup.{Setup, Call}
 use Rattle.sx_mean.specs.Offsets.{cell_at}
 use Rattle.sx_mean.specs.Working.{event_at, local_at}
-use Rattle.sx_invoke.specs.ModuleState.{ModuleState, EndState, end_of, end_states, cells_from, state_of}
-use Rattle.sx_invoke.specs.Progress.{Progress, Course, Going, Broken, and_on}
-use Rattle.sx_invoke.specs.Acts.{copied_to, with_packet, with_packets, with_piece, event_packet, wrap_counted, own_window, actuated, with_act, with_acts, handled}
+use Rattle.spec_invocation.specs.ModuleState.{ModuleState, EndState, end_of, end_states, cells_from, state_of}
+use Rattle.spec_invocation.specs.Progress.{Progress, Course, Going, Broken, and_on}
+use Rattle.spec_invocation.specs.Acts.{copied_to, with_packet, with_packets, with_piece, event_packet, wrap_counted, own_window, actuated, with_act, with_acts, handled}
 use Rattle.sx_mean.specs.Ends.{is_sending}
 use Rattle.sx_mean.specs.EndLaws.{senders}
-use Rattle.sx_invoke.specs.Devices.{HasDevices}
+use Rattle.spec_invocation.specs.Devices.{HasDevices}
 use Rattle.sx_ir.specs.Conf.{Conf}
 use Rattle.sx_ir.specs.Meaning.{OperationResult}
 use Rattle.sx_ir.specs.Sound.{is_sound_part}

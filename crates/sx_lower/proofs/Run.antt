@@ -15,11 +15,11 @@ use Rattle.sx_check.specs.Bounds.{height}
 use Rattle.sx_mean.specs.Places.{place, array_length}
 use Rattle.sx_mean.specs.Meaning.{HandlerState, apply, combine, word, element, value}
 use Rattle.sx_rules.specs.declared.access.Violation.{Violation}
-use Rattle.sx_reach.specs.Reach.{Goes, Stops, Here, Next, Ends}
-use Rattle.sx_reach.proofs.Reaching.{and_then, weaken}
-use Rattle.sx_machine.specs.Memory as memory
-use Rattle.sx_invoke.specs.Marks.{Mark}
-use Rattle.sx_invoke.specs.Setup.{Setup}
+use Rattle.sx_image.specs.Reach.{Goes, Stops, Here, Next, Ends}
+use Rattle.sx_image.proofs.Reaching.{and_then, weaken}
+use Rattle.spec_machine.specs.Memory as memory
+use Rattle.spec_invocation.specs.Marks.{Mark}
+use Rattle.spec_invocation.specs.Setup.{Setup}
 use Rattle.sx_mean.specs.Offsets.{cell_at}
 use Rattle.sx_mean.specs.Working.{stack_words, local_at}
 use Rattle.sx_ir.specs.Conf.{Conf, Halt, Violates}

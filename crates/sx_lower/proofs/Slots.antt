@@ -1,11 +1,11 @@
 -- The parts of a private section: cells, locals and ends, and what a write of a word does to each.
 use Rattle.std.proofs.Common.{◌≡◌, ◌≢◌, ℕ, zero, suc, ◌+◌, ◌*◌, ◌%◌, ◌<◌, ◌≤◌, List, [], ◌∷◌, ◌++◌, length, get_or, take, refl, sym, ap, ◌∙◌, subst, arith}
 use Rattle.std.specs.Prelude.{slice_set}
-use Rattle.sx_machine.specs.Memory.{even, word, put_word}
+use Rattle.spec_machine.specs.Memory.{even, word, put_word}
 use Rattle.sx_mean.specs.declared.moments.Local.{Local}
 use Rattle.sx_mean.specs.declared.events.End.{End}
 use Rattle.sx_mean.specs.Offsets.{end_at, end_number_at, end_open_at, end_key_at}
-use Rattle.sx_invoke.specs.ModuleState.{end_of, with_end, end_state, end_states, cells_from}
+use Rattle.spec_invocation.specs.ModuleState.{end_of, with_end, end_state, end_states, cells_from}
 use Rattle.sx_lower.proofs.Bytes.{word-put_same, word-put_other, bytes-put_other}
 
 -- Cells

@@ -4,7 +4,7 @@ use Rattle.std.proofs.Common.{nat_le, Some, refl, sym, ap, ◌∙◌, arith, app
 use Rattle.std.specs.Prelude.{slice_get}
 use Rattle.std.specs.List.{list_all}
 use Rattle.std.proofs.lemmas.Bool.{ltb-true, le-leb, lt-ltb, eq-eqb, and_from}
-use Rattle.sx_lists.proofs.Lists.{get_mid}
+use Rattle.lemmas.proofs.Lists.{get_mid}
 use Rattle.sx_lang.specs.declared.tree.Decl.{Decl}
 use Rattle.sx_lang.specs.declared.tree.Decl.TheVariants.{Device, Input, Output, Var, Array}
 use Rattle.sx_lang.specs.declared.tree.BinOp.{BinOp}

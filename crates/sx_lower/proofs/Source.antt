@@ -6,9 +6,9 @@ use Rattle.sx_check.specs.Names.{same}
 use Rattle.sx_mean.specs.declared.moments.Local.{Local}
 use Rattle.sx_mean.specs.Meaning.{look_up}
 use Rattle.sx_mean.specs.Scope.{index_of, names_of}
-use Rattle.sx_machine.specs.Memory as memory
+use Rattle.spec_machine.specs.Memory as memory
 use Rattle.sx_lower.proofs.Slots.{InSlots}
-use Rattle.sx_lists.proofs.Numbers.{less_by_one}
+use Rattle.lemmas.proofs.Numbers.{less_by_one}
 
 -- a local in scope is found in its slot
 pub look_at : (ls : List Local) (priv : List ℕ) (at : ℕ) (x : List ℕ) → InSlots priv at ls → nat_lt (index_of (names_of ls) x) (length (names_of ls)) ≡ true

@@ -22,15 +22,15 @@ use Rattle.sx_mean.specs.Meaning.{HandlerState, value, define, assign, assign_el
 use Rattle.sx_rules.specs.declared.access.Violation.{Violation}
 use Rattle.sx_bus.specs.declared.devices.Kind.TheVariants as kind
 use Rattle.sx_bus.specs.declared.devices.Window.{Window}
-use Rattle.sx_reach.specs.Reach.{Goes, Here}
-use Rattle.sx_machine.specs.Memory.{word, put_word}
-use Rattle.sx_invoke.specs.Marks.{Mark, Actuated}
-use Rattle.sx_invoke.specs.Setup.{Setup, Call}
+use Rattle.sx_image.specs.Reach.{Goes, Here}
+use Rattle.spec_machine.specs.Memory.{word, put_word}
+use Rattle.spec_invocation.specs.Marks.{Mark, Actuated}
+use Rattle.spec_invocation.specs.Setup.{Setup, Call}
 use Rattle.sx_mean.specs.Offsets.{cell_at}
 use Rattle.sx_mean.specs.Working.{event_at, local_at, stack_words}
-use Rattle.sx_invoke.specs.Windows.{is_bad_window, out_window_size}
-use Rattle.sx_invoke.specs.Progress.{Progress, Course, Going, Broken, and_on}
-use Rattle.sx_invoke.specs.Acts.{own_window, actuated, with_act, with_acts}
+use Rattle.spec_invocation.specs.Windows.{is_bad_window, out_window_size}
+use Rattle.spec_invocation.specs.Progress.{Progress, Course, Going, Broken, and_on}
+use Rattle.spec_invocation.specs.Acts.{own_window, actuated, with_act, with_acts}
 use Rattle.sx_ir.specs.Conf.{Conf}
 use Rattle.sx_ir.specs.Counts.{count_of}
 use Rattle.sx_ir.specs.Meaning.{OperationResult, do_at, do_op, is_shown, is_shown_element, spares_slots, handler_count, emit, emitted}
@@ -49,7 +49,7 @@ use Rattle.sx_mean.proofs.Scope.{length-names}
 use Rattle.sx_lower.proofs.Holds.{Holds, value_word, holds_turns, holds_define, holds_assign_local, holds_assign_cell, holds_element, holds_forget}
 use Rattle.sx_ir.proofs.Shown.{cell_shown, cell_spared, element_shown, low_spared, middle_shown, unkeyed_more}
 use Rattle.sx_lower.proofs.Run.{HasAt, has_front, has_back, at, do_one, then_so, after, weaker, to, room, passed, Comes_to, expression_reach}
-use Rattle.sx_invoke.proofs.PiecesMarked.{made_more}
+use Rattle.spec_invocation.proofs.PiecesMarked.{made_more}
 use Rattle.sx_lower.proofs.Packets.{Shows, shows_other, packets_reach}
 use Rattle.sx_lower.proofs.Puts.{lets_defined}
 

@@ -15,7 +15,7 @@ use Rattle.sx_mean.specs.declared.moments.Local.{Local}
 use Rattle.sx_mean.specs.Places.{place, array_length}
 use Rattle.sx_mean.specs.Meaning.{HandlerState, after_block, after_statement, assign, assign_element, forget, local_place, look_up, new_local, times, value}
 use Rattle.sx_mean.specs.Scope.{IsIndexed, KeepsScope, index_of, names_of}
-use Rattle.sx_lists.proofs.Numbers.{less_by_one}
+use Rattle.lemmas.proofs.Numbers.{less_by_one}
 
 pub length-names : (ls : List Local) → length (names_of ls) ≡ length ls
 length-names [] = refl

@@ -20,7 +20,7 @@ use Rattle.sx_check.specs.Accepted.{IsProper}
 use Rattle.sx_mean.specs.Places.{place, initial_cells, first_cells, array_length, own_length}
 use Rattle.sx_mean.specs.Variables.{FineBlock, FineExpression, FineStatement, IsElement, IsKnown, IsVariable, first_value, own_value}
 use Rattle.sx_mean.proofs.Scope.{seen_index}
-use Rattle.sx_lists.proofs.Lists.{zero_at}
+use Rattle.lemmas.proofs.Lists.{zero_at}
 
 -- Variables
 

@@ -27,8 +27,8 @@ use Rattle.sx_mean.specs.Places.{place, array_length, initial_cells}
 use Rattle.sx_mean.specs.Meaning.{HandlerState, apply, combine, look_up, value, local_place, new_local, act, assign, assign_element, define, forget, times, after_statement, after_block}
 use Rattle.sx_mean.specs.React.{handler_at, handler_of_name, input_names, nth, run, start, value_of}
 use Rattle.sx_mean.specs.Words.{ActsOnWord, AreCells, IsLocalWord, ReactsInWords, StateHasWords}
-use Rattle.sx_lists.specs.Truth.{truth}
-use Rattle.sx_lists.proofs.Truths.{truth_small}
+use Rattle.lemmas.specs.Truth.{truth}
+use Rattle.lemmas.proofs.Truths.{truth_small}
 
 -- Operators
 

@@ -5,7 +5,7 @@ ghost use Rattle.sx_lang.specs.View.{expression_of};
 ghost use Rattle.sx_mean.specs.Meaning.{apply, combine, element, look_up, value, word};
 ghost use Rattle.sx_mean.specs.Sized.{AreSizedDecls};
 ghost use Rattle.sx_mean.specs.View.{state_of};
-ghost use Rattle.sx_lists.specs.Truth.{truth};
+ghost use Rattle.lemmas.specs.Truth.{truth};
 
 use crate::moments::{Local, Moment};
 use crate::places::{array_length, place};

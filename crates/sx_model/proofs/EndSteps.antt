@@ -21,7 +21,7 @@ use Rattle.sx_model.proofs.Rising.{On}
 use Rattle.sx_model.proofs.Steps.{Cases}
 use Rattle.sx_model.proofs.Written.{get_other}
 use Rattle.sx_model.proofs.Idle.{idle_is}
-use Rattle.sx_lists.proofs.Lists.{get_same}
+use Rattle.lemmas.proofs.Lists.{get_same}
 
 -- the epoch with which an item opens the end, if it does
 abbrev pub opens_at : ℕ → ℕ → Side → Item → Option ℕ

@@ -2,11 +2,11 @@
 use Rattle.std.proofs.Common.{◌≡◌, ℕ, ◌==◌, List, cond, inl, inr, refl, sym, ap, ◌∙◌}
 use Rattle.std.proofs.lemmas.Bool.{cases_eq, cond-false, ne_eqb}
 use Rattle.sx_tag.specs.Mac.{Mac}
-use Rattle.sx_machine.specs.Given.{Given, untouched_with}
-use Rattle.sx_machine.specs.Protect.{protect, unprotect}
-use Rattle.sx_machine.specs.ModuleRows.{module_row}
-use Rattle.sx_machine.specs.Modules.{module_instruction}
-use Rattle.sx_machine.specs.Run.{Outcome, exec}
+use Rattle.spec_machine.specs.Given.{Given, untouched_with}
+use Rattle.spec_machine.specs.Protect.{protect, unprotect}
+use Rattle.spec_machine.specs.ModuleRows.{module_row}
+use Rattle.spec_machine.specs.Modules.{module_instruction}
+use Rattle.spec_machine.specs.Run.{Outcome, exec}
 
 -- what is given, with another boot key
 abbrev with_base : Given → List ℕ → Given

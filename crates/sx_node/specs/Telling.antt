@@ -6,11 +6,11 @@
 --     IsAtHome      a module runs whose next instruction passes every test but that for a device
 use Rattle.std.specs.Prelude.{◌≡◌, ◌<◌, Bool, true, false}
 use Rattle.sx_rules.specs.Access.{in_order}
-use Rattle.sx_machine.specs.declared.kinds.Event.TheVariants.{Quiet}
-use Rattle.sx_machine.specs.declared.kinds.Seen.{Seen}
-use Rattle.sx_machine.specs.State.{State}
-use Rattle.sx_machine.specs.Run.{untouched, Outcome}
-use Rattle.sx_machine.specs.Step.{settled_step, own_of, pc_of, word_outside}
+use Rattle.spec_machine.specs.declared.kinds.Event.TheVariants.{Quiet}
+use Rattle.spec_machine.specs.declared.kinds.Seen.{Seen}
+use Rattle.spec_machine.specs.State.{State}
+use Rattle.spec_machine.specs.Run.{untouched, Outcome}
+use Rattle.spec_machine.specs.Step.{settled_step, own_of, pc_of, word_outside}
 use Rattle.sx_node.specs.declared.at_home.StepEnd.{StepEnd}
 use Rattle.sx_node.specs.declared.at_home.StepEnd.TheVariants.{AtHome, Silent, Told}
 

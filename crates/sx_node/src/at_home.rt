@@ -9,19 +9,19 @@
 ghost use Rattle.std.specs.Prelude.{◌≡◌, ◌≢◌, ◌==◌, ◌<◌, if◌then◌else◌, true, None, IsTrue};
 ghost use Rattle.sx_rules.specs.Access.{holder};
 ghost use Rattle.sx_bus.specs.Devices.{device_at};
-ghost use Rattle.sx_machine.specs.declared.kinds.Event.TheVariants.{Quiet};
-ghost use Rattle.sx_machine.specs.Run.{exec, untouched};
-ghost use Rattle.sx_machine.specs.Rows.{program};
-ghost use Rattle.sx_machine.specs.Step.{step, attempt, instruction, pc_of, own_of};
-ghost use Rattle.sx_machine.specs.Step.{start, entered_from, left};
+ghost use Rattle.spec_machine.specs.declared.kinds.Event.TheVariants.{Quiet};
+ghost use Rattle.spec_machine.specs.Run.{exec, untouched};
+ghost use Rattle.spec_machine.specs.Rows.{program};
+ghost use Rattle.spec_machine.specs.Step.{step, attempt, instruction, pc_of, own_of};
+ghost use Rattle.spec_machine.specs.Step.{start, entered_from, left};
 ghost use Rattle.sx_node.specs.Telling.{told, Tells, is_told, IsAtHome};
 
 use crate::node::Node;
 use crate::quick::is_untouched;
+use spec_machine::{Seen, Touch};
 use sx_bus::Bus;
 use sx_core::{Stepped, step_quick};
 use sx_executor::registers::PC;
-use sx_machine::{Seen, Touch};
 use sx_rules::Violation;
 use sx_tag::Tag;
 

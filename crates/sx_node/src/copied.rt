@@ -2,7 +2,7 @@
 //! are written for every `Bus`, so they can't call these.
 
 ghost use Rattle.std.specs.Prelude.{◌≡◌, ◌+◌, ◌≤◌, length, IfOk, slice_index, bytes_eq};
-ghost use Rattle.sx_machine.specs.Memory.{bytes_from};
+ghost use Rattle.spec_machine.specs.Memory.{bytes_from};
 
 use crate::node::Node;
 use std::alloc::{AllocError as OutOfMemory, Global};

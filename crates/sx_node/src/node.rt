@@ -4,12 +4,12 @@ ghost use Rattle.std.specs.Prelude.{◌≡◌, ◌<◌, slice_index};
 ghost use Rattle.sx_bus.specs.Memory.{blank};
 ghost use Rattle.sx_bus.specs.Windows.{AreNew};
 ghost use Rattle.sx_rules.specs.Access.{section_of};
-ghost use Rattle.sx_machine.specs.State.{power_on, no_exchange};
+ghost use Rattle.spec_machine.specs.State.{power_on, no_exchange};
 
+use spec_machine::Exchange;
 use std::marker::Model;
 use sx_bus::{Bus, Windows};
 use sx_executor::Executor;
-use sx_machine::Exchange;
 use sx_rules::Section;
 use sx_tag::Tag;
 
@@ -28,8 +28,8 @@ pub struct Node<B: Bus, T: Tag> {
 
 impl<B: Bus, T: Tag> Model for Node<B, T> {
     ghost use Rattle.std.specs.Prelude.{◌≡◌};
-    ghost use Rattle.sx_machine.specs.State.{State};
-    ghost use Rattle.sx_machine.specs.Run.{untouched};
+    ghost use Rattle.spec_machine.specs.State.{State};
+    ghost use Rattle.spec_machine.specs.Run.{untouched};
 
     ghost Value = { State };
 

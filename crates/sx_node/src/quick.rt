@@ -8,20 +8,20 @@
 ghost use Rattle.std.specs.Prelude.{◌≡◌, ◌==◌, ◌<◌, if◌then◌else◌, true, None, IsTrue};
 ghost use Rattle.sx_rules.specs.Access.{holder, in_order};
 ghost use Rattle.sx_bus.specs.Devices.{device_at};
-ghost use Rattle.sx_machine.specs.declared.kinds.Event.TheVariants.{Quiet};
-ghost use Rattle.sx_machine.specs.Memory.{word};
-ghost use Rattle.sx_machine.specs.Run.{exec, untouched, Violated};
-ghost use Rattle.sx_machine.specs.Rows.{program};
-ghost use Rattle.sx_machine.specs.Step.{step, attempt, instruction, word_outside, pc_of, own_of};
-ghost use Rattle.sx_machine.specs.Step.{start, entered_from, left};
+ghost use Rattle.spec_machine.specs.declared.kinds.Event.TheVariants.{Quiet};
+ghost use Rattle.spec_machine.specs.Memory.{word};
+ghost use Rattle.spec_machine.specs.Run.{exec, untouched, Violated};
+ghost use Rattle.spec_machine.specs.Rows.{program};
+ghost use Rattle.spec_machine.specs.Step.{step, attempt, instruction, word_outside, pc_of, own_of};
+ghost use Rattle.spec_machine.specs.Step.{start, entered_from, left};
 ghost use Rattle.sx_node.specs.Telling.{told, Tells};
 
 use crate::node::Node;
 use crate::step::{code_of, reset_by};
+use spec_machine::{Event, Seen, Touch};
 use sx_bus::Bus;
 use sx_core::{Stepped, step_long, step_quick};
 use sx_executor::registers::PC;
-use sx_machine::{Event, Seen, Touch};
 use sx_rules::Violation;
 use sx_tag::Tag;
 

@@ -4,7 +4,7 @@ use Rattle.std.specs.Prelude.{unwrap_or}
 use Rattle.sx_mean.specs.Application.{AppTree}
 use Rattle.sx_trace.specs.declared.items.Item.TheVariants as item
 use Rattle.sx_observe.specs.Computed.{driver_of}
-use Rattle.sx_run.specs.Observation.{is_driver, read_item, write_item}
+use Rattle.spec_run.specs.Observation.{is_driver, read_item, write_item}
 
 module _ (app : AppTree) (runner : Option ℕ) (d : ℕ) where
   driven : (m : ℕ) → driver_of app runner d ≡ Some m → (is_driver app runner d ≡ true) × (unwrap_or runner 0 ≡ m)

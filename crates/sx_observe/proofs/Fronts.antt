@@ -4,17 +4,17 @@ use Rattle.std.proofs.lemmas.List.{append_assoc, append-nil}
 use Rattle.sx_trace.specs.declared.items.Item.{Item}
 use Rattle.sx_trace.specs.declared.items.Item.TheVariants.{Forged}
 use Rattle.sx_mean.specs.Application.{AppTree}
-use Rattle.sx_machine.specs.declared.kinds.Touch.{Touch}
-use Rattle.sx_machine.specs.declared.kinds.Touch.TheVariants as touch
+use Rattle.spec_machine.specs.declared.kinds.Touch.{Touch}
+use Rattle.spec_machine.specs.declared.kinds.Touch.TheVariants as touch
 use Rattle.sx_ledger.specs.declared.entry.Entry.{Entry}
 use Rattle.sx_ledger.specs.Made.{Made}
-use Rattle.sx_machine.specs.declared.kinds.Event.{Event}
-use Rattle.sx_machine.specs.declared.kinds.Event.TheVariants.{Wrapped, Unwrapped}
-use Rattle.sx_machine.specs.declared.kinds.Exchange.{Exchange}
-use Rattle.sx_machine.specs.State.{State}
-use Rattle.sx_run.specs.Setting.{Setting}
-use Rattle.sx_run.specs.Ledger.{header_of, body_of}
-use Rattle.sx_run.specs.Observation.{Observed, event_seen, has_wrapped, has_unwrapped, touch_items, unless_made}
+use Rattle.spec_machine.specs.declared.kinds.Event.{Event}
+use Rattle.spec_machine.specs.declared.kinds.Event.TheVariants.{Wrapped, Unwrapped}
+use Rattle.spec_machine.specs.declared.kinds.Exchange.{Exchange}
+use Rattle.spec_machine.specs.State.{State}
+use Rattle.spec_run.specs.Setting.{Setting}
+use Rattle.spec_run.specs.Ledger.{header_of, body_of}
+use Rattle.spec_run.specs.Observation.{Observed, event_seen, has_wrapped, has_unwrapped, touch_items, unless_made}
 use Rattle.sx_observe.specs.Observing.{IsFront, AddsFront, Records, ObservesFront}
 
 -- nothing was added

@@ -9,7 +9,7 @@ use Rattle.sx_mean.specs.declared.apps.Link.{Link}
 use Rattle.sx_mean.specs.declared.events.End.{End}
 use Rattle.sx_mean.specs.Ends.{ends_after, sending, receiving}
 use Rattle.sx_observe.specs.Computed.{at_side, is_held}
-use Rattle.sx_run.specs.Observation.{is_end}
+use Rattle.spec_run.specs.Observation.{is_end}
 
 abbrev is_one : (End → Bool) → Option End → Bool
 is_one test None = false

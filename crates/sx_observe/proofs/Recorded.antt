@@ -7,9 +7,9 @@ use Rattle.std.proofs.lemmas.List.Folds.{list_any-append}
 use Rattle.sx_ledger.specs.declared.entry.Entry.{Entry}
 use Rattle.sx_ledger.specs.Made.{Made}
 use Rattle.sx_ledger.specs.Entries.{entry_of, made_of, AddsEntry}
-use Rattle.sx_run.specs.Ledger.{same_entry, is_made}
+use Rattle.spec_run.specs.Ledger.{same_entry, is_made}
 use Rattle.sx_observe.specs.Observing.{IsShort, Records}
-use Rattle.sx_run.proofs.tie.Entries.{made_behind, made_in}
+use Rattle.spec_run.proofs.tie.Entries.{made_behind, made_in}
 
 tells : (m : Made) → made_of (entry_of m) ≡ m
 tells m =

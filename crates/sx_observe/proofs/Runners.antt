@@ -6,28 +6,28 @@ use Rattle.std.proofs.lemmas.Bool.{true≢false, cases_Bool, eqb-true, or_cases,
 use Rattle.sx_rules.specs.declared.section.Section.{Section}
 use Rattle.sx_rules.specs.Access.{Sections, holder, section_of}
 use Rattle.sx_rules.specs.Placed.{Placed}
-use Rattle.sx_machine.specs.declared.kinds.Touch.{Touch}
-use Rattle.sx_machine.specs.declared.kinds.Touch.TheVariants as touch
-use Rattle.sx_machine.specs.declared.kinds.Event.{Event}
-use Rattle.sx_machine.specs.declared.kinds.Event.TheVariants as event
-use Rattle.sx_machine.specs.declared.kinds.Seen.{Seen}
-use Rattle.sx_machine.specs.State.{State}
-use Rattle.sx_machine.specs.Given.{Given}
-use Rattle.sx_machine.specs.Acting.{Step}
-use Rattle.sx_machine.specs.Run.{Outcome, Finished, Violated, Module, untouched}
-use Rattle.sx_machine.specs.Step.{own_of, given_at_pc, attempt, settled_step, step}
-use Rattle.sx_machine.proofs.Events.{IsTold, Told, Same, Admits, Removes, ToldBy, attempt_told}
-use Rattle.sx_machine.proofs.PublicKept.{public_kept}
-use Rattle.sx_machine.proofs.Stays.{found_lives}
+use Rattle.spec_machine.specs.declared.kinds.Touch.{Touch}
+use Rattle.spec_machine.specs.declared.kinds.Touch.TheVariants as touch
+use Rattle.spec_machine.specs.declared.kinds.Event.{Event}
+use Rattle.spec_machine.specs.declared.kinds.Event.TheVariants as event
+use Rattle.spec_machine.specs.declared.kinds.Seen.{Seen}
+use Rattle.spec_machine.specs.State.{State}
+use Rattle.spec_machine.specs.Given.{Given}
+use Rattle.spec_machine.specs.Acting.{Step}
+use Rattle.spec_machine.specs.Run.{Outcome, Finished, Violated, Module, untouched}
+use Rattle.spec_machine.specs.Step.{own_of, given_at_pc, attempt, settled_step, step}
+use Rattle.spec_machine.proofs.Events.{IsTold, Told, Same, Admits, Removes, ToldBy, attempt_told}
+use Rattle.spec_machine.proofs.PublicKept.{public_kept}
+use Rattle.spec_machine.proofs.Stays.{found_lives}
 use Rattle.sx_image.specs.Image.{public_bytes}
 use Rattle.sx_tag.specs.Mac.{Mac}
-use Rattle.sx_run.proofs.steps.Machine.{public_same, no_reset}
-use Rattle.sx_run.proofs.steps.Bystanders.{at_site_same}
+use Rattle.spec_run.proofs.steps.Machine.{public_same, no_reset}
+use Rattle.spec_run.proofs.steps.Bystanders.{at_site_same}
 use Rattle.sx_observe.proofs.Untouched.{Untouched, attempt_untouched}
 use Rattle.sx_mean.specs.Application.{AppTree}
 use Rattle.sx_ledger.specs.Made.{Made}
-use Rattle.sx_run.specs.Setting.{Site, Setting, deployed, is_at_site, module_of}
-use Rattle.sx_run.specs.Observation.{Observed, observed, touch_items, event_seen}
+use Rattle.spec_run.specs.Setting.{Site, Setting, deployed, is_at_site, module_of}
+use Rattle.spec_run.specs.Observation.{Observed, observed, touch_items, event_seen}
 use Rattle.sx_observe.specs.Computed.{is_touch, is_own, tells, author, runner_of}
 
 -- touches that no device shows have no items

@@ -3,8 +3,8 @@ use Rattle.std.proofs.Common.{◌≡◌, ℕ, ◌==◌, inl, inr, false, List, l
 use Rattle.std.specs.Prelude.{bytes_eq}
 use Rattle.std.proofs.lemmas.Bool.{cases_Bool, ne_eqb}
 use Rattle.std.proofs.lemmas.Slice.Eq.{bytes_eq-Decides}
-use Rattle.sx_machine.specs.Memory.{bytes_from}
-use Rattle.sx_machine.proofs.Lengths.{length-bytes_from}
+use Rattle.spec_machine.specs.Memory.{bytes_from}
+use Rattle.spec_machine.proofs.Lengths.{length-bytes_from}
 
 -- the lengths differ
 pub not_as_long : (m : List ℕ) (a n : ℕ) (text : List ℕ) → (n ≡ length text → ⊥) → false ≡ bytes_eq (bytes_from m a n) text

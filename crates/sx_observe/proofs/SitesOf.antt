@@ -5,8 +5,8 @@ use Rattle.sx_rules.specs.declared.section.Layout.{Layout}
 use Rattle.sx_mean.specs.Application.{PartTree}
 use Rattle.sx_deploy.specs.Deployment.{Deployed}
 use Rattle.sx_deploy.specs.Law as deployment
-use Rattle.sx_run.specs.Accepted.{sites_of}
-use Rattle.sx_run.proofs.accepted.LaidSites.{sites_long, laid_long}
+use Rattle.spec_run.specs.Accepted.{sites_of}
+use Rattle.spec_run.proofs.accepted.LaidSites.{sites_long, laid_long}
 
 -- Lists that grow by their next element
 

@@ -23,17 +23,17 @@ use Rattle.sx_rules.specs.Admission.{refusal}
 use Rattle.sx_bus.specs.Devices.{places_of, device_at}
 use Rattle.sx_tag.specs.Mac.{Mac}
 use Rattle.sx_tag.specs.Wrap.{wrapped, unwrapped}
-use Rattle.sx_machine.specs.declared.kinds.Event.TheVariants as event
-use Rattle.sx_machine.specs.Memory.{word, bytes_from, put_bytes}
-use Rattle.sx_machine.specs.State.{State}
-use Rattle.sx_machine.specs.Plan.{Plan, Done, Tell, Stop, Fetch, Load, Store, Need, Writable, Bytes, Put}
-use Rattle.sx_machine.specs.Run.{Moment, Outcome, Finished, Violated, Module, untouched, may_range, may_each, load, store, fetch, after_read, after_write, after_fetch, exec}
-use Rattle.sx_machine.specs.Rows.{from_source, reads, writes, into_register, into_memory, on_memory, onto, in_place, one, row, row_of, with_words, program, computed}
-use Rattle.sx_machine.specs.Given.{Given, own_section, untouched_with, concluded}
-use Rattle.sx_machine.specs.Protect.{layout_in, protected_if, protect, removed_if, unprotect}
-use Rattle.sx_machine.specs.ModuleRows.{answer, within, exchanged, attested, attest, own_key, with_key, with_inputs, wrap, opened, unwrap, module_row}
-use Rattle.sx_machine.specs.Modules.{module_instruction}
-use Rattle.sx_machine.specs.Step.{pc_of, own_of, start, is_module_word, given_at_pc, instruction, ordered, word_outside, attempt}
+use Rattle.spec_machine.specs.declared.kinds.Event.TheVariants as event
+use Rattle.spec_machine.specs.Memory.{word, bytes_from, put_bytes}
+use Rattle.spec_machine.specs.State.{State}
+use Rattle.spec_machine.specs.Plan.{Plan, Done, Tell, Stop, Fetch, Load, Store, Need, Writable, Bytes, Put}
+use Rattle.spec_machine.specs.Run.{Moment, Outcome, Finished, Violated, Module, untouched, may_range, may_each, load, store, fetch, after_read, after_write, after_fetch, exec}
+use Rattle.spec_machine.specs.Rows.{from_source, reads, writes, into_register, into_memory, on_memory, onto, in_place, one, row, row_of, with_words, program, computed}
+use Rattle.spec_machine.specs.Given.{Given, own_section, untouched_with, concluded}
+use Rattle.spec_machine.specs.Protect.{layout_in, protected_if, protect, removed_if, unprotect}
+use Rattle.spec_machine.specs.ModuleRows.{answer, within, exchanged, attested, attest, own_key, with_key, with_inputs, wrap, opened, unwrap, module_row}
+use Rattle.spec_machine.specs.Modules.{module_instruction}
+use Rattle.spec_machine.specs.Step.{pc_of, own_of, start, is_module_word, given_at_pc, instruction, ordered, word_outside, attempt}
 
 -- a plan without accesses that a device may answer
 abbrev Silent : Plan → Type 0

@@ -7,15 +7,15 @@ use Rattle.std.specs.List.{list_any}
 use Rattle.sx_lang.specs.declared.sides.Side.{Side}
 use Rattle.sx_lang.specs.declared.sides.Side.TheVariants.{From, To}
 use Rattle.sx_mean.specs.declared.apps.Link.{Link}
-use Rattle.sx_machine.specs.declared.kinds.Touch.{Touch}
-use Rattle.sx_machine.specs.declared.kinds.Touch.TheVariants as touch
-use Rattle.sx_machine.specs.declared.kinds.Event.{Event}
-use Rattle.sx_machine.specs.declared.kinds.Event.TheVariants as event
-use Rattle.sx_machine.specs.declared.kinds.Seen.{Seen}
-use Rattle.sx_machine.specs.State.{State}
+use Rattle.spec_machine.specs.declared.kinds.Touch.{Touch}
+use Rattle.spec_machine.specs.declared.kinds.Touch.TheVariants as touch
+use Rattle.spec_machine.specs.declared.kinds.Event.{Event}
+use Rattle.spec_machine.specs.declared.kinds.Event.TheVariants as event
+use Rattle.spec_machine.specs.declared.kinds.Seen.{Seen}
+use Rattle.spec_machine.specs.State.{State}
 use Rattle.sx_mean.specs.Application.{AppTree}
-use Rattle.sx_run.specs.Observation.{is_driver}
-use Rattle.sx_run.specs.Setting.{Site, module_of}
+use Rattle.spec_run.specs.Observation.{is_driver}
+use Rattle.spec_run.specs.Setting.{Site, module_of}
 
 -- a device shows it
 abbrev pub is_touch : Touch → Bool

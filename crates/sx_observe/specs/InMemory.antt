@@ -3,8 +3,8 @@ use Rattle.std.specs.Prelude.{List}
 use Rattle.sx_tag.specs.Mac.{Mac}
 use Rattle.sx_deploy.specs.SeenDeployment.{deployed_as}
 use Rattle.sx_deploy.specs.declared.deployment.Deployment.{Deployment}
-use Rattle.sx_run.specs.Setting.{Site, Setting}
-use Rattle.sx_run.specs.Accepted.{setting}
+use Rattle.spec_run.specs.Setting.{Site, Setting}
+use Rattle.spec_run.specs.Accepted.{setting}
 use Rattle.sx_observe.specs.declared.settings.Setting.{Setting as Given}
 
 -- the setting of a deployment with its modules at these sites

@@ -6,8 +6,8 @@ use Rattle.sx_trace.specs.declared.items.Item.{Item}
 use Rattle.sx_ledger.specs.declared.entry.Entry.{Entry}
 use Rattle.sx_ledger.specs.Entries.{entry_of}
 use Rattle.sx_ledger.specs.Made.{Made}
-use Rattle.sx_run.specs.Ledger.{is_made}
-use Rattle.sx_run.specs.Observation.{Observed}
+use Rattle.spec_run.specs.Ledger.{is_made}
+use Rattle.spec_run.specs.Observation.{Observed}
 
 -- a header and a body that the machine can wrap
 abbrev pub IsShort : Made → Type 0

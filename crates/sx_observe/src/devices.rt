@@ -5,7 +5,7 @@ ghost use Rattle.sx_mean.specs.View.{app_as};
 ghost use Rattle.sx_model.specs.Step.{device_of};
 ghost use Rattle.sx_model.specs.State.{contains};
 ghost use Rattle.sx_observe.specs.Computed.{driver_of};
-ghost use Rattle.sx_run.specs.Setting.{devices_at};
+ghost use Rattle.spec_run.specs.Setting.{devices_at};
 
 use sx_mean::apps::{App, AppDevice};
 

@@ -1,6 +1,6 @@
 //! What a step of a node shows: its items, and the ledger's entries.
 //!
-//! Which items a step shows, and what it enters in the ledger, are definitions of `sx_run`
+//! Which items a step shows, and what it enters in the ledger, are definitions of `spec_run`
 //! (`specs/Observation.antt`); the code does what they say. `observation` has the calls for a step:
 //! whose code it was, and what is seen of it, the touches in their order and then the event.
 //! `recording` adds items, enters what deployed modules wrap in the ledger, and looks up there what

@@ -7,8 +7,8 @@ ghost use Rattle.sx_trace.specs.declared.items.Item.TheVariants.{Done};
 ghost use Rattle.sx_mean.specs.View.{app_as};
 ghost use Rattle.sx_observe.specs.Observing.{AddsFront, Observes, ObservesFront};
 ghost use Rattle.sx_observe.specs.InMemory.{setting_in};
-ghost use Rattle.sx_run.specs.Observation.{cause_of, event_seen, observed, protect_item};
-ghost use Rattle.sx_run.specs.Observation.{read_item, touch_items, write_item};
+ghost use Rattle.spec_run.specs.Observation.{cause_of, event_seen, observed, protect_item};
+ghost use Rattle.spec_run.specs.Observation.{read_item, touch_items, write_item};
 ghost use Rattle.sx_observe.specs.Computed.{author, is_own, is_touch, runner_of, tells};
 
 use crate::devices::{device_number, driver_of};

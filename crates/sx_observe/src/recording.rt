@@ -8,9 +8,9 @@ ghost use Rattle.sx_ledger.specs.Made.{Made};
 ghost use Rattle.sx_ledger.specs.Entries.{made};
 ghost use Rattle.sx_mean.specs.View.{app_as};
 ghost use Rattle.sx_observe.specs.Observing.{AddsFront, Records, Observes, ObservesFront};
-ghost use Rattle.sx_run.specs.Ledger.{body_of, header_of, is_made};
-ghost use Rattle.sx_run.specs.Observation.{has_end, has_unwrapped, has_wrapped, sender_of};
-ghost use Rattle.sx_run.specs.Observation.{side_in, unless_made};
+ghost use Rattle.spec_run.specs.Ledger.{body_of, header_of, is_made};
+ghost use Rattle.spec_run.specs.Observation.{has_end, has_unwrapped, has_wrapped, sender_of};
+ghost use Rattle.spec_run.specs.Observation.{side_in, unless_made};
 ghost use Rattle.sx_wire.specs.Headers.{epoch_in, last_in, link_in, value_in};
 
 use std::alloc::AllocError;

@@ -4,9 +4,9 @@ ghost use Rattle.std.specs.Prelude.{◌≡◌, ◌-◌, ◌<◌, ◌≤◌, leng
 ghost use Rattle.std.specs.Prelude.{Some, IfOk};
 ghost use Rattle.sx_deploy.specs.Law.{IsSoundDeployment};
 ghost use Rattle.sx_deploy.specs.SeenDeployment.{deployed_as};
-ghost use Rattle.sx_machine.specs.Memory.{bytes_from};
-ghost use Rattle.sx_run.specs.Accepted.{sites_of};
-ghost use Rattle.sx_run.specs.Setting.{deployed, is_at_site, module_of, same_layout};
+ghost use Rattle.spec_machine.specs.Memory.{bytes_from};
+ghost use Rattle.spec_run.specs.Accepted.{sites_of};
+ghost use Rattle.spec_run.specs.Setting.{deployed, is_at_site, module_of, same_layout};
 
 use std::alloc::{AllocError, Global};
 use std::marker::Model;
@@ -31,7 +31,7 @@ pub struct Site {
 }
 
 impl Model for Site {
-    ghost use Rattle.sx_run.specs.Setting.{Site as Placed};
+    ghost use Rattle.spec_run.specs.Setting.{Site as Placed};
 
     ghost Value = { Placed };
 

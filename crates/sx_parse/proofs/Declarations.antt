@@ -5,9 +5,9 @@ use Rattle.sx_lang.specs.declared.tree.Decl.{Decl}
 use Rattle.sx_lex.specs.declared.tokens.Kind.{Kind}
 use Rattle.sx_lex.specs.declared.tokens.Kind.TheVariants.{Sensor, Actuator, Input, Output, Var, Array, Semicolon, Equals}
 use Rattle.sx_lex.specs.declared.tokens.Placed.{Placed}
-use Rattle.sx_grammar.specs.Machine.{Symbol, Value, After, A_name, follow, read, Want, Say, A_semicolon, An_open_square, A_close_square}
-use Rattle.sx_grammar.specs.Machine.{A_number, For_initial, For_length, Initial_of, Do_declare, Declarations, Handlers, Refused}
-use Rattle.sx_grammar.specs.Machine as machine
+use Rattle.spec_grammar.specs.Machine.{Symbol, Value, After, A_name, follow, read, Want, Say, A_semicolon, An_open_square, A_close_square}
+use Rattle.spec_grammar.specs.Machine.{A_number, For_initial, For_length, Initial_of, Do_declare, Declarations, Handlers, Refused}
+use Rattle.spec_grammar.specs.Machine as machine
 use Rattle.sx_parse.specs.declared.stop.Stop.{Stop}
 use Rattle.sx_parse.specs.declared.stop.Stop.TheVariants.{Fault, Memory}
 use Rattle.sx_parse.specs.Wanted.{declarations_wanted, end_wanted, length_wanted}

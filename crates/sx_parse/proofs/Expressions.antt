@@ -7,9 +7,9 @@ use Rattle.sx_lang.specs.declared.tree.BinOp.{BinOp}
 use Rattle.sx_lex.specs.declared.tokens.Kind.{Kind}
 use Rattle.sx_lex.specs.declared.tokens.Kind.TheVariants.{Minus, Tilde, Bang, OpenSquare}
 use Rattle.sx_lex.specs.declared.tokens.Placed.{Placed}
-use Rattle.sx_grammar.specs.Tokens.{unary_operator, factor_operator, addend_operator, comparison_operator}
-use Rattle.sx_grammar.specs.Machine.{Reduction, Do_index, Do_combine, Symbol, Value, Of_expression, Want, Say, Operand, Factors, Addends, Comparison, Index_of}
-use Rattle.sx_grammar.specs.Machine.{An_expression, Unary_of, A_close_square, A_semicolon, opens, read, apply, reduce}
+use Rattle.spec_grammar.specs.Tokens.{unary_operator, factor_operator, addend_operator, comparison_operator}
+use Rattle.spec_grammar.specs.Machine.{Reduction, Do_index, Do_combine, Symbol, Value, Of_expression, Want, Say, Operand, Factors, Addends, Comparison, Index_of}
+use Rattle.spec_grammar.specs.Machine.{An_expression, Unary_of, A_close_square, A_semicolon, opens, read, apply, reduce}
 use Rattle.sx_parse.specs.Wanted.{sum_wanted, value_wanted}
 use Rattle.sx_parse.specs.Reading.{ReadsValue, Stops, TakesSign, Misses, done}
 

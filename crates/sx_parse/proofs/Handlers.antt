@@ -7,7 +7,7 @@ use Rattle.sx_lang.specs.View.{handler_of}
 use Rattle.sx_lang.specs.declared.tree.Handler.{Handler}
 use Rattle.sx_lex.specs.declared.tokens.Kind.TheVariants.{On, Sample}
 use Rattle.sx_lex.specs.declared.tokens.Placed.{Placed}
-use Rattle.sx_grammar.specs.Machine.{Of_block, Say, An_open, A_close, A_block, A_name, After_on, After_open, Do_handle, Handlers}
+use Rattle.spec_grammar.specs.Machine.{Of_block, Say, An_open, A_close, A_block, A_name, After_on, After_open, Do_handle, Handlers}
 use Rattle.sx_parse.specs.Wanted.{handlers_wanted, parameter_wanted}
 use Rattle.sx_parse.specs.Reading.{ReadsValue, Stops, TakesSign, Named, done}
 use Rattle.sx_parse.specs.Declaring.{Handles, NoHandler, HandlersEnd, HandlersBreak, holding}

@@ -8,14 +8,14 @@ use Rattle.sx_lex.specs.declared.tokens.Place.{Place}
 use Rattle.sx_lex.specs.declared.tokens.Placed.{Placed}
 use Rattle.sx_lex.specs.Lexed.{start}
 use Rattle.sx_lex.proofs.Same.{one_reading}
-use Rattle.sx_grammar.specs.Tokens.{given_tokens}
-use Rattle.sx_grammar.specs.Grammar.{IsModule}
-use Rattle.sx_grammar.specs.Text.{Spells, place_of}
-use Rattle.sx_grammar.specs.Machine.{Handlers, Refused}
-use Rattle.sx_grammar.specs.Machine as machine
-use Rattle.sx_grammar.proofs.Faults.{read_is_module, refused_is_fault, refused_no_module}
-use Rattle.sx_grammar.proofs.OneModule.{one_module}
-use Rattle.sx_grammar.proofs.Texts.{one_module_of_text}
+use Rattle.spec_grammar.specs.Tokens.{given_tokens}
+use Rattle.spec_grammar.specs.Grammar.{IsModule}
+use Rattle.spec_grammar.specs.Text.{Spells, place_of}
+use Rattle.spec_grammar.specs.Machine.{Handlers, Refused}
+use Rattle.spec_grammar.specs.Machine as machine
+use Rattle.spec_grammar.proofs.Faults.{read_is_module, refused_is_fault, refused_no_module}
+use Rattle.spec_grammar.proofs.OneModule.{one_module}
+use Rattle.spec_grammar.proofs.Texts.{one_module_of_text}
 use Rattle.sx_parse.specs.Declaring.{Declared, HandlersEnd, HandlersBreak, AnswersText, holding}
 use Rattle.sx_parse.specs.Parsed.{at, IsError, IsErrorIn, Read, ParseTold, TokensTold}
 use Rattle.sx_parse.specs.declared.error.ParseError.{ParseError}

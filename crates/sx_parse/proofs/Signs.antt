@@ -1,7 +1,7 @@
 -- A sign that comes first, or doesn't.
 use Rattle.std.proofs.Common.{◌≡◌, List, ◌∷◌, true, false, Some, refl}
 use Rattle.sx_lex.specs.declared.tokens.Placed.{Placed}
-use Rattle.sx_grammar.specs.Machine.{Sign, is_sign}
+use Rattle.spec_grammar.specs.Machine.{Sign, is_sign}
 use Rattle.sx_parse.specs.Reading.{TakesSign, Misses}
 
 pub takes : (f : Sign) (ts rest : List Placed) (t : Placed) → ts ≡ t ∷ rest → is_sign f t.kind ≡ true → TakesSign f ts rest

@@ -6,9 +6,9 @@ use Rattle.sx_lang.specs.View.{statement_of, block_of}
 use Rattle.sx_lang.specs.declared.tree.Stmt.{Stmt}
 use Rattle.sx_lex.specs.declared.tokens.Kind.TheVariants.{Equals, OpenSquare, Open, OpenBrace, Else, Emit}
 use Rattle.sx_lex.specs.declared.tokens.Placed.{Placed}
-use Rattle.sx_grammar.specs.Machine.{Do_define, Do_assign, Do_store, Do_choose, Do_repeat, Do_send, Do_emit, Of_expression, Of_block, Want, Say, An_expression}
-use Rattle.sx_grammar.specs.Machine.{A_semicolon, A_close, A_close_square, An_equals, A_block, Otherwise, Statements, A_name, After_let, After_send, A_number}
-use Rattle.sx_grammar.specs.Machine.{For_repeat, Target_of, Argument_of, opens, read, snoc, is_else}
+use Rattle.spec_grammar.specs.Machine.{Do_define, Do_assign, Do_store, Do_choose, Do_repeat, Do_send, Do_emit, Of_expression, Of_block, Want, Say, An_expression}
+use Rattle.spec_grammar.specs.Machine.{A_semicolon, A_close, A_close_square, An_equals, A_block, Otherwise, Statements, A_name, After_let, After_send, A_number}
+use Rattle.spec_grammar.specs.Machine.{For_repeat, Target_of, Argument_of, opens, read, snoc, is_else}
 use Rattle.sx_parse.specs.Wanted.{choice_wanted, element_wanted, value_wanted}
 use Rattle.sx_parse.specs.Reading.{ReadsValue, Stops, TakesSign, Named, Numbered, done}
 use Rattle.sx_parse.specs.Adding.{AddsStatement, Fails, Closes}

@@ -2,8 +2,8 @@
 use Rattle.std.specs.Prelude.{◌≡◌, ℕ, List, ◌∷◌, Option, Result, MatchResult}
 use Rattle.sx_lang.specs.Tree.{Statement, Block}
 use Rattle.sx_lex.specs.declared.tokens.Placed.{Placed}
-use Rattle.sx_grammar.specs.Machine.{Symbol, Value, opens, read, Refused, Of_block, Statements}
-use Rattle.sx_grammar.specs.Machine.{snoc}
+use Rattle.spec_grammar.specs.Machine.{Symbol, Value, opens, read, Refused, Of_block, Statements}
+use Rattle.spec_grammar.specs.Machine.{snoc}
 use Rattle.sx_parse.specs.declared.stop.Stop.{Stop}
 use Rattle.sx_parse.specs.declared.stop.Stop.TheVariants.{Fault, Memory}
 

@@ -6,8 +6,8 @@ use Rattle.sx_lang.specs.declared.tree.Decl.{Decl}
 use Rattle.sx_lang.specs.declared.tree.Handler.{Handler}
 use Rattle.sx_lang.specs.declared.tree.Module.{Module}
 use Rattle.sx_lex.specs.declared.tokens.Placed.{Placed}
-use Rattle.sx_grammar.specs.Machine.{Symbol, Value, read, ReadOutcome, Read, Refused, Of_module}
-use Rattle.sx_grammar.specs.Machine.{Declarations, Handlers, begun, nothing}
+use Rattle.spec_grammar.specs.Machine.{Symbol, Value, read, ReadOutcome, Read, Refused, Of_module}
+use Rattle.spec_grammar.specs.Machine.{Declarations, Handlers, begun, nothing}
 use Rattle.sx_parse.specs.Reading.{StopsAs, done}
 use Rattle.sx_parse.specs.Wanted.{declarations_wanted, handlers_wanted}
 use Rattle.sx_parse.specs.declared.stop.Stop.{Stop}

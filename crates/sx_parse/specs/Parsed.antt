@@ -4,9 +4,9 @@ use Rattle.sx_lang.specs.declared.tree.Module.{Module}
 use Rattle.sx_lex.specs.declared.tokens.Place.{Place}
 use Rattle.sx_lex.specs.declared.tokens.Placed.{Placed}
 use Rattle.sx_lex.specs.Lexed.{Lexed, start}
-use Rattle.sx_grammar.specs.Machine.{Refused}
-use Rattle.sx_grammar.specs.Grammar.{IsFaultAt}
-use Rattle.sx_grammar.specs.Text.{IsFirstFault, place_of}
+use Rattle.spec_grammar.specs.Machine.{Refused}
+use Rattle.spec_grammar.specs.Grammar.{IsFaultAt}
+use Rattle.spec_grammar.specs.Text.{IsFirstFault, place_of}
 use Rattle.sx_parse.specs.Declaring.{ReachesModule, AnswersText}
 use Rattle.sx_parse.specs.declared.error.ParseError.{ParseError}
 use Rattle.sx_parse.specs.declared.error.ParseError.TheVariants.{Fault, OutOfMemory}

@@ -1,10 +1,10 @@
 -- What reading a part of a text does to the machine of the grammar, whatever is required after it.
 use Rattle.std.specs.Prelude.{◌≡◌, ℕ, List, ◌∷◌, Option, Result, MatchResult}
 use Rattle.sx_lex.specs.declared.tokens.Placed.{Placed}
-use Rattle.sx_grammar.specs.Machine.{Symbol, Value, opens, read, Refused, Want, After, A_name}
-use Rattle.sx_grammar.specs.Machine.{follow, Purpose, A_number, follow_number, An_open, A_close}
-use Rattle.sx_grammar.specs.Machine.{An_open_square, A_close_square, A_semicolon, An_equals}
-use Rattle.sx_grammar.specs.Machine as machine
+use Rattle.spec_grammar.specs.Machine.{Symbol, Value, opens, read, Refused, Want, After, A_name}
+use Rattle.spec_grammar.specs.Machine.{follow, Purpose, A_number, follow_number, An_open, A_close}
+use Rattle.spec_grammar.specs.Machine.{An_open_square, A_close_square, A_semicolon, An_equals}
+use Rattle.spec_grammar.specs.Machine as machine
 use Rattle.sx_parse.specs.declared.sign.Sign.{Sign}
 use Rattle.sx_parse.specs.declared.sign.Sign.TheVariants.{Open, Close, OpenSquare, CloseSquare}
 use Rattle.sx_parse.specs.declared.sign.Sign.TheVariants.{Semicolon, Equals}

@@ -1,10 +1,10 @@
 -- What the grammar's machine wants where a part of a text begins, in front of any symbols.
 use Rattle.std.specs.Prelude.{ℕ, List, ◌∷◌, Option}
 use Rattle.sx_lang.specs.declared.tree.Decl.{Decl}
-use Rattle.sx_grammar.specs.Machine.{Symbol, Want, Say, Operand, Factors, Addends, An_expression}
-use Rattle.sx_grammar.specs.Machine.{A_block, Otherwise, A_name, After_open, A_number, For_length}
-use Rattle.sx_grammar.specs.Machine.{Declarations, Handlers, A_semicolon, An_open, An_open_square}
-use Rattle.sx_grammar.specs.Machine.{A_close_square, An_equals, Do_store, Do_choose, Do_declare}
+use Rattle.spec_grammar.specs.Machine.{Symbol, Want, Say, Operand, Factors, Addends, An_expression}
+use Rattle.spec_grammar.specs.Machine.{A_block, Otherwise, A_name, After_open, A_number, For_length}
+use Rattle.spec_grammar.specs.Machine.{Declarations, Handlers, A_semicolon, An_open, An_open_square}
+use Rattle.spec_grammar.specs.Machine.{A_close_square, An_equals, Do_store, Do_choose, Do_declare}
 
 -- a sum, from its first operand on
 abbrev pub sum_wanted : List Symbol → List Symbol

@@ -1,8 +1,8 @@
 //! Parsing of declarations.
 
 ghost use Rattle.std.specs.Prelude.{◌<◌, ◌∷◌, length, MatchResult, IfOk, IfSome};
-ghost use Rattle.sx_grammar.specs.Machine.{Initial_of, A_name, After_input, After_output};
-ghost use Rattle.sx_grammar.specs.Machine.{After_var, After_array, Declarations, Handlers};
+ghost use Rattle.spec_grammar.specs.Machine.{Initial_of, A_name, After_input, After_output};
+ghost use Rattle.spec_grammar.specs.Machine.{After_var, After_array, Declarations, Handlers};
 ghost use Rattle.sx_parse.specs.Wanted.{end_wanted, length_wanted};
 ghost use Rattle.sx_parse.specs.Declaring.{DeclaresOr, DeclaresNext, Declared, RefusesText};
 

@@ -3,8 +3,8 @@
 ghost use Rattle.std.specs.Prelude.{◌≡◌, ◌+◌, ◌<◌, ◌≤◌, ◌∷◌, length, IfOk};
 ghost use Rattle.sx_lang.specs.Tree.{Indexed, Applied, Combined};
 ghost use Rattle.sx_lang.specs.View.{expression_of};
-ghost use Rattle.sx_grammar.specs.Machine.{Operand, Factors, Index_of, An_expression};
-ghost use Rattle.sx_grammar.specs.Machine.{Of_expression};
+ghost use Rattle.spec_grammar.specs.Machine.{Operand, Factors, Index_of, An_expression};
+ghost use Rattle.spec_grammar.specs.Machine.{Of_expression};
 ghost use Rattle.sx_parse.specs.Wanted.{sum_wanted, value_wanted};
 ghost use Rattle.sx_parse.specs.Reading.{ReadsOr};
 

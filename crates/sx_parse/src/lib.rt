@@ -1,7 +1,7 @@
 //! The parser of the handler language.
 //!
 //! `parse::parse` reads a text to the tree of its module. It answers the module that the text
-//! spells by the grammar of `sx_grammar`, or the place of the text's first fault;
+//! spells by the grammar of `spec_grammar`, or the place of the text's first fault;
 //! `specs/Parsed.antt` says what is promised about an error. The other definitions in `specs/` say
 //! what each part of the parser does to the grammar's machine.
 //!

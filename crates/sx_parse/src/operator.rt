@@ -1,7 +1,7 @@
 //! Which operators tokens are.
 
 ghost use Rattle.std.specs.Prelude.{◌≡◌};
-ghost use Rattle.sx_grammar.specs.Tokens as tokens;
+ghost use Rattle.spec_grammar.specs.Tokens as tokens;
 
 use sx_lang::tree::{BinOp, UnOp};
 use sx_lex::tokens::Kind;

@@ -3,9 +3,9 @@
 ghost use Rattle.std.specs.Prelude.{◌≡◌, MatchResult, IfOk, IfErr};
 ghost use Rattle.sx_lang.specs.Tree.{ModuleTree};
 ghost use Rattle.sx_lang.specs.View.{module_of};
-ghost use Rattle.sx_grammar.specs.Tokens.{given_tokens};
-ghost use Rattle.sx_grammar.specs.Grammar.{IsModule};
-ghost use Rattle.sx_grammar.specs.Text.{Spells, place_of};
+ghost use Rattle.spec_grammar.specs.Tokens.{given_tokens};
+ghost use Rattle.spec_grammar.specs.Grammar.{IsModule};
+ghost use Rattle.spec_grammar.specs.Text.{Spells, place_of};
 ghost use Rattle.sx_parse.specs.Declaring.{ReachesModule, RefusesText};
 ghost use Rattle.sx_parse.specs.Parsed.{IsError, IsErrorIn, ParseTold, TokensTold};
 ghost use Rattle.sx_parse.specs.declared.error.ParseError.TheVariants.{OutOfMemory};

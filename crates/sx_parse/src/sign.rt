@@ -1,7 +1,7 @@
 //! Single tokens that must stand somewhere.
 
 ghost use Rattle.std.specs.Prelude.{◌≡◌, ◌<◌, length, MatchResult, IfOk};
-ghost use Rattle.sx_grammar.specs.Machine.{is_sign};
+ghost use Rattle.spec_grammar.specs.Machine.{is_sign};
 ghost use Rattle.sx_parse.specs.Reading.{sign_of, TakesSign, Lacks, Named, NameLacks, Numbered};
 ghost use Rattle.sx_parse.specs.Reading.{NumberLacks};
 

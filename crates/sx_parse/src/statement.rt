@@ -3,8 +3,8 @@
 ghost use Rattle.std.specs.Prelude.{◌≡◌, ◌<◌, ◌≤◌, ◌∷◌, length, MatchResult, IfOk, MatchOption};
 ghost use Rattle.sx_lang.specs.Tree.{Chooses, Repeats};
 ghost use Rattle.sx_lang.specs.View.{expression_of, statement_of, block_of};
-ghost use Rattle.sx_grammar.specs.Machine.{A_block, Otherwise, A_name, After_let, After_send};
-ghost use Rattle.sx_grammar.specs.Machine.{A_number, For_repeat, Target_of, Argument_of, Of_block};
+ghost use Rattle.spec_grammar.specs.Machine.{A_block, Otherwise, A_name, After_let, After_send};
+ghost use Rattle.spec_grammar.specs.Machine.{A_number, For_repeat, Target_of, Argument_of, Of_block};
 ghost use Rattle.sx_parse.specs.Wanted.{choice_wanted, element_wanted};
 ghost use Rattle.sx_parse.specs.Reading.{ReadsOr, done};
 ghost use Rattle.sx_parse.specs.Adding.{AddsStatement, AddsOr, FailsAs, Closes};

@@ -15,8 +15,8 @@ use Rattle.sx_lex.specs.Words.{kind_of, is_name, is_lower, is_digit, is_decimal_
 use Rattle.sx_lex.specs.Progress.{first_is}
 use Rattle.sx_lex.specs.Lexed.{along, below, Lexed, at_end, space, newline, token}
 use Rattle.sx_lex.proofs.Found.{digit_is_decimal}
-use Rattle.sx_grammar.specs.Tokens as grammar
-use Rattle.sx_grammar.specs.Tokens.{Token, given_tokens}
+use Rattle.spec_grammar.specs.Tokens as grammar
+use Rattle.spec_grammar.specs.Tokens.{Token, given_tokens}
 use Rattle.sx_print.specs.declared.words.Gap.{Gap}
 use Rattle.sx_print.specs.declared.words.Gap.TheVariants.{Nothing, Space, Line}
 use Rattle.sx_print.specs.Printable.{is_plain}

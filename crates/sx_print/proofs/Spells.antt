@@ -5,8 +5,8 @@ use Rattle.std.proofs.lemmas.Bool.Decides.{nat_tests}
 use Rattle.std.proofs.lemmas.Bool.{and_parts}
 use Rattle.sx_lang.specs.Tree.{ModuleTree}
 use Rattle.sx_lex.specs.Lexed.{start}
-use Rattle.sx_grammar.specs.Grammar.{IsModule}
-use Rattle.sx_grammar.specs.Text.{Spells}
+use Rattle.spec_grammar.specs.Grammar.{IsModule}
+use Rattle.spec_grammar.specs.Text.{Spells}
 use Rattle.sx_print.specs.Printable.{module_open, is_printable}
 use Rattle.sx_print.specs.Pieces.{text_of, declarations_pieces, handlers_pieces, module_pieces}
 use Rattle.sx_print.specs.Written.{are_short, Wrote}

@@ -10,9 +10,9 @@ use Rattle.sx_lang.specs.declared.tree.DeviceKind.{DeviceKind}
 use Rattle.sx_lang.specs.Tree.{Expression, Constant, Variable, Indexed, Applied, Combined, Statement, Defines, Assigns, Stores, Chooses, Repeats, Sends, Emits}
 use Rattle.sx_lang.specs.Tree.{Block, Done, Then, HandlerTree, ModuleTree}
 use Rattle.sx_lex.specs.declared.tokens.Kind.TheVariants.{Semicolon, Else, Close, CloseSquare, CloseBrace}
-use Rattle.sx_grammar.specs.Tokens.{Token, token, fits, unary_operator}
-use Rattle.sx_grammar.specs.Grammar as g
-use Rattle.sx_grammar.specs.Grammar.{IsExpression, IsStatement, IsBlock, AreStatements, IsDeclaration, AreDeclarations, IsHandler, AreHandlers, IsModule}
+use Rattle.spec_grammar.specs.Tokens.{Token, token, fits, unary_operator}
+use Rattle.spec_grammar.specs.Grammar as g
+use Rattle.spec_grammar.specs.Grammar.{IsExpression, IsStatement, IsBlock, AreStatements, IsDeclaration, AreDeclarations, IsHandler, AreHandlers, IsModule}
 use Rattle.sx_print.specs.declared.words.Gap.{Gap}
 use Rattle.sx_print.specs.declared.words.Gap.TheVariants.{Nothing, Space, Line}
 use Rattle.sx_print.specs.Printable.{expression_open, statement_open, block_open, handlers_open, module_open}

@@ -4,7 +4,7 @@ ghost use Rattle.std.specs.Prelude.{◌≡◌, ℕ, IfOk, OnOk, map, string_byte
 ghost use Rattle.std.specs.Str.{IsUtf8};
 ghost use Rattle.sx_lang.specs.Tree.{Sends, Stores};
 ghost use Rattle.sx_lang.specs.View.{block_of, expression_of, handler_of, module_of, statement_of};
-ghost use Rattle.sx_grammar.specs.Text.{Spells};
+ghost use Rattle.spec_grammar.specs.Text.{Spells};
 ghost use Rattle.sx_print.specs.Printable.{is_printable};
 ghost use Rattle.sx_print.specs.Pieces.{block_pieces, declarations_pieces, declared_pieces};
 ghost use Rattle.sx_print.specs.Pieces.{device_word, else_pieces, event_pieces, expression_pieces};

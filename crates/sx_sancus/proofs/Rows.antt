@@ -3,11 +3,11 @@ use Rattle.std.proofs.Common.{◌≡◌, ℕ, Bool, cond, ◌==◌, List, Some, 
 use Rattle.std.proofs.lemmas.Bool.{ne_eqb}
 use Rattle.sx_rules.specs.declared.section.Section.{Section}
 use Rattle.sx_tag.specs.Mac.{Mac}
-use Rattle.sx_machine.specs.Given.{Given, own_section, untouched_with}
-use Rattle.sx_machine.specs.Protect.{protect, unprotect}
-use Rattle.sx_machine.specs.ModuleRows.{within, attest, wrap, unwrap, module_row}
-use Rattle.sx_machine.specs.Modules.{module_instruction}
-use Rattle.sx_machine.specs.Run.{exec}
+use Rattle.spec_machine.specs.Given.{Given, own_section, untouched_with}
+use Rattle.spec_machine.specs.Protect.{protect, unprotect}
+use Rattle.spec_machine.specs.ModuleRows.{within, attest, wrap, unwrap, module_row}
+use Rattle.spec_machine.specs.Modules.{module_instruction}
+use Rattle.spec_machine.specs.Run.{exec}
 
 -- as code of a module
 pub attest_row : (mac : Mac) (g : Given) (own : Section) → own_section g ≡ Some own → module_row mac 2 g ≡ attest mac g own

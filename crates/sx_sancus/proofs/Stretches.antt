@@ -1,8 +1,8 @@
 -- Stretches of a memory, one after the other.
 use Rattle.std.proofs.Common.{◌≡◌, ℕ, zero, suc, ◌+◌, List, [], ◌∷◌, ◌++◌, refl, sym, ap, ◌∙◌, arith, append_assoc, append-nil}
 use Rattle.std.specs.Prelude.{slice_index}
-use Rattle.sx_machine.specs.Memory.{bytes_from}
-use Rattle.sx_machine.proofs.BytesFrom.{bytes_none}
+use Rattle.spec_machine.specs.Memory.{bytes_from}
+use Rattle.spec_machine.proofs.BytesFrom.{bytes_none}
 
 last_byte : (mem : List ℕ) (at n : ℕ) → bytes_from mem at (suc n) ≡ bytes_from mem at n ++ slice_index mem (at + n) ∷ []
 unfolding bytes_from

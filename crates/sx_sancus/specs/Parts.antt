@@ -12,12 +12,12 @@ use Rattle.sx_rules.specs.Access.{holder, section_of}
 use Rattle.sx_rules.specs.Admission.{admitted}
 use Rattle.sx_tag.specs.Mac.{Mac}
 use Rattle.sx_tag.specs.Keys.{section_key}
-use Rattle.sx_machine.specs.Protect.{layout_in, provider_in, identity_at, wiped}
-use Rattle.sx_machine.specs.Memory.{bytes_from}
-use Rattle.sx_machine.specs.Ranges.{passes_end, meets_device}
-use Rattle.sx_machine.specs.Given.{Given, untouched_with}
-use Rattle.sx_machine.specs.ModuleRows.{answer, attested, buffers, own_key}
-use Rattle.sx_machine.specs.Run.{Outcome, Violated, exec}
+use Rattle.spec_machine.specs.Protect.{layout_in, provider_in, identity_at, wiped}
+use Rattle.spec_machine.specs.Memory.{bytes_from}
+use Rattle.spec_machine.specs.Ranges.{passes_end, meets_device}
+use Rattle.spec_machine.specs.Given.{Given, untouched_with}
+use Rattle.spec_machine.specs.ModuleRows.{answer, attested, buffers, own_key}
+use Rattle.spec_machine.specs.Run.{Outcome, Violated, exec}
 use Rattle.sx_executor.specs.declared.buffer.Buffer.{Buffer}
 use Rattle.sx_executor.specs.Machine.{Machine, reaches}
 

@@ -2,13 +2,13 @@
 -- of the call.
 use Rattle.std.specs.Prelude.{◌≡◌, ℕ, List, Result, Ok, Err}
 use Rattle.sx_rules.specs.declared.access.Violation.{Violation}
-use Rattle.sx_machine.specs.declared.kinds.Event.{Event}
-use Rattle.sx_machine.specs.declared.kinds.Event.TheVariants as event
-use Rattle.sx_machine.specs.declared.kinds.Exchange.{Exchange}
-use Rattle.sx_machine.specs.Given.{Given, untouched_with}
-use Rattle.sx_machine.specs.Plan.{Plan}
-use Rattle.sx_machine.specs.Run.{Outcome, exec}
-use Rattle.sx_machine.specs.Answers.{EndsModule}
+use Rattle.spec_machine.specs.declared.kinds.Event.{Event}
+use Rattle.spec_machine.specs.declared.kinds.Event.TheVariants as event
+use Rattle.spec_machine.specs.declared.kinds.Exchange.{Exchange}
+use Rattle.spec_machine.specs.Given.{Given, untouched_with}
+use Rattle.spec_machine.specs.Plan.{Plan}
+use Rattle.spec_machine.specs.Run.{Outcome, exec}
+use Rattle.spec_machine.specs.Answers.{EndsModule}
 use Rattle.sx_executor.specs.Machine.{Machine}
 use Rattle.sx_sancus.specs.declared.event.SancusEvent.{SancusEvent}
 use Rattle.sx_sancus.specs.declared.event.SancusEvent.TheVariants.{Quiet, Protected, Removed}

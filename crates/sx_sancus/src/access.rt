@@ -3,7 +3,7 @@
 ghost use Rattle.std.specs.Prelude.{◌≡◌, ◌≤◌, true, false, length, IfOk, IfErr, OnOk, OnErr};
 ghost use Rattle.sx_rules.specs.declared.access.Access.TheVariants.{Read, Write};
 ghost use Rattle.sx_rules.specs.declared.access.Violation.TheVariants as bad;
-ghost use Rattle.sx_machine.specs.Memory.{bytes_from};
+ghost use Rattle.spec_machine.specs.Memory.{bytes_from};
 ghost use Rattle.sx_executor.specs.Machine.{reaches, reaches_each, with_bytes, IsClear};
 
 use crate::text::Text;

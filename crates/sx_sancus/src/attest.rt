@@ -1,11 +1,11 @@
 //! The instruction by which a module has another's identity confirmed.
 
 ghost use Rattle.std.specs.Prelude.{◌≡◌, true, ℕ, List};
-ghost use Rattle.sx_machine.specs.declared.kinds.Exchange.{Exchange};
-ghost use Rattle.sx_machine.specs.Given.{Given};
-ghost use Rattle.sx_machine.specs.ModuleRows.{attest, answer, vouches};
-ghost use Rattle.sx_machine.specs.Run.{Outcome};
-ghost use Rattle.sx_machine.specs.Answers.{followed};
+ghost use Rattle.spec_machine.specs.declared.kinds.Exchange.{Exchange};
+ghost use Rattle.spec_machine.specs.Given.{Given};
+ghost use Rattle.spec_machine.specs.ModuleRows.{attest, answer, vouches};
+ghost use Rattle.spec_machine.specs.Run.{Outcome};
+ghost use Rattle.spec_machine.specs.Answers.{followed};
 ghost use Rattle.sx_executor.specs.Machine.{IsPublic};
 ghost use Rattle.sx_sancus.specs.Told.{ran_of, RunsRow};
 ghost use Rattle.sx_sancus.specs.Parts.{given_tag, reads_public, public_of, attested_by};
@@ -14,9 +14,9 @@ ghost use Rattle.sx_sancus.specs.Parts.{answer_outcome};
 use crate::access::read_block;
 use crate::event::SancusEvent;
 use crate::identity::attest_tag;
+use spec_machine::Exchange;
 use sx_bus::Bus;
 use sx_executor::{Buffer, Executor};
-use sx_machine::Exchange;
 use sx_rules::{Section, Violation};
 use sx_tag::Tag;
 

@@ -5,8 +5,8 @@ ghost use Rattle.sx_bus.specs.Devices.{places_of};
 ghost use Rattle.sx_rules.specs.Admission.{refusal};
 ghost use Rattle.sx_tag.specs.Keys.{section_key, attest_tag};
 ghost use Rattle.sx_tag.specs.Stream.{Leads};
-ghost use Rattle.sx_machine.specs.Memory.{bytes_from};
-ghost use Rattle.sx_machine.specs.Protect.{identity_at};
+ghost use Rattle.spec_machine.specs.Memory.{bytes_from};
+ghost use Rattle.spec_machine.specs.Protect.{identity_at};
 ghost use Rattle.sx_executor.specs.Machine.{IsPublic};
 ghost use Rattle.sx_sancus.specs.Parts.{reads_public};
 
@@ -19,7 +19,7 @@ use sx_tag::{Tag, begin_attest_tag, begin_module_key, feed_answer, finish_answer
 const PART: u16 = 64;
 
 /// Copies bytes of a public section, from an offset on.
-#[tactic(auto, unfolding(sx_machine::specs::Memory::bytes_from), using(std::proofs::lemmas::List::take_more_set))]
+#[tactic(auto, unfolding(spec_machine::specs::Memory::bytes_from), using(std::proofs::lemmas::List::take_more_set))]
 fn copy_public<B: Bus>(executor: &Executor<B>, layout: &Layout, from: u16, into: &mut [u8])
     requires right { reads_public executor.now layout.now ≡ true }
     requires public { IsPublic executor.now layout.now }

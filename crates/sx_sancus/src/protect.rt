@@ -4,9 +4,9 @@ ghost use Rattle.std.specs.Prelude.{◌≡◌, ℕ, List, Ok, IfOk, OnOk, OnErr}
 ghost use Rattle.std.specs.Result.{result_err};
 ghost use Rattle.sx_bus.specs.Devices.{places_of};
 ghost use Rattle.sx_rules.specs.Admission.{refusal};
-ghost use Rattle.sx_machine.specs.declared.kinds.Exchange.{Exchange};
-ghost use Rattle.sx_machine.specs.Protect.{protect, unprotect, layout_in, answer_registers};
-ghost use Rattle.sx_machine.specs.Protect.{number_of};
+ghost use Rattle.spec_machine.specs.declared.kinds.Exchange.{Exchange};
+ghost use Rattle.spec_machine.specs.Protect.{protect, unprotect, layout_in, answer_registers};
+ghost use Rattle.spec_machine.specs.Protect.{number_of};
 ghost use Rattle.sx_sancus.specs.Told.{given_by, Concludes};
 ghost use Rattle.sx_sancus.specs.Parts.{after_admission};
 
@@ -77,7 +77,7 @@ fn admit<B: Bus, T: Tag>(
 
 /// Protects the module that R9 to R13 name; its key is derived from the public section's bytes as
 /// they are now, and its private section is zeroed. A refusal changes R14, R15 and PC alone.
-#[tactic(auto, unfolding(sx_machine::specs::Protect::protect))]
+#[tactic(auto, unfolding(spec_machine::specs::Protect::protect))]
 pub fn protect<B: Bus, T: Tag>(executor: &mut Executor<B>, tag: &T, base: &[u8; 16]) -> SancusEvent
     ensures { (caller : ℕ) (exchange : Exchange)
         → Concludes
@@ -98,7 +98,7 @@ pub fn protect<B: Bus, T: Tag>(executor: &mut Executor<B>, tag: &T, base: &[u8; 
 
 /// Removes the module whose code it is, and zeroes its private section. Outside every module only
 /// R15 becomes 0.
-#[tactic(auto, unfolding(sx_machine::specs::Protect::unprotect))]
+#[tactic(auto, unfolding(spec_machine::specs::Protect::unprotect))]
 pub fn unprotect<B: Bus>(executor: &mut Executor<B>) -> SancusEvent
     ensures { (caller : ℕ) (base : List ℕ) (exchange : Exchange)
         → Concludes (unprotect (given_by executor.old caller base exchange) executor.old.mem)

@@ -1,22 +1,22 @@
 //! Execution of one module instruction, by its code.
 
 ghost use Rattle.std.specs.Prelude.{◌≡◌, true, ℕ, List};
-ghost use Rattle.sx_machine.specs.ModuleRows.{module_row};
-ghost use Rattle.sx_machine.specs.Modules.{is_code, module_instruction};
+ghost use Rattle.spec_machine.specs.ModuleRows.{module_row};
+ghost use Rattle.spec_machine.specs.Modules.{is_code, module_instruction};
 ghost use Rattle.sx_sancus.specs.Told.{given_by, ran_of, Concludes};
 
 use crate::attest::attest;
 use crate::event::SancusEvent;
 use crate::protect::{protect, unprotect};
 use crate::wrapping::{unwrap, wrap};
+use spec_machine::Exchange;
 use sx_bus::Bus;
 use sx_executor::Executor;
-use sx_machine::Exchange;
 use sx_rules::Violation;
 use sx_tag::Tag;
 
 /// Executes an instruction that is a plan: any but protect and unprotect.
-#[tactic(auto, unfolding(sx_machine::specs::ModuleRows::module_row))]
+#[tactic(auto, unfolding(spec_machine::specs::ModuleRows::module_row))]
 fn run_plan<B: Bus, T: Tag>(
     executor: &mut Executor<B>,
     code: u8,

@@ -2,7 +2,7 @@
 
 ghost use Rattle.std.specs.Prelude.{◌≡◌, ◌≤◌, true, length, take};
 ghost use Rattle.sx_rules.specs.declared.access.Access.TheVariants.{Read};
-ghost use Rattle.sx_machine.specs.Memory.{bytes_from};
+ghost use Rattle.spec_machine.specs.Memory.{bytes_from};
 ghost use Rattle.sx_executor.specs.Machine.{reaches, IsClear};
 ghost use Rattle.sx_tag.specs.Wrap.{padded};
 

@@ -2,16 +2,16 @@
 
 ghost use Rattle.std.specs.Prelude.{◌≡◌, ◌≤◌, length};
 ghost use Rattle.sx_tag.specs.Wrap.{wrapped};
-ghost use Rattle.sx_machine.specs.ModuleRows.{exchanged, wrap, unwrap};
+ghost use Rattle.spec_machine.specs.ModuleRows.{exchanged, wrap, unwrap};
 ghost use Rattle.sx_sancus.specs.Told.{RunsRow};
 
 use crate::access::{read_block, write};
 use crate::event::SancusEvent;
 use crate::inputs::{own_key, read_inputs};
 use crate::text::Text;
+use spec_machine::Exchange;
 use sx_bus::Bus;
 use sx_executor::Executor;
-use sx_machine::Exchange;
 use sx_rules::{Section, Violation};
 use sx_tag::Tag;
 

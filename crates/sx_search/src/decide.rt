@@ -2,16 +2,16 @@
 
 ghost use Rattle.std.specs.Prelude.{◌≡◌, IfOk};
 ghost use Rattle.sx_mean.specs.View.{app_as};
-ghost use Rattle.sx_never.specs.Never.{IsNeverBroken};
+ghost use Rattle.law_never.specs.Never.{IsNeverBroken};
 ghost use Rattle.sx_search.specs.declared.decide.Decided.TheVariants.{Holds};
 ghost use Rattle.sx_watch.specs.Watched.{property_as};
 
 use crate::blocks::finest;
 use crate::gaps::{Gap, Halt, Reason};
 use crate::search::{Found, find_table};
+use law_never::shows::shows;
 use std::alloc::{AllocError, Global};
 use sx_mean::apps::App;
-use sx_never::shows::shows;
 use sx_table::rows::Table;
 use sx_watch::property::Property;
 use sx_watch::topics::Topic;

@@ -4,9 +4,9 @@ use Rattle.std.specs.Prelude.{slice_get}
 use Rattle.std.proofs.lemmas.List.{append-nil}
 use Rattle.sx_trace.specs.declared.items.Item.{Item}
 use Rattle.sx_sched.specs.Lines.{Line}
-use Rattle.sx_run.specs.Setting.{Setting}
-use Rattle.sx_run.specs.State.{World, switched_on}
-use Rattle.sx_run.specs.Run.{run, after_line, line_counted}
+use Rattle.spec_run.specs.Setting.{Setting}
+use Rattle.spec_run.specs.State.{World, switched_on}
+use Rattle.spec_run.specs.Run.{run, after_line, line_counted}
 use Rattle.sx_world.specs.Whole.{next, whole_run}
 use Rattle.sx_snap.specs.Laws.{ItemsAdd}
 use Rattle.sx_snap.specs.Timeline.{items_at, items_in, world_at}

@@ -9,9 +9,9 @@ use Rattle.sx_tag.specs.Mac.{Mac}
 use Rattle.sx_sched.specs.Lines.{Line}
 use Rattle.sx_sched.specs.InForm.{IsLine}
 use Rattle.sx_deploy.specs.Deployment.{Deployed}
-use Rattle.sx_run.specs.Setting.{Site}
-use Rattle.sx_run.specs.State.{switched_on}
-use Rattle.sx_run.specs.Accepted.{setting, setting_of}
+use Rattle.spec_run.specs.Setting.{Site}
+use Rattle.spec_run.specs.State.{switched_on}
+use Rattle.spec_run.specs.Accepted.{setting, setting_of}
 use Rattle.sx_world.specs.Held.{Held}
 use Rattle.sx_world.specs.Standing.{Stands}
 use Rattle.sx_snap.specs.Kept.{Kept, first_sites}

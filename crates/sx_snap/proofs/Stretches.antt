@@ -11,13 +11,13 @@ use Rattle.sx_sched.specs.InForm.{IsLine}
 use Rattle.sx_sched.specs.Seen.{line_of}
 use Rattle.sx_sched.specs.declared.lines.Line.{Line as Read}
 use Rattle.sx_deploy.specs.Deployment.{Deployed}
-use Rattle.sx_run.specs.Setting.{Setting, Site}
-use Rattle.sx_run.specs.State.{World, switched_on}
-use Rattle.sx_run.specs.Run.{run, after_line, line_counted}
-use Rattle.sx_run.specs.Accepted.{setting}
-use Rattle.sx_run.specs.AcceptedLaw.{AreLines}
-use Rattle.sx_run.specs.Law.{IsSoundSetting}
-use Rattle.sx_run.proofs.acts.Bounds.{lines_within}
+use Rattle.spec_run.specs.Setting.{Setting, Site}
+use Rattle.spec_run.specs.State.{World, switched_on}
+use Rattle.spec_run.specs.Run.{run, after_line, line_counted}
+use Rattle.spec_run.specs.Accepted.{setting}
+use Rattle.spec_run.specs.AcceptedLaw.{AreLines}
+use Rattle.spec_run.specs.Law.{IsSoundSetting}
+use Rattle.spec_run.proofs.acts.Bounds.{lines_within}
 use Rattle.sx_deploy.specs.Law as deployment
 use Rattle.sx_trace.specs.Names.{NameLists}
 use Rattle.sx_world.specs.Held.{Held}

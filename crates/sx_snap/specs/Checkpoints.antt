@@ -4,9 +4,9 @@ use Rattle.std.specs.Prelude.{slice_get, Option, Some, None}
 use Rattle.sx_tag.specs.Mac.{Mac}
 use Rattle.sx_sched.specs.Lines.{Line}
 use Rattle.sx_deploy.specs.Deployment.{Deployed}
-use Rattle.sx_run.specs.Setting.{Setting}
-use Rattle.sx_run.specs.Accepted.{setting}
-use Rattle.sx_run.specs.AcceptedLaw.{AreLines}
+use Rattle.spec_run.specs.Setting.{Setting}
+use Rattle.spec_run.specs.Accepted.{setting}
+use Rattle.spec_run.specs.AcceptedLaw.{AreLines}
 use Rattle.sx_world.specs.Held.{Held}
 use Rattle.sx_world.specs.Whole.{next}
 use Rattle.sx_world.specs.Standing.{Stands}

@@ -1,7 +1,7 @@
 -- What contracts see of a timeline.
 use Rattle.std.specs.Prelude.{ℕ, List, [], ◌∷◌}
 use Rattle.sx_sched.specs.Lines.{Line}
-use Rattle.sx_run.specs.Setting.{Site}
+use Rattle.spec_run.specs.Setting.{Site}
 use Rattle.sx_world.specs.Held.{Held}
 
 -- where its modules are deployed, its lines, after how many lines a checkpoint stands, and the

@@ -1,7 +1,7 @@
 -- What the items of single lines are of a run's.
 use Rattle.std.specs.Prelude.{◌≡◌, ℕ, ◌+◌, ◌<◌, List, ◌++◌, length, take}
 use Rattle.sx_sched.specs.Lines.{Line}
-use Rattle.sx_run.specs.Setting.{Setting}
+use Rattle.spec_run.specs.Setting.{Setting}
 use Rattle.sx_world.specs.Whole.{whole_run}
 use Rattle.sx_snap.specs.Timeline.{items_at}
 

@@ -2,8 +2,8 @@
 use Rattle.std.specs.Prelude.{ℕ, ◌-◌, List, [], take, slice_get, Option, Some, None}
 use Rattle.sx_trace.specs.declared.items.Item.{Item}
 use Rattle.sx_sched.specs.Lines.{Line}
-use Rattle.sx_run.specs.Setting.{Setting}
-use Rattle.sx_run.specs.State.{World}
+use Rattle.spec_run.specs.Setting.{Setting}
+use Rattle.spec_run.specs.State.{World}
 use Rattle.sx_world.specs.Whole.{next, whole_run}
 
 -- the world after these lines from power-on

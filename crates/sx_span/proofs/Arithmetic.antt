@@ -10,7 +10,7 @@ use Rattle.sx_lang.specs.declared.tree.UnOp.{UnOp}
 use Rattle.sx_lang.specs.declared.tree.UnOp.TheVariants.{Neg, Inv, Not}
 use Rattle.sx_lang.specs.declared.tree.BinOp.{BinOp}
 use Rattle.sx_lang.specs.declared.tree.BinOp.TheVariants.{Add, Sub, Or, Xor, Mul, And, Eq, Ne, Lt, Le, Gt, Ge}
-use Rattle.sx_lists.specs.Truth.{truth}
+use Rattle.lemmas.specs.Truth.{truth}
 use Rattle.sx_mean.specs.Meaning.{apply, combine}
 use Rattle.sx_mean.proofs.Words.{not_equal}
 use Rattle.sx_span.specs.Intervals.{Interval, Lies, between, only, any_word, hull, wrapped, decided, ones, most_of_bits}

@@ -11,7 +11,7 @@ use Rattle.sx_lang.specs.declared.tree.UnOp.TheVariants.{Not}
 use Rattle.sx_lang.specs.declared.tree.BinOp.TheVariants.{And, Eq, Ge, Gt, Le, Lt, Ne, Or}
 use Rattle.sx_lang.specs.Tree.{Expression, Constant, Variable, Indexed, Applied, Combined}
 use Rattle.sx_check.specs.Names.{same}
-use Rattle.sx_lists.specs.Truth.{truth}
+use Rattle.lemmas.specs.Truth.{truth}
 use Rattle.sx_mean.specs.declared.moments.Local.{Local}
 use Rattle.sx_mean.specs.Places.{place, array_length}
 use Rattle.sx_mean.specs.Meaning.{HandlerState, look_up, value}

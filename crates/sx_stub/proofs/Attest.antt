@@ -2,26 +2,26 @@
 use Rattle.std.proofs.Common.{◌≡◌, ℕ, ◌+◌, ◌*◌, ◌<◌, ◌≤◌, ◌⊎◌, inl, inr, Bool, true, false, ◌&&◌, not, List, [], ◌∷◌, ◌++◌, length, Result, Ok, Err, refl, sym, ap, ◌∙◌, arith}
 use Rattle.std.proofs.lemmas.Bool.{le-leb, not_from_false}
 use Rattle.std.proofs.lemmas.List.Elements.{All-take}
-use Rattle.sx_machine.proofs.PublicKept.{put_other}
-use Rattle.sx_machine.proofs.Lengths.{length-put_bytes}
+use Rattle.spec_machine.proofs.PublicKept.{put_other}
+use Rattle.spec_machine.proofs.Lengths.{length-put_bytes}
 use Rattle.sx_rules.specs.declared.access.Violation.{Violation}
 use Rattle.sx_bus.specs.declared.devices.Window.{Window}
 use Rattle.sx_tag.specs.Mac.{Mac, IsTag}
 use Rattle.sx_tag.specs.Wrap.{wrapped, crypt, wrap_tag}
-use Rattle.sx_machine.specs.Memory.{put_bytes, bytes_from}
-use Rattle.sx_machine.proofs.BytesFrom.{bytes_none}
-use Rattle.sx_reach.specs.Reach.{Goes}
-use Rattle.sx_invoke.specs.Protocol.{output_register, all_done, ask_kind, ask_size, event_size}
-use Rattle.sx_invoke.specs.Windows.{in_window_size, out_window_size}
-use Rattle.sx_invoke.specs.Setup.{Setup, Call}
-use Rattle.sx_invoke.specs.Marks as mark
-use Rattle.sx_invoke.specs.Marks.{Mark}
-use Rattle.sx_invoke.specs.Pieces.{made_bytes}
-use Rattle.sx_invoke.specs.Windows.{is_bad_window, write_bytes}
-use Rattle.sx_invoke.specs.Progress.{Progress, Returns, Violates, finished}
-use Rattle.sx_invoke.specs.Entries.{attest, with_received}
-use Rattle.sx_invoke.specs.Acts.{copied_to}
-use Rattle.sx_invoke.proofs.PiecesMarked.{made_more, tag_length}
+use Rattle.spec_machine.specs.Memory.{put_bytes, bytes_from}
+use Rattle.spec_machine.proofs.BytesFrom.{bytes_none}
+use Rattle.sx_image.specs.Reach.{Goes}
+use Rattle.spec_invocation.specs.Protocol.{output_register, all_done, ask_kind, ask_size, event_size}
+use Rattle.spec_invocation.specs.Windows.{in_window_size, out_window_size}
+use Rattle.spec_invocation.specs.Setup.{Setup, Call}
+use Rattle.spec_invocation.specs.Marks as mark
+use Rattle.spec_invocation.specs.Marks.{Mark}
+use Rattle.spec_invocation.specs.Pieces.{made_bytes}
+use Rattle.spec_invocation.specs.Windows.{is_bad_window, write_bytes}
+use Rattle.spec_invocation.specs.Progress.{Progress, Returns, Violates, finished}
+use Rattle.spec_invocation.specs.Entries.{attest, with_received}
+use Rattle.spec_invocation.specs.Acts.{copied_to}
+use Rattle.spec_invocation.proofs.PiecesMarked.{made_more, tag_length}
 use Rattle.sx_ir.specs.Conf.{Conf}
 use Rattle.sx_ir.specs.Meaning.{OperationResult, do_op, copied_out, copy_out, has_copy_room, on_top, when, saved, next}
 use Rattle.sx_ir.specs.declared.ir.Ir.{Ir}

@@ -3,9 +3,9 @@ use Rattle.std.proofs.Common.{◌≡◌, ℕ, ◌+◌, ◌-◌, ◌*◌, ◌≤�
 use Rattle.std.specs.Prelude.{if◌then◌else◌}
 use Rattle.std.proofs.lemmas.List.{length-append}
 use Rattle.sx_mean.specs.declared.events.End.{End}
-use Rattle.sx_machine.specs.Memory.{word}
-use Rattle.sx_invoke.specs.Setup.{Setup, Call}
-use Rattle.sx_invoke.specs.Progress.{Invoked}
+use Rattle.spec_machine.specs.Memory.{word}
+use Rattle.spec_invocation.specs.Setup.{Setup, Call}
+use Rattle.spec_invocation.specs.Progress.{Invoked}
 use Rattle.sx_ir.specs.Conf.{Conf}
 use Rattle.sx_ir.specs.Meaning.{OperationResult, is_shown}
 use Rattle.sx_ir.specs.declared.ir.Ir.{Ir}

@@ -8,18 +8,18 @@ use Rattle.sx_lang.specs.declared.sides.Side.TheVariants.{From, To}
 use Rattle.sx_mean.specs.declared.events.End.{End}
 use Rattle.sx_mean.specs.Ends.{same_side}
 use Rattle.sx_mean.specs.Offsets.{end_at}
-use Rattle.sx_machine.specs.Memory.{word}
-use Rattle.sx_invoke.specs.Entries.{end_is, end_found}
+use Rattle.spec_machine.specs.Memory.{word}
+use Rattle.spec_invocation.specs.Entries.{end_is, end_found}
 use Rattle.sx_ir.specs.Meaning.{element, is_shown, is_shown_element}
 use Rattle.sx_ir.specs.declared.ir.IrOp.TheVariants as op
 use Rattle.sx_ir.specs.declared.ir.Ir.{Ir}
 use Rattle.sx_ir.specs.declared.ir.Ir.TheVariants as ir
 use Rattle.sx_ir.proofs.Shown.{element_shown, slot_shown}
-use Rattle.sx_invoke.specs.Setup.{Setup}
+use Rattle.spec_invocation.specs.Setup.{Setup}
 use Rattle.sx_stub.specs.Stub.{Cases, find_any, is_to, slot_word}
 use Rattle.sx_stub.proofs.Straight.{after_pure, pure}
 use Rattle.sx_stub.proofs.Chain.{found_by, case_test}
-use Rattle.sx_lists.specs.Truth.{truth}
+use Rattle.lemmas.specs.Truth.{truth}
 
 abbrev pub FewLinks : List End → Type 0
 FewLinks es = All (λ e. e.link < 256) es

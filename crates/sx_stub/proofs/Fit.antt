@@ -15,9 +15,9 @@ use Rattle.sx_mean.specs.declared.events.SourceEvent.{SourceEvent}
 use Rattle.sx_mean.specs.declared.events.SourceEvent.TheVariants as event
 use Rattle.sx_mean.specs.Application.{declared_kind}
 use Rattle.sx_mean.specs.React.{input_names, nth}
-use Rattle.sx_invoke.specs.Protocol.{entry_register, input_register, output_register, other_tag, set_key_kind, ask_kind, event_kind}
-use Rattle.sx_invoke.specs.Windows.{in_window_size, out_window_size}
-use Rattle.sx_invoke.specs.Invocation.{is_sensor_driver}
+use Rattle.spec_invocation.specs.Protocol.{entry_register, input_register, output_register, other_tag, set_key_kind, ask_kind, event_kind}
+use Rattle.spec_invocation.specs.Windows.{in_window_size, out_window_size}
+use Rattle.spec_invocation.specs.Invocation.{is_sensor_driver}
 use Rattle.sx_ir.specs.declared.ir.Ir.{Ir}
 use Rattle.sx_ir.specs.declared.ir.Ir.TheVariants as ir
 use Rattle.sx_ir.specs.declared.ir.IrOp.TheVariants as op
@@ -27,7 +27,7 @@ use Rattle.sx_stub.specs.Stub.{is_above_last, is_fresh_code, is_keyed_code, has_
 use Rattle.sx_stub.specs.Stub.{is_to, jump_on, key_found, key_place, named_end, open_any, refuse_if, refuse_kind, refuse_unless, returns, sample_code}
 use Rattle.sx_stub.specs.Stub.{sampled_code, search_code, set_key_code, slot_word, stub_code, stub_ops, take_event, take_receiving, tests}
 use Rattle.sx_stub.proofs.Plain.{is_fit, is_low}
-use Rattle.sx_lists.specs.Truth.{truth}
+use Rattle.lemmas.specs.Truth.{truth}
 
 -- The handler that is named is there.
 

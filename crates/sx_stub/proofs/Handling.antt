@@ -5,12 +5,12 @@ use Rattle.sx_mean.specs.declared.events.SourceEvent.{SourceEvent}
 use Rattle.sx_mean.specs.React.{value_of, run}
 use Rattle.sx_mean.specs.Handlers.{number_of}
 use Rattle.sx_mean.proofs.Handlers.{none_at}
-use Rattle.sx_machine.specs.Memory.{word}
-use Rattle.sx_reach.proofs.Reaching.{and_then, weaken}
-use Rattle.sx_invoke.specs.Protocol.{all_done}
-use Rattle.sx_invoke.specs.Setup.{Setup, Call}
-use Rattle.sx_invoke.specs.Progress.{Progress, Invoked, Returns, Violates, Course, Going, Broken, finished}
-use Rattle.sx_invoke.specs.Acts.{handled, with_acts}
+use Rattle.spec_machine.specs.Memory.{word}
+use Rattle.sx_image.proofs.Reaching.{and_then, weaken}
+use Rattle.spec_invocation.specs.Protocol.{all_done}
+use Rattle.spec_invocation.specs.Setup.{Setup, Call}
+use Rattle.spec_invocation.specs.Progress.{Progress, Invoked, Returns, Violates, Course, Going, Broken, finished}
+use Rattle.spec_invocation.specs.Acts.{handled, with_acts}
 use Rattle.sx_ir.specs.Conf.{Conf, Halt}
 use Rattle.sx_ir.specs.Conf as conf
 use Rattle.sx_ir.specs.Meaning.{OperationResult, op_step, op_count, OnViolation}

@@ -5,7 +5,7 @@ use Rattle.std.specs.Prelude.{slice_get, if◌then◌else◌, nat_lt, bit_and, �
 use Rattle.std.proofs.lemmas.List.{length-take, length-drop, take_all, get_or-take}
 use Rattle.std.proofs.lemmas.List.Elements.{All-take}
 use Rattle.std.proofs.lemmas.Bool.{true≢false, and_from, ne_eqb, eqb-false, eqb-true, or_right, not-false}
-use Rattle.sx_machine.proofs.PublicKept.{put_other}
+use Rattle.spec_machine.proofs.PublicKept.{put_other}
 use Rattle.sx_lang.specs.declared.sides.Side.{Side}
 use Rattle.sx_lang.specs.declared.sides.Side.TheVariants.{From, To}
 use Rattle.sx_mean.specs.declared.events.End.{End}
@@ -15,18 +15,18 @@ use Rattle.sx_mean.specs.Offsets.{end_at, end_number_at}
 use Rattle.sx_mean.specs.Handlers.{number_of}
 use Rattle.sx_tag.specs.Wrap.{unwrapped}
 use Rattle.sx_tag.specs.Mac.{IsTag}
-use Rattle.sx_machine.specs.Memory.{word, put_word, put_bytes, bytes_from}
-use Rattle.sx_reach.specs.Reach.{Goes}
-use Rattle.sx_invoke.specs.Protocol.{entry_register, no_end, past_number, other_tag, event_kind, event_size}
-use Rattle.sx_invoke.specs.Windows.{in_window_size, out_window_size}
-use Rattle.sx_invoke.specs.Setup.{Setup, Call}
-use Rattle.sx_invoke.specs.Marks as mark
-use Rattle.sx_invoke.specs.ModuleState.{EndState, end_of, end_state, epoch_of, link_of}
-use Rattle.sx_invoke.specs.Windows.{is_bad_window}
-use Rattle.sx_invoke.specs.Progress.{Progress, Invoked, Returns, finished}
-use Rattle.sx_invoke.specs.Acts.{handled}
-use Rattle.sx_invoke.specs.Entries.{input, input_at, event_numbered, event_opened, number_taken, field_in, second_in, header_in, end_found, with_received}
-use Rattle.sx_invoke.specs.Devices.{HasDevices}
+use Rattle.spec_machine.specs.Memory.{word, put_word, put_bytes, bytes_from}
+use Rattle.sx_image.specs.Reach.{Goes}
+use Rattle.spec_invocation.specs.Protocol.{entry_register, no_end, past_number, other_tag, event_kind, event_size}
+use Rattle.spec_invocation.specs.Windows.{in_window_size, out_window_size}
+use Rattle.spec_invocation.specs.Setup.{Setup, Call}
+use Rattle.spec_invocation.specs.Marks as mark
+use Rattle.spec_invocation.specs.ModuleState.{EndState, end_of, end_state, epoch_of, link_of}
+use Rattle.spec_invocation.specs.Windows.{is_bad_window}
+use Rattle.spec_invocation.specs.Progress.{Progress, Invoked, Returns, finished}
+use Rattle.spec_invocation.specs.Acts.{handled}
+use Rattle.spec_invocation.specs.Entries.{input, input_at, event_numbered, event_opened, number_taken, field_in, second_in, header_in, end_found, with_received}
+use Rattle.spec_invocation.specs.Devices.{HasDevices}
 use Rattle.sx_ir.specs.Conf.{Conf}
 use Rattle.sx_ir.specs.Meaning.{OperationResult, do_at, do_op, is_body_place, is_key_kept, is_key_place, has_key_mark, is_open_slot, opened, key_at, names_no_key, when}
 use Rattle.sx_ir.specs.declared.ir.Ir.{Ir}
@@ -49,8 +49,8 @@ use Rattle.sx_stub.proofs.Ends.{FewLinks, any_same, found_in, index_found, slot_
 use Rattle.sx_stub.proofs.Search.{shows_kept_word, some_place, some_none, search_does, found_at, both_at}
 use Rattle.sx_stub.proofs.SetKey.{shows_slot}
 use Rattle.sx_stub.proofs.Handling.{handles}
-use Rattle.sx_machine.proofs.Lengths.{length-put_word, length-put_bytes}
-use Rattle.sx_lists.specs.Truth.{truth}
+use Rattle.spec_machine.proofs.Lengths.{length-put_word, length-put_bytes}
+use Rattle.lemmas.specs.Truth.{truth}
 
 -- Tests of the end that was found, on words.
 

@@ -2,13 +2,13 @@
 use Rattle.std.proofs.Common.{◌≡◌, ℕ, zero, suc, ◌+◌, ◌⊎◌, inl, inr, List, [], ◌∷◌, length, Option, Some, None, refl, sym, ap, ◌∙◌, arith}
 use Rattle.std.specs.Prelude.{slice_get}
 use Rattle.sx_mean.specs.declared.events.SourceEvent.{SourceEvent}
-use Rattle.sx_machine.specs.Memory.{put_word}
-use Rattle.sx_reach.specs.Reach.{Goes, Here}
-use Rattle.sx_reach.proofs.Reaching.{and_then}
-use Rattle.sx_invoke.specs.Setup.{Setup, Call}
-use Rattle.sx_invoke.specs.Progress.{Progress, Course, Going, Broken}
-use Rattle.sx_invoke.specs.Acts.{handled}
-use Rattle.sx_invoke.specs.Invocation.{invoke}
+use Rattle.spec_machine.specs.Memory.{put_word}
+use Rattle.sx_image.specs.Reach.{Goes, Here}
+use Rattle.sx_image.proofs.Reaching.{and_then}
+use Rattle.spec_invocation.specs.Setup.{Setup, Call}
+use Rattle.spec_invocation.specs.Progress.{Progress, Course, Going, Broken}
+use Rattle.spec_invocation.specs.Acts.{handled}
+use Rattle.spec_invocation.specs.Invocation.{invoke}
 use Rattle.sx_ir.specs.Conf.{Conf, Halt}
 use Rattle.sx_ir.specs.Meaning.{OperationResult, op_step, op_count, part_from, no_count, OnViolation, CodeReaches, do_op, stop}
 use Rattle.sx_ir.specs.Invoking.{Represents, HandlerBegins, CourseBreaks, CourseGoesOn, PartDoes}
@@ -22,7 +22,7 @@ use Rattle.sx_stub.proofs.Slots.{IsKept, shows_priv}
 use Rattle.sx_stub.proofs.Refuse.{within}
 use Rattle.sx_stub.proofs.Handling.{IsDone}
 use Rattle.sx_stub.proofs.StubInvokes.{stub_invokes}
-use Rattle.sx_machine.proofs.Lengths.{length-put_word}
+use Rattle.spec_machine.proofs.Lengths.{length-put_word}
 
 parts_begin : (parts : List (ℕ × ℕ)) (h place end : ℕ) (c : Conf) → slice_get parts h ≡ Some (place, end)
     → part_from parts h c ≡ Goes (record c { place = place; back = Some (c.place + 1) })

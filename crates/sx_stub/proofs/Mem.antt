@@ -6,10 +6,10 @@ use Rattle.std.proofs.lemmas.List.{get_or-set_same, get_or-set_other, length-set
 use Rattle.std.proofs.lemmas.List.Elements.{All-set, All-append}
 use Rattle.std.proofs.lemmas.Bool.{cases_lt}
 use Rattle.std.proofs.Math.ListN.{get_or-eq_default}
-use Rattle.sx_machine.proofs.PublicKept.{put_other}
+use Rattle.spec_machine.proofs.PublicKept.{put_other}
 use Rattle.sx_isa.proofs.StandingLemmas.{even_same}
 use Rattle.sx_isa.specs.Memory.{even}
-use Rattle.sx_machine.specs.Memory.{word, put_word, bytes_from, put_bytes}
+use Rattle.spec_machine.specs.Memory.{word, put_word, bytes_from, put_bytes}
 
 pub word_even : (m : List ℕ) (a : ℕ) → a % 2 ≡ 0 → word m a ≡ get_or m a 0 + 256 * get_or m (a + 1) 0
 word_even m a e = ap (λ (b : ℕ). get_or m b 0 + 256 * get_or m (b + 1) 0) (even_same a e)

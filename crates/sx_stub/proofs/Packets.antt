@@ -12,9 +12,9 @@ use Rattle.std.proofs.lemmas.Nat.{and_mask, xor_of_8}
 use Rattle.sx_tag.specs.Mac.{Mac, IsTag}
 use Rattle.sx_tag.specs.Wrap.{crypt, wrap_tag, unwrapped, padded, stream, xor_bytes}
 use Rattle.sx_tag.proofs.UnwrapsWrapped.{length-xor_bytes}
-use Rattle.sx_machine.specs.Memory.{word, put_word, bytes_from, put_bytes}
+use Rattle.spec_machine.specs.Memory.{word, put_word, bytes_from, put_bytes}
 use Rattle.sx_stub.proofs.Mem.{AllBytes, word_even, get-put_other, get-put_bytes_in}
-use Rattle.sx_machine.proofs.Lengths.{length-bytes_from}
+use Rattle.spec_machine.proofs.Lengths.{length-bytes_from}
 
 -- the packet stands at offset 16
 abbrev pub Holds : List ℕ → List ℕ → Type 0

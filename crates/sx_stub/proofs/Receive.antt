@@ -4,21 +4,21 @@ use Rattle.std.proofs.Common.{get_or, Option, Some, None, Result, Ok, Err, refl,
 use Rattle.std.specs.Prelude.{slice_get, slice_index, if◌then◌else◌, nat_le}
 use Rattle.std.proofs.lemmas.Bool.{leb-true, not_from_false}
 use Rattle.std.proofs.lemmas.Bool.Decides.{eqb_tells}
-use Rattle.sx_machine.proofs.PublicKept.{put_other}
-use Rattle.sx_machine.proofs.Lengths.{length-put_bytes}
+use Rattle.spec_machine.proofs.PublicKept.{put_other}
+use Rattle.spec_machine.proofs.Lengths.{length-put_bytes}
 use Rattle.sx_rules.specs.declared.access.Violation.{Violation}
 use Rattle.sx_rules.specs.declared.access.Access.TheVariants.{Read}
 use Rattle.sx_rules.specs.declared.access.Violation.TheVariants as bad
 use Rattle.sx_rules.specs.Access.{may}
 use Rattle.sx_bus.specs.declared.devices.Window.{Window}
 use Rattle.sx_bus.specs.Devices.{device_at}
-use Rattle.sx_machine.specs.Memory.{word, put_bytes}
-use Rattle.sx_invoke.specs.Protocol.{input_register, other_kind}
-use Rattle.sx_invoke.specs.Windows.{in_window_size}
-use Rattle.sx_invoke.specs.Setup.{Setup, Call}
-use Rattle.sx_invoke.specs.Windows.{is_bad_window, read_byte, read_bytes, then_, unless_device}
-use Rattle.sx_invoke.specs.Progress.{Progress, Invoked, Returns, Violates}
-use Rattle.sx_invoke.specs.Entries.{is_kind, received}
+use Rattle.spec_machine.specs.Memory.{word, put_bytes}
+use Rattle.spec_invocation.specs.Protocol.{input_register, other_kind}
+use Rattle.spec_invocation.specs.Windows.{in_window_size}
+use Rattle.spec_invocation.specs.Setup.{Setup, Call}
+use Rattle.spec_invocation.specs.Windows.{is_bad_window, read_byte, read_bytes, then_, unless_device}
+use Rattle.spec_invocation.specs.Progress.{Progress, Invoked, Returns, Violates}
+use Rattle.spec_invocation.specs.Entries.{is_kind, received}
 use Rattle.sx_ir.specs.Conf.{Conf}
 use Rattle.sx_ir.specs.Meaning.{OperationResult, do_at, do_op, copied_in, when, saved}
 use Rattle.sx_ir.proofs.Shown.{low_spared}
@@ -30,7 +30,7 @@ use Rattle.sx_stub.proofs.Mem.{AllBytes, byte_at, word_even, get-put_bytes_in, A
 use Rattle.sx_stub.proofs.Straight.{At, at}
 use Rattle.sx_stub.proofs.Slots.{IsKept, with_priv, shows_priv}
 use Rattle.sx_stub.proofs.Refuse.{kind_does, not_twice, goes_on, breaks}
-use Rattle.sx_lists.specs.Truth.{truth}
+use Rattle.lemmas.specs.Truth.{truth}
 
 -- what was read is this many bytes
 abbrev IsRead : ℕ → Result (List ℕ) Violation → Type 0

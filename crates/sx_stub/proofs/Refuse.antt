@@ -4,12 +4,12 @@ use Rattle.std.specs.Prelude.{slice_get, if◌then◌else◌}
 use Rattle.std.proofs.lemmas.Bool.{true≢false, eqb-true}
 use Rattle.std.proofs.lemmas.Bool.Decides.{eqb_tells}
 use Rattle.sx_rules.specs.declared.access.Violation.{Violation}
-use Rattle.sx_reach.specs.Reach.{Goes, Stops, Here}
-use Rattle.sx_invoke.specs.Marks.{Mark}
-use Rattle.sx_invoke.specs.Protocol.{other_kind}
-use Rattle.sx_machine.specs.Memory.{word}
-use Rattle.sx_invoke.specs.Setup.{Setup, Call}
-use Rattle.sx_invoke.specs.Progress.{Progress, Invoked, Returns}
+use Rattle.sx_image.specs.Reach.{Goes, Stops, Here}
+use Rattle.spec_invocation.specs.Marks.{Mark}
+use Rattle.spec_invocation.specs.Protocol.{other_kind}
+use Rattle.spec_machine.specs.Memory.{word}
+use Rattle.spec_invocation.specs.Setup.{Setup, Call}
+use Rattle.spec_invocation.specs.Progress.{Progress, Invoked, Returns}
 use Rattle.sx_ir.specs.Conf.{Conf, Violates}
 use Rattle.sx_ir.specs.Counts.{count_of}
 use Rattle.sx_ir.specs.Meaning.{OperationResult, do_at, do_op, handler_count, is_shown, when}
@@ -19,7 +19,7 @@ use Rattle.sx_stub.specs.Stub.{refuse_if, refuse_kind, refuse_unless, returns}
 use Rattle.sx_stub.specs.Invokes.{ShowsCall, EndsSo, LeavesSo, Invokes}
 use Rattle.sx_stub.proofs.Straight.{At, at, at_front, at_back, pure, counts, goes, halts, runs, wider}
 use Rattle.sx_stub.proofs.Slots.{shows_at}
-use Rattle.sx_lists.specs.Truth.{truth}
+use Rattle.lemmas.specs.Truth.{truth}
 
 -- A code does what is left of an invocation whose result is known: `Invokes` at each configuration on the way.
 module _ (s : Setup) (call : Call) (handle : ℕ → Conf → OperationResult) (given : ℕ → ℕ) (code : List Ir) where

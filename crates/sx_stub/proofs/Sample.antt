@@ -11,18 +11,18 @@ use Rattle.sx_mean.specs.Handlers.{number_of}
 use Rattle.sx_bus.specs.declared.devices.Kind.TheVariants as kind
 use Rattle.sx_bus.specs.declared.devices.Window.{Window}
 use Rattle.sx_bus.specs.Devices.{cleared, with_changed, stale, on_word, HaveSamples}
-use Rattle.sx_machine.specs.Memory.{word, put_word}
-use Rattle.sx_machine.specs.Run.{device_of, found, with_window}
-use Rattle.sx_invoke.specs.Protocol.{no_sample}
-use Rattle.sx_invoke.specs.Windows.{out_window_size}
-use Rattle.sx_invoke.specs.Setup.{Setup, Call}
-use Rattle.sx_invoke.specs.Marks as mark
-use Rattle.sx_invoke.specs.Marks.{Mark}
-use Rattle.sx_invoke.specs.Windows.{is_bad_window}
-use Rattle.sx_invoke.specs.Progress.{Progress, Returns, finished}
-use Rattle.sx_invoke.specs.Acts.{handled, own_window}
-use Rattle.sx_invoke.specs.Entries.{sample, sample_of, sample_read}
-use Rattle.sx_invoke.specs.Devices.{HasDevices, Drives}
+use Rattle.spec_machine.specs.Memory.{word, put_word}
+use Rattle.spec_machine.specs.Run.{device_of, found, with_window}
+use Rattle.spec_invocation.specs.Protocol.{no_sample}
+use Rattle.spec_invocation.specs.Windows.{out_window_size}
+use Rattle.spec_invocation.specs.Setup.{Setup, Call}
+use Rattle.spec_invocation.specs.Marks as mark
+use Rattle.spec_invocation.specs.Marks.{Mark}
+use Rattle.spec_invocation.specs.Windows.{is_bad_window}
+use Rattle.spec_invocation.specs.Progress.{Progress, Returns, finished}
+use Rattle.spec_invocation.specs.Acts.{handled, own_window}
+use Rattle.spec_invocation.specs.Entries.{sample, sample_of, sample_read}
+use Rattle.spec_invocation.specs.Devices.{HasDevices, Drives}
 use Rattle.sx_ir.specs.Conf.{Conf}
 use Rattle.sx_ir.specs.Meaning.{OperationResult, do_op, has_key_mark, sense, sensor_read, pushed}
 use Rattle.sx_ir.specs.declared.ir.Ir.{Ir}
@@ -35,8 +35,8 @@ use Rattle.sx_stub.proofs.Straight.{At, at, at_front, at_back}
 use Rattle.sx_stub.proofs.Slots.{with_priv, shows_priv, kept_high}
 use Rattle.sx_stub.proofs.Refuse.{goes_on, runs_on, unless_does, within}
 use Rattle.sx_stub.proofs.Handling.{handles}
-use Rattle.sx_machine.proofs.Lengths.{length-put_word}
-use Rattle.sx_machine.proofs.Devices.{device_of_parts}
+use Rattle.spec_machine.proofs.Lengths.{length-put_word}
+use Rattle.spec_machine.proofs.Devices.{device_of_parts}
 
 -- The module's device, before and after its sample was read.
 

@@ -3,10 +3,10 @@ use Rattle.std.proofs.Common.{◌≡◌, ◌≢◌, ℕ, ◌+◌, ◌*◌, ◌%�
 use Rattle.sx_stub.proofs.Fit.{length-find}
 use Rattle.sx_lang.specs.Tree.{ModuleTree}
 use Rattle.sx_mean.specs.declared.events.End.{End}
-use Rattle.sx_machine.specs.Memory.{word, put_word}
-use Rattle.sx_invoke.specs.Protocol.{no_end}
-use Rattle.sx_invoke.specs.Setup.{Setup, Call}
-use Rattle.sx_invoke.specs.Progress.{Progress, Invoked, Returns}
+use Rattle.spec_machine.specs.Memory.{word, put_word}
+use Rattle.spec_invocation.specs.Protocol.{no_end}
+use Rattle.spec_invocation.specs.Setup.{Setup, Call}
+use Rattle.spec_invocation.specs.Progress.{Progress, Invoked, Returns}
 use Rattle.sx_ir.specs.Conf.{Conf}
 use Rattle.sx_ir.specs.Meaning.{OperationResult}
 use Rattle.sx_ir.specs.declared.ir.Ir.{Ir}
@@ -20,7 +20,7 @@ use Rattle.sx_stub.proofs.Refuse.{returns_does, goes_on, runs_on, within}
 use Rattle.sx_stub.proofs.Chain.{found_by, case_test, chain_does}
 use Rattle.sx_stub.proofs.Packets.{Holds, holds_put}
 use Rattle.sx_stub.proofs.Ends.{FewLinks, found_in}
-use Rattle.sx_machine.proofs.Lengths.{length-put_word}
+use Rattle.spec_machine.proofs.Lengths.{length-put_word}
 
 pub some_place : (a b : ℕ) (x y : End) → ◌≡◌ {A = Option (ℕ × End)} (Some (a, x)) (Some (b, y)) → a ≡ b
 some_place a b x y h = ap (λ (o : Option (ℕ × End)). place_of o) h

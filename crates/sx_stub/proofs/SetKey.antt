@@ -5,23 +5,23 @@ use Rattle.std.specs.Prelude.{if◌then◌else◌, nat_lt, bit_and}
 use Rattle.std.proofs.lemmas.List.{length-take, length-drop, take_all}
 use Rattle.std.proofs.lemmas.List.Elements.{All-take}
 use Rattle.std.proofs.lemmas.Bool.{false≢true, true≢false, and_from, lt-ltb, or_right}
-use Rattle.sx_machine.proofs.PublicKept.{put_other}
+use Rattle.spec_machine.proofs.PublicKept.{put_other}
 use Rattle.sx_lang.specs.declared.sides.Side.{Side}
 use Rattle.sx_lang.specs.declared.sides.Side.TheVariants.{From, To}
 use Rattle.sx_mean.specs.declared.events.End.{End}
 use Rattle.sx_mean.specs.Offsets.{end_at}
 use Rattle.sx_tag.specs.Wrap.{unwrapped}
 use Rattle.sx_tag.specs.Mac.{IsTag}
-use Rattle.sx_machine.specs.Memory.{word, put_word, put_bytes, bytes_from}
-use Rattle.sx_reach.specs.Reach.{Goes}
-use Rattle.sx_invoke.specs.Protocol.{entry_register, all_done, no_end, other_tag, set_key_kind, set_key_size}
-use Rattle.sx_invoke.specs.Windows.{in_window_size}
-use Rattle.sx_invoke.specs.Setup.{Setup, Call}
-use Rattle.sx_invoke.specs.Marks as mark
-use Rattle.sx_invoke.specs.ModuleState.{ModuleState, EndState, end_of, end_state, with_end, state_of, epoch_of, link_of}
-use Rattle.sx_invoke.specs.Windows.{is_bad_window}
-use Rattle.sx_invoke.specs.Progress.{Progress, Invoked, Returns}
-use Rattle.sx_invoke.specs.Entries.{set_key, set_key_at, key_opened, end_keyed, is_keyed, field_in, second_in, header_in, end_on, side_of, with_received}
+use Rattle.spec_machine.specs.Memory.{word, put_word, put_bytes, bytes_from}
+use Rattle.sx_image.specs.Reach.{Goes}
+use Rattle.spec_invocation.specs.Protocol.{entry_register, all_done, no_end, other_tag, set_key_kind, set_key_size}
+use Rattle.spec_invocation.specs.Windows.{in_window_size}
+use Rattle.spec_invocation.specs.Setup.{Setup, Call}
+use Rattle.spec_invocation.specs.Marks as mark
+use Rattle.spec_invocation.specs.ModuleState.{ModuleState, EndState, end_of, end_state, with_end, state_of, epoch_of, link_of}
+use Rattle.spec_invocation.specs.Windows.{is_bad_window}
+use Rattle.spec_invocation.specs.Progress.{Progress, Invoked, Returns}
+use Rattle.spec_invocation.specs.Entries.{set_key, set_key_at, key_opened, end_keyed, is_keyed, field_in, second_in, header_in, end_on, side_of, with_received}
 use Rattle.sx_ir.specs.Conf.{Conf}
 use Rattle.sx_ir.specs.Meaning.{OperationResult, do_op, do_at, is_key_mark, has_key_mark, opened, when}
 use Rattle.sx_ir.specs.Meaning as meaning
@@ -42,9 +42,9 @@ use Rattle.sx_stub.proofs.Attest.{with_mark, progress_mark, shows_mark}
 use Rattle.sx_stub.proofs.Packets.{Holds, holds_copied, holds_put, holds_word, holds_part, upper, lower, upper_lt, IsOpened, opened_body}
 use Rattle.sx_stub.proofs.Ends.{FewLinks, any_same, found_in, index_found, slot_pure, and_truth}
 use Rattle.sx_stub.proofs.Search.{shows_kept_word, some_place, some_none, search_does, found_at, key_at}
-use Rattle.sx_machine.proofs.Lengths.{length-put_word, length-put_bytes}
-use Rattle.sx_lists.specs.Truth.{truth}
-use Rattle.sx_lists.proofs.Truths.{truth_small}
+use Rattle.spec_machine.proofs.Lengths.{length-put_word, length-put_bytes}
+use Rattle.lemmas.specs.Truth.{truth}
+use Rattle.lemmas.proofs.Truths.{truth_small}
 
 -- the test of the end that was found, on words
 pub keyed_word : (priv : List ℕ) (ends j : ℕ) (field : ℕ) → AllBytes priv → ends ≤ 16 → j < ends → word priv 74 ≡ 12 * j

@@ -4,10 +4,10 @@ use Rattle.sx_lang.specs.Tree.{ModuleTree}
 use Rattle.sx_mean.specs.declared.events.End.{End}
 use Rattle.sx_mean.specs.Places.{initial_cells}
 use Rattle.sx_mean.specs.Offsets.{end_at, cell_at}
-use Rattle.sx_machine.specs.Memory.{word, bytes_from}
-use Rattle.sx_invoke.specs.Setup.{Setup, Call}
-use Rattle.sx_invoke.specs.ModuleState.{ModuleState, EndState, end_state, end_states, end_of, with_end, cells_from, state_of}
-use Rattle.sx_invoke.specs.Progress.{Progress}
+use Rattle.spec_machine.specs.Memory.{word, bytes_from}
+use Rattle.spec_invocation.specs.Setup.{Setup, Call}
+use Rattle.spec_invocation.specs.ModuleState.{ModuleState, EndState, end_state, end_states, end_of, with_end, cells_from, state_of}
+use Rattle.spec_invocation.specs.Progress.{Progress}
 use Rattle.sx_ir.specs.Conf.{Conf}
 use Rattle.sx_stub.specs.Invokes.{ShowsCall}
 use Rattle.sx_stub.proofs.Mem.{word_same, bytes_from_same, AllBytes}

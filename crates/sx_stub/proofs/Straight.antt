@@ -7,11 +7,11 @@ use Rattle.sx_lang.specs.declared.tree.BinOp.TheVariants as binary
 use Rattle.sx_mean.specs.Meaning.{apply, combine}
 use Rattle.sx_mean.specs.Working as working
 use Rattle.sx_rules.specs.declared.access.Violation.{Violation}
-use Rattle.sx_machine.specs.Memory.{word}
-use Rattle.sx_reach.specs.Reach.{Goes, Stops, Here, Next, Ends}
-use Rattle.sx_invoke.specs.Marks.{Mark}
-use Rattle.sx_invoke.specs.Setup.{Setup}
-use Rattle.sx_invoke.specs.Windows.{is_bad_window}
+use Rattle.spec_machine.specs.Memory.{word}
+use Rattle.sx_image.specs.Reach.{Goes, Stops, Here, Next, Ends}
+use Rattle.spec_invocation.specs.Marks.{Mark}
+use Rattle.spec_invocation.specs.Setup.{Setup}
+use Rattle.spec_invocation.specs.Windows.{is_bad_window}
 use Rattle.sx_ir.specs.Conf.{Conf, Violates}
 use Rattle.sx_ir.specs.Counts.{count_of}
 use Rattle.sx_ir.specs.Meaning.{OperationResult, do_op, do_at, op_step, op_count, count_at, handler_count, CodeReaches, element, is_saved, keeps_slots, names_no_key, next, pushed, when, on_top, saved, operated}
@@ -19,7 +19,7 @@ use Rattle.sx_ir.specs.declared.ir.IrOp.{IrOp}
 use Rattle.sx_ir.specs.declared.ir.IrOp.TheVariants as op
 use Rattle.sx_ir.specs.declared.ir.Ir.{Ir}
 use Rattle.sx_ir.specs.declared.ir.Ir.TheVariants as ir
-use Rattle.sx_lists.specs.Truth.{truth}
+use Rattle.lemmas.specs.Truth.{truth}
 
 -- these operations stand in the code from this place on
 abbrev pub At : List Ir → ℕ → List Ir → Type 0

@@ -10,15 +10,15 @@ use Rattle.sx_rules.specs.declared.access.Violation.TheVariants as bad
 use Rattle.sx_rules.specs.Access.{in_public}
 use Rattle.sx_bus.specs.declared.devices.Kind.TheVariants as kind
 use Rattle.sx_isa.specs.Memory.{even}
-use Rattle.sx_reach.specs.Reach.{Goes, Stops}
-use Rattle.sx_invoke.specs.Protocol.{input_register, output_register, no_entry, bad_window, set_key_kind, ask_kind, event_kind, set_key_size, ask_size, event_size}
-use Rattle.sx_invoke.specs.Windows.{in_window_size, out_window_size}
-use Rattle.sx_invoke.specs.Setup.{Setup, Call}
-use Rattle.sx_invoke.specs.Windows.{is_bad_window}
-use Rattle.sx_invoke.specs.Progress.{Progress, Invoked, Returns, Violates}
-use Rattle.sx_invoke.specs.Invocation.{invoke, entered, returns_inside, is_no_entry, has_bad_windows, is_sensor_driver}
-use Rattle.sx_invoke.specs.Entries.{with_received, set_key, attest, input, sample}
-use Rattle.sx_invoke.specs.Devices.{HasDevices, Drives}
+use Rattle.sx_image.specs.Reach.{Goes, Stops}
+use Rattle.spec_invocation.specs.Protocol.{input_register, output_register, no_entry, bad_window, set_key_kind, ask_kind, event_kind, set_key_size, ask_size, event_size}
+use Rattle.spec_invocation.specs.Windows.{in_window_size, out_window_size}
+use Rattle.spec_invocation.specs.Setup.{Setup, Call}
+use Rattle.spec_invocation.specs.Windows.{is_bad_window}
+use Rattle.spec_invocation.specs.Progress.{Progress, Invoked, Returns, Violates}
+use Rattle.spec_invocation.specs.Invocation.{invoke, entered, returns_inside, is_no_entry, has_bad_windows, is_sensor_driver}
+use Rattle.spec_invocation.specs.Entries.{with_received, set_key, attest, input, sample}
+use Rattle.spec_invocation.specs.Devices.{HasDevices, Drives}
 use Rattle.sx_ir.specs.Conf.{Conf}
 use Rattle.sx_ir.specs.Conf as conf
 use Rattle.sx_ir.specs.Meaning.{OperationResult, do_op}
@@ -32,8 +32,8 @@ use Rattle.sx_stub.proofs.Attest.{attest_does}
 use Rattle.sx_stub.proofs.SetKey.{set_key_does}
 use Rattle.sx_stub.proofs.Input.{input_does}
 use Rattle.sx_stub.proofs.Sample.{sample_does}
-use Rattle.sx_lists.specs.Truth.{truth}
-use Rattle.sx_lists.proofs.Truths.{and_not}
+use Rattle.lemmas.specs.Truth.{truth}
+use Rattle.lemmas.proofs.Truths.{and_not}
 
 -- the first operations of a code stand in it
 pub stands_at : (code ops : List Ir) (k : ℕ) → ((i : ℕ) → i < length ops → slice_get code (k + i) ≡ slice_get ops i)

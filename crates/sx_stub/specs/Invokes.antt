@@ -10,17 +10,17 @@ use Rattle.sx_mean.specs.Handlers.{number_of}
 use Rattle.sx_rules.specs.declared.access.Violation.{Violation}
 use Rattle.sx_bus.specs.Devices.{HaveSamples}
 use Rattle.sx_tag.specs.Mac.{IsTag}
-use Rattle.sx_machine.specs.Memory.{word}
-use Rattle.sx_invoke.specs.Protocol.{entry_register, input_register, output_register}
-use Rattle.sx_invoke.specs.Protocol.{back_register}
-use Rattle.sx_invoke.specs.ModuleState.{state_of}
-use Rattle.sx_invoke.specs.Marks.{Mark}
-use Rattle.sx_invoke.specs.Setup.{Setup, Call}
-use Rattle.sx_invoke.specs.Windows.{is_bad_window, out_window_size}
-use Rattle.sx_invoke.specs.Progress.{Progress, Invoked, Returns, Violates}
-use Rattle.sx_invoke.specs.Acts.{handled}
-use Rattle.sx_invoke.specs.Invocation.{invoke}
-use Rattle.sx_invoke.specs.Devices.{HasDevices}
+use Rattle.spec_machine.specs.Memory.{word}
+use Rattle.spec_invocation.specs.Protocol.{entry_register, input_register, output_register}
+use Rattle.spec_invocation.specs.Protocol.{back_register}
+use Rattle.spec_invocation.specs.ModuleState.{state_of}
+use Rattle.spec_invocation.specs.Marks.{Mark}
+use Rattle.spec_invocation.specs.Setup.{Setup, Call}
+use Rattle.spec_invocation.specs.Windows.{is_bad_window, out_window_size}
+use Rattle.spec_invocation.specs.Progress.{Progress, Invoked, Returns, Violates}
+use Rattle.spec_invocation.specs.Acts.{handled}
+use Rattle.spec_invocation.specs.Invocation.{invoke}
+use Rattle.spec_invocation.specs.Devices.{HasDevices}
 use Rattle.sx_ir.specs.declared.ir.Ir.{Ir}
 use Rattle.sx_ir.specs.declared.ir.Ir.TheVariants as ir
 use Rattle.sx_ir.specs.Conf.{Conf}

@@ -11,20 +11,20 @@ use Rattle.sx_mean.specs.Application.{declared_kind}
 use Rattle.sx_mean.specs.Handlers.{number_of}
 use Rattle.sx_mean.specs.Offsets as offsets
 use Rattle.sx_mean.specs.Working as working
-use Rattle.sx_invoke.specs.Protocol.{set_key_entry, attest_entry, input_entry, sample_entry}
-use Rattle.sx_invoke.specs.Protocol.{entry_register, input_register, output_register}
-use Rattle.sx_invoke.specs.Protocol.{all_done, no_entry, bad_window, other_kind, no_end}
-use Rattle.sx_invoke.specs.Protocol.{past_number, other_tag, no_sample, last_number}
-use Rattle.sx_invoke.specs.Protocol.{set_key_kind, ask_kind, event_kind}
-use Rattle.sx_invoke.specs.Protocol.{set_key_size, ask_size, event_size, header_size}
-use Rattle.sx_invoke.specs.Pieces.{tag_size}
-use Rattle.sx_invoke.specs.Protocol.{key_size, value_size}
-use Rattle.sx_invoke.specs.Windows.{in_window_size, out_window_size}
-use Rattle.sx_invoke.specs.Invocation.{is_sensor_driver}
+use Rattle.spec_invocation.specs.Protocol.{set_key_entry, attest_entry, input_entry, sample_entry}
+use Rattle.spec_invocation.specs.Protocol.{entry_register, input_register, output_register}
+use Rattle.spec_invocation.specs.Protocol.{all_done, no_entry, bad_window, other_kind, no_end}
+use Rattle.spec_invocation.specs.Protocol.{past_number, other_tag, no_sample, last_number}
+use Rattle.spec_invocation.specs.Protocol.{set_key_kind, ask_kind, event_kind}
+use Rattle.spec_invocation.specs.Protocol.{set_key_size, ask_size, event_size, header_size}
+use Rattle.spec_invocation.specs.Pieces.{tag_size}
+use Rattle.spec_invocation.specs.Protocol.{key_size, value_size}
+use Rattle.spec_invocation.specs.Windows.{in_window_size, out_window_size}
+use Rattle.spec_invocation.specs.Invocation.{is_sensor_driver}
 use Rattle.sx_ir.specs.declared.ir.IrOp.TheVariants as op
 use Rattle.sx_ir.specs.declared.ir.Ir.{Ir}
 use Rattle.sx_ir.specs.declared.ir.Ir.TheVariants as ir
-use Rattle.sx_lists.specs.Truth.{truth}
+use Rattle.lemmas.specs.Truth.{truth}
 
 -- Until a handler begins, the words of its locals keep which end a packet is for.
 

@@ -5,8 +5,8 @@ ghost use Rattle.sx_stub.specs.Puts.{Puts, PutsAt};
 ghost use Rattle.sx_stub.specs.Stub.{answer_code, attest_code};
 
 use crate::pieces::{put, put_all, put_refuse_kind};
+use spec_invocation::protocol::{ALL_DONE, ASK_HEADER_SIZE, ASK_KIND, ASK_SIZE, TAG_SIZE};
 use std::alloc::AllocError;
-use sx_invoke::protocol::{ALL_DONE, ASK_HEADER_SIZE, ASK_KIND, ASK_SIZE, TAG_SIZE};
 use sx_ir::Ir;
 use sx_mean::offsets::{PACKET, PLAIN};
 

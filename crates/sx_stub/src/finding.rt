@@ -8,8 +8,8 @@ ghost use Rattle.sx_stub.specs.Stub.{find_any, found_code, named_end, search_cod
 use crate::inputs::{behind_input_found, put_input_found};
 use crate::keys::put_key_found;
 use crate::pieces::{INDEX, WANTED, put_all, put_choice, put_returns};
+use spec_invocation::protocol::{ENTRY_REGISTER, NO_END};
 use std::alloc::AllocError;
-use sx_invoke::protocol::{ENTRY_REGISTER, NO_END};
 use sx_ir::Ir;
 use sx_lang::sides::Side;
 use sx_lang::tree::Module;

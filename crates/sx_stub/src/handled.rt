@@ -7,8 +7,8 @@ ghost use Rattle.sx_stub.specs.Stub.{handled_by};
 ghost use Rattle.sx_stub.specs.Puts.{Puts};
 
 use crate::pieces::put_all;
+use spec_invocation::protocol::ALL_DONE;
 use std::alloc::AllocError;
-use sx_invoke::protocol::ALL_DONE;
 use sx_ir::Ir;
 use sx_lang::names::Name;
 use sx_lang::tree::{Handler, Module};

@@ -14,10 +14,10 @@ use crate::pieces::{
     FIELD, INDEX, SECOND, SLOTS, WANTED, put, put_all, put_choice, put_refuse, put_refuse_kind,
     put_refuse_unless,
 };
-use std::alloc::AllocError;
-use sx_invoke::protocol::{
+use spec_invocation::protocol::{
     EVENT_KIND, EVENT_SIZE, HEADER_SIZE, LAST_NUMBER, NO_END, OTHER_TAG, PAST_NUMBER, VALUE_SIZE,
 };
+use std::alloc::AllocError;
 use sx_ir::{Ir, IrOp};
 use sx_lang::sides::Side;
 use sx_lang::tree::Module;

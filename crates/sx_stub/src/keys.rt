@@ -8,10 +8,10 @@ use crate::pieces::{
     FIELD, INDEX, SECOND, SLOTS, WANTED, put, put_all, put_choice, put_refuse, put_refuse_kind,
     put_refuse_unless,
 };
-use std::alloc::AllocError;
-use sx_invoke::protocol::{
+use spec_invocation::protocol::{
     ALL_DONE, HEADER_SIZE, KEY_SIZE, NO_END, OTHER_TAG, SET_KEY_KIND, SET_KEY_SIZE,
 };
+use std::alloc::AllocError;
 use sx_ir::{Ir, IrOp};
 use sx_mean::events::End;
 use sx_mean::offsets::{PACKET, PLAIN};

@@ -4,8 +4,8 @@ ghost use Rattle.std.specs.Prelude.{◌+◌, ◌<◌, ◌∷◌, [], OnOk, lengt
 ghost use Rattle.sx_stub.specs.Puts.{Puts, PutsAt, RefusesUnless, RefusesWith, choice};
 ghost use Rattle.sx_stub.specs.Stub.{jump_on, refuse_kind, returns};
 
+use spec_invocation::protocol::{ENTRY_REGISTER, OTHER_KIND};
 use std::alloc::AllocError;
-use sx_invoke::protocol::{ENTRY_REGISTER, OTHER_KIND};
 use sx_ir::Ir;
 use sx_mean::offsets::saved_at;
 

@@ -14,12 +14,12 @@ use crate::inputs::{INPUT_LENGTH, put_input};
 use crate::keys::{SET_KEY_LENGTH, put_set_key};
 use crate::pieces::{put, put_jump_on, put_refuse, put_returns};
 use crate::samples::{SAMPLE_PLACE, put_sample, sample_len};
-use std::alloc::{AllocError, Global};
-use sx_check::checked::Checked;
-use sx_invoke::protocol::{
+use spec_invocation::protocol::{
     ATTEST_ENTRY, BAD_WINDOW, ENTRY_REGISTER, IN_WINDOW_SIZE, INPUT_ENTRY, INPUT_REGISTER, NO_END,
     NO_ENTRY, OUT_WINDOW_SIZE, OUTPUT_REGISTER, SAMPLE_ENTRY, SET_KEY_ENTRY,
 };
+use std::alloc::{AllocError, Global};
+use sx_check::checked::Checked;
 use sx_ir::{Code, Ir, IrOp};
 use sx_lang::tree::{DeviceKind, Module};
 use sx_mean::apps::declared_kind;

@@ -7,8 +7,8 @@ ghost use Rattle.sx_stub.specs.Stub.{sample_code, sample_place, sampled_code};
 
 use crate::handled::{handled_len, put_handled, sample_handler};
 use crate::pieces::{put, put_all, put_refuse_unless};
+use spec_invocation::protocol::NO_SAMPLE;
 use std::alloc::AllocError;
-use sx_invoke::protocol::NO_SAMPLE;
 use sx_ir::{Ir, IrOp};
 use sx_lang::tree::Module;
 use sx_mean::offsets::EVENT;

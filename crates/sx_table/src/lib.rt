@@ -4,7 +4,7 @@
 //!
 //! `shut::is_shut` and `shut::is_open` are the check of a table, `find` makes one. Nothing here
 //! need be
-//! believed: `sx_never` has what a table that passes shows of all runs.
+//! believed: `law_never` has what a table that passes shows of all runs.
 #![tactic(auto)]
 
 pub mod boxes;

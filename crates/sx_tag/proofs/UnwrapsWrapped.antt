@@ -6,7 +6,7 @@ use Rattle.std.proofs.lemmas.List.{drop-replicate}
 use Rattle.sx_tag.specs.Mac.{Mac, GivesTags}
 use Rattle.sx_tag.specs.Wrap.{xor_bytes, stream, crypt, wrap_tag, padded, unwrapped}
 use Rattle.sx_tag.specs.Laws.{UnwrapsWrapped}
-use Rattle.sx_lists.proofs.Texts.{bytes_eq-same}
+use Rattle.lemmas.proofs.Texts.{bytes_eq-same}
 
 xor_twice : (b s : ℕ) → bit_xor (bit_xor b s) s ≡ b
 xor_twice b s = xor_assoc b s s ∙ ap (λ (n : ℕ). bit_xor b n) (xor_self s) ∙ xor_zero_r b

@@ -9,18 +9,18 @@ use Rattle.sx_rules.specs.declared.access.Violation.{Violation}
 use Rattle.sx_rules.specs.declared.access.Violation.TheVariants as bad
 use Rattle.sx_rules.specs.declared.section.Section.{Section}
 use Rattle.sx_rules.specs.Access.{Sections, allows, extends, holder, in_order, in_private, in_public, may, outside_private, section_of}
-use Rattle.sx_machine.specs.Memory.{even, word}
+use Rattle.spec_machine.specs.Memory.{even, word}
 use Rattle.sx_bus.specs.Devices.{device_at}
 use Rattle.sx_tag.specs.Mac.{Mac}
-use Rattle.sx_machine.specs.declared.kinds.Event.TheVariants as event
-use Rattle.sx_machine.specs.declared.kinds.Exchange.{Exchange}
-use Rattle.sx_machine.specs.Rows.{program}
-use Rattle.sx_machine.specs.Run.{Moment, Outcome, Finished, Violated, Module, exec}
-use Rattle.sx_machine.specs.State.{State}
-use Rattle.sx_machine.specs.Step.{attempt, entered_from, instruction, is_module_word, ordered, own_of, pc_of, settled_step, start, word_outside}
-use Rattle.sx_invoke.specs.Marks.{Mark}
-use Rattle.sx_invoke.specs.Marks as mark
-use Rattle.sx_invoke.specs.Setup.{Setup}
+use Rattle.spec_machine.specs.declared.kinds.Event.TheVariants as event
+use Rattle.spec_machine.specs.declared.kinds.Exchange.{Exchange}
+use Rattle.spec_machine.specs.Rows.{program}
+use Rattle.spec_machine.specs.Run.{Moment, Outcome, Finished, Violated, Module, exec}
+use Rattle.spec_machine.specs.State.{State}
+use Rattle.spec_machine.specs.Step.{attempt, entered_from, instruction, is_module_word, ordered, own_of, pc_of, settled_step, start, word_outside}
+use Rattle.spec_invocation.specs.Marks.{Mark}
+use Rattle.spec_invocation.specs.Marks as mark
+use Rattle.spec_invocation.specs.Setup.{Setup}
 use Rattle.sx_image.specs.Watched.{Watched, marks_of_event, marks_of_touches, violation_of, watch, watched_on}
 use Rattle.sx_tmpl.specs.Unseen.{PlanShowsNone}
 use Rattle.sx_tmpl.specs.Steady.{AgreeAt, AreOpen, SameMark, SameMarks, StepAbreast, keyless}

@@ -8,10 +8,10 @@ use Rattle.sx_bus.specs.declared.devices.Kind.{Kind}
 use Rattle.sx_bus.specs.declared.devices.Kind.TheVariants.{Sensor, Actuator}
 use Rattle.sx_bus.specs.declared.devices.Window.{Window}
 use Rattle.sx_bus.specs.Devices.{cleared}
-use Rattle.sx_machine.specs.declared.kinds.Touch.TheVariants.{DeviceRead}
-use Rattle.sx_machine.specs.Memory.{even, word, read_at, write_at, put_bytes, zeroed}
-use Rattle.sx_machine.specs.Run.{Moment, with_touch, sampled, read_device, read_place, write_device, write_place, fetch_place}
-use Rattle.sx_machine.proofs.PlanGuard.{with_mem}
+use Rattle.spec_machine.specs.declared.kinds.Touch.TheVariants.{DeviceRead}
+use Rattle.spec_machine.specs.Memory.{even, word, read_at, write_at, put_bytes, zeroed}
+use Rattle.spec_machine.specs.Run.{Moment, with_touch, sampled, read_device, read_place, write_device, write_place, fetch_place}
+use Rattle.spec_machine.proofs.PlanGuard.{with_mem}
 use Rattle.sx_tmpl.specs.Steady.{AgreeAt}
 
 -- the bytes of an access, which are a word's two or the one

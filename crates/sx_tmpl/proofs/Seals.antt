@@ -5,8 +5,8 @@ use Rattle.std.specs.Prelude.{nat_le}
 use Rattle.std.specs.List.{list_any}
 use Rattle.std.proofs.lemmas.Bool.{and_parts, cases_lt, eqb-true}
 use Rattle.std.proofs.lemmas.List.{length-take}
-use Rattle.sx_machine.proofs.Meanings.{same_bytes}
-use Rattle.sx_machine.proofs.SameRights.{same_each, same_range}
+use Rattle.spec_machine.proofs.Meanings.{same_bytes}
+use Rattle.spec_machine.proofs.SameRights.{same_each, same_range}
 use Rattle.sx_rules.specs.declared.access.Access.{Access}
 use Rattle.sx_rules.specs.declared.access.Access.TheVariants.{Read, Write}
 use Rattle.sx_rules.specs.declared.access.Violation.{Violation}
@@ -17,23 +17,23 @@ use Rattle.sx_bus.specs.Devices.{device_at, places_of}
 use Rattle.sx_tag.specs.Mac.{Mac}
 use Rattle.sx_tag.specs.Wrap.{padded, unwrapped, wrapped}
 use Rattle.sx_tag.specs.Wrap as wraps
-use Rattle.sx_machine.specs.declared.kinds.Event.{Event}
-use Rattle.sx_machine.specs.declared.kinds.Event.TheVariants as event
-use Rattle.sx_machine.specs.declared.kinds.Exchange.{Exchange}
-use Rattle.sx_machine.specs.Given.{Given, concluded}
-use Rattle.sx_machine.specs.Memory.{even, bytes_from, put_bytes, word}
-use Rattle.sx_machine.specs.ModuleRows.{module_row, within, buffers, exchanged, opened, own_key, tested, unwrap, with_inputs, with_key, wrap}
-use Rattle.sx_machine.specs.Plan.{Plan, Need, Tell, Bytes, Put, Writable}
-use Rattle.sx_machine.specs.Ranges.{passes_end, meets_device}
-use Rattle.sx_machine.specs.Rows.{program}
-use Rattle.sx_machine.specs.State.{State}
-use Rattle.sx_machine.specs.Step.{attempt, entered_from, given_at_pc, instruction, is_module_word, ordered, own_of, pc_of, settled_step, start, word_outside}
-use Rattle.sx_machine.specs.Modules.{module_instruction}
-use Rattle.sx_machine.specs.Run.{Moment, Outcome, Finished, Violated, Module, exec, may_each, may_range}
-use Rattle.sx_machine.proofs.PlanGuard.{with_mem}
-use Rattle.sx_invoke.specs.Marks as mark
+use Rattle.spec_machine.specs.declared.kinds.Event.{Event}
+use Rattle.spec_machine.specs.declared.kinds.Event.TheVariants as event
+use Rattle.spec_machine.specs.declared.kinds.Exchange.{Exchange}
+use Rattle.spec_machine.specs.Given.{Given, concluded}
+use Rattle.spec_machine.specs.Memory.{even, bytes_from, put_bytes, word}
+use Rattle.spec_machine.specs.ModuleRows.{module_row, within, buffers, exchanged, opened, own_key, tested, unwrap, with_inputs, with_key, wrap}
+use Rattle.spec_machine.specs.Plan.{Plan, Need, Tell, Bytes, Put, Writable}
+use Rattle.spec_machine.specs.Ranges.{passes_end, meets_device}
+use Rattle.spec_machine.specs.Rows.{program}
+use Rattle.spec_machine.specs.State.{State}
+use Rattle.spec_machine.specs.Step.{attempt, entered_from, given_at_pc, instruction, is_module_word, ordered, own_of, pc_of, settled_step, start, word_outside}
+use Rattle.spec_machine.specs.Modules.{module_instruction}
+use Rattle.spec_machine.specs.Run.{Moment, Outcome, Finished, Violated, Module, exec, may_each, may_range}
+use Rattle.spec_machine.proofs.PlanGuard.{with_mem}
+use Rattle.spec_invocation.specs.Marks as mark
 use Rattle.sx_mean.specs.Working.{plain_at}
-use Rattle.sx_invoke.specs.Setup.{Setup}
+use Rattle.spec_invocation.specs.Setup.{Setup}
 use Rattle.sx_image.specs.Watched.{Watched, marks_of_event, marks_of_touches, violation_of, watch, watched_on}
 use Rattle.sx_tmpl.specs.Unseen.{AreShown, SealShowsNone, WordShowsNone}
 use Rattle.sx_tmpl.specs.Steady.{AgreeAt, AreOpen, SameMarks, SameOpened, SealsAlike, StepAbreast, StepsSteady, keyless}
@@ -84,7 +84,7 @@ module _ (s : Setup) (t u : Sections) (live : t.live ≡ s.live) (places : ℕ �
     need_ : (b : Bool) (v : Violation) (p q : Plan) → Alike p q x n → Alike (Need b v p) (Need b v q) x n
     need_ b v p q h = ifs_same b b (exec t own p x) (exec u own q (with_mem x n)) v refl (λ e. h)
 
-    tested_ : (g h : Given) (bs : List Rattle.sx_machine.specs.ModuleRows.Buffer) (p q : Plan) → h.devices ≡ g.devices → Alike p q x n → Alike (tested g bs p) (tested h bs q) x n
+    tested_ : (g h : Given) (bs : List Rattle.spec_machine.specs.ModuleRows.Buffer) (p q : Plan) → h.devices ≡ g.devices → Alike p q x n → Alike (tested g bs p) (tested h bs q) x n
     tested_ g h bs p q e a =
         subst (λ (ds : List Rattle.sx_bus.specs.declared.devices.Window.Window). Alike (tested g bs p) (tested (record h { devices = ds }) bs q) x n) (sym e)
         (need_ (not (list_any (λ b. passes_end b.at b.count) bs)) bad.Range (Need (not (list_any (λ b. meets_device (places_of g.devices) b.at b.count) bs)) bad.Device p)

@@ -2,7 +2,7 @@
 use Rattle.std.proofs.Common.{◌≡◌, ℕ, ◌+◌, Bool, true, false, cond, ◌&&◌, inl, inr, List, Option, None, Result, Ok, Err}
 use Rattle.std.proofs.Common.{refl, sym, ◌∙◌, ap, ap₂, subst, arith}
 use Rattle.std.proofs.lemmas.Bool.{and_parts}
-use Rattle.sx_machine.proofs.SameRights.{same_at}
+use Rattle.spec_machine.proofs.SameRights.{same_at}
 use Rattle.sx_rules.specs.declared.access.Access.{Access}
 use Rattle.sx_rules.specs.declared.access.Access.TheVariants.{Read, Write}
 use Rattle.sx_rules.specs.declared.access.Violation.{Violation}
@@ -10,12 +10,12 @@ use Rattle.sx_rules.specs.declared.access.Violation.TheVariants as bad
 use Rattle.sx_rules.specs.Access.{Sections, extends, may}
 use Rattle.sx_bus.specs.declared.devices.Window.{Window}
 use Rattle.sx_bus.specs.Devices.{device_at}
-use Rattle.sx_machine.specs.Memory.{even, read_at}
-use Rattle.sx_machine.specs.Plan.{Plan, Done, Tell, Stop, Fetch, Load, Store, Need, Writable, Bytes, Put}
-use Rattle.sx_machine.specs.Run.{Moment, Outcome, Finished, Violated, Module, may_at, device_of, found, read_place, load}
-use Rattle.sx_machine.specs.Run.{write_place, store, fetch_place, fetch, after_read, after_write, after_fetch, exec}
-use Rattle.sx_machine.proofs.PlanGuard.{with_mem}
-use Rattle.sx_invoke.specs.Setup.{Setup}
+use Rattle.spec_machine.specs.Memory.{even, read_at}
+use Rattle.spec_machine.specs.Plan.{Plan, Done, Tell, Stop, Fetch, Load, Store, Need, Writable, Bytes, Put}
+use Rattle.spec_machine.specs.Run.{Moment, Outcome, Finished, Violated, Module, may_at, device_of, found, read_place, load}
+use Rattle.spec_machine.specs.Run.{write_place, store, fetch_place, fetch, after_read, after_write, after_fetch, exec}
+use Rattle.spec_machine.proofs.PlanGuard.{with_mem}
+use Rattle.spec_invocation.specs.Setup.{Setup}
 use Rattle.sx_tmpl.specs.Unseen.{IsWordShown, MovesKey, PlanShowsNone}
 use Rattle.sx_tmpl.specs.Steady.{AgreeAt, AreOpen}
 use Rattle.sx_tmpl.proofs.Agreeing.{AtPlaces, SameMoments, SameRead, SameWrite, fetch_place_same, read_place_same, write_apart, write_place_same}

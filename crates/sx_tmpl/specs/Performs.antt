@@ -10,15 +10,15 @@ use Rattle.sx_rules.specs.declared.section.Section.{Section}
 use Rattle.sx_rules.specs.Access.{in_private, in_public}
 use Rattle.sx_bus.specs.Devices.{HaveSamples}
 use Rattle.sx_tag.specs.Mac.{Mac}
-use Rattle.sx_machine.specs.declared.kinds.Event.TheVariants as event
-use Rattle.sx_machine.specs.Memory.{even, put_word}
-use Rattle.sx_machine.specs.State.{State}
-use Rattle.sx_reach.specs.Reach.{Comes, Goes, Stops}
-use Rattle.sx_invoke.specs.Protocol.{output_register}
-use Rattle.sx_invoke.specs.Marks.{HasPrefix, Mark}
-use Rattle.sx_invoke.specs.Pieces.{made_bytes}
-use Rattle.sx_invoke.specs.Setup.{Call, Setup}
-use Rattle.sx_invoke.specs.Progress.{Invoked, bytes_in, marks_in, pieces_in}
+use Rattle.spec_machine.specs.declared.kinds.Event.TheVariants as event
+use Rattle.spec_machine.specs.Memory.{even, put_word}
+use Rattle.spec_machine.specs.State.{State}
+use Rattle.sx_image.specs.Reach.{Comes, Goes, Stops}
+use Rattle.spec_invocation.specs.Protocol.{output_register}
+use Rattle.spec_invocation.specs.Marks.{HasPrefix, Mark}
+use Rattle.spec_invocation.specs.Pieces.{made_bytes}
+use Rattle.spec_invocation.specs.Setup.{Call, Setup}
+use Rattle.spec_invocation.specs.Progress.{Invoked, bytes_in, marks_in, pieces_in}
 use Rattle.sx_image.specs.Watched.{Watched, watch}
 use Rattle.sx_image.specs.Image.{Enters, Image, call_at, private_bytes, setup_at}
 use Rattle.sx_image.specs.Realizes.{Underway, begins, exit_registers}

@@ -5,17 +5,17 @@ use Rattle.sx_bus.specs.declared.devices.Window.{Window}
 use Rattle.sx_bus.specs.Devices.{device_at}
 use Rattle.sx_rules.specs.declared.access.Access.TheVariants.{Write}
 use Rattle.sx_rules.specs.Access.{Sections, may, in_private}
-use Rattle.sx_invoke.specs.Setup.{Setup}
-use Rattle.sx_machine.specs.declared.kinds.Exchange.{Exchange}
-use Rattle.sx_machine.specs.Step.{entered_from, own_of}
-use Rattle.sx_machine.specs.State.{State}
-use Rattle.sx_invoke.specs.Windows.{is_bad_window, out_window_size}
-use Rattle.sx_invoke.specs.Progress.{Invoked, marks_in}
+use Rattle.spec_invocation.specs.Setup.{Setup}
+use Rattle.spec_machine.specs.declared.kinds.Exchange.{Exchange}
+use Rattle.spec_machine.specs.Step.{entered_from, own_of}
+use Rattle.spec_machine.specs.State.{State}
+use Rattle.spec_invocation.specs.Windows.{is_bad_window, out_window_size}
+use Rattle.spec_invocation.specs.Progress.{Invoked, marks_in}
 use Rattle.sx_image.specs.Image.{call_at}
-use Rattle.sx_machine.specs.declared.kinds.Event.{Event}
-use Rattle.sx_machine.specs.declared.kinds.Event.TheVariants as event
-use Rattle.sx_invoke.specs.Marks.{HasPrefix, Mark}
-use Rattle.sx_invoke.specs.Pieces.{made_bytes}
+use Rattle.spec_machine.specs.declared.kinds.Event.{Event}
+use Rattle.spec_machine.specs.declared.kinds.Event.TheVariants as event
+use Rattle.spec_invocation.specs.Marks.{HasPrefix, Mark}
+use Rattle.spec_invocation.specs.Pieces.{made_bytes}
 use Rattle.sx_image.specs.Watched.{Watched}
 
 -- the registers by name, but R3, which nothing changes

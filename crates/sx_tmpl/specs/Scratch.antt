@@ -1,8 +1,8 @@
 -- Where what templates alone use lies in a private section: offsets in bytes from its start. Nobody
 -- has to believe this file for what an image realizes.
 use Rattle.std.specs.Prelude.{ℕ, ◌+◌}
-use Rattle.sx_invoke.specs.Pieces.{tag_size}
-use Rattle.sx_invoke.specs.Protocol.{header_size, value_size}
+use Rattle.spec_invocation.specs.Pieces.{tag_size}
+use Rattle.spec_invocation.specs.Protocol.{header_size, value_size}
 use Rattle.sx_mean.specs.Working.{packet_at, saved_at, scratch_at}
 
 -- where a handler's part returns to

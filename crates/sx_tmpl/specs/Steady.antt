@@ -8,17 +8,17 @@ use Rattle.sx_rules.specs.declared.section.Section.{Section}
 use Rattle.sx_rules.specs.Access.{extends, may, outside_private, section_of}
 use Rattle.sx_tag.specs.Mac.{Mac}
 use Rattle.sx_tag.specs.Wrap.{wrapped, unwrapped}
-use Rattle.sx_machine.specs.Memory.{bytes_from, word}
-use Rattle.sx_machine.specs.ModuleRows.{own_key}
-use Rattle.sx_machine.specs.State.{State}
-use Rattle.sx_machine.specs.Step.{own_of, pc_of}
-use Rattle.sx_reach.specs.Reach.{Stepped, Goes, Stops}
-use Rattle.sx_invoke.specs.Marks.{Mark}
-use Rattle.sx_invoke.specs.Marks as mark
+use Rattle.spec_machine.specs.Memory.{bytes_from, word}
+use Rattle.spec_machine.specs.ModuleRows.{own_key}
+use Rattle.spec_machine.specs.State.{State}
+use Rattle.spec_machine.specs.Step.{own_of, pc_of}
+use Rattle.sx_image.specs.Reach.{Stepped, Goes, Stops}
+use Rattle.spec_invocation.specs.Marks.{Mark}
+use Rattle.spec_invocation.specs.Marks as mark
 use Rattle.sx_mean.specs.Working.{plain_at}
-use Rattle.sx_invoke.specs.Pieces.{tag_size}
-use Rattle.sx_invoke.specs.Protocol.{key_size}
-use Rattle.sx_invoke.specs.Setup.{Setup}
+use Rattle.spec_invocation.specs.Pieces.{tag_size}
+use Rattle.spec_invocation.specs.Protocol.{key_size}
+use Rattle.spec_invocation.specs.Setup.{Setup}
 use Rattle.sx_image.specs.Watched.{Watched, watch}
 use Rattle.sx_tmpl.specs.Unseen.{InSlotKey, IsShown, StepShowsNone}
 

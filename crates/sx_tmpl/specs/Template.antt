@@ -7,7 +7,7 @@ use Rattle.sx_isa.specs.declared.instruction.Operand.{Operand}
 use Rattle.sx_isa.specs.Standing.{words_of}
 use Rattle.sx_mean.specs.Offsets as offsets
 use Rattle.sx_mean.specs.Working as working
-use Rattle.sx_invoke.specs.Protocol as protocol
+use Rattle.spec_invocation.specs.Protocol as protocol
 use Rattle.sx_ir.specs.declared.ir.IrOp.{IrOp}
 use Rattle.sx_ir.specs.declared.ir.IrOp.TheVariants as op
 use Rattle.sx_ir.specs.declared.ir.Ir.{Ir}

@@ -11,15 +11,15 @@ use Rattle.sx_mean.specs.Working.{plain_at}
 use Rattle.sx_rules.specs.Access.{in_private}
 use Rattle.sx_image.specs.Image.{private_bytes}
 use Rattle.sx_image.specs.Watched.{Watched}
-use Rattle.sx_machine.specs.Memory.{bytes_from, even, word}
-use Rattle.sx_machine.specs.Plan.{Plan, Done, Tell, Stop, Fetch, Load, Store, Need, Writable, Bytes}
-use Rattle.sx_machine.specs.Plan.{Put}
-use Rattle.sx_machine.specs.Rows.{program}
-use Rattle.sx_machine.specs.Run.{Moment, fetch, load, store}
-use Rattle.sx_machine.specs.Step.{is_module_word, pc_of, start}
-use Rattle.sx_invoke.specs.Protocol.{key_size}
-use Rattle.sx_invoke.specs.Pieces.{tag_size}
-use Rattle.sx_invoke.specs.Setup.{Setup}
+use Rattle.spec_machine.specs.Memory.{bytes_from, even, word}
+use Rattle.spec_machine.specs.Plan.{Plan, Done, Tell, Stop, Fetch, Load, Store, Need, Writable, Bytes}
+use Rattle.spec_machine.specs.Plan.{Put}
+use Rattle.spec_machine.specs.Rows.{program}
+use Rattle.spec_machine.specs.Run.{Moment, fetch, load, store}
+use Rattle.spec_machine.specs.Step.{is_module_word, pc_of, start}
+use Rattle.spec_invocation.specs.Protocol.{key_size}
+use Rattle.spec_invocation.specs.Pieces.{tag_size}
+use Rattle.spec_invocation.specs.Setup.{Setup}
 use Rattle.sx_ir.specs.declared.ir.Ir.{Ir}
 use Rattle.sx_ir.specs.declared.ir.Ir.TheVariants as ir
 

@@ -11,8 +11,8 @@ use crate::scratch::{
     BODY, CALLER, CALLER_SP, CIPHER, CONNECTION, COPIED_CONNECTION, HEADER, KIND, NUMBER,
     OUT_WINDOW, TAG, VALUE,
 };
+use spec_invocation::protocol::{EVENT_KIND, EVENT_SIZE, LAST_NUMBER};
 use std::alloc::AllocError as OutOfMemory;
-use sx_invoke::protocol::{EVENT_KIND, EVENT_SIZE, LAST_NUMBER};
 use sx_isa::Operand::{Absolute, Const, Immediate, Increment, Indexed};
 use sx_isa::assembly::{R4, R5, R6, R7, R8, R9, R10, R11, R12, R13, R14, R15, SP, SR};
 use sx_mean::offsets::{

@@ -1,7 +1,7 @@
 //! Where what templates alone use lies in a private section: offsets in bytes from its start, as
 //! `specs/Scratch.antt` has them.
 
-use sx_invoke::protocol::{HEADER_SIZE, TAG_SIZE, VALUE_SIZE};
+use spec_invocation::protocol::{HEADER_SIZE, TAG_SIZE, VALUE_SIZE};
 use sx_mean::offsets::{PACKET, SCRATCH};
 
 /// Where a handler's part returns to.

@@ -1,14 +1,14 @@
 -- The lines that are written, given to `run`, give the same items.
 use Rattle.std.proofs.Common.{◌∙◌, List, ◌++◌, sym, ap}
-use Rattle.sx_told.specs.Told.{behind}
+use Rattle.command_promise.specs.Told.{behind}
 use Rattle.sx_trace.specs.declared.items.Item.{Item}
-use Rattle.sx_run.specs.State.{switched_on}
-use Rattle.sx_run.specs.Accepted.{setting_of}
-use Rattle.sx_command.specs.Output.{trace_line, end_line}
-use Rattle.sx_command_world.specs.Images.{images_text}
-use Rattle.sx_command_world.specs.Schedule.{Schedule}
-use Rattle.sx_command_world.specs.Items.{items_text}
-use Rattle.sx_command_run.specs.Run.{run_from, schedule_output}
+use Rattle.spec_run.specs.State.{switched_on}
+use Rattle.spec_run.specs.Accepted.{setting_of}
+use Rattle.command_text.specs.Output.{trace_line, end_line}
+use Rattle.command_world.specs.Images.{images_text}
+use Rattle.command_world.specs.Schedule.{Schedule}
+use Rattle.command_world.specs.Items.{items_text}
+use Rattle.command_run.specs.Run.{run_from, schedule_output}
 use Rattle.sx_top.specs.Laws.{LinesRunAgain}
 
 pub lines_run_again : LinesRunAgain

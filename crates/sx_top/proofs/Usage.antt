@@ -1,7 +1,7 @@
 -- What the program says is what its command says.
 use Rattle.std.proofs.Common.{◌≡◌, ◌∙◌, ℕ, Bool, List, sym, subst, Option, None}
 use Rattle.sx_tag.specs.Mac.{Mac}
-use Rattle.sx_told.specs.Told.{CommandAt}
+use Rattle.command_promise.specs.Told.{CommandAt}
 use Rattle.sx_top.specs.declared.words.Command.{Command}
 use Rattle.sx_top.specs.Commands.{command_of}
 use Rattle.sx_top.specs.Promises.{CommandTold, ProgramTold}

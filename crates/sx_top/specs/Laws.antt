@@ -1,21 +1,21 @@
 -- What the commands that deploy have in common, and what `run` makes of the lines of `drive`.
 use Rattle.std.specs.Prelude.{ℕ, ◌≡◌, List, ◌++◌, Option}
 use Rattle.sx_io.specs.Reading.{Answer}
-use Rattle.sx_told.specs.Told.{behind}
+use Rattle.command_promise.specs.Told.{behind}
 use Rattle.sx_asm.specs.Assembled.{assembled}
 use Rattle.sx_tag.specs.Mac.{Mac}
 use Rattle.sx_deploy.specs.Deployment.{Deployed}
-use Rattle.sx_run.specs.Setting.{Setting}
-use Rattle.sx_command.specs.Output.{trace_line, end_line}
-use Rattle.sx_command_head.specs.Begun.{Deploys}
-use Rattle.sx_command_world.specs.Images.{images_text}
-use Rattle.sx_command_world.specs.Items.{items_text}
-use Rattle.sx_command_deploy.specs.Same.{RunsIn}
-use Rattle.sx_command_run.specs.Run.{run_deployed}
-use Rattle.sx_command_run.specs.Runs.{run_part}
-use Rattle.sx_command_drive.specs.Drive.{driven_of}
-use Rattle.sx_command_drive.specs.Drives.{DrivesWith, drive_part, items_said, lines_in, written}
-use Rattle.sx_command_snap.specs.Snaps.{snap_part}
+use Rattle.spec_run.specs.Setting.{Setting}
+use Rattle.command_text.specs.Output.{trace_line, end_line}
+use Rattle.command_head.specs.Begun.{Deploys}
+use Rattle.command_world.specs.Images.{images_text}
+use Rattle.command_world.specs.Items.{items_text}
+use Rattle.command_deploy.specs.Same.{RunsIn}
+use Rattle.command_run.specs.Run.{run_deployed}
+use Rattle.command_run.specs.Runs.{run_part}
+use Rattle.command_drive.specs.Drive.{driven_of}
+use Rattle.command_drive.specs.Drives.{DrivesWith, drive_part, items_said, lines_in, written}
+use Rattle.command_snap.specs.Snaps.{snap_part}
 
 -- Each deployment has one setting: `run`, `drive` and `snap` run it in this, in each call.
 abbrev pub OneSetting : Type 0

@@ -1,24 +1,24 @@
 -- What the program promises: what its command does, of its streams at its start (m0) and at its end
 -- (m1).
 use Rattle.std.specs.Prelude.{ℕ, ◌≡◌, Bool, List, Option, Some, None}
-use Rattle.sx_told.specs.Told.{CommandEnds, CommandAt, out_of_memory}
+use Rattle.command_promise.specs.Told.{CommandEnds, CommandAt, out_of_memory}
 use Rattle.sx_asm.specs.Assembled.{assembled}
 use Rattle.sx_tag.specs.Mac.{Mac}
 use Rattle.sx_top.specs.declared.words.Command.{Command}
 use Rattle.sx_top.specs.declared.words.Command.TheVariants.{Run, Check, Explain, Snap, Gen, Asm}
 use Rattle.sx_top.specs.declared.words.Command.TheVariants.{Dis, Drive, Holds, Watch}
-use Rattle.sx_command_asm.specs.Assembling.{AsmTold}
+use Rattle.command_asm.specs.Assembling.{AsmTold}
 use Rattle.sx_top.specs.Commands.{command_of}
-use Rattle.sx_command_asm.specs.Disassembling.{DisTold}
-use Rattle.sx_command.specs.Refusals.{misuse_output}
-use Rattle.sx_command_run.specs.Runs.{RunTold}
-use Rattle.sx_command_gen.specs.Workload.{GenTold}
-use Rattle.sx_command_check.specs.Promise.{CheckTold}
-use Rattle.sx_command_explain.specs.Explains.{ExplainSays}
-use Rattle.sx_command_drive.specs.Drives.{DriveSays}
-use Rattle.sx_command_snap.specs.Snaps.{SnapSays}
-use Rattle.sx_command_watch.specs.Watches.{WatchSays}
-use Rattle.sx_command_holds.specs.Promise.{HoldsTold}
+use Rattle.command_asm.specs.Disassembling.{DisTold}
+use Rattle.command_text.specs.Refusals.{misuse_output}
+use Rattle.command_run.specs.Runs.{RunTold}
+use Rattle.command_gen.specs.Workload.{GenTold}
+use Rattle.command_check.specs.Promise.{CheckTold}
+use Rattle.command_explain.specs.Explains.{ExplainSays}
+use Rattle.command_drive.specs.Drives.{DriveSays}
+use Rattle.command_snap.specs.Snaps.{SnapSays}
+use Rattle.command_watch.specs.Watches.{WatchSays}
+use Rattle.command_holds.specs.Promise.{HoldsTold}
 
 -- Words that are no command: one line says so, without memory, and nothing is read.
 pub record MisusedTold (to_tell : Bool) (m0 m1 : CommandAt) (status : ℕ) : Type 0 where

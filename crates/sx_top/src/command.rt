@@ -1,26 +1,26 @@
 //! The call that does all that the program does.
 
 ghost use Rattle.std.specs.Prelude.{◌≡◌, map, string_bytes};
-ghost use Rattle.sx_told.specs.Told.{command_at};
+ghost use Rattle.command_promise.specs.Told.{command_at};
 ghost use Rattle.sx_tag.specs.Mac.{hmac_sha256};
 ghost use Rattle.sx_top.specs.Commands.{command_of};
 ghost use Rattle.sx_top.specs.Promises.{ProgramTold};
 ghost use Rattle.sx_top.specs.Chosen.{LeavesInput};
 
 use crate::words::{Command, command_of};
+use command_asm::{asm_over, dis_over};
+use command_check::check_over;
+use command_drive::drive_over;
+use command_explain::explain_over;
+use command_gen::gen_over;
+use command_holds::holds_over;
+use command_promise::finish;
+use command_run::run_over;
+use command_snap::snap_over;
+use command_watch::watch_over;
 use std::alloc::Global;
-use sx_command_asm::{asm_over, dis_over};
-use sx_command_check::check_over;
-use sx_command_drive::drive_over;
-use sx_command_explain::explain_over;
-use sx_command_gen::gen_over;
-use sx_command_holds::holds_over;
-use sx_command_run::run_over;
-use sx_command_snap::snap_over;
-use sx_command_watch::watch_over;
 use sx_io::{Sink, Source};
 use sx_tag::Hmac;
-use sx_told::finish;
 
 /// The exit status for words that are no command.
 const MISUSED: u8 = 2;
@@ -67,7 +67,7 @@ const MISUSED: u8 = 2;
 /// | 13 | `unknown ..` | nothing was shown of the property |
 ///
 /// Every line, a fault's too, goes to `output` and ends with a newline.
-#[tactic(auto, unfolding(sx_command::specs::Refusals::usage_line))]
+#[tactic(auto, unfolding(command_text::specs::Refusals::usage_line))]
 pub fn top<S: Source, K: Sink>(alloc: Global, words: &[String], input: &mut S, output: &mut K) -> u8
     // What is written, and the status, are what is defined for the words and for the bytes that
     // were taken, and no more was taken than must be.

@@ -3,9 +3,9 @@
 //!
 //! `top` does all that the program does. What it promises is one record, `ProgramTold` of
 //! specs/Promises.antt, which hands on what its command promises: `AsmTold` and `DisTold`
-//! (sx_command_asm), `CheckTold` (sx_command_check), `DriveSays` (sx_command_drive), `ExplainSays`
-//! (sx_command_explain), `GenTold` (sx_command_gen), `HoldsTold` (sx_command_holds), `RunTold`
-//! (sx_command_run), `SnapSays` (sx_command_snap), `WatchSays` (sx_command_watch).
+//! (command_asm), `CheckTold` (command_check), `DriveSays` (command_drive), `ExplainSays`
+//! (command_explain), `GenTold` (command_gen), `HoldsTold` (command_holds), `RunTold`
+//! (command_run), `SnapSays` (command_snap), `WatchSays` (command_watch).
 #![tactic(auto)]
 
 mod command;
@@ -14,12 +14,12 @@ pub mod process;
 mod words;
 
 pub use command::top;
-pub use sx_command_asm::{asm_over, dis_over};
-pub use sx_command_check::check_over;
-pub use sx_command_drive::drive_over;
-pub use sx_command_explain::explain_over;
-pub use sx_command_gen::gen_over;
-pub use sx_command_holds::holds_over;
-pub use sx_command_run::run_over;
-pub use sx_command_snap::snap_over;
-pub use sx_command_watch::watch_over;
+pub use command_asm::{asm_over, dis_over};
+pub use command_check::check_over;
+pub use command_drive::drive_over;
+pub use command_explain::explain_over;
+pub use command_gen::gen_over;
+pub use command_holds::holds_over;
+pub use command_run::run_over;
+pub use command_snap::snap_over;
+pub use command_watch::watch_over;

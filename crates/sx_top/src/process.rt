@@ -6,7 +6,7 @@
 
 ghost use Rattle.std.specs.Prelude.{map, string_bytes};
 ghost use Rattle.std.specs.Process.{exit_status};
-ghost use Rattle.sx_told.specs.Told.{command_at};
+ghost use Rattle.command_promise.specs.Told.{command_at};
 ghost use Rattle.sx_tag.specs.Mac.{hmac_sha256};
 ghost use Rattle.sx_top.specs.Promises.{ProgramTold};
 

@@ -10,7 +10,7 @@ use Rattle.sx_trace.specs.ValidNames.{are_valid, are_names, has_name, no_repeat}
 use Rattle.sx_lang.specs.Form.{is_lower, is_name, is_name_byte}
 use Rattle.sx_trace.specs.Items.{name_at}
 use Rattle.sx_trace.proofs.Cut.{is_plain, is_word}
-use Rattle.sx_lists.proofs.Texts.{bytes_eq-same, bytes_eq-sym}
+use Rattle.lemmas.proofs.Texts.{bytes_eq-same, bytes_eq-sym}
 
 -- a name in a list that has another name nowhere is another one
 pub others : (names : List (List ℕ)) (name : List ℕ) (i : ℕ) → has_name names name ≡ false → i < length names → bytes_eq (name_at names i) name ≡ false

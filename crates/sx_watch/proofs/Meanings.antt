@@ -6,13 +6,13 @@ use Rattle.sx_lex.specs.declared.tokens.Placed.{Placed}
 use Rattle.sx_lex.specs.Lexed.{Lexed, start}
 use Rattle.sx_lex.proofs.Same.{one_reading}
 use Rattle.sx_lex.proofs.HasReading.{has_reading}
-use Rattle.sx_grammar.specs.Tokens.{given_tokens}
-use Rattle.sx_grammar.specs.Grammar.{IsModule, IsFaultAt}
-use Rattle.sx_grammar.specs.Text.{place_of}
-use Rattle.sx_grammar.specs.Machine.{Refused, begun, nothing, read}
-use Rattle.sx_grammar.proofs.OneModule.{one_module}
-use Rattle.sx_grammar.proofs.Faults.{decided, refused_no_module}
-use Rattle.sx_grammar.proofs.OneFault.{fault_refused}
+use Rattle.spec_grammar.specs.Tokens.{given_tokens}
+use Rattle.spec_grammar.specs.Grammar.{IsModule, IsFaultAt}
+use Rattle.spec_grammar.specs.Text.{place_of}
+use Rattle.spec_grammar.specs.Machine.{Refused, begun, nothing, read}
+use Rattle.spec_grammar.proofs.OneModule.{one_module}
+use Rattle.spec_grammar.proofs.Faults.{decided, refused_no_module}
+use Rattle.spec_grammar.proofs.OneFault.{fault_refused}
 use Rattle.sx_parse.specs.Parsed.{IsErrorIn}
 use Rattle.sx_parse.specs.declared.error.ParseError.{ParseError}
 use Rattle.sx_parse.specs.declared.error.ParseError.TheVariants as parse

@@ -10,9 +10,9 @@ use Rattle.sx_lang.specs.declared.tree.DeviceKind.TheVariants.{Sensor, Actuator}
 use Rattle.sx_lex.specs.declared.tokens.Place.{Place}
 use Rattle.sx_lex.specs.declared.tokens.Placed.{Placed}
 use Rattle.sx_lex.specs.Lexed.{Lexed, start}
-use Rattle.sx_grammar.specs.Tokens.{given_tokens}
-use Rattle.sx_grammar.specs.Grammar.{IsModule, IsFaultAt}
-use Rattle.sx_grammar.specs.Text.{place_of}
+use Rattle.spec_grammar.specs.Tokens.{given_tokens}
+use Rattle.spec_grammar.specs.Grammar.{IsModule, IsFaultAt}
+use Rattle.spec_grammar.specs.Text.{place_of}
 use Rattle.sx_check.specs.Rules.{first_broken}
 use Rattle.sx_trace.specs.Names.{NameLists, sensor_place}
 use Rattle.sx_trace.specs.Names as names

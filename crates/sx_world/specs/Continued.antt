@@ -6,9 +6,9 @@ use Rattle.sx_model.specs.Legal.{Legal, before}
 use Rattle.sx_model.specs.Consequences.{TellsReader}
 use Rattle.sx_model.specs.order.Legal.{LegalInOrder}
 use Rattle.sx_model.specs.order.Turns.{OneAtATime}
-use Rattle.sx_run.specs.Setting.{Setting}
-use Rattle.sx_run.specs.State.{World}
-use Rattle.sx_run.specs.Law.{LinesInForm}
+use Rattle.spec_run.specs.Setting.{Setting}
+use Rattle.spec_run.specs.State.{World}
+use Rattle.spec_run.specs.Law.{LinesInForm}
 use Rattle.sx_world.specs.Held.{Held}
 use Rattle.sx_observe.specs.Observing.{AddsFront}
 use Rattle.sx_world.specs.Standing.{Stands}

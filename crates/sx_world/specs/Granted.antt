@@ -11,13 +11,13 @@ use Rattle.sx_tag.specs.Mac.{Mac}
 use Rattle.sx_trace.specs.declared.items.Item.TheVariants.{Attested}
 use Rattle.sx_ledger.specs.declared.entry.Maker.TheVariants as maker
 use Rattle.sx_deployer.specs.Keeping.{Keeping, open_ask, attested_at, accepts, judged}
-use Rattle.sx_run.specs.Setting.{Setting}
-use Rattle.sx_run.specs.Ledger.{made_entry, is_made}
+use Rattle.spec_run.specs.Setting.{Setting}
+use Rattle.spec_run.specs.Ledger.{made_entry, is_made}
 use Rattle.sx_ledger.specs.Made.{NO_TARGET}
 use Rattle.sx_deployer.specs.Granting.{Grant, grant, grants_of, grants_after}
-use Rattle.sx_run.specs.State.{World, Acted}
-use Rattle.sx_run.specs.Observation.{unless_made}
-use Rattle.sx_run.specs.Acts.{then_, keys_given}
+use Rattle.spec_run.specs.State.{World, Acted}
+use Rattle.spec_run.specs.Observation.{unless_made}
+use Rattle.spec_run.specs.Acts.{then_, keys_given}
 
 -- the boot at which the k-th of this many modules was last attested, if it was
 abbrev pub boot_in : Keeping → ℕ → ℕ → Option ℕ

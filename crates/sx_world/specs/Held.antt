@@ -6,12 +6,12 @@ use Rattle.sx_tag.specs.Keys.{identity}
 use Rattle.sx_mean.specs.Ends.{ends_of}
 use Rattle.sx_trace.specs.declared.items.Item.{Item}
 use Rattle.sx_ledger.specs.declared.entry.Entry.{Entry}
-use Rattle.sx_machine.specs.State.{State}
+use Rattle.spec_machine.specs.State.{State}
 use Rattle.sx_deployer.specs.Keeping.{Keeping, Known}
-use Rattle.sx_run.specs.Setting.{Site, Setting}
+use Rattle.spec_run.specs.Setting.{Site, Setting}
 use Rattle.sx_deployer.specs.Granting.{DeployerState}
-use Rattle.sx_run.specs.Deployer.{list_at}
-use Rattle.sx_run.specs.State.{World, Acted}
+use Rattle.spec_run.specs.Deployer.{list_at}
+use Rattle.spec_run.specs.State.{World, Acted}
 use Rattle.sx_observe.specs.Observing.{Records, AddsFront}
 
 -- what the program keeps of a run but its sites; the ledger is a set

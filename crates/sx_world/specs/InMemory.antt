@@ -5,8 +5,8 @@ use Rattle.sx_deploy.specs.SeenDeployment.{deployed_as}
 use Rattle.sx_deploy.specs.declared.deployment.Deployment.{Deployment}
 use Rattle.sx_image.specs.declared.image.Image.{Image}
 use Rattle.sx_image.specs.InMemory.{texts_of}
-use Rattle.sx_run.specs.Setting.{Setting}
-use Rattle.sx_run.specs.Accepted.{setting_of}
+use Rattle.spec_run.specs.Setting.{Setting}
+use Rattle.spec_run.specs.Accepted.{setting_of}
 use Rattle.sx_observe.specs.InMemory.{setting_at}
 use Rattle.sx_world.specs.Held.{Held}
 

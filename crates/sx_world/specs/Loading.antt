@@ -1,9 +1,9 @@
 -- What loading and calling a module are, where no module of its node runs.
 use Rattle.std.specs.Prelude.{◌≢◌, ◌+◌, ◌/◌, ◌<◌, false, List, [], ◌∷◌, length}
-use Rattle.sx_run.specs.Setting.{Site, Setting}
-use Rattle.sx_run.specs.State.{World, Acted}
-use Rattle.sx_run.specs.Acts.{then_}
-use Rattle.sx_run.specs.Run.{Register, protect_registers, put_on, put_pieces, set_all, steps_of}
+use Rattle.spec_run.specs.Setting.{Site, Setting}
+use Rattle.spec_run.specs.State.{World, Acted}
+use Rattle.spec_run.specs.Acts.{then_}
+use Rattle.spec_run.specs.Run.{Register, protect_registers, put_on, put_pieces, set_all, steps_of}
 
 -- registers that can be set: all but R3
 abbrev pub AreSettable : List Register → Type 0

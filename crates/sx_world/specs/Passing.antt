@@ -3,11 +3,11 @@
 use Rattle.std.specs.Prelude.{◌≡◌, ℕ, zero, suc, ◌+◌, ◌<◌, ◌==◌, ◌&&◌, Bool, false, ⊤, Option}
 use Rattle.std.specs.Prelude.{Some, None, slice_set}
 use Rattle.sx_tag.specs.Mac.{Mac}
-use Rattle.sx_machine.specs.declared.kinds.Event.TheVariants.{Quiet}
-use Rattle.sx_machine.specs.declared.kinds.Seen.{Seen}
-use Rattle.sx_machine.specs.Run.{untouched}
-use Rattle.sx_machine.specs.State.{State}
-use Rattle.sx_machine.specs.Step.{step}
+use Rattle.spec_machine.specs.declared.kinds.Event.TheVariants.{Quiet}
+use Rattle.spec_machine.specs.declared.kinds.Seen.{Seen}
+use Rattle.spec_machine.specs.Run.{untouched}
+use Rattle.spec_machine.specs.State.{State}
+use Rattle.spec_machine.specs.Step.{step}
 use Rattle.sx_world.specs.Held.{Running}
 
 -- a node after this many steps

@@ -1,9 +1,9 @@
 -- What performing a line requires of where a run stands.
 use Rattle.std.specs.Prelude.{◌≡◌, ℕ, ◌+◌, ◌<◌, ◌≤◌, List, length, slice_get, Some}
-use Rattle.sx_machine.specs.State.{State}
-use Rattle.sx_machine.specs.NodeLaws.{shapes}
+use Rattle.spec_machine.specs.State.{State}
+use Rattle.spec_machine.specs.NodeLaws.{shapes}
 use Rattle.sx_deploy.specs.Deployment.{Deployed}
-use Rattle.sx_run.specs.Setting.{Site, windows_at}
+use Rattle.spec_run.specs.Setting.{Site, windows_at}
 use Rattle.sx_world.specs.Held.{Running}
 
 -- Nodes, modules and devices are those of the deployment, whose texts lie in memory, and no counter

@@ -1,10 +1,10 @@
 -- Where the program's world stands: at the world of a run that some lines lead to.
 use Rattle.std.specs.Prelude.{◌≡◌, ◌*◌, ◌≤◌, false, List, length}
 use Rattle.sx_sched.specs.Lines.{Line}
-use Rattle.sx_run.specs.Setting.{Setting}
-use Rattle.sx_run.specs.State.{World, switched_on}
-use Rattle.sx_run.specs.Run.{run}
-use Rattle.sx_run.specs.Law.{LinesInForm}
+use Rattle.spec_run.specs.Setting.{Setting}
+use Rattle.spec_run.specs.State.{World, switched_on}
+use Rattle.spec_run.specs.Run.{run}
+use Rattle.spec_run.specs.Law.{LinesInForm}
 use Rattle.sx_world.specs.Held.{Held, Shows}
 
 -- It shows this world of a run: that of as many lines in form as it has performed, each of at most

@@ -1,9 +1,9 @@
 -- The run of some lines from power-on, and what one line more does.
 use Rattle.std.specs.Prelude.{List}
 use Rattle.sx_sched.specs.Lines.{Line}
-use Rattle.sx_run.specs.Setting.{Setting}
-use Rattle.sx_run.specs.State.{World, Acted, switched_on}
-use Rattle.sx_run.specs.Run.{after_line, line_counted, run}
+use Rattle.spec_run.specs.Setting.{Setting}
+use Rattle.spec_run.specs.State.{World, Acted, switched_on}
+use Rattle.spec_run.specs.Run.{after_line, line_counted, run}
 
 -- the next line, counted, in a world
 abbrev pub next : Setting → World → Line → Acted

@@ -1,12 +1,12 @@
 //! The line `call`: a deployed module is called.
 
 ghost use Rattle.std.specs.Prelude.{◌≡◌, ℕ, ◌+◌, ◌<◌, ◌≤◌, length, slice_get, Some};
-ghost use Rattle.sx_machine.specs.State.{State};
+ghost use Rattle.spec_machine.specs.State.{State};
 ghost use Rattle.sx_world.specs.Held.{DoesAct};
 ghost use Rattle.sx_observe.specs.InMemory.{setting_in};
-ghost use Rattle.sx_run.specs.Run.{call_registers};
-ghost use Rattle.sx_run.specs.Run as run;
-ghost use Rattle.sx_run.specs.Setting.{Site as Placed};
+ghost use Rattle.spec_run.specs.Run.{call_registers};
+ghost use Rattle.spec_run.specs.Run as run;
+ghost use Rattle.spec_run.specs.Setting.{Site as Placed};
 
 use crate::registers::Register;
 use crate::running::Running;

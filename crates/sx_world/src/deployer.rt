@@ -1,11 +1,11 @@
 //! Attestation: the deployer asks a module, and judges what is given to it as the answer.
 
 ghost use Rattle.std.specs.Prelude.{◌≡◌, ◌+◌, ◌<◌, ◌≤◌, List, length, map, slice_get, OnOk};
-ghost use Rattle.sx_run.specs.Acts.{after_answer, ask};
+ghost use Rattle.spec_run.specs.Acts.{after_answer, ask};
 ghost use Rattle.sx_world.specs.Granted.{accepted_ask, confirmed, judged_by};
 ghost use Rattle.sx_world.specs.Held.{DoesAct};
 ghost use Rattle.sx_observe.specs.InMemory.{setting_at};
-ghost use Rattle.sx_run.specs.Setting.{Setting, Site};
+ghost use Rattle.spec_run.specs.Setting.{Setting, Site};
 
 use crate::grants::granted;
 use crate::network::add_packet;

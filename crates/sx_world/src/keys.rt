@@ -1,10 +1,10 @@
 //! Connection keys are given: a set-key packet for each grant, and its entry of the ledger.
 
 ghost use Rattle.std.specs.Prelude.{◌≡◌, ◌+◌, ◌<◌, ◌≤◌, List, length, slice_get, OnOk};
-ghost use Rattle.sx_run.specs.Acts.{key_given, keys_given};
+ghost use Rattle.spec_run.specs.Acts.{key_given, keys_given};
 ghost use Rattle.sx_world.specs.Held.{DoesAct};
 ghost use Rattle.sx_observe.specs.InMemory.{setting_at};
-ghost use Rattle.sx_run.specs.Setting.{Site};
+ghost use Rattle.spec_run.specs.Setting.{Site};
 
 use crate::grants::Grant;
 use crate::network::add_packet;

@@ -1,6 +1,6 @@
 //! The run of a deployment, in code: all nodes, the network, the deployer and the ledger.
 //!
-//! What a run is, and that it is legal, are definitions and laws of `sx_run`; the code does what
+//! What a run is, and that it is legal, are definitions and laws of `spec_run`; the code does what
 //! they say. `world` has the public calls. `running` keeps the nodes, the packets, the deployer and
 //! the ledger, and its calls are acts: each says what it leaves and which items it adds, of every
 //! world of a run that it shows (`specs/Held.antt`).

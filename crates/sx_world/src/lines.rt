@@ -7,7 +7,7 @@ ghost use Rattle.sx_sched.specs.Seen.{line_of};
 ghost use Rattle.sx_world.specs.Held.{DoesAct};
 ghost use Rattle.sx_observe.specs.InMemory.{setting_in};
 ghost use Rattle.sx_world.specs.Ready.{IsReady};
-ghost use Rattle.sx_run.specs.Run.{after_line};
+ghost use Rattle.spec_run.specs.Run.{after_line};
 
 use crate::running::Running;
 use std::alloc::AllocError;

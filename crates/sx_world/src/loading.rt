@@ -1,13 +1,13 @@
 //! The line `load`: a deployed image is put into memory and protected.
 
 ghost use Rattle.std.specs.Prelude.{◌≡◌, ℕ, ◌+◌, ◌/◌, ◌<◌, ◌≤◌, length, slice_get, Some};
-ghost use Rattle.sx_machine.specs.State.{State};
+ghost use Rattle.spec_machine.specs.State.{State};
 ghost use Rattle.sx_world.specs.Held.{DoesAct, boots_of};
 ghost use Rattle.sx_observe.specs.InMemory.{setting_in};
 ghost use Rattle.sx_world.specs.Loading.{after_loading};
-ghost use Rattle.sx_run.specs.Run.{protect_registers};
-ghost use Rattle.sx_run.specs.Run as run;
-ghost use Rattle.sx_run.specs.Setting.{Setting as AnySetting, Site as Placed};
+ghost use Rattle.spec_run.specs.Run.{protect_registers};
+ghost use Rattle.spec_run.specs.Run as run;
+ghost use Rattle.spec_run.specs.Setting.{Setting as AnySetting, Site as Placed};
 
 use crate::registers::Register;
 use crate::running::Running;

@@ -4,15 +4,15 @@ ghost use Rattle.std.specs.Prelude.{◌≡◌, ◌≢◌, ◌<◌, ◌++◌, ◌
 ghost use Rattle.std.specs.Prelude.{slice_set, Some, Ok, Err, OnOk, OnErr, IfSome};
 ghost use Rattle.std.specs.Option.{option_to_list};
 ghost use Rattle.sx_bus.specs.declared.devices.Kind.TheVariants.{Sensor};
-ghost use Rattle.sx_machine.specs.State.{State};
-ghost use Rattle.sx_machine.specs.State as state;
-ghost use Rattle.sx_machine.specs.Acts as acts;
+ghost use Rattle.spec_machine.specs.State.{State};
+ghost use Rattle.spec_machine.specs.State as state;
+ghost use Rattle.spec_machine.specs.Acts as acts;
 ghost use Rattle.sx_trace.specs.declared.items.Item.TheVariants.{Reset, Sense};
 ghost use Rattle.sx_trace.specs.declared.items.Cause.TheVariants.{Asked};
-ghost use Rattle.sx_run.specs.Acts.{at_node, done_on, or_refused, refused_item, with_node};
+ghost use Rattle.spec_run.specs.Acts.{at_node, done_on, or_refused, refused_item, with_node};
 ghost use Rattle.sx_world.specs.Held.{DoesAct, boots_of};
-ghost use Rattle.sx_run.specs.Run as run;
-ghost use Rattle.sx_run.specs.Setting.{Setting};
+ghost use Rattle.spec_run.specs.Run as run;
+ghost use Rattle.spec_run.specs.Setting.{Setting};
 
 use crate::running::Running;
 use std::alloc::AllocError;

@@ -1,12 +1,12 @@
 //! Packets, and what is given to nodes and taken from them.
 
 ghost use Rattle.std.specs.Prelude.{◌≡◌, ◌<◌, ◌≤◌, length, slice_get, Some, Ok, Err, IfOk, IfErr};
-ghost use Rattle.sx_machine.specs.State.{State};
-ghost use Rattle.sx_machine.specs.Acts as acts;
-ghost use Rattle.sx_run.specs.Acts.{at_node, after_take, new_packet};
+ghost use Rattle.spec_machine.specs.State.{State};
+ghost use Rattle.spec_machine.specs.Acts as acts;
+ghost use Rattle.spec_run.specs.Acts.{at_node, after_take, new_packet};
 ghost use Rattle.sx_world.specs.Held.{DoesAct};
-ghost use Rattle.sx_run.specs.Run.{give};
-ghost use Rattle.sx_run.specs.Setting.{Setting};
+ghost use Rattle.spec_run.specs.Run.{give};
+ghost use Rattle.spec_run.specs.Setting.{Setting};
 
 use crate::network::add_packet;
 use crate::nodes::{add_answer, put_node, refused_item};

@@ -3,8 +3,8 @@
 ghost use Rattle.std.specs.Prelude.{◌≡◌, ◌<◌, length};
 ghost use Rattle.sx_world.specs.Held.{DoesAct, boots_of};
 ghost use Rattle.sx_world.specs.Loading.{AreSettable};
-ghost use Rattle.sx_run.specs.Run as run;
-ghost use Rattle.sx_run.specs.Setting.{Setting};
+ghost use Rattle.spec_run.specs.Run as run;
+ghost use Rattle.spec_run.specs.Setting.{Setting};
 
 use crate::running::Running;
 use std::alloc::AllocError;
@@ -21,7 +21,7 @@ pub(crate) struct Register {
 }
 
 impl Model for Register {
-    ghost use Rattle.sx_run.specs.Run.{Register as Set};
+    ghost use Rattle.spec_run.specs.Run.{Register as Set};
 
     ghost Value = { Set };
 

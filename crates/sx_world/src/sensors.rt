@@ -4,14 +4,14 @@ ghost use Rattle.std.specs.Prelude.{◌≡◌, ℕ, ◌==◌, ◌<◌, List, len
 ghost use Rattle.std.specs.List.{position_from};
 ghost use Rattle.sx_deploy.specs.Law.{IsSoundDeployment};
 ghost use Rattle.sx_deploy.specs.SeenDeployment.{deployed_as};
-ghost use Rattle.sx_machine.specs.NodeLaws.{shapes};
-ghost use Rattle.sx_machine.specs.State.{State};
+ghost use Rattle.spec_machine.specs.NodeLaws.{shapes};
+ghost use Rattle.spec_machine.specs.State.{State};
 ghost use Rattle.sx_mean.specs.declared.apps.AppDevice.{AppDevice as Device};
 ghost use Rattle.std.specs.Prelude.{unwrap_or};
 ghost use Rattle.sx_world.specs.Held.{DoesAct};
 ghost use Rattle.sx_observe.specs.InMemory.{setting_at};
-ghost use Rattle.sx_run.specs.Run.{sense_at};
-ghost use Rattle.sx_run.specs.Setting.{Site, devices_at, windows_at};
+ghost use Rattle.spec_run.specs.Run.{sense_at};
+ghost use Rattle.spec_run.specs.Setting.{Site, devices_at, windows_at};
 
 use crate::running::Running;
 use std::alloc::AllocError;

@@ -3,17 +3,17 @@
 ghost use Rattle.std.specs.Prelude.{◌≡◌, ◌==◌, ◌&&◌, ◌||◌, ◌+◌, ◌<◌, ◌≤◌, length, slice_get};
 ghost use Rattle.std.specs.Prelude.{slice_set, Some, OnOk, OnErr};
 ghost use Rattle.std.specs.Option.{option_to_list};
-ghost use Rattle.sx_machine.specs.State.{State};
-ghost use Rattle.sx_machine.specs.Acts.{irq};
-ghost use Rattle.sx_run.specs.Acts.{at_node, after_interrupt};
+ghost use Rattle.spec_machine.specs.State.{State};
+ghost use Rattle.spec_machine.specs.Acts.{irq};
+ghost use Rattle.spec_run.specs.Acts.{at_node, after_interrupt};
 ghost use Rattle.sx_world.specs.Held.{DoesAct};
 ghost use Rattle.sx_observe.specs.Observing.{Observes, ObservesFront};
 ghost use Rattle.sx_observe.specs.InMemory.{setting_in};
 ghost use Rattle.sx_observe.specs.Computed.{runner_of};
-ghost use Rattle.sx_run.specs.Observation.{observed};
+ghost use Rattle.spec_run.specs.Observation.{observed};
 ghost use Rattle.sx_world.specs.Passing.{stepped, taken, AreQuiet, EndsWith};
-ghost use Rattle.sx_run.specs.Run as run;
-ghost use Rattle.sx_run.specs.Run.{FINISH_STEPS, is_reset, steps_of};
+ghost use Rattle.spec_run.specs.Run as run;
+ghost use Rattle.spec_run.specs.Run.{FINISH_STEPS, is_reset, steps_of};
 
 use crate::nodes::refused_item;
 use crate::quiet::{QuietSteps, stretch};
@@ -34,7 +34,7 @@ fn is_reset(event: Event) -> bool
 }
 
 /// How many steps of a node `finish` takes at most.
-#[tactic(auto, unfolding(sx_run::specs::Run::FINISH_STEPS))]
+#[tactic(auto, unfolding(spec_run::specs::Run::FINISH_STEPS))]
 fn finish_steps() -> u32
     ensures { result ≡ FINISH_STEPS }
 {

@@ -6,7 +6,7 @@ ghost use Rattle.sx_tag.specs.Keys.{identity};
 ghost use Rattle.sx_tag.specs.Mac.{Mac};
 ghost use Rattle.sx_world.specs.Held.{targets_from};
 ghost use Rattle.sx_observe.specs.InMemory.{setting_at};
-ghost use Rattle.sx_run.specs.Setting.{Site as Placed};
+ghost use Rattle.spec_run.specs.Setting.{Site as Placed};
 
 use std::alloc::{AllocError, Global};
 use sx_deploy::deployment::Deployment;

@@ -8,9 +8,9 @@ ghost use Rattle.sx_sched.specs.InForm.{IsLine};
 ghost use Rattle.sx_sched.specs.Seen.{line_of};
 ghost use Rattle.sx_world.specs.Continued.{Acts, ActsInPart, StaysLegal};
 ghost use Rattle.sx_world.specs.InMemory.{image_setting, world_setting};
-ghost use Rattle.sx_run.specs.Law.{IsSoundSetting};
+ghost use Rattle.spec_run.specs.Law.{IsSoundSetting};
 ghost use Rattle.sx_world.specs.Standing.{IsGoing, Stands};
-ghost use Rattle.sx_run.specs.State.{nodes_from, switched_on};
+ghost use Rattle.spec_run.specs.State.{nodes_from, switched_on};
 
 use crate::running::Running;
 use crate::targets::targets_of;

@@ -24,7 +24,7 @@ use Rattle.sx_model.proofs.EndViews.{changed_at, link_of_end, same_side-true, vi
 use Rattle.sx_model.proofs.EndSteps.{view_of}
 use Rattle.sx_model.proofs.HeldEnd.{held_opened}
 use Rattle.sx_model.proofs.Written.{get_other}
-use Rattle.sx_lists.proofs.Lists.{get_same}
+use Rattle.lemmas.proofs.Lists.{get_same}
 use Rattle.sx_model.specs.Sendings.{emits_of}
 use Rattle.sx_model.specs.State.{EndView, contains}
 use Rattle.sx_model.specs.order.State.{Model, Pending, Present, Standing, power_on}

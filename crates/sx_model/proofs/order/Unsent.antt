@@ -17,7 +17,7 @@ use Rattle.sx_model.proofs.HeldEnd.{held_first}
 use Rattle.sx_model.proofs.Rise.{first_epoch, first_standing, fresh}
 use Rattle.sx_model.proofs.Rising.{On}
 use Rattle.sx_model.proofs.Steps.{Cases, by_step}
-use Rattle.sx_lists.proofs.Lists.{get_same}
+use Rattle.lemmas.proofs.Lists.{get_same}
 use Rattle.sx_model.proofs.order.Fields.{OpenAt, all_other}
 use Rattle.sx_model.proofs.order.Owners.{own}
 

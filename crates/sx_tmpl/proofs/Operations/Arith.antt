@@ -3,7 +3,7 @@ use Rattle.sx_tmpl.proofs.Running.Loading.{loads}
 use Rattle.sx_tmpl.specs.Template.{operator_words, subtraction}
 use Rattle.sx_ir.specs.declared.ir.IrOp.TheVariants as op
 use Rattle.sx_isa.specs.Spelling.{spelling}
-use Rattle.sx_machine.specs.Step.{is_module_word}
+use Rattle.spec_machine.specs.Step.{is_module_word}
 use Rattle.sx_isa.specs.Assembly.{#◌, ◌⟨◌⟩, and, bis, clr, incd, increment, indirect, mov, r12, sp, sub, tst, xor}
 use Rattle.sx_tmpl.proofs.Running.Instructions.{goes, step}
 use Rattle.std.proofs.Common.{◌≡◌, ℕ, ◌+◌, ◌-◌, ◌%◌, ◌<◌, inl, inr, false, not, List, [], ◌∷◌, length, refl, sym, ◌∙◌, ap, subst, arith}
@@ -13,9 +13,9 @@ use Rattle.sx_isa.specs.declared.instruction.Op2.TheVariants as op2
 use Rattle.sx_isa.specs.Instructions.{first_word}
 use Rattle.sx_isa.specs.Standing.{words_of}
 use Rattle.sx_alu.specs.declared.flags.Flags.{Flags}
-use Rattle.sx_machine.specs.Plan.{Load}
-use Rattle.sx_machine.specs.Registers.{flags}
-use Rattle.sx_machine.specs.Rows.{computed, into_memory, on_memory}
+use Rattle.spec_machine.specs.Plan.{Load}
+use Rattle.spec_machine.specs.Registers.{flags}
+use Rattle.spec_machine.specs.Rows.{computed, into_memory, on_memory}
 use Rattle.sx_tmpl.proofs.Running.Owes.{Owes}
 use Rattle.sx_lang.specs.declared.tree.BinOp.{BinOp}
 use Rattle.sx_alu.specs.Status.{flags_of}
@@ -24,8 +24,8 @@ use Rattle.sx_lang.specs.declared.tree.UnOp.TheVariants as unary
 use Rattle.sx_mean.specs.Meaning.{combine, apply}
 use Rattle.sx_isa.specs.declared.instruction.Instr.TheVariants.{Two}
 use Rattle.sx_rules.specs.declared.access.Violation.{Violation}
-use Rattle.sx_machine.specs.declared.kinds.Event.TheVariants as event
-use Rattle.sx_invoke.specs.Marks.{Mark}
+use Rattle.spec_machine.specs.declared.kinds.Event.TheVariants as event
+use Rattle.spec_invocation.specs.Marks.{Mark}
 use Rattle.sx_image.specs.Watched.{Watched}
 use Rattle.sx_ir.specs.Conf.{Conf}
 use Rattle.sx_ir.specs.Meaning.{next}
@@ -40,7 +40,7 @@ use Rattle.sx_tmpl.proofs.Operations.Plain.{inside, Leads, stood}
 use Rattle.sx_tmpl.proofs.Running.Holding.{stack_word, holds_pop, holds_replace, word_below}
 use Rattle.std.specs.Int.Bits.{and_lt, or_lt, xor_lt}
 use Rattle.sx_tmpl.proofs.Operations.Branch.{compare_end}
-use Rattle.sx_lists.specs.Truth.{truth}
+use Rattle.lemmas.specs.Truth.{truth}
 
 module _ (f : Fixed) (st : Stands f) (all : List Mark) (B : Watched → Violation → Type 0) (at : ℕ → ℕ) where
   abbrev L : ℕ → List ℕ → ℕ → Conf → Conf → Type 0

@@ -5,8 +5,8 @@ use Rattle.sx_tmpl.proofs.Running.Instructions.{goes}
 use Rattle.std.proofs.Common.{◌≡◌, ℕ, suc, ◌+◌, ◌*◌, ◌%◌, ◌<◌, ◌≤◌, ◌⊎◌, inl, inr, cond, List, ◌∷◌, length, refl, sym, ap, subst, arith}
 use Rattle.sx_isa.specs.declared.instruction.Op2.TheVariants as op2
 use Rattle.sx_rules.specs.declared.access.Violation.{Violation}
-use Rattle.sx_machine.specs.Memory.{word, put_word}
-use Rattle.sx_invoke.specs.Marks.{Mark}
+use Rattle.spec_machine.specs.Memory.{word, put_word}
+use Rattle.spec_invocation.specs.Marks.{Mark}
 use Rattle.sx_image.specs.Watched.{Watched}
 use Rattle.sx_ir.specs.Conf.{Conf}
 use Rattle.sx_ir.specs.Meaning.{next, element, with_element}

@@ -1,7 +1,7 @@
 -- Operations whose template branches.
 use Rattle.sx_tmpl.specs.Template.{comparison}
 use Rattle.sx_isa.specs.Shaped.{is_shaped}
-use Rattle.sx_machine.specs.Step.{is_module_word, start}
+use Rattle.spec_machine.specs.Step.{is_module_word, start}
 use Rattle.sx_isa.specs.Spelling.{spelling}
 use Rattle.sx_isa.specs.Instructions.{first_word}
 use Rattle.sx_isa.specs.Standing.{words_of}
@@ -16,25 +16,25 @@ use Rattle.sx_mean.specs.Meaning.{combine}
 use Rattle.sx_isa.specs.declared.instruction.Instr.{Instr}
 use Rattle.sx_isa.specs.declared.instruction.Instr.TheVariants.{Jump}
 use Rattle.sx_rules.specs.declared.access.Violation.{Violation}
-use Rattle.sx_machine.specs.declared.kinds.Event.TheVariants as event
-use Rattle.sx_invoke.specs.Marks.{Mark}
+use Rattle.spec_machine.specs.declared.kinds.Event.TheVariants as event
+use Rattle.spec_invocation.specs.Marks.{Mark}
 use Rattle.sx_image.specs.Watched.{Watched}
 use Rattle.sx_ir.specs.Conf.{Conf}
-use Rattle.sx_machine.specs.Memory.{word}
+use Rattle.spec_machine.specs.Memory.{word}
 use Rattle.sx_ir.specs.Meaning.{next}
 use Rattle.sx_tmpl.specs.Unseen.{HoldsNoKey}
 use Rattle.sx_tmpl.specs.Running.{Regs, Fixed, Data, running, Safe, cell}
 use Rattle.sx_tmpl.proofs.Running.MidRun.{PublicWord, Runs, Stands, place_of, put_cell}
 use Rattle.sx_tmpl.proofs.Running.Owes.{compared_met, compared_shown}
 use Rattle.sx_tmpl.specs.Shows.{base_of, IsData, MemoryHolds, ShowsConfiguration, Stood}
-use Rattle.sx_machine.specs.Rows.{jump_taken}
+use Rattle.spec_machine.specs.Rows.{jump_taken}
 use Rattle.sx_tmpl.proofs.Running.Steps.{InText, NoTell, Text, Then, text_word, two_met}
 use Rattle.sx_tmpl.proofs.Running.Flags.{flags_after, no_borrow, borrow, equal, unequal, carry_of, zero_of}
 use Rattle.std.specs.Prelude.{drop, take, nat_lt, ◌==◌, if◌then◌else◌}
 use Rattle.std.proofs.lemmas.Bool.{cases_lt, cases_eq, lt-ltb, le-ltb, eq-eqb, ne_eqb}
 use Rattle.sx_tmpl.proofs.Operations.Plain.{inside, Leads, stood}
 use Rattle.sx_tmpl.proofs.Running.Holding.{stack_word, data_word, holds_pop, holds_replace, holds_word, word_below}
-use Rattle.sx_lists.specs.Truth.{truth}
+use Rattle.lemmas.specs.Truth.{truth}
 
 module _ (f : Fixed) (st : Stands f) (all : List Mark) (B : Watched → Violation → Type 0) (at : ℕ → ℕ) where
   abbrev L : ℕ → List ℕ → ℕ → Conf → Conf → Type 0

@@ -2,10 +2,10 @@
 use Rattle.std.proofs.Common.{◌≡◌, ℕ, zero, suc, ◌+◌, ◌-◌, ◌/◌, ◌%◌, ◌<◌, ◌≤◌, inl, List, [], ◌∷◌, ◌++◌, length, refl, sym, ◌∙◌, ap, subst, arith, slice_index, slice_set}
 use Rattle.std.proofs.lemmas.List.{get_or-set_same, length-set}
 use Rattle.sx_tag.proofs.TagBytes.{AreBytes}
-use Rattle.sx_machine.specs.Memory.{bytes_from, put_bytes}
-use Rattle.sx_machine.proofs.Lengths.{length-bytes_from}
-use Rattle.sx_machine.proofs.PublicKept.{put_other}
-use Rattle.sx_invoke.specs.Windows as outside
+use Rattle.spec_machine.specs.Memory.{bytes_from, put_bytes}
+use Rattle.spec_machine.proofs.Lengths.{length-bytes_from}
+use Rattle.spec_machine.proofs.PublicKept.{put_other}
+use Rattle.spec_invocation.specs.Windows as outside
 use Rattle.sx_tmpl.specs.Running.{cell}
 
 -- bytes stand one after the other

@@ -7,7 +7,7 @@ use Rattle.sx_tmpl.specs.Template.{turns}
 use Rattle.std.proofs.Common.{◌≡◌, ℕ, suc, ◌+◌, ◌*◌, ◌%◌, ◌<◌, ◌≤◌, inl, inr, Bool, false, List, [], ◌∷◌, length, Option, Some, None, refl, sym, ◌∙◌, ap, subst, arith, slice_index}
 use Rattle.sx_isa.specs.Standing.{words_of}
 use Rattle.sx_rules.specs.declared.access.Violation.{Violation}
-use Rattle.sx_machine.specs.declared.kinds.Event.TheVariants as event
+use Rattle.spec_machine.specs.declared.kinds.Event.TheVariants as event
 use Rattle.std.specs.Prelude.{slice_set, Result, Ok, Err}
 use Rattle.std.proofs.lemmas.Option.{none-some, same_Some}
 use Rattle.std.proofs.lemmas.Bool.{cases_Bool}
@@ -17,14 +17,14 @@ use Rattle.sx_bus.specs.Devices.{device_at}
 use Rattle.sx_rules.specs.declared.access.Access.TheVariants.{Read}
 use Rattle.sx_rules.specs.declared.access.Violation.TheVariants as bad
 use Rattle.sx_rules.specs.Access.{may, in_private}
-use Rattle.sx_invoke.specs.Windows.{unless_device, then_, read_byte, read_bytes}
+use Rattle.spec_invocation.specs.Windows.{unless_device, then_, read_byte, read_bytes}
 use Rattle.sx_tmpl.proofs.Running.MidRun.{refused, device_refusal, PrivateByte, Stands, Runs}
 use Rattle.sx_tmpl.proofs.Running.Owes.{Inside}
 use Rattle.sx_tmpl.proofs.Running.Holding.{IsRange, holds_byte, low_shown, data_word, holds_word}
 use Rattle.sx_tmpl.proofs.Running.Owned.{write_free}
-use Rattle.sx_machine.specs.Memory.{put_bytes, word}
+use Rattle.spec_machine.specs.Memory.{put_bytes, word}
 use Rattle.sx_tmpl.proofs.Running.Flags.{flags_stay}
-use Rattle.sx_invoke.specs.Marks.{Mark}
+use Rattle.spec_invocation.specs.Marks.{Mark}
 use Rattle.sx_image.specs.Watched.{Watched}
 use Rattle.sx_tmpl.specs.Running.{Regs, Fixed, Data, running, Safe}
 use Rattle.sx_tmpl.specs.Shows.{base_of, IsData, MemoryHolds}

@@ -6,7 +6,7 @@ use Rattle.sx_isa.specs.Spelling.{spelling}
 use Rattle.sx_isa.specs.declared.instruction.Op2.TheVariants as op2
 use Rattle.sx_alu.specs.Status.{flags_of}
 use Rattle.sx_rules.specs.declared.access.Violation.{Violation}
-use Rattle.sx_invoke.specs.Marks.{Mark}
+use Rattle.spec_invocation.specs.Marks.{Mark}
 use Rattle.sx_image.specs.Watched.{Watched}
 use Rattle.sx_isa.specs.Assembly.{#◌, ◌⟨◌⟩, add, back, dec, increment, jnz, mov_b, r12, r13, r15}
 use Rattle.sx_tmpl.specs.Running.{Regs, Fixed, Data, running, Safe}

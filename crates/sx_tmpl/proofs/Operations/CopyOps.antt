@@ -7,13 +7,13 @@ use Rattle.sx_tmpl.proofs.Running.Loading.{loads}
 use Rattle.sx_tmpl.specs.Template as templates
 use Rattle.std.proofs.Common.{◌≡◌, ◌==◌, ℕ, suc, ◌+◌, ◌*◌, ◌/◌, ◌%◌, ◌<◌, ◌≤◌, inl, inr, Bool, true, false, not, ◌&&◌, cond, nat_le, nat_lt, List}
 use Rattle.std.proofs.Common.{[], ◌∷◌, length, refl, sym, ◌∙◌, ap, subst, arith}
-use Rattle.sx_reach.specs.Reach.{Here, Goes, Stops}
+use Rattle.sx_image.specs.Reach.{Here, Goes, Stops}
 use Rattle.sx_isa.specs.declared.instruction.Op2.TheVariants as op2
 use Rattle.sx_rules.specs.declared.access.Violation.{Violation}
 use Rattle.std.specs.Prelude.{Result, Ok, Err}
 use Rattle.std.proofs.lemmas.Bool.{cases_Bool, true≢false, or_right, and_from, or_left, leb-true, ltb-true, and_parts, cases_lt, lt-ltb}
 use Rattle.sx_rules.specs.Access.{in_private}
-use Rattle.sx_invoke.specs.Windows.{write_bytes, read_bytes, is_bad_window}
+use Rattle.spec_invocation.specs.Windows.{write_bytes, read_bytes, is_bad_window}
 use Rattle.sx_tmpl.proofs.Running.Outcomes.{ok_err, ok_same, err_same}
 use Rattle.sx_tmpl.proofs.Running.Holding.{IsRange, holds_from, stack_word, low_shown, data_word, holds_pop, holds_word}
 use Rattle.sx_tmpl.proofs.Operations.Bytes.{BytesAt, stand_from}
@@ -21,14 +21,14 @@ use Rattle.sx_tmpl.proofs.Operations.CopyLoop.{Turns, all_bytes, all_steps, few_
 use Rattle.sx_tmpl.proofs.Operations.CopyOut.{copy_runs}
 use Rattle.sx_tmpl.proofs.Operations.CopyIn.{copy_in_words, copy_in_whole}
 use Rattle.sx_tmpl.proofs.Operations.PacketOp.{Breaks}
-use Rattle.sx_machine.proofs.Lengths.{length-bytes_from}
+use Rattle.spec_machine.proofs.Lengths.{length-bytes_from}
 use Rattle.sx_ir.specs.Meaning.{copy_out, has_copy_room, copy_in, copied_in, has_in_window, OperationResult, copied_out, saved, has_out_window, next}
-use Rattle.sx_invoke.specs.Pieces.{made_bytes}
+use Rattle.spec_invocation.specs.Pieces.{made_bytes}
 use Rattle.sx_ir.specs.Conf.{Violates, Stuck, Conf}
-use Rattle.sx_machine.specs.Ranges.{passes_end}
-use Rattle.sx_machine.specs.Memory.{bytes_from, put_bytes}
+use Rattle.spec_machine.specs.Ranges.{passes_end}
+use Rattle.spec_machine.specs.Memory.{bytes_from, put_bytes}
 use Rattle.sx_tmpl.proofs.Running.Flags.{flags_stay, flags_after}
-use Rattle.sx_invoke.specs.Marks.{Mark}
+use Rattle.spec_invocation.specs.Marks.{Mark}
 use Rattle.sx_image.specs.Watched.{Watched}
 use Rattle.sx_tmpl.specs.Running.{Regs, Fixed, Data, running, Safe}
 use Rattle.sx_tmpl.proofs.Running.MidRun.{Stands, Runs, later}

@@ -3,7 +3,7 @@ use Rattle.std.proofs.Common.{◌≡◌, ◌≢◌, ℕ, suc, ◌+◌, ◌*◌, 
 use Rattle.sx_isa.specs.Assembly.{increment, mov_b, r12, r13, ◌⟨◌⟩}
 use Rattle.sx_isa.specs.declared.instruction.Op2.TheVariants as op2
 use Rattle.sx_rules.specs.declared.access.Violation.{Violation}
-use Rattle.sx_machine.specs.declared.kinds.Event.TheVariants as event
+use Rattle.spec_machine.specs.declared.kinds.Event.TheVariants as event
 use Rattle.std.specs.Prelude.{slice_set, Result, Ok, Err}
 use Rattle.std.proofs.lemmas.Option.{none-some, same_Some}
 use Rattle.std.proofs.lemmas.Bool.{cases_Bool, true≢false}
@@ -13,14 +13,14 @@ use Rattle.sx_bus.specs.Devices.{device_at}
 use Rattle.sx_rules.specs.declared.access.Access.TheVariants.{Write}
 use Rattle.sx_rules.specs.declared.access.Violation.TheVariants as bad
 use Rattle.sx_rules.specs.Access.{may, in_private}
-use Rattle.sx_invoke.specs.Windows.{write_byte, write_bytes, unless_device, then_}
+use Rattle.spec_invocation.specs.Windows.{write_byte, write_bytes, unless_device, then_}
 use Rattle.sx_tmpl.proofs.Running.MidRun.{refused, device_refusal, PrivateByte, PrivateRange, Stands, Runs}
 use Rattle.sx_tmpl.proofs.Running.Owes.{Outside, let_through}
 use Rattle.sx_tmpl.proofs.Running.Owned.{read_free, in_private_yes}
 use Rattle.sx_tmpl.proofs.Operations.Bytes.{BytesAt, bytes_same}
 use Rattle.sx_tmpl.proofs.Operations.CopyLoop.{Byte, Turns, all_bytes, all_steps, copying, size, turns_few, turns_run}
 use Rattle.sx_tmpl.proofs.Running.Holding.{are_part, holds_outside}
-use Rattle.sx_invoke.specs.Marks.{Mark}
+use Rattle.spec_invocation.specs.Marks.{Mark}
 use Rattle.sx_image.specs.Watched.{Watched}
 use Rattle.sx_tmpl.specs.Running.{Regs, Fixed, Data, running, Safe}
 use Rattle.sx_tmpl.specs.Shows.{MemoryHolds}

@@ -3,38 +3,38 @@ use Rattle.sx_isa.specs.Instructions.{first_word}
 use Rattle.sx_isa.specs.Standing.{words_of}
 use Rattle.sx_isa.specs.Assembly.{&◌, pop, push}
 use Rattle.std.proofs.Common.{◌≡◌, ℕ, zero, suc, ◌+◌, ◌-◌, ◌%◌, ◌<◌, ◌≤◌, true, false, cond, inr, List, [], ◌∷◌, ◌++◌, length, Some, refl, sym, ◌∙◌, ap, subst, arith}
-use Rattle.sx_reach.specs.Reach.{Here, Next, Goes}
+use Rattle.sx_image.specs.Reach.{Here, Next, Goes}
 use Rattle.sx_isa.specs.declared.instruction.Operand.TheVariants.{Increment, Absolute}
 use Rattle.sx_isa.specs.declared.instruction.Op2.TheVariants as op2
 use Rattle.sx_isa.specs.declared.instruction.Op1.TheVariants as op1
 use Rattle.sx_isa.specs.declared.instruction.Instr.TheVariants.{Two, One}
 use Rattle.sx_rules.specs.declared.access.Violation.{Violation}
-use Rattle.sx_machine.specs.declared.kinds.Event.TheVariants as event
+use Rattle.spec_machine.specs.declared.kinds.Event.TheVariants as event
 use Rattle.std.specs.Prelude.{slice_set, Ok, ◌==◌}
 use Rattle.sx_bus.specs.declared.devices.Window.{Window}
 use Rattle.sx_bus.specs.Devices.{device_at, on_word, with_changed, stale, cleared}
-use Rattle.sx_invoke.specs.Marks as mark
-use Rattle.sx_invoke.specs.Marks.{HasPrefix, Mark}
+use Rattle.spec_invocation.specs.Marks as mark
+use Rattle.spec_invocation.specs.Marks.{HasPrefix, Mark}
 use Rattle.sx_tmpl.proofs.Running.Steps.{InText, by_outcome, two_does}
 use Rattle.std.proofs.lemmas.List.{append-nil}
 use Rattle.sx_rules.specs.Access.{holder}
-use Rattle.sx_machine.specs.declared.kinds.Touch.{Touch}
-use Rattle.sx_machine.specs.declared.kinds.Touch.TheVariants.{DeviceRead, DeviceWrite}
+use Rattle.spec_machine.specs.declared.kinds.Touch.{Touch}
+use Rattle.spec_machine.specs.declared.kinds.Touch.TheVariants.{DeviceRead, DeviceWrite}
 use Rattle.sx_bus.specs.declared.devices.Kind.TheVariants.{Sensor, Actuator}
 use Rattle.std.specs.List.{position_from}
-use Rattle.sx_machine.specs.Run.{Moment, Finished, untouched, with_touch, device_of, load, store, after_read, after_write}
+use Rattle.spec_machine.specs.Run.{Moment, Finished, untouched, with_touch, device_of, load, store, after_read, after_write}
 use Rattle.sx_image.specs.Watched.{marks_of_touches, watch, Watched}
 use Rattle.sx_tmpl.proofs.Running.Owned.{may_read, may_write, own_above, run_holder}
 use Rattle.sx_tmpl.proofs.Running.Owes.{load_word, store_word, kept_word}
 use Rattle.sx_tmpl.specs.Unseen.{IsWordShown, StepShowsNone}
-use Rattle.sx_machine.specs.Step.{own_of, start, attempt}
+use Rattle.spec_machine.specs.Step.{own_of, start, attempt}
 use Rattle.sx_tmpl.proofs.Running.Flags.{flags_stay, flags_after}
 use Rattle.sx_ir.specs.Conf.{Conf}
 use Rattle.sx_ir.specs.Meaning.{next}
 use Rattle.sx_tmpl.specs.Running.{Regs, regs16, Fixed, Data, running, Safe, cell, OutsideKept}
 use Rattle.sx_tmpl.proofs.Running.MidRun.{Stands, Runs, place_of, put_cell, word_shown}
 use Rattle.sx_tmpl.specs.Shows.{base_of, Stood}
-use Rattle.sx_machine.specs.Registers.{at_pc}
+use Rattle.spec_machine.specs.Registers.{at_pc}
 use Rattle.std.proofs.lemmas.Bool.{eq-eqb, ne_eqb}
 use Rattle.sx_isa.proofs.StandingLemmas.{even_same}
 use Rattle.sx_tmpl.proofs.Operations.Plain.{inside, Leads}

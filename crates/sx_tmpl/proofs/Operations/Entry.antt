@@ -4,12 +4,12 @@ use Rattle.sx_isa.specs.Assembly.{##◌, &◌, mov, r12, r13, r14, r15, sp}
 use Rattle.sx_tmpl.proofs.Running.Instructions.{Gives, given, goes, reads_of}
 use Rattle.sx_tmpl.specs.Template.{entry_words}
 use Rattle.std.proofs.Common.{◌≡◌, ◌≢◌, ℕ, suc, ◌+◌, ◌-◌, ◌*◌, ◌%◌, ◌<◌, ◌≤◌, inl, inr, true, false, cond, List, [], length, None, refl, sym, ◌∙◌, ap, arith, slice_index}
-use Rattle.sx_reach.specs.Reach.{Here, Next, Ends, Goes}
+use Rattle.sx_image.specs.Reach.{Here, Next, Ends, Goes}
 use Rattle.sx_isa.specs.declared.instruction.Operand.TheVariants.{Reg, Absolute}
 use Rattle.sx_isa.specs.declared.instruction.Op2.TheVariants as op2
 use Rattle.sx_isa.specs.declared.instruction.Instr.TheVariants.{Two}
 use Rattle.sx_rules.specs.declared.access.Violation.{Violation}
-use Rattle.sx_machine.specs.declared.kinds.Event.{Event}
+use Rattle.spec_machine.specs.declared.kinds.Event.{Event}
 use Rattle.sx_bus.specs.Devices.{device_at}
 use Rattle.sx_rules.specs.declared.access.Violation.TheVariants as bad
 use Rattle.sx_rules.specs.Access.{in_private, holder, in_order}
@@ -17,8 +17,8 @@ use Rattle.sx_tmpl.proofs.Running.Mem.{word_is, get-put_other}
 use Rattle.sx_tmpl.proofs.Running.Holding.{same_word, outside_stays, low_shown, mid_shown, data_place, data_word, holds_store}
 use Rattle.sx_tmpl.proofs.Running.Steps.{text_word, fetched, program_two, shown_two, step_shown, by_outcome, Text, InText, Then, NoTell}
 use Rattle.std.proofs.lemmas.List.{append-nil}
-use Rattle.sx_machine.specs.Run.{Outcome, Finished, Violated, Module}
-use Rattle.sx_machine.specs.Step.{own_of, start, attempt, instruction, ordered, word_outside, entered_from}
+use Rattle.spec_machine.specs.Run.{Outcome, Finished, Violated, Module}
+use Rattle.spec_machine.specs.Step.{own_of, start, attempt, instruction, ordered, word_outside, entered_from}
 use Rattle.std.proofs.lemmas.Bool.{and_from, eq-eqb, ne_eqb}
 use Rattle.sx_image.specs.Watched.{watch, Watched}
 use Rattle.sx_tmpl.specs.Running.{sections_of, Regs, regs16, Fixed, Data, running, Safe, cell, OutsideKept}
@@ -26,12 +26,12 @@ use Rattle.sx_tmpl.proofs.Running.Owned.{own_above, run_holder, run_outside, ent
 use Rattle.sx_tmpl.proofs.Running.Owes.{Met, owes_met, owes_shown}
 use Rattle.sx_tmpl.specs.Unseen.{StepShowsNone}
 use Rattle.sx_tmpl.proofs.Running.Flags.{flags_stay}
-use Rattle.sx_machine.specs.Memory.{word, put_word}
-use Rattle.sx_invoke.specs.Marks.{Mark}
+use Rattle.spec_machine.specs.Memory.{word, put_word}
+use Rattle.spec_invocation.specs.Marks.{Mark}
 use Rattle.sx_tmpl.proofs.Running.MidRun.{Stands, Runs, put_cell}
 use Rattle.sx_tmpl.specs.Shows.{base_of, IsData, MemoryHolds, Stood}
-use Rattle.sx_machine.specs.Rows.{row}
-use Rattle.sx_machine.specs.Registers.{at_pc}
+use Rattle.spec_machine.specs.Rows.{row}
+use Rattle.spec_machine.specs.Registers.{at_pc}
 use Rattle.std.specs.Prelude.{◌==◌}
 use Rattle.sx_isa.proofs.StandingLemmas.{even_same}
 use Rattle.sx_tmpl.proofs.Operations.Plain.{inside}

@@ -3,19 +3,19 @@ use Rattle.sx_tmpl.specs.Template as templates
 use Rattle.sx_isa.specs.Assembly.{##◌, &◌, ahead, cmp, jc, jnc, mov, r12}
 use Rattle.sx_tmpl.proofs.Running.Instructions.{goes}
 use Rattle.std.proofs.Common.{◌≡◌, ℕ, suc, ◌+◌, ◌*◌, ◌%◌, ◌<◌, ◌≤◌, inl, inr, Bool, true, false, cond, nat_le, cond, nat_le, List, Some, refl, sym, ◌∙◌, subst, arith}
-use Rattle.sx_reach.specs.Reach.{Here, Goes, Stops, Ends}
+use Rattle.sx_image.specs.Reach.{Here, Goes, Stops, Ends}
 use Rattle.sx_isa.specs.declared.instruction.Op2.TheVariants as op2
 use Rattle.sx_rules.specs.declared.access.Violation.{Violation}
-use Rattle.sx_machine.specs.declared.kinds.Event.TheVariants as event
+use Rattle.spec_machine.specs.declared.kinds.Event.TheVariants as event
 use Rattle.std.proofs.lemmas.Bool.{true≢false, and_from, cases_lt, lt-ltb, le-ltb, le-leb, lt-leb, and_left, and_right}
 use Rattle.sx_rules.specs.declared.access.Violation.TheVariants as bad
 use Rattle.sx_tmpl.proofs.Operations.PacketOp.{Breaks}
 use Rattle.sx_tmpl.proofs.Operations.CopyOps.{Ending, Goes_to, Breaks_off}
 use Rattle.sx_rules.specs.Access.{in_public}
-use Rattle.sx_machine.specs.Memory.{even}
-use Rattle.sx_machine.specs.Run.{exec, Violated}
-use Rattle.sx_machine.specs.Rows.{program}
-use Rattle.sx_machine.specs.Step.{start, attempt}
+use Rattle.spec_machine.specs.Memory.{even}
+use Rattle.spec_machine.specs.Run.{exec, Violated}
+use Rattle.spec_machine.specs.Rows.{program}
+use Rattle.spec_machine.specs.Step.{start, attempt}
 use Rattle.sx_isa.specs.Reading.{length_of, instruction_at}
 use Rattle.sx_image.specs.Watched.{watch, Watched}
 use Rattle.sx_tmpl.specs.Running.{sections_of, Regs, regs16, Fixed, Data, running, Safe}
@@ -24,7 +24,7 @@ use Rattle.sx_tmpl.specs.Unseen.{PlanShowsNone}
 use Rattle.sx_ir.specs.Conf.{Violates, Conf}
 use Rattle.sx_ir.specs.Meaning.{saved, next}
 use Rattle.sx_tmpl.proofs.Running.Flags.{flags_stay, flags_after, no_borrow, borrow}
-use Rattle.sx_invoke.specs.Marks.{Mark}
+use Rattle.spec_invocation.specs.Marks.{Mark}
 use Rattle.sx_tmpl.proofs.Running.MidRun.{Stands, Runs}
 use Rattle.sx_tmpl.specs.Shows.{base_of, MemoryHolds, ShowsConfiguration, Stood}
 use Rattle.std.specs.Prelude.{slice_get}
@@ -32,11 +32,11 @@ use Rattle.sx_tmpl.proofs.Operations.Plain.{inside, Leads}
 use Rattle.sx_tmpl.proofs.Running.Holding.{low_shown, data_word, holds_word, word_below}
 
 module _ (f : Fixed) (st : Stands f) (all : List Mark) (B : Watched → Violation → Type 0) (Q : Watched → Type 0) where
-  illegal_program : (regs : List ℕ) (x : Rattle.sx_machine.specs.Run.Moment) → exec (sections_of f) f.setup.section.id (program 0 regs) x ≡ Violated bad.Illegal
+  illegal_program : (regs : List ℕ) (x : Rattle.spec_machine.specs.Run.Moment) → exec (sections_of f) f.setup.section.id (program 0 regs) x ≡ Violated bad.Illegal
   unfolding program length_of instruction_at
   illegal_program regs x = refl
 
-  illegal_shown : (regs : List ℕ) (x : Rattle.sx_machine.specs.Run.Moment) → PlanShowsNone f.setup (program 0 regs) x
+  illegal_shown : (regs : List ℕ) (x : Rattle.spec_machine.specs.Run.Moment) → PlanShowsNone f.setup (program 0 regs) x
   unfolding program length_of instruction_at
   illegal_shown regs x = tt
 

@@ -5,12 +5,12 @@ use Rattle.sx_tmpl.proofs.Running.Instructions.{goes, reads_of}
 use Rattle.sx_tmpl.proofs.Running.Loading.{loads}
 use Rattle.sx_tmpl.specs.Template.{leave_words}
 use Rattle.std.proofs.Common.{◌≡◌, ℕ, suc, ◌+◌, ◌-◌, ◌*◌, ◌%◌, ◌<◌, ◌≤◌, inl, inr, Bool, true, false, List, [], ◌∷◌, length, Some, refl, sym, ◌∙◌, ap, arith}
-use Rattle.sx_reach.specs.Reach.{Here, Next, Ends, Goes}
+use Rattle.sx_image.specs.Reach.{Here, Next, Ends, Goes}
 use Rattle.sx_isa.specs.declared.instruction.Operand.TheVariants.{Reg, Absolute}
 use Rattle.sx_isa.specs.declared.instruction.Op2.TheVariants as op2
 use Rattle.sx_isa.specs.declared.instruction.Instr.TheVariants.{Two}
 use Rattle.sx_rules.specs.declared.access.Violation.{Violation}
-use Rattle.sx_machine.specs.declared.kinds.Event.TheVariants as event
+use Rattle.spec_machine.specs.declared.kinds.Event.TheVariants as event
 use Rattle.std.proofs.lemmas.Option.{same_Some}
 use Rattle.std.proofs.lemmas.Bool.{true≢false, cases_eq, eq-eqb, ne_eqb}
 use Rattle.sx_tmpl.proofs.Running.Steps.{text_word, tests_passed, plain_instruction, fetched, program_two, shown_two, step_shown, onward_to, by_outcome, Text, InText, NoTell}
@@ -19,8 +19,8 @@ use Rattle.sx_isa.specs.declared.instruction.Instr.{Instr}
 use Rattle.sx_rules.specs.declared.section.Section.{Section}
 use Rattle.sx_rules.specs.Access.{Lives, holder, in_public}
 use Rattle.sx_rules.proofs.Placing.{placed_found}
-use Rattle.sx_machine.specs.Run.{Outcome, Finished, Violated, Module}
-use Rattle.sx_machine.specs.Step.{own_of, start, attempt}
+use Rattle.spec_machine.specs.Run.{Outcome, Finished, Violated, Module}
+use Rattle.spec_machine.specs.Step.{own_of, start, attempt}
 use Rattle.sx_image.specs.Watched.{watch, Watched}
 use Rattle.sx_ir.specs.Meaning.{saved}
 use Rattle.sx_tmpl.specs.Running.{sections_of, Regs, regs16, Fixed, Data, running, Safe, cell, OutsideKept}
@@ -28,12 +28,12 @@ use Rattle.sx_tmpl.proofs.Running.Owned.{own_above, run_holder}
 use Rattle.sx_tmpl.proofs.Running.Owes.{Met, Owes, owes_met, owes_shown}
 use Rattle.sx_tmpl.specs.Unseen.{StepShowsNone}
 use Rattle.sx_tmpl.proofs.Running.Flags.{flags_stay, flags_after}
-use Rattle.sx_invoke.specs.Marks.{Mark}
+use Rattle.spec_invocation.specs.Marks.{Mark}
 use Rattle.sx_ir.specs.Conf.{Conf}
 use Rattle.sx_tmpl.proofs.Running.MidRun.{Stands, Runs}
 use Rattle.sx_tmpl.specs.Shows.{base_of, IsData, MemoryHolds, ShowsConfiguration}
-use Rattle.sx_machine.specs.Rows.{row}
-use Rattle.sx_machine.specs.Registers.{at_pc}
+use Rattle.spec_machine.specs.Rows.{row}
+use Rattle.spec_machine.specs.Registers.{at_pc}
 use Rattle.std.specs.Prelude.{slice_get, ◌==◌}
 use Rattle.sx_tmpl.proofs.Operations.Plain.{inside}
 use Rattle.sx_tmpl.proofs.Running.Holding.{stack_word, low_shown, mid_shown, data_word, holds_word}

@@ -7,11 +7,11 @@ use Rattle.sx_isa.specs.declared.instruction.Op2.TheVariants as op2
 use Rattle.sx_rules.specs.declared.access.Violation.{Violation}
 use Rattle.std.proofs.lemmas.Bool.{or_right, and_from, or_left, cases_lt, lt-ltb, le-ltb, and_right}
 use Rattle.sx_ir.specs.Meaning.{saved, next}
-use Rattle.sx_machine.specs.Ranges.{passes_end}
-use Rattle.sx_invoke.specs.Windows.{is_bad_window}
+use Rattle.spec_machine.specs.Ranges.{passes_end}
+use Rattle.spec_invocation.specs.Windows.{is_bad_window}
 use Rattle.sx_mean.specs.Working as working
 use Rattle.sx_tmpl.proofs.Running.Flags.{flags_stay, flags_after, no_borrow, borrow}
-use Rattle.sx_invoke.specs.Marks.{Mark}
+use Rattle.spec_invocation.specs.Marks.{Mark}
 use Rattle.sx_image.specs.Watched.{Watched}
 use Rattle.sx_ir.specs.Conf.{Conf}
 use Rattle.sx_tmpl.specs.Running.{Regs, Fixed, running, Safe}
@@ -20,7 +20,7 @@ use Rattle.sx_tmpl.specs.Shows.{base_of, MemoryHolds, Stood}
 use Rattle.std.specs.Prelude.{nat_lt}
 use Rattle.sx_tmpl.proofs.Operations.Plain.{inside, Leads, stood}
 use Rattle.sx_tmpl.proofs.Running.Holding.{low_shown, stack_word, data_word, holds_push, holds_word, word_below}
-use Rattle.sx_lists.specs.Truth.{truth}
+use Rattle.lemmas.specs.Truth.{truth}
 
 abbrev pub meets_words : Fixed → ℕ → ℕ → List ℕ
 meets_words f r n =

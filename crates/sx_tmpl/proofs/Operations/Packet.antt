@@ -8,30 +8,30 @@ use Rattle.std.proofs.Common.{◌≡◌, ℕ, suc, ◌+◌, ◌-◌, ◌*◌, �
 use Rattle.sx_isa.specs.Spelling.{spelling}
 use Rattle.sx_isa.specs.declared.instruction.Op2.TheVariants as op2
 use Rattle.sx_rules.specs.declared.access.Violation.{Violation}
-use Rattle.sx_machine.specs.declared.kinds.Event.{Event}
-use Rattle.sx_machine.specs.declared.kinds.Event.TheVariants as event
+use Rattle.spec_machine.specs.declared.kinds.Event.{Event}
+use Rattle.spec_machine.specs.declared.kinds.Event.TheVariants as event
 use Rattle.std.specs.Prelude.{Ok, Err, drop, take, nat_lt, ◌==◌}
-use Rattle.sx_invoke.specs.Windows.{write_bytes}
+use Rattle.spec_invocation.specs.Windows.{write_bytes}
 use Rattle.sx_tmpl.proofs.Running.MidRun.{PrivateRange, PrivateWord, Stands, Runs, later, place_of, put_cell}
 use Rattle.sx_tmpl.proofs.Running.Mem.{cell-put_other, put_word_is, word_is, length-put}
 use Rattle.sx_tmpl.proofs.Running.Holding.{same_word, holds_under, holds_under_bytes, stack_word, low_shown, mid_shown, slot_shown, data_word, holds_pop, holds_store, holds_word, word_below}
 use Rattle.sx_tag.specs.Mac.{IsTag}
 use Rattle.sx_tag.proofs.TagBytes.{cipher_bytes, cipher_length, tag_bytes, tag_length}
-use Rattle.sx_machine.proofs.Lengths.{length-put_bytes}
-use Rattle.sx_machine.proofs.PublicKept.{put_other}
+use Rattle.spec_machine.proofs.Lengths.{length-put_bytes}
+use Rattle.spec_machine.proofs.PublicKept.{put_other}
 use Rattle.sx_tmpl.proofs.Operations.Bytes.{BytesAt, bytes_same, bytes_append, bytes_put, pair, six, bytes_agree, stand_from}
 use Rattle.sx_tmpl.proofs.Operations.CopyLoop.{Turns}
 use Rattle.sx_tmpl.proofs.Operations.CopyOut.{copy_runs}
-use Rattle.sx_machine.specs.declared.kinds.Exchange.{Exchange}
-use Rattle.sx_machine.specs.Memory.{bytes_from, put_bytes, word, put_word}
+use Rattle.spec_machine.specs.declared.kinds.Exchange.{Exchange}
+use Rattle.spec_machine.specs.Memory.{bytes_from, put_bytes, word, put_word}
 use Rattle.sx_tag.specs.Wrap.{wrapped}
 use Rattle.sx_mean.specs.Offsets as offsets
 use Rattle.sx_mean.specs.Working as working
-use Rattle.sx_invoke.specs.ModuleState.{EndState, end_state}
-use Rattle.sx_invoke.specs.Windows as windows
-use Rattle.sx_invoke.specs.Acts.{event_header, event_packet}
-use Rattle.sx_invoke.specs.Marks as mark
-use Rattle.sx_invoke.specs.Marks.{HasPrefix, Mark}
+use Rattle.spec_invocation.specs.ModuleState.{EndState, end_state}
+use Rattle.spec_invocation.specs.Windows as windows
+use Rattle.spec_invocation.specs.Acts.{event_header, event_packet}
+use Rattle.spec_invocation.specs.Marks as mark
+use Rattle.spec_invocation.specs.Marks.{HasPrefix, Mark}
 use Rattle.sx_tmpl.specs.Unseen.{WasOpen}
 use Rattle.sx_tmpl.specs.Running.{running_after, Regs, Fixed, Data, running, Safe, cell}
 use Rattle.sx_tmpl.proofs.Running.Flags.{flags_stay, flags_after, equal, unequal}

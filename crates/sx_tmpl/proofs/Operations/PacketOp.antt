@@ -4,25 +4,25 @@ use Rattle.sx_isa.specs.Assembly.{##◌, call}
 use Rattle.sx_tmpl.proofs.Running.Instructions.{goes}
 use Rattle.sx_tmpl.specs.Template.{routine_words}
 use Rattle.std.proofs.Common.{◌≡◌, ℕ, suc, ◌+◌, ◌-◌, ◌*◌, ◌%◌, ◌<◌, ◌≤◌, inl, inr, Bool, true, false, not, cond, nat_le, nat_lt, List, [], ◌∷◌, ◌++◌, length, refl, sym, ◌∙◌, ap, subst, arith}
-use Rattle.sx_reach.specs.Reach.{Here, Goes, Stops}
+use Rattle.sx_image.specs.Reach.{Here, Goes, Stops}
 use Rattle.sx_rules.specs.declared.access.Violation.{Violation}
 use Rattle.std.specs.Prelude.{Result, Ok, Err, nat_lt}
 use Rattle.std.proofs.lemmas.Bool.{true≢false, or_left, leb-true, ltb-true, and_parts, cases_lt, lt-ltb}
-use Rattle.sx_invoke.specs.Windows.{write_bytes}
+use Rattle.spec_invocation.specs.Windows.{write_bytes}
 use Rattle.sx_tag.specs.Mac.{IsTag}
 use Rattle.sx_tmpl.proofs.Running.Outcomes.{ok_err, ok_same, err_same, goes_same, goes_stops, stops_same}
 use Rattle.sx_tmpl.proofs.Operations.Packet.{is_ready, tests_run, send_run, return_run}
 use Rattle.sx_ir.specs.Conf.{Violates, Stuck, Conf}
 use Rattle.sx_ir.specs.Meaning.{OperationResult, send, send_open, copied_out, packed, sealed_event, saved, pieces, has_out_window, next, has_packet_room}
-use Rattle.sx_machine.specs.Ranges.{passes_end}
+use Rattle.spec_machine.specs.Ranges.{passes_end}
 use Rattle.sx_mean.specs.Offsets as offsets
 use Rattle.sx_mean.specs.Working as working
-use Rattle.sx_invoke.specs.ModuleState.{EndState, end_state}
-use Rattle.sx_invoke.specs.Windows as windows
-use Rattle.sx_invoke.specs.Acts.{event_header, event_packet}
-use Rattle.sx_invoke.specs.Marks as mark
-use Rattle.sx_invoke.specs.Marks.{HasPrefix, Mark}
-use Rattle.sx_machine.specs.Memory.{put_word}
+use Rattle.spec_invocation.specs.ModuleState.{EndState, end_state}
+use Rattle.spec_invocation.specs.Windows as windows
+use Rattle.spec_invocation.specs.Acts.{event_header, event_packet}
+use Rattle.spec_invocation.specs.Marks as mark
+use Rattle.spec_invocation.specs.Marks.{HasPrefix, Mark}
+use Rattle.spec_machine.specs.Memory.{put_word}
 use Rattle.sx_image.specs.Watched.{Watched}
 use Rattle.sx_tmpl.specs.Unseen.{WasOpen}
 use Rattle.sx_tmpl.proofs.Running.Entered.{IsKept, end_kept}
@@ -32,7 +32,7 @@ use Rattle.sx_tmpl.specs.Shows.{base_of, MemoryHolds, ShowsConfiguration, Stood}
 use Rattle.sx_tmpl.proofs.Running.Steps.{Text, InText}
 use Rattle.sx_tmpl.proofs.Operations.Plain.{inside, Leads}
 use Rattle.sx_tmpl.proofs.Texts.Made.{made_bytes-append, made_prefix}
-use Rattle.sx_invoke.specs.Pieces.{made_bytes}
+use Rattle.spec_invocation.specs.Pieces.{made_bytes}
 use Rattle.sx_tmpl.proofs.Running.Holding.{stack_word, holds_push}
 
 -- with the packet's wrap the marks make its bytes, too

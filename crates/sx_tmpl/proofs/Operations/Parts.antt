@@ -5,8 +5,8 @@ use Rattle.sx_isa.specs.Assembly.{##◌, &◌, br, clr, mov}
 use Rattle.sx_tmpl.proofs.Running.Instructions.{goes}
 use Rattle.std.proofs.Common.{◌≡◌, ℕ, ◌+◌, ◌-◌, ◌%◌, ◌≤◌, inl, List, [], ◌∷◌, length, Some, None, refl, arith}
 use Rattle.sx_rules.specs.declared.access.Violation.{Violation}
-use Rattle.sx_machine.specs.Memory.{put_word}
-use Rattle.sx_invoke.specs.Marks.{Mark}
+use Rattle.spec_machine.specs.Memory.{put_word}
+use Rattle.spec_invocation.specs.Marks.{Mark}
 use Rattle.sx_image.specs.Watched.{Watched}
 use Rattle.sx_ir.specs.Conf.{Conf}
 use Rattle.sx_tmpl.specs.Running.{Fixed}

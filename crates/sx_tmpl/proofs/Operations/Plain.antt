@@ -5,13 +5,13 @@ use Rattle.sx_isa.specs.Standing.{words_of}
 use Rattle.sx_isa.specs.Assembly.{##◌, &◌, ◌⟨◌⟩, add, increment, pop, push, sp}
 use Rattle.sx_tmpl.proofs.Running.Instructions.{goes}
 use Rattle.std.proofs.Common.{◌≡◌, ℕ, ◌+◌, ◌-◌, ◌*◌, ◌%◌, ◌<◌, ◌≤◌, List, [], ◌∷◌, length, refl, arith}
-use Rattle.sx_reach.specs.Reach.{Here}
+use Rattle.sx_image.specs.Reach.{Here}
 use Rattle.sx_isa.specs.declared.instruction.Op2.TheVariants as op2
 use Rattle.sx_lang.specs.declared.tree.BinOp.TheVariants as binary
 use Rattle.sx_mean.specs.Meaning.{combine}
 use Rattle.sx_rules.specs.declared.access.Violation.{Violation}
-use Rattle.sx_machine.specs.Memory.{word, put_word}
-use Rattle.sx_invoke.specs.Marks.{Mark}
+use Rattle.spec_machine.specs.Memory.{word, put_word}
+use Rattle.spec_invocation.specs.Marks.{Mark}
 use Rattle.sx_image.specs.Watched.{Watched}
 use Rattle.sx_ir.specs.Conf.{Conf}
 use Rattle.sx_ir.specs.Meaning.{next}

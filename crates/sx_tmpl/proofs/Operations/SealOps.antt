@@ -3,25 +3,25 @@ use Rattle.sx_isa.specs.Assembly.{##◌, clr, push, r15, r9}
 use Rattle.sx_tmpl.proofs.Running.Loading.{loads}
 use Rattle.sx_tmpl.proofs.Running.Instructions.{goes_after}
 use Rattle.std.proofs.Common.{◌≡◌, ℕ, zero, suc, ◌+◌, ◌-◌, ◌*◌, ◌%◌, ◌<◌, ◌≤◌, ◌⊎◌, inl, inr, List, [], ◌∷◌, ◌++◌, length, Option, Some, None, refl, sym, ◌∙◌, ap, subst, arith, take}
-use Rattle.sx_reach.specs.Reach.{Here}
+use Rattle.sx_image.specs.Reach.{Here}
 use Rattle.sx_isa.specs.declared.instruction.Operand.{Operand}
 use Rattle.sx_isa.specs.Spelling.{spelling}
 use Rattle.sx_rules.specs.declared.access.Violation.{Violation}
-use Rattle.sx_machine.specs.declared.kinds.Event.{Event}
-use Rattle.sx_machine.specs.declared.kinds.Event.TheVariants as event
+use Rattle.spec_machine.specs.declared.kinds.Event.{Event}
+use Rattle.spec_machine.specs.declared.kinds.Event.TheVariants as event
 use Rattle.sx_tmpl.proofs.Running.MidRun.{PrivateRange, Stands, Runs, put_cell}
 use Rattle.sx_tmpl.proofs.Running.Holding.{IsRange, part_shown, holds_bytes, holds_from, stack_word, holds_push}
 use Rattle.sx_tag.specs.Mac.{IsTag}
 use Rattle.sx_tag.proofs.TagBytes.{cipher_length, tag_length}
-use Rattle.sx_machine.proofs.Lengths.{length-bytes_from, length-put_bytes}
+use Rattle.spec_machine.proofs.Lengths.{length-bytes_from, length-put_bytes}
 use Rattle.sx_tag.specs.Wrap.{unwrapped, wrapped}
 use Rattle.sx_tmpl.specs.Template.{key_word, opening_words, sealing_words}
 use Rattle.std.proofs.lemmas.List.{length-take}
 use Rattle.sx_ir.specs.Meaning.{key_at, next}
-use Rattle.sx_machine.specs.declared.kinds.Exchange.{Exchange}
-use Rattle.sx_machine.specs.Memory.{bytes_from, put_bytes}
-use Rattle.sx_invoke.specs.Marks as mark
-use Rattle.sx_invoke.specs.Marks.{HasPrefix, Mark}
+use Rattle.spec_machine.specs.declared.kinds.Exchange.{Exchange}
+use Rattle.spec_machine.specs.Memory.{bytes_from, put_bytes}
+use Rattle.spec_invocation.specs.Marks as mark
+use Rattle.spec_invocation.specs.Marks.{HasPrefix, Mark}
 use Rattle.sx_tmpl.specs.Running.{running_after, Regs, Fixed, Data, running, Safe}
 use Rattle.sx_tmpl.proofs.Running.Flags.{flags_stay}
 use Rattle.sx_tmpl.proofs.Operations.Sealing.{KeyAt, OwnKey, KeyIn, Buffers, wrap_as, unwrap_step}

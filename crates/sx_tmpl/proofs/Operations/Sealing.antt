@@ -6,7 +6,7 @@ use Rattle.std.specs.List.{list_any, position_from}
 use Rattle.std.proofs.lemmas.Bool.{and_from, eq-eqb, ne_eqb, le-leb, le-ltb, lt-ltb, ltb-true, and_parts, cases_Bool, cases_lt, true≢false}
 use Rattle.std.proofs.lemmas.Option.{none-some}
 use Rattle.std.proofs.lemmas.List.{append-nil, length-take}
-use Rattle.sx_reach.specs.Reach.{Goes, Next, Ends}
+use Rattle.sx_image.specs.Reach.{Goes, Next, Ends}
 use Rattle.sx_bus.specs.declared.devices.Window.{Window}
 use Rattle.sx_bus.specs.Devices.{device_at, on_word, places_of}
 use Rattle.sx_rules.specs.declared.access.Violation.{Violation}
@@ -15,21 +15,21 @@ use Rattle.std.proofs.Math.Seq.{take-append_seam}
 use Rattle.sx_tag.proofs.TagBytes.{tag_short}
 use Rattle.sx_tag.specs.Mac.{Mac}
 use Rattle.sx_tag.specs.Wrap.{Wrapped, wrapped, unwrapped, padded, crypt, xor_bytes, stream}
-use Rattle.sx_machine.specs.declared.kinds.Event.{Event}
-use Rattle.sx_machine.specs.declared.kinds.Event.TheVariants as event
-use Rattle.sx_machine.specs.declared.kinds.Exchange.{Exchange}
-use Rattle.sx_machine.specs.Memory.{bytes_from, put_bytes, word}
-use Rattle.sx_machine.specs.Ranges.{meets, passes_end, meets_device}
-use Rattle.sx_machine.specs.Plan.{Plan, Bytes, Put, Tell, Writable}
-use Rattle.sx_machine.specs.Given.{Given, own_section, concluded}
-use Rattle.sx_machine.specs.Run.{Outcome, Finished, Violated, Module, exec}
-use Rattle.sx_machine.specs.Rows.{program}
-use Rattle.sx_machine.specs.Modules.{module_instruction}
-use Rattle.sx_machine.specs.ModuleRows.{own_key, buffers, tested, with_inputs, exchanged, wrap, unwrap, opened, within, module_row}
-use Rattle.sx_machine.specs.Step.{own_of, start, is_module_word, given_at_pc, attempt}
-use Rattle.sx_machine.specs.State.{State}
-use Rattle.sx_invoke.specs.Marks as mark
-use Rattle.sx_invoke.specs.Marks.{Mark, HasPrefix}
+use Rattle.spec_machine.specs.declared.kinds.Event.{Event}
+use Rattle.spec_machine.specs.declared.kinds.Event.TheVariants as event
+use Rattle.spec_machine.specs.declared.kinds.Exchange.{Exchange}
+use Rattle.spec_machine.specs.Memory.{bytes_from, put_bytes, word}
+use Rattle.spec_machine.specs.Ranges.{meets, passes_end, meets_device}
+use Rattle.spec_machine.specs.Plan.{Plan, Bytes, Put, Tell, Writable}
+use Rattle.spec_machine.specs.Given.{Given, own_section, concluded}
+use Rattle.spec_machine.specs.Run.{Outcome, Finished, Violated, Module, exec}
+use Rattle.spec_machine.specs.Rows.{program}
+use Rattle.spec_machine.specs.Modules.{module_instruction}
+use Rattle.spec_machine.specs.ModuleRows.{own_key, buffers, tested, with_inputs, exchanged, wrap, unwrap, opened, within, module_row}
+use Rattle.spec_machine.specs.Step.{own_of, start, is_module_word, given_at_pc, attempt}
+use Rattle.spec_machine.specs.State.{State}
+use Rattle.spec_invocation.specs.Marks as mark
+use Rattle.spec_invocation.specs.Marks.{Mark, HasPrefix}
 use Rattle.sx_image.specs.Watched.{Watched, watch, violation_of, marks_of_event}
 use Rattle.sx_tmpl.specs.Running.{Regs, regs16, Fixed, Data, sections_of, running_after, Safe}
 use Rattle.sx_tmpl.proofs.Running.MidRun.{Stands, Runs, PrivateRange}
@@ -41,7 +41,7 @@ use Rattle.sx_mean.specs.Offsets.{end_key_at}
 use Rattle.sx_mean.specs.Working.{plain_at}
 use Rattle.sx_tmpl.proofs.Running.Mem.{word_is}
 use Rattle.sx_tmpl.proofs.Running.Steps.{InText, Text, by_outcome, reached, tests_passed}
-use Rattle.sx_machine.proofs.Lengths.{length-bytes_from}
+use Rattle.spec_machine.proofs.Lengths.{length-bytes_from}
 
 -- no device's word meets bytes that lie on none
 none_meets : (devices : List Window) (at n i : ℕ) → ((b : ℕ) → at ≤ b → b < at + n → position_from (on_word b) i devices ≡ None)

@@ -3,17 +3,17 @@ use Rattle.sx_isa.specs.Assembly.{##◌, #◌, &◌, ◌⟨◌⟩, call, clr, mo
 use Rattle.sx_tmpl.proofs.Running.Instructions.{goes}
 use Rattle.sx_tmpl.specs.Template.{slot_words}
 use Rattle.std.proofs.Common.{◌≡◌, ℕ, zero, suc, ◌+◌, ◌-◌, ◌*◌, ◌/◌, ◌%◌, ◌<◌, ◌≤◌, inl, inr, List, [], ◌∷◌, ◌++◌, length, Option, None, Some, refl, sym, ◌∙◌, ap, subst, arith, slice_index}
-use Rattle.sx_reach.specs.Reach.{Here}
+use Rattle.sx_image.specs.Reach.{Here}
 use Rattle.sx_isa.specs.Spelling.{spelling}
 use Rattle.sx_isa.specs.Standing.{words_of}
 use Rattle.sx_rules.specs.declared.access.Violation.{Violation}
-use Rattle.sx_machine.specs.declared.kinds.Event.TheVariants as event
+use Rattle.spec_machine.specs.declared.kinds.Event.TheVariants as event
 use Rattle.std.specs.Prelude.{slice_set, drop, take}
 use Rattle.sx_tmpl.proofs.Running.Mem.{cell-put_other, put_word_is, word_is}
-use Rattle.sx_machine.specs.Memory.{even, bytes_from, put_bytes, word, put_word}
+use Rattle.spec_machine.specs.Memory.{even, bytes_from, put_bytes, word, put_word}
 use Rattle.sx_mean.specs.Offsets as offsets
 use Rattle.sx_tmpl.proofs.Running.Flags.{flags_stay}
-use Rattle.sx_invoke.specs.Marks.{Mark}
+use Rattle.spec_invocation.specs.Marks.{Mark}
 use Rattle.sx_image.specs.Watched.{Watched}
 use Rattle.sx_ir.specs.Conf.{Conf}
 use Rattle.sx_ir.specs.Meaning.{next, slot_keyed}
@@ -25,13 +25,13 @@ use Rattle.sx_tmpl.proofs.Running.Owes.{moved_met}
 use Rattle.sx_tmpl.proofs.Running.Instructions.{goes, reads_of, word_there}
 use Rattle.sx_isa.specs.declared.instruction.Instr.{Instr}
 use Rattle.sx_isa.specs.Instructions.{first_word}
-use Rattle.sx_machine.specs.Step.{start}
+use Rattle.spec_machine.specs.Step.{start}
 use Rattle.sx_bus.specs.Devices.{device_at}
 use Rattle.sx_tmpl.proofs.Running.Owned.{in_private_yes}
 use Rattle.std.specs.Prelude.{slice_get}
 use Rattle.sx_tmpl.specs.Unseen.{HoldsNoKey, InSlotKey}
 use Rattle.sx_tmpl.proofs.Operations.Plain.{inside, Leads}
-use Rattle.sx_machine.proofs.Lengths.{length-bytes_from, length-put_word}
+use Rattle.spec_machine.proofs.Lengths.{length-bytes_from, length-put_word}
 use Rattle.std.proofs.lemmas.List.{append_assoc}
 use Rattle.sx_isa.proofs.StandingLemmas.{even_same}
 use Rattle.sx_tmpl.proofs.Running.Holding.{low_shown, slot_shown, stack_word, data_place, data_word, holds_push, holds_pop, holds_store, holds_word, word_below}

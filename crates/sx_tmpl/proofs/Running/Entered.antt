@@ -3,10 +3,10 @@ use Rattle.std.proofs.Common.{◌≡◌, ℕ, zero, suc, ◌+◌, ◌*◌, ◌<�
 use Rattle.std.specs.Prelude.{slice_index, ◌++◌, ◌∷◌, []}
 use Rattle.std.proofs.lemmas.Bool.{true≢false}
 use Rattle.sx_mean.specs.Offsets.{end_key_at, end_open_at}
-use Rattle.sx_machine.specs.Memory.{bytes_from, word}
+use Rattle.spec_machine.specs.Memory.{bytes_from, word}
 use Rattle.sx_image.specs.Image.{private_bytes}
-use Rattle.sx_invoke.specs.ModuleState.{end_state}
-use Rattle.sx_invoke.specs.Setup.{Setup}
+use Rattle.spec_invocation.specs.ModuleState.{end_state}
+use Rattle.spec_invocation.specs.Setup.{Setup}
 use Rattle.sx_ir.specs.Meaning.{has_key_mark}
 use Rattle.sx_ir.specs.Conf.{Conf}
 use Rattle.sx_tmpl.specs.Running.{Fixed, cell}

@@ -4,11 +4,11 @@ use Rattle.std.proofs.lemmas.Bool.{cases_eq, cases_lt, true≢false}
 use Rattle.sx_rules.specs.Access.{in_private}
 use Rattle.std.specs.Prelude.{slice_set}
 use Rattle.std.proofs.lemmas.List.{get_or-set_same, get_or-set_other, length-set}
-use Rattle.sx_machine.specs.Memory.{word, put_word, put_bytes, bytes_from}
+use Rattle.spec_machine.specs.Memory.{word, put_word, put_bytes, bytes_from}
 use Rattle.sx_tmpl.specs.Running.{Fixed, OutsideKept, cell}
 use Rattle.sx_tmpl.proofs.Running.MidRun.{Stands, PrivateByte, PrivatePlace, PrivateWord, place_of, put_cell}
 use Rattle.sx_tmpl.specs.Unseen.{AreShown, HoldsNoKey}
-use Rattle.sx_invoke.specs.Setup.{Setup}
+use Rattle.spec_invocation.specs.Setup.{Setup}
 use Rattle.sx_tmpl.specs.Shows.{base_of, WordsAt, IsData, MemoryHolds, ReturnsTo}
 use Rattle.sx_tmpl.proofs.Operations.Bytes.{bytes_agree}
 use Rattle.sx_tmpl.proofs.Running.Owes.{Inside, kept_byte}

@@ -7,17 +7,17 @@ use Rattle.sx_isa.specs.Extending.{extended}
 use Rattle.sx_isa.specs.Instructions.{first_word}
 use Rattle.sx_isa.specs.Spelling.{spelling}
 use Rattle.sx_isa.proofs.Spelled.{spelling_short}
-use Rattle.sx_machine.specs.Step.{is_module_word}
+use Rattle.spec_machine.specs.Step.{is_module_word}
 use Rattle.sx_isa.specs.Shaped.{is_shaped}
 use Rattle.sx_tmpl.proofs.Running.Steps.{InText, Reads, Text, Then, NoTell, one, two, three}
 use Rattle.std.proofs.lemmas.Option.{none-some}
 use Rattle.sx_rules.specs.declared.access.Violation.{Violation}
-use Rattle.sx_machine.specs.declared.kinds.Event.{Event}
-use Rattle.sx_machine.specs.declared.kinds.Event.TheVariants as event
-use Rattle.sx_machine.specs.Plan.{Plan, Done, Tell, Stop, Fetch, Load, Store, Need, Writable, Bytes, Put}
-use Rattle.sx_machine.specs.Registers.{at_pc}
-use Rattle.sx_machine.specs.Rows.{row}
-use Rattle.sx_invoke.specs.Marks.{Mark}
+use Rattle.spec_machine.specs.declared.kinds.Event.{Event}
+use Rattle.spec_machine.specs.declared.kinds.Event.TheVariants as event
+use Rattle.spec_machine.specs.Plan.{Plan, Done, Tell, Stop, Fetch, Load, Store, Need, Writable, Bytes, Put}
+use Rattle.spec_machine.specs.Registers.{at_pc}
+use Rattle.spec_machine.specs.Rows.{row}
+use Rattle.spec_invocation.specs.Marks.{Mark}
 use Rattle.sx_image.specs.Watched.{Watched}
 use Rattle.sx_tmpl.specs.Running.{Data, Fixed, Regs, Safe, cell, regs16, running, running_after}
 use Rattle.sx_tmpl.proofs.Running.MidRun.{PrivateWord, Runs, Stands, put_cell}

@@ -12,11 +12,11 @@ use Rattle.sx_isa.specs.Instructions.{first_word}
 use Rattle.sx_isa.specs.Spelling.{spelling}
 use Rattle.sx_isa.specs.Standing.{words_of}
 use Rattle.sx_rules.specs.declared.access.Violation.{Violation}
-use Rattle.sx_machine.specs.declared.kinds.Event.TheVariants as event
-use Rattle.sx_machine.specs.Registers.{at_pc, flags, set_flags, set_reg}
-use Rattle.sx_machine.specs.Rows.{row}
-use Rattle.sx_machine.specs.Step.{is_module_word}
-use Rattle.sx_invoke.specs.Marks.{Mark}
+use Rattle.spec_machine.specs.declared.kinds.Event.TheVariants as event
+use Rattle.spec_machine.specs.Registers.{at_pc, flags, set_flags, set_reg}
+use Rattle.spec_machine.specs.Rows.{row}
+use Rattle.spec_machine.specs.Step.{is_module_word}
+use Rattle.spec_invocation.specs.Marks.{Mark}
 use Rattle.sx_image.specs.Watched.{Watched}
 use Rattle.sx_tmpl.specs.Running.{Data, Fixed, Regs, Safe, regs16, running}
 use Rattle.sx_isa.specs.Shaped.{is_shaped}

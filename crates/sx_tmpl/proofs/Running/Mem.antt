@@ -4,7 +4,7 @@ use Rattle.std.proofs.lemmas.List.{get_or-set_same, get_or-set_other, length-set
 use Rattle.std.proofs.lemmas.Bool.{cases_eq}
 use Rattle.std.specs.Prelude.{slice_index, slice_set}
 use Rattle.sx_isa.proofs.StandingLemmas.{even_same}
-use Rattle.sx_machine.specs.Memory.{word, put_word}
+use Rattle.spec_machine.specs.Memory.{word, put_word}
 use Rattle.sx_tmpl.specs.Running.{cell}
 use Rattle.sx_tmpl.proofs.Running.MidRun.{put_cell}
 

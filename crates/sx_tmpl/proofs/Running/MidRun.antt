@@ -1,15 +1,15 @@
 -- What templates rely on of a module in mid-run, and the bytes of its private section.
 use Rattle.std.specs.Prelude.{◌≡◌, ℕ, ◌+◌, ◌/◌, ◌%◌, ◌<◌, ◌≤◌, true, false, List, Option, Some, None, slice_set, if◌then◌else◌}
 use Rattle.std.proofs.Common.{arith, inl, inr}
-use Rattle.sx_reach.specs.Reach.{Comes, Here, Next, Ends}
+use Rattle.sx_image.specs.Reach.{Comes, Here, Next, Ends}
 use Rattle.sx_bus.specs.Devices.{device_at}
 use Rattle.sx_rules.specs.declared.access.Access.{Access}
 use Rattle.sx_rules.specs.declared.access.Violation.{Violation}
 use Rattle.sx_rules.specs.declared.access.Violation.TheVariants as bad
 use Rattle.sx_rules.specs.Access.{may, in_public, in_private, Lives}
 use Rattle.sx_rules.specs.Placed.{Placed}
-use Rattle.sx_invoke.specs.Marks.{Mark}
-use Rattle.sx_invoke.specs.Setup.{Setup}
+use Rattle.spec_invocation.specs.Marks.{Mark}
+use Rattle.spec_invocation.specs.Setup.{Setup}
 use Rattle.sx_image.specs.Watched.{Watched, watch}
 use Rattle.sx_tmpl.specs.Running.{Fixed, sections_of, Safe}
 use Rattle.sx_tmpl.specs.Unseen.{AreShown, IsWordShown, StepShowsNone}

@@ -2,7 +2,7 @@
 use Rattle.std.proofs.Common.{◌≡◌, ℕ, List}
 use Rattle.std.specs.Prelude.{Result, Ok, Err}
 use Rattle.sx_rules.specs.declared.access.Violation.{Violation}
-use Rattle.sx_reach.specs.Reach.{Goes, Stops}
+use Rattle.sx_image.specs.Reach.{Goes, Stops}
 use Rattle.sx_ir.specs.Conf.{Conf, Halt}
 use Rattle.sx_ir.specs.Meaning.{OperationResult}
 

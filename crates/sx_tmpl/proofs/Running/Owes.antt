@@ -15,12 +15,12 @@ use Rattle.sx_rules.specs.declared.access.Access.TheVariants.{Read, Write}
 use Rattle.sx_rules.specs.declared.access.Violation.{Violation}
 use Rattle.sx_rules.specs.declared.access.Violation.TheVariants as bad
 use Rattle.sx_rules.specs.Access.{in_public, in_private, may}
-use Rattle.sx_machine.specs.declared.kinds.Event.{Event}
-use Rattle.sx_machine.specs.declared.kinds.Exchange.{Exchange}
-use Rattle.sx_machine.specs.Memory.{even, bytes_from, put_bytes}
-use Rattle.sx_machine.specs.Plan.{Plan, Done, Tell, Stop, Fetch, Load, Store, Need, Writable, Bytes, Put}
-use Rattle.sx_machine.specs.Run.{Moment, Outcome, Finished, Violated, Module, may_range, may_each, found, read_place, read_device, write_place, write_device}
-use Rattle.sx_machine.specs.Run.{load, store, after_read, after_write, exec}
+use Rattle.spec_machine.specs.declared.kinds.Event.{Event}
+use Rattle.spec_machine.specs.declared.kinds.Exchange.{Exchange}
+use Rattle.spec_machine.specs.Memory.{even, bytes_from, put_bytes}
+use Rattle.spec_machine.specs.Plan.{Plan, Done, Tell, Stop, Fetch, Load, Store, Need, Writable, Bytes, Put}
+use Rattle.spec_machine.specs.Run.{Moment, Outcome, Finished, Violated, Module, may_range, may_each, found, read_place, read_device, write_place, write_device}
+use Rattle.spec_machine.specs.Run.{load, store, after_read, after_write, exec}
 use Rattle.sx_tmpl.specs.Running.{sections_of, Fixed, Elsewhere, OutsideKept, cell}
 use Rattle.sx_tmpl.proofs.Running.MidRun.{Stands, refused, device_refusal, PrivateByte, PrivatePlace, PrivateWord, PrivateRange, PublicWord, place_of, put_cell, word_shown}
 use Rattle.sx_tmpl.specs.Unseen.{IsShown, IsWordShown, PlanShowsNone}

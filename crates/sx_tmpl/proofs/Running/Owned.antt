@@ -10,10 +10,10 @@ use Rattle.sx_rules.specs.Access.{Sections, in_public, in_private, allows, may, 
 use Rattle.sx_rules.specs.Admission.{apart, parts_apart}
 use Rattle.sx_rules.specs.Placed.{Beside, Placed}
 use Rattle.sx_rules.proofs.Placing.{placed_found, placed_beside, placed_holds}
-use Rattle.sx_machine.proofs.PlanGuard.{passes}
+use Rattle.spec_machine.proofs.PlanGuard.{passes}
 use Rattle.sx_tmpl.specs.Running.{sections_of, Fixed}
 use Rattle.sx_tmpl.proofs.Running.MidRun.{Stands, PrivateByte, refused}
-use Rattle.sx_machine.proofs.Frame.{all_pass, lives_sound, out_of}
+use Rattle.spec_machine.proofs.Frame.{all_pass, lives_sound, out_of}
 
 same_or_beside : (t : Sections) (s u : Section) → Placed t → Lives t.live s → Lives t.live u → (s ≡ u) ⊎ Beside s u
 same_or_beside t s u p ls lu =

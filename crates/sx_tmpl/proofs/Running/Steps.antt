@@ -4,22 +4,22 @@ use Rattle.std.specs.Prelude.{slice_get, Result}
 use Rattle.std.proofs.lemmas.Bool.{and_from, eq-eqb, ne_eqb}
 use Rattle.std.proofs.lemmas.List.{append-nil}
 use Rattle.sx_isa.proofs.StandingLemmas.{even_same}
-use Rattle.sx_reach.specs.Reach.{Stepped, Goes, Next, Ends}
+use Rattle.sx_image.specs.Reach.{Stepped, Goes, Next, Ends}
 use Rattle.sx_isa.specs.declared.instruction.Instr.{Instr}
 use Rattle.sx_isa.specs.Reading.{instruction_at, length_of}
 use Rattle.sx_bus.specs.Devices.{device_at}
 use Rattle.sx_rules.specs.declared.access.Violation.{Violation}
 use Rattle.sx_rules.specs.declared.access.Violation.TheVariants as bad
 use Rattle.sx_rules.specs.Access.{holder}
-use Rattle.sx_machine.specs.declared.kinds.Event.{Event}
-use Rattle.sx_machine.specs.declared.kinds.Exchange.{Exchange}
-use Rattle.sx_machine.specs.Memory.{word}
-use Rattle.sx_machine.specs.Registers.{onward, at_pc}
-use Rattle.sx_machine.specs.Plan.{Plan}
-use Rattle.sx_machine.specs.Run.{Moment, Outcome, Finished, Violated, Module, fetch, after_fetch, exec}
-use Rattle.sx_machine.specs.Rows.{row, row_of, with_words, program}
-use Rattle.sx_machine.specs.Step.{pc_of, own_of, start, is_module_word, instruction, ordered, word_outside, attempt, settled_step}
-use Rattle.sx_invoke.specs.Marks.{Mark}
+use Rattle.spec_machine.specs.declared.kinds.Event.{Event}
+use Rattle.spec_machine.specs.declared.kinds.Exchange.{Exchange}
+use Rattle.spec_machine.specs.Memory.{word}
+use Rattle.spec_machine.specs.Registers.{onward, at_pc}
+use Rattle.spec_machine.specs.Plan.{Plan}
+use Rattle.spec_machine.specs.Run.{Moment, Outcome, Finished, Violated, Module, fetch, after_fetch, exec}
+use Rattle.spec_machine.specs.Rows.{row, row_of, with_words, program}
+use Rattle.spec_machine.specs.Step.{pc_of, own_of, start, is_module_word, instruction, ordered, word_outside, attempt, settled_step}
+use Rattle.spec_invocation.specs.Marks.{Mark}
 use Rattle.sx_image.specs.Watched.{Watched, watch, watched_on, violation_of}
 use Rattle.sx_tmpl.specs.Running.{sections_of, Regs, regs16, Fixed, Data, running_after, running, OutsideKept, Safe, cell}
 use Rattle.sx_tmpl.specs.Unseen.{PlanShowsNone, StepShowsNone, WordShowsNone}

@@ -19,19 +19,19 @@ use Rattle.sx_rules.specs.Placed.{Placed}
 use Rattle.sx_bus.specs.declared.devices.Window.{Window}
 use Rattle.sx_bus.specs.Devices.{device_at, on_word, places_of}
 use Rattle.sx_mean.specs.Application.{declared_kind}
-use Rattle.sx_machine.specs.declared.kinds.Event.TheVariants as event
-use Rattle.sx_machine.specs.Node.{IsNode}
-use Rattle.sx_machine.specs.State.{State}
-use Rattle.sx_machine.specs.Step.{pc_of, own_of, entered_from}
-use Rattle.sx_machine.specs.Memory.{bytes_from}
-use Rattle.sx_machine.specs.Ranges.{meets, passes_end}
-use Rattle.sx_reach.proofs.Reaching.{weaken}
-use Rattle.sx_invoke.specs.Setup.{Setup}
-use Rattle.sx_invoke.specs.Devices.{HasDevices}
-use Rattle.sx_invoke.specs.Marks.{Mark}
-use Rattle.sx_invoke.specs.Pieces.{made_bytes}
-use Rattle.sx_invoke.specs.Progress.{Invoked, bytes_in, marks_in, pieces_in}
-use Rattle.sx_invoke.specs.Windows.{is_bad_window}
+use Rattle.spec_machine.specs.declared.kinds.Event.TheVariants as event
+use Rattle.spec_machine.specs.Node.{IsNode}
+use Rattle.spec_machine.specs.State.{State}
+use Rattle.spec_machine.specs.Step.{pc_of, own_of, entered_from}
+use Rattle.spec_machine.specs.Memory.{bytes_from}
+use Rattle.spec_machine.specs.Ranges.{meets, passes_end}
+use Rattle.sx_image.proofs.Reaching.{weaken}
+use Rattle.spec_invocation.specs.Setup.{Setup}
+use Rattle.spec_invocation.specs.Devices.{HasDevices}
+use Rattle.spec_invocation.specs.Marks.{Mark}
+use Rattle.spec_invocation.specs.Pieces.{made_bytes}
+use Rattle.spec_invocation.specs.Progress.{Invoked, bytes_in, marks_in, pieces_in}
+use Rattle.spec_invocation.specs.Windows.{is_bad_window}
 use Rattle.sx_image.specs.Watched.{Watched, watch}
 use Rattle.sx_image.specs.Image.{call_at, private_bytes}
 use Rattle.sx_image.specs.Realizes.{Underway, begins, is_piece_address}
@@ -45,7 +45,7 @@ use Rattle.sx_tmpl.specs.Template.{entry_words}
 use Rattle.sx_tmpl.proofs.Running.Steps.{Text}
 use Rattle.sx_tmpl.proofs.Running.Owned.{run_holder, public_bounds, private_bounds}
 use Rattle.sx_tmpl.proofs.Operations.Entry.{entering, entry_run}
-use Rattle.sx_machine.proofs.Lengths.{length-bytes_from}
+use Rattle.spec_machine.proofs.Lengths.{length-bytes_from}
 
 -- Lists by their places.
 

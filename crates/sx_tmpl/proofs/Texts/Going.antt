@@ -5,11 +5,11 @@ use Rattle.std.proofs.Math.Nat.{le-min}
 use Rattle.std.proofs.lemmas.Bool.{true≢false}
 use Rattle.sx_rules.specs.declared.access.Violation.{Violation}
 use Rattle.sx_tag.specs.Mac.{IsTag}
-use Rattle.sx_machine.proofs.Devices.{device_there, sample_small}
-use Rattle.sx_reach.specs.Reach.{Goes, Stops}
-use Rattle.sx_invoke.specs.Marks.{HasPrefix, Mark}
-use Rattle.sx_invoke.specs.Pieces.{made_bytes}
-use Rattle.sx_invoke.specs.Windows.{is_bad_window}
+use Rattle.spec_machine.proofs.Devices.{device_there, sample_small}
+use Rattle.sx_image.specs.Reach.{Goes, Stops}
+use Rattle.spec_invocation.specs.Marks.{HasPrefix, Mark}
+use Rattle.spec_invocation.specs.Pieces.{made_bytes}
+use Rattle.spec_invocation.specs.Windows.{is_bad_window}
 use Rattle.sx_image.specs.Watched.{Watched}
 use Rattle.sx_ir.specs.Conf.{Conf, Halt}
 use Rattle.sx_ir.specs.Conf as conf
@@ -27,7 +27,7 @@ use Rattle.sx_tmpl.specs.Text.{addresses, bytes_of, part_place, text_words}
 use Rattle.sx_tmpl.proofs.Texts.SoundOps.{AreSound, sound_op}
 use Rattle.sx_tmpl.proofs.Texts.TextStands.{code_emitted, packet_text, slots_text, target, zero_text}
 use Rattle.sx_tmpl.proofs.Texts.Whole.{Emitted, Good, IsTarget, step_goes, step_stops}
-use Rattle.sx_invoke.specs.Setup.{Call}
+use Rattle.spec_invocation.specs.Setup.{Call}
 
 -- What `part_from` does.
 

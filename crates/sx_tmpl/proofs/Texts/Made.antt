@@ -1,7 +1,7 @@
 -- The bytes of the pieces that marks make.
 use Rattle.std.proofs.Common.{◌≡◌, ◌+◌, ◌≤◌, List, [], ◌∷◌, ◌++◌, ap, arith}
-use Rattle.sx_invoke.specs.Marks.{HasPrefix, Mark}
-use Rattle.sx_invoke.specs.Pieces.{made_bytes}
+use Rattle.spec_invocation.specs.Marks.{HasPrefix, Mark}
+use Rattle.spec_invocation.specs.Pieces.{made_bytes}
 
 pub made_bytes-append : (xs ys : List Mark) → made_bytes (xs ++ ys) ≡ made_bytes xs + made_bytes ys
 made_bytes-append [] ys = omega arith

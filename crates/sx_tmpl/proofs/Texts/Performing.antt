@@ -7,15 +7,15 @@ use Rattle.sx_rules.specs.declared.access.Violation.{Violation}
 use Rattle.sx_rules.specs.declared.section.Layout.{Layout}
 use Rattle.sx_rules.specs.Access.{in_public}
 use Rattle.sx_tag.specs.Mac.{IsTag, Mac}
-use Rattle.sx_machine.specs.Memory.{even}
-use Rattle.sx_machine.specs.State.{State}
-use Rattle.sx_reach.specs.Reach.{Goes, Stops}
-use Rattle.sx_reach.proofs.Reaching.{and_then, weaken}
-use Rattle.sx_invoke.specs.Setup.{Setup}
-use Rattle.sx_invoke.specs.Devices.{HasDevices}
-use Rattle.sx_invoke.specs.Marks.{HasPrefix, Mark}
-use Rattle.sx_invoke.specs.Pieces.{made_bytes}
-use Rattle.sx_invoke.specs.Progress.{Invoked, bytes_in, marks_in, pieces_in}
+use Rattle.spec_machine.specs.Memory.{even}
+use Rattle.spec_machine.specs.State.{State}
+use Rattle.sx_image.specs.Reach.{Goes, Stops}
+use Rattle.sx_image.proofs.Reaching.{and_then, weaken}
+use Rattle.spec_invocation.specs.Setup.{Setup}
+use Rattle.spec_invocation.specs.Devices.{HasDevices}
+use Rattle.spec_invocation.specs.Marks.{HasPrefix, Mark}
+use Rattle.spec_invocation.specs.Pieces.{made_bytes}
+use Rattle.spec_invocation.specs.Progress.{Invoked, bytes_in, marks_in, pieces_in}
 use Rattle.sx_image.specs.Watched.{Watched, watch}
 use Rattle.sx_image.specs.Image.{call_at, private_bytes, public_bytes, setup_at}
 use Rattle.sx_ir.specs.Conf.{Conf}

@@ -8,16 +8,16 @@ use Rattle.sx_rules.specs.declared.section.Layout.{Layout}
 use Rattle.sx_rules.specs.Access.{may, Lives, holder}
 use Rattle.sx_rules.specs.Placed.{Placed}
 use Rattle.sx_mean.specs.Application.{declared_kind}
-use Rattle.sx_machine.specs.declared.kinds.Event.TheVariants as event
-use Rattle.sx_machine.specs.Node.{IsNode}
-use Rattle.sx_machine.specs.State.{State}
-use Rattle.sx_machine.specs.Step.{pc_of, own_of}
-use Rattle.sx_invoke.specs.Setup.{Setup}
-use Rattle.sx_invoke.specs.Devices.{HasDevices}
-use Rattle.sx_invoke.specs.Marks.{Mark}
-use Rattle.sx_invoke.specs.Pieces.{made_bytes}
-use Rattle.sx_invoke.specs.Progress.{bytes_in}
-use Rattle.sx_invoke.specs.Windows.{is_bad_window}
+use Rattle.spec_machine.specs.declared.kinds.Event.TheVariants as event
+use Rattle.spec_machine.specs.Node.{IsNode}
+use Rattle.spec_machine.specs.State.{State}
+use Rattle.spec_machine.specs.Step.{pc_of, own_of}
+use Rattle.spec_invocation.specs.Setup.{Setup}
+use Rattle.spec_invocation.specs.Devices.{HasDevices}
+use Rattle.spec_invocation.specs.Marks.{Mark}
+use Rattle.spec_invocation.specs.Pieces.{made_bytes}
+use Rattle.spec_invocation.specs.Progress.{bytes_in}
+use Rattle.spec_invocation.specs.Windows.{is_bad_window}
 use Rattle.sx_image.specs.Watched.{Watched}
 use Rattle.sx_image.specs.Image.{private_bytes}
 use Rattle.sx_image.specs.Realizes.{begins, KeepsOutside}
@@ -29,7 +29,7 @@ use Rattle.sx_tmpl.proofs.Running.Owned.{run_holder, public_bounds}
 use Rattle.sx_mean.specs.Working.{stack_to}
 use Rattle.sx_ir.specs.Conf.{Conf}
 use Rattle.sx_tmpl.proofs.Texts.Entering.{bytes_from_get, free_of_devices, from_gets, gets, outside_window, private_free, regs_at, data_at, window_short}
-use Rattle.sx_machine.proofs.Lengths.{length-bytes_from}
+use Rattle.spec_machine.proofs.Lengths.{length-bytes_from}
 
 -- the run from this node on, whose pieces go to this out-window and whose marks are these
 abbrev pub fixed_from : Setup → State → ℕ → List Mark → Fixed

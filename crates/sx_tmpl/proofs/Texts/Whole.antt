@@ -1,8 +1,8 @@
 -- From the operations' templates to the whole code.
 use Rattle.std.proofs.Common.{◌≡◌, ℕ, zero, suc, ◌+◌, ◌-◌, ◌*◌, ◌%◌, ◌<◌, ◌≤◌, inl, inr, Bool, true, false, not, ◌&&◌, nat_le, ◌++◌, List, [], ◌∷◌, length, Option, Some, None, refl, sym, ◌∙◌, ap, subst, arith}
 use Rattle.sx_rules.specs.declared.access.Violation.{Violation}
-use Rattle.sx_machine.specs.Memory.{word, put_word, bytes_from, put_bytes}
-use Rattle.sx_invoke.specs.Marks.{Mark, HasPrefix}
+use Rattle.spec_machine.specs.Memory.{word, put_word, bytes_from, put_bytes}
+use Rattle.spec_invocation.specs.Marks.{Mark, HasPrefix}
 use Rattle.sx_image.specs.Watched.{Watched}
 use Rattle.sx_ir.specs.Conf.{Conf, Halt, Violates, Stuck}
 use Rattle.sx_ir.specs.Meaning.{next, OperationResult, when, pushed, operated, emit, emitted, saved, stop, is_saved, has_out_window, has_copy_room, do_op, do_at}
@@ -14,15 +14,15 @@ use Rattle.sx_tmpl.proofs.Running.Steps.{Text, InText}
 use Rattle.std.specs.Prelude.{slice_get, nat_lt, ◌==◌}
 use Rattle.std.proofs.lemmas.Bool.{ltb-true, leb-true, eqb-true, or_cases, and_parts}
 use Rattle.sx_tmpl.proofs.Operations.Plain.{Leads, push_leads, load_leads, store_leads, add_leads}
-use Rattle.sx_reach.specs.Reach.{Goes, Stops}
+use Rattle.sx_image.specs.Reach.{Goes, Stops}
 use Rattle.sx_tmpl.proofs.Texts.Made.{made_prefix}
-use Rattle.sx_invoke.specs.Pieces.{made_bytes}
+use Rattle.spec_invocation.specs.Pieces.{made_bytes}
 use Rattle.sx_mean.specs.Offsets as offsets
 use Rattle.sx_mean.specs.Working as working
-use Rattle.sx_invoke.specs.Marks as mark
+use Rattle.spec_invocation.specs.Marks as mark
 use Rattle.sx_tag.specs.Mac.{IsTag}
-use Rattle.sx_invoke.specs.ModuleState.{end_state}
-use Rattle.sx_invoke.specs.Acts.{own_window}
+use Rattle.spec_invocation.specs.ModuleState.{end_state}
+use Rattle.spec_invocation.specs.Acts.{own_window}
 use Rattle.sx_bus.specs.declared.devices.Window.{Window}
 use Rattle.sx_bus.specs.declared.devices.Kind.{Kind}
 use Rattle.sx_bus.specs.declared.devices.Kind.TheVariants.{Sensor, Actuator}
@@ -42,7 +42,7 @@ use Rattle.sx_tmpl.proofs.Operations.DeviceOps.{emit_leads, sense_fresh, sense_s
 use Rattle.sx_tmpl.proofs.Operations.InsideOp.{inside_ends}
 use Rattle.sx_tmpl.proofs.Operations.SetEndOp.{set_end_leads}
 use Rattle.sx_tmpl.proofs.Operations.MeetsOp.{meets_leads}
-use Rattle.sx_invoke.specs.Windows.{is_bad_window}
+use Rattle.spec_invocation.specs.Windows.{is_bad_window}
 use Rattle.sx_tmpl.proofs.Operations.SealOps.{KeptAt, SealsAt, seal_leads, open_leads}
 use Rattle.sx_tmpl.proofs.Operations.CopyOps.{Ending, Goes_to, Breaks_off, No_meaning, copy_in_ends, copy_out_ends}
 use Rattle.sx_tmpl.proofs.Running.Holding.{IsRange, low_shown}
@@ -54,7 +54,7 @@ use Rattle.std.proofs.Common.{take, cond}
 use Rattle.sx_tag.specs.Wrap.{unwrapped}
 use Rattle.sx_ir.specs.Meaning.{key_at, opened, sense, sensor_read, copy_in, copy_out}
 use Rattle.sx_tmpl.proofs.Operations.Parts.{handler_leads, stop_leads}
-use Rattle.sx_lists.specs.Truth.{truth}
+use Rattle.lemmas.specs.Truth.{truth}
 
 -- an address where code goes on
 abbrev pub IsTarget : Fixed → ℕ → Type 0

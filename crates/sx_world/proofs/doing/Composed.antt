@@ -2,9 +2,9 @@
 use Rattle.std.proofs.Common.{◌≡◌, List, [], ◌++◌, Result, Ok, Err, OnOk, OnErr, refl, sym, subst, ap, ◌∙◌}
 use Rattle.std.proofs.lemmas.List.{append_assoc, append-nil}
 use Rattle.sx_trace.specs.declared.items.Item.{Item}
-use Rattle.sx_run.specs.Setting.{Setting}
-use Rattle.sx_run.specs.State.{World, Acted}
-use Rattle.sx_run.specs.Acts.{only, then_}
+use Rattle.spec_run.specs.Setting.{Setting}
+use Rattle.spec_run.specs.State.{World, Acted}
+use Rattle.spec_run.specs.Acts.{only, then_}
 use Rattle.sx_world.specs.Held.{Running, Shows, Did, Wanted, DoesAct}
 use Rattle.sx_observe.specs.Observing.{AddsFront}
 use Rattle.sx_observe.proofs.Fronts.{front_more, front_next, Comes, comes_first, comes_on, comes_all, comes_front}

@@ -6,21 +6,21 @@ use Rattle.sx_rules.specs.Placed.{Placed}
 use Rattle.sx_rules.specs.Access.{Sections}
 use Rattle.sx_trace.specs.declared.items.Item.{Item}
 use Rattle.sx_ledger.specs.declared.entry.Entry.{Entry}
-use Rattle.sx_machine.specs.declared.kinds.Refused.{Refused}
-use Rattle.sx_machine.specs.State.{State, reset}
-use Rattle.sx_machine.specs.Acting.{Restart}
-use Rattle.sx_machine.proofs.Sections.{acted_placed}
-use Rattle.sx_machine.specs.Acts.{unless}
-use Rattle.sx_machine.specs.Step as machine
-use Rattle.sx_run.specs.Setting.{Setting}
+use Rattle.spec_machine.specs.declared.kinds.Refused.{Refused}
+use Rattle.spec_machine.specs.State.{State, reset}
+use Rattle.spec_machine.specs.Acting.{Restart}
+use Rattle.spec_machine.proofs.Sections.{acted_placed}
+use Rattle.spec_machine.specs.Acts.{unless}
+use Rattle.spec_machine.specs.Step as machine
+use Rattle.spec_run.specs.Setting.{Setting}
 use Rattle.sx_ledger.specs.Made.{Made}
-use Rattle.sx_run.specs.State.{World, Acted}
-use Rattle.sx_run.specs.Acts.{at_node, with_node, done_on, or_refused}
+use Rattle.spec_run.specs.State.{World, Acted}
+use Rattle.spec_run.specs.Acts.{at_node, with_node, done_on, or_refused}
 use Rattle.sx_world.specs.Held.{Running, Shows, Did, Wanted, ArePlaced, boots_of}
 use Rattle.sx_observe.specs.Observing.{Records}
 use Rattle.sx_observe.proofs.Fronts.{front_same}
-use Rattle.sx_run.proofs.tie.Lists.{get_other, some_inj, length_set}
-use Rattle.sx_lists.proofs.Lists.{get_same, get_some}
+use Rattle.spec_run.proofs.tie.Lists.{get_other, some_inj, length_set}
+use Rattle.lemmas.proofs.Lists.{get_same, get_some}
 
 -- what is kept, with other nodes, another ledger, and another count of steps
 abbrev pub with_nodes : Running → List State → List Entry → ℕ → Running

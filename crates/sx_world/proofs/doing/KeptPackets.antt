@@ -5,13 +5,13 @@ use Rattle.std.proofs.lemmas.Option.{slice_get-map, slice_get-get_or, slice_get_
 use Rattle.std.specs.Option.{option_map}
 use Rattle.sx_trace.specs.declared.items.Item.{Item}
 use Rattle.sx_trace.specs.declared.items.Item.TheVariants.{Packet, Skip}
-use Rattle.sx_run.specs.Setting.{Setting}
-use Rattle.sx_machine.specs.declared.kinds.Refused.{Refused}
-use Rattle.sx_machine.specs.State.{State}
-use Rattle.sx_machine.specs.Acts.{take}
-use Rattle.sx_run.specs.Acts.{at_node, refused_item, after_take, new_packet}
-use Rattle.sx_run.specs.Run.{give, put_on}
-use Rattle.sx_run.specs.State.{World, Acted}
+use Rattle.spec_run.specs.Setting.{Setting}
+use Rattle.spec_machine.specs.declared.kinds.Refused.{Refused}
+use Rattle.spec_machine.specs.State.{State}
+use Rattle.spec_machine.specs.Acts.{take}
+use Rattle.spec_run.specs.Acts.{at_node, refused_item, after_take, new_packet}
+use Rattle.spec_run.specs.Run.{give, put_on}
+use Rattle.spec_run.specs.State.{World, Acted}
 use Rattle.sx_world.specs.Held.{Running, Shows, Did, DoesAct}
 use Rattle.sx_world.proofs.doing.Composed.{does_same}
 use Rattle.sx_observe.proofs.Fronts.{front_same}

@@ -9,21 +9,21 @@ use Rattle.std.proofs.lemmas.List.{length-map, take_min}
 use Rattle.std.proofs.lemmas.Option.{slice_get-map, slice_get-get_or}
 use Rattle.std.proofs.Math.ListN.{drop_of_length-le}
 use Rattle.std.proofs.Math.Seq.{drop-drop}
-use Rattle.sx_lists.proofs.Lists.{get_some}
+use Rattle.lemmas.proofs.Lists.{get_some}
 use Rattle.sx_trace.specs.declared.items.Item.{Item}
 use Rattle.sx_trace.specs.declared.items.Item.TheVariants.{Busy}
-use Rattle.sx_machine.specs.State.{State}
-use Rattle.sx_run.specs.Setting.{Site, Setting}
-use Rattle.sx_run.specs.State.{World, Acted}
-use Rattle.sx_run.specs.Acts.{at_node, only, then_}
-use Rattle.sx_run.specs.Run.{Register, call, call_registers, finish, put_on, put_pieces, set_on, set_all, steps_of, unless_busy}
+use Rattle.spec_machine.specs.State.{State}
+use Rattle.spec_run.specs.Setting.{Site, Setting}
+use Rattle.spec_run.specs.State.{World, Acted}
+use Rattle.spec_run.specs.Acts.{at_node, only, then_}
+use Rattle.spec_run.specs.Run.{Register, call, call_registers, finish, put_on, put_pieces, set_on, set_all, steps_of, unless_busy}
 use Rattle.sx_world.specs.Held.{Running, Shows, Did, Wanted, DoesAct, boots_of}
 use Rattle.sx_world.specs.Loading.{AreSettable, after_loading}
-use Rattle.sx_run.specs.Run.{protect_registers}
+use Rattle.spec_run.specs.Run.{protect_registers}
 use Rattle.sx_world.proofs.doing.Composed.{does_same, then_does, then_wanted, first_wanted}
 use Rattle.sx_observe.proofs.Fronts.{front_same}
 use Rattle.sx_world.proofs.passing.Passed.{one_less}
-use Rattle.sx_run.proofs.tie.Lists.{some_inj}
+use Rattle.spec_run.proofs.tie.Lists.{some_inj}
 
 -- nodes with the same counts of resets can be reset once more
 pub still_few : (old new : List State) (n : ℕ) → boots_of new ≡ boots_of old → ((s : State) → slice_get old n ≡ Some s → s.boot < 4294967295)

@@ -2,7 +2,7 @@
 use Rattle.std.proofs.Common.{◌≡◌, ◌<◌, ℕ, List, length, get_or, Some, sym, ap, ◌∙◌}
 use Rattle.std.specs.Prelude.{slice_get, slice_set}
 use Rattle.std.proofs.lemmas.Option.{get_or_from_slice_get, slice_get-get_or}
-use Rattle.sx_machine.specs.State.{State}
+use Rattle.spec_machine.specs.State.{State}
 
 pub slot_is : (nodes : List State) (n i : ℕ) (s d : State) → slice_get nodes n ≡ Some s → i ≡ n → get_or nodes i d ≡ s
 slot_is nodes n i s d here same = ap (λ k. get_or nodes k d) same ∙ get_or_from_slice_get nodes n s d here

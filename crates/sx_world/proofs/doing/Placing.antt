@@ -4,10 +4,10 @@ use Rattle.std.specs.Prelude.{slice_get, if◌then◌else◌}
 use Rattle.std.specs.List.{position_from}
 use Rattle.std.proofs.lemmas.Bool.{eq-eqb}
 use Rattle.std.specs.Prelude.{unwrap_or}
-use Rattle.sx_lists.proofs.Lists.{get_some}
+use Rattle.lemmas.proofs.Lists.{get_some}
 use Rattle.sx_mean.specs.declared.apps.AppDevice.{AppDevice}
-use Rattle.sx_run.specs.Setting.{devices_at}
-use Rattle.sx_run.proofs.tie.Lists.{some_inj}
+use Rattle.spec_run.specs.Setting.{devices_at}
+use Rattle.spec_run.proofs.tie.Lists.{some_inj}
 
 -- the d-th device itself
 pub found : (ds : List AppDevice) (n d c : ℕ) (x : AppDevice) → x.node ≡ n → position_from (λ k. k == d) c (devices_at n d (x ∷ ds)) ≡ Some c

@@ -3,9 +3,9 @@ use Rattle.std.proofs.Common.{◌≡◌, ℕ, ◌+◌, ◌≤◌, List, Result, 
 use Rattle.sx_trace.specs.declared.items.Item.{Item}
 use Rattle.sx_sched.specs.declared.lines.Line.{Line}
 use Rattle.sx_sched.specs.Seen.{line_of}
-use Rattle.sx_run.specs.Setting.{Setting}
+use Rattle.spec_run.specs.Setting.{Setting}
 use Rattle.sx_world.specs.Held.{Running, DoesAct}
-use Rattle.sx_run.specs.Run.{FINISH_STEPS, after_line}
+use Rattle.spec_run.specs.Run.{FINISH_STEPS, after_line}
 
 -- a million further steps are counted
 pub counts_finish : (steps : ℕ) → steps + 1000000 ≤ 18446744073709551615 → steps + FINISH_STEPS ≤ 18446744073709551615

@@ -3,7 +3,7 @@ use Rattle.std.proofs.Common.{◌≡◌, ℕ, zero, suc, ◌<◌, ◌≤◌, Boo
 use Rattle.std.specs.Prelude.{slice_get}
 use Rattle.std.proofs.lemmas.List.{append-nil}
 use Rattle.std.proofs.lemmas.Option.{slice_get_past}
-use Rattle.sx_lists.proofs.Lists.{get_some}
+use Rattle.lemmas.proofs.Lists.{get_some}
 use Rattle.sx_lang.specs.declared.tree.DeviceKind.{DeviceKind}
 use Rattle.sx_lang.specs.declared.tree.DeviceKind.TheVariants as declared_kind
 use Rattle.sx_mean.specs.declared.apps.AppDevice.{AppDevice}
@@ -13,22 +13,22 @@ use Rattle.sx_bus.specs.declared.devices.Window.{Window}
 use Rattle.sx_tag.specs.Mac.{Mac}
 use Rattle.sx_trace.specs.declared.items.Item.{Item}
 use Rattle.sx_trace.specs.declared.items.Item.TheVariants.{Sense}
-use Rattle.sx_machine.specs.Acts.{sense}
-use Rattle.sx_machine.specs.State.{State}
-use Rattle.sx_machine.specs.NodeLaws.{shapes}
+use Rattle.spec_machine.specs.Acts.{sense}
+use Rattle.spec_machine.specs.State.{State}
+use Rattle.spec_machine.specs.NodeLaws.{shapes}
 use Rattle.sx_mean.specs.Application.{is_sensor}
 use Rattle.sx_deploy.specs.Deployment.{Deployed}
 use Rattle.sx_deploy.specs.Law.{IsSoundDeployment}
-use Rattle.sx_run.specs.Setting.{Site, Setting, kind_of, windows_at}
-use Rattle.sx_run.specs.State.{Acted}
-use Rattle.sx_run.specs.Acts.{at_node, done_on}
+use Rattle.spec_run.specs.Setting.{Site, Setting, kind_of, windows_at}
+use Rattle.spec_run.specs.State.{Acted}
+use Rattle.spec_run.specs.Acts.{at_node, done_on}
 use Rattle.sx_world.specs.Held.{Running, Shows, Did, DoesAct}
-use Rattle.sx_run.specs.Accepted.{setting}
-use Rattle.sx_run.specs.Run.{place_at, sense_at}
-use Rattle.sx_run.proofs.tie.Lists.{get_within, some_inj}
-use Rattle.sx_run.proofs.acts.Sensing.{place_is}
-use Rattle.sx_run.proofs.steps.Steps.{increasing}
-use Rattle.sx_run.proofs.accepted.Windows.{own_device, shape_window}
+use Rattle.spec_run.specs.Accepted.{setting}
+use Rattle.spec_run.specs.Run.{place_at, sense_at}
+use Rattle.spec_run.proofs.tie.Lists.{get_within, some_inj}
+use Rattle.spec_run.proofs.acts.Sensing.{place_is}
+use Rattle.spec_run.proofs.steps.Steps.{increasing}
+use Rattle.spec_run.proofs.accepted.Windows.{own_device, shape_window}
 
 -- a device that the names call a sensor is one
 sensor_kind : (ds : List AppDevice) (d : ℕ) (x : AppDevice) → slice_get (map (λ (x : AppDevice). is_sensor x.kind) ds) d ≡ Some true → slice_get ds d ≡ Some x → kind_of x.kind ≡ Sensor

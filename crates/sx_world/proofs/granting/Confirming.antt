@@ -7,20 +7,20 @@ use Rattle.std.proofs.lemmas.Bool.{true≢false}
 use Rattle.std.proofs.lemmas.List.{append_assoc}
 use Rattle.std.proofs.lemmas.Option.{none-some}
 use Rattle.std.specs.Option.{option_flatten}
-use Rattle.sx_lists.proofs.Lists.{get_some}
+use Rattle.lemmas.proofs.Lists.{get_some}
 use Rattle.sx_trace.specs.declared.items.Item.{Item}
 use Rattle.sx_trace.specs.declared.items.Item.TheVariants.{Attested, Denied}
 use Rattle.sx_ledger.specs.declared.entry.Maker.TheVariants as maker
 use Rattle.sx_deployer.specs.Keeping.{Known, Keeping}
 use Rattle.sx_deployer.specs.Keeping as keeping
-use Rattle.sx_run.specs.Setting.{Site, Setting}
-use Rattle.sx_run.specs.Ledger.{made_entry, is_made}
+use Rattle.spec_run.specs.Setting.{Site, Setting}
+use Rattle.spec_run.specs.Ledger.{made_entry, is_made}
 use Rattle.sx_ledger.specs.Made.{Made, NO_TARGET}
 use Rattle.sx_deployer.specs.Granting.{Grant, grants_after, is_answer}
-use Rattle.sx_run.specs.Deployer.{accepts, after_acceptance}
-use Rattle.sx_run.specs.State.{World, Acted}
-use Rattle.sx_run.specs.Observation.{unless_made}
-use Rattle.sx_run.specs.Acts.{keys_given, with_deployer, attested, after_denial, after_verdict, after_answer}
+use Rattle.spec_run.specs.Deployer.{accepts, after_acceptance}
+use Rattle.spec_run.specs.State.{World, Acted}
+use Rattle.spec_run.specs.Observation.{unless_made}
+use Rattle.spec_run.specs.Acts.{keys_given, with_deployer, attested, after_denial, after_verdict, after_answer}
 use Rattle.sx_world.specs.Granted.{granted, accepted_ask, judged_by, confirmed}
 use Rattle.sx_world.specs.Held.{Running, IsKept, Shows, Wanted, DoesAct}
 use Rattle.sx_observe.specs.Observing.{Records, AddsFront}

@@ -15,10 +15,10 @@ use Rattle.sx_deployer.specs.Granting.{DeployerState, Grant}
 use Rattle.sx_deployer.specs.Granting as granting
 use Rattle.sx_deployer.specs.Keeping.{Keeping, Known, packet_for}
 use Rattle.sx_deployer.specs.Keeping as keeping
-use Rattle.sx_run.specs.Setting.{Site, Setting}
-use Rattle.sx_run.specs.Deployer.{connection_key, grant_header, set_key, set_key_entry}
-use Rattle.sx_run.specs.State.{World, Acted}
-use Rattle.sx_run.specs.Acts.{then_, with_deployer, key_given, keys_given}
+use Rattle.spec_run.specs.Setting.{Site, Setting}
+use Rattle.spec_run.specs.Deployer.{connection_key, grant_header, set_key, set_key_entry}
+use Rattle.spec_run.specs.State.{World, Acted}
+use Rattle.spec_run.specs.Acts.{then_, with_deployer, key_given, keys_given}
 use Rattle.sx_world.specs.Held.{Running, IsKept, known_as, Shows, Did, Wanted, DoesAct}
 use Rattle.sx_observe.specs.Observing.{Records, AddsFront}
 use Rattle.sx_observe.proofs.Fronts.{front_more, front_same, Comes, comes_on, comes_all, comes_front}

@@ -9,11 +9,11 @@ use Rattle.sx_mean.specs.Ends.{ends_of}
 use Rattle.sx_model.specs.Renewal as model
 use Rattle.sx_deployer.specs.Keeping.{Known, Keeping, nobody}
 use Rattle.sx_deployer.specs.Keeping as keeping
-use Rattle.sx_run.proofs.RenewsAsTheModel.{renews_as_the_model}
-use Rattle.sx_run.specs.Setting.{Site, Setting}
+use Rattle.spec_run.proofs.RenewsAsTheModel.{renews_as_the_model}
+use Rattle.spec_run.specs.Setting.{Site, Setting}
 use Rattle.sx_wire.specs.Headers.{ask_packet}
 use Rattle.sx_deployer.specs.Granting.{DeployerState, after_ask, is_answer}
-use Rattle.sx_run.specs.Deployer.{key_of, after_acceptance, accepts}
+use Rattle.spec_run.specs.Deployer.{key_of, after_acceptance, accepts}
 use Rattle.sx_world.specs.Held.{IsKept, known_as, targets_from}
 
 pub take_set : {A : Type 0} → (n : ℕ) (xs : List A) (i : ℕ) (v : A) → take n (slice_set xs i v) ≡ slice_set (take n xs) i v

@@ -7,11 +7,11 @@ use Rattle.sx_ledger.specs.declared.entry.Entry.{Entry}
 use Rattle.sx_ledger.specs.Made.{Made}
 use Rattle.sx_deployer.specs.Keeping.{Keeping}
 use Rattle.sx_deployer.specs.Keeping as keeping
-use Rattle.sx_run.specs.Setting.{Setting}
+use Rattle.spec_run.specs.Setting.{Setting}
 use Rattle.sx_wire.specs.Headers.{ask_packet, challenge_in}
 use Rattle.sx_deployer.specs.Granting.{DeployerState, after_ask}
-use Rattle.sx_run.specs.State.{World}
-use Rattle.sx_run.specs.Acts.{ask, with_deployer, new_packet}
+use Rattle.spec_run.specs.State.{World}
+use Rattle.spec_run.specs.Acts.{ask, with_deployer, new_packet}
 use Rattle.sx_world.specs.Held.{Running, IsKept, Shows, DoesAct}
 use Rattle.sx_observe.specs.Observing.{Records}
 use Rattle.sx_world.proofs.granting.SameKeys.{asked_kept}

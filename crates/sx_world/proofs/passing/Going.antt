@@ -4,12 +4,12 @@ use Rattle.std.specs.Prelude.{slice_get}
 use Rattle.std.specs.Option.{option_to_list}
 use Rattle.std.proofs.lemmas.List.{append-nil}
 use Rattle.sx_trace.specs.declared.items.Item.{Item}
-use Rattle.sx_machine.specs.State.{State}
-use Rattle.sx_machine.specs.Step.{step}
-use Rattle.sx_run.specs.Setting.{Setting}
-use Rattle.sx_run.specs.State.{World, Acted}
-use Rattle.sx_run.specs.Acts.{at_node, after_step, then_, only}
-use Rattle.sx_run.specs.Run.{is_reset, steps_of}
+use Rattle.spec_machine.specs.State.{State}
+use Rattle.spec_machine.specs.Step.{step}
+use Rattle.spec_run.specs.Setting.{Setting}
+use Rattle.spec_run.specs.State.{World, Acted}
+use Rattle.spec_run.specs.Acts.{at_node, after_step, then_, only}
+use Rattle.spec_run.specs.Run.{is_reset, steps_of}
 use Rattle.sx_world.specs.Held.{Running, Shows, Did, Wanted}
 use Rattle.sx_observe.specs.Observing.{AddsFront}
 use Rattle.sx_observe.proofs.Fronts.{front_more, front_same, Comes, comes_on, comes_all, comes_front}

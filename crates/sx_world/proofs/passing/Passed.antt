@@ -10,29 +10,29 @@ use Rattle.sx_tag.specs.Mac.{Mac}
 use Rattle.sx_rules.specs.declared.access.Violation.{Violation}
 use Rattle.sx_trace.specs.declared.items.Item.{Item}
 use Rattle.sx_ledger.specs.declared.entry.Entry.{Entry}
-use Rattle.sx_machine.specs.declared.kinds.Event.{Event}
-use Rattle.sx_machine.specs.declared.kinds.Event.TheVariants.{Quiet, Reset}
-use Rattle.sx_machine.specs.declared.kinds.Seen.{Seen}
-use Rattle.sx_machine.specs.Run.{untouched}
-use Rattle.sx_machine.specs.State.{State}
-use Rattle.sx_machine.specs.Step.{step}
-use Rattle.sx_machine.proofs.Boots.{step_quiet}
+use Rattle.spec_machine.specs.declared.kinds.Event.{Event}
+use Rattle.spec_machine.specs.declared.kinds.Event.TheVariants.{Quiet, Reset}
+use Rattle.spec_machine.specs.declared.kinds.Seen.{Seen}
+use Rattle.spec_machine.specs.Run.{untouched}
+use Rattle.spec_machine.specs.State.{State}
+use Rattle.spec_machine.specs.Step.{step}
+use Rattle.spec_machine.proofs.Boots.{step_quiet}
 use Rattle.sx_deploy.specs.Deployment.{Deployed}
-use Rattle.sx_run.specs.Setting.{Site, Setting}
-use Rattle.sx_run.specs.Observation.{observed}
+use Rattle.spec_run.specs.Setting.{Site, Setting}
+use Rattle.spec_run.specs.Observation.{observed}
 use Rattle.sx_observe.specs.Computed.{runner_of}
 use Rattle.sx_world.specs.Held.{Running, Did, Wanted}
 use Rattle.sx_observe.specs.Observing.{Records, Observes, ObservesFront}
-use Rattle.sx_run.specs.Accepted.{setting}
-use Rattle.sx_run.specs.Run.{is_reset, steps_of}
+use Rattle.spec_run.specs.Accepted.{setting}
+use Rattle.spec_run.specs.Run.{is_reset, steps_of}
 use Rattle.sx_world.specs.Passing.{after_steps, AreQuiet, EndsWith, stepped, taken}
-use Rattle.sx_run.proofs.tie.Lists.{some_inj, length_set}
-use Rattle.sx_run.proofs.steps.Stretch.{set_same}
+use Rattle.spec_run.proofs.tie.Lists.{some_inj, length_set}
+use Rattle.spec_run.proofs.steps.Stretch.{set_same}
 use Rattle.sx_world.proofs.passing.Going.{Going, Steps, next, going_on, going_over, is_last}
-use Rattle.sx_run.proofs.acts.Bounds.{no_reset}
+use Rattle.spec_run.proofs.acts.Bounds.{no_reset}
 use Rattle.sx_world.proofs.passing.Stepped.{step_does, program_did, program_wanted, seen_behind}
 use Rattle.sx_world.proofs.doing.Doing.{with_nodes}
-use Rattle.sx_lists.proofs.Lists.{get_same, get_some}
+use Rattle.lemmas.proofs.Lists.{get_same, get_some}
 
 -- what a step shows that shows nothing
 abbrev nothing : Seen

@@ -1,8 +1,8 @@
 -- One step of a node of the program's world.
-use Rattle.sx_run.proofs.steps.Stretch.{set_same}
-use Rattle.sx_machine.specs.Acts.{irq, irq_refusal, unless}
-use Rattle.sx_machine.specs.declared.kinds.Refused.{Refused}
-use Rattle.sx_machine.specs.declared.kinds.Seen.{Seen}
+use Rattle.spec_run.proofs.steps.Stretch.{set_same}
+use Rattle.spec_machine.specs.Acts.{irq, irq_refusal, unless}
+use Rattle.spec_machine.specs.declared.kinds.Refused.{Refused}
+use Rattle.spec_machine.specs.declared.kinds.Seen.{Seen}
 use Rattle.std.proofs.lemmas.Option.{get_or_from_slice_get}
 use Rattle.std.proofs.Common.{◌≡◌, ℕ, ◌+◌, get_or, List, ◌++◌, Some, sym, subst, ap, ◌∙◌, Option, ◌∷◌, [], None, Result, Ok, Err, OnOk, OnErr, refl}
 use Rattle.std.specs.Prelude.{slice_get, slice_set}
@@ -10,24 +10,24 @@ use Rattle.sx_tag.specs.Mac.{Mac}
 use Rattle.sx_trace.specs.declared.items.Item.{Item}
 use Rattle.sx_ledger.specs.declared.entry.Entry.{Entry}
 use Rattle.sx_ledger.specs.Made.{Made}
-use Rattle.sx_machine.specs.State.{State}
-use Rattle.sx_machine.specs.Step.{own_of, step}
-use Rattle.sx_machine.specs.Step.{Shown as Shown}
-use Rattle.sx_machine.specs.Acting.{Step, Interrupt}
-use Rattle.sx_machine.proofs.Sections.{acted_placed}
+use Rattle.spec_machine.specs.State.{State}
+use Rattle.spec_machine.specs.Step.{own_of, step}
+use Rattle.spec_machine.specs.Step.{Shown as Shown}
+use Rattle.spec_machine.specs.Acting.{Step, Interrupt}
+use Rattle.spec_machine.proofs.Sections.{acted_placed}
 use Rattle.sx_deploy.specs.Deployment.{Deployed}
-use Rattle.sx_run.specs.Setting.{Site, Setting, module_of}
-use Rattle.sx_run.specs.State.{World, Acted}
-use Rattle.sx_run.specs.Acts.{at_node, after_step, with_node, after_interrupt, refused_item}
-use Rattle.sx_run.specs.Observation.{Observed, observed}
+use Rattle.spec_run.specs.Setting.{Site, Setting, module_of}
+use Rattle.spec_run.specs.State.{World, Acted}
+use Rattle.spec_run.specs.Acts.{at_node, after_step, with_node, after_interrupt, refused_item}
+use Rattle.spec_run.specs.Observation.{Observed, observed}
 use Rattle.sx_observe.specs.Computed.{runner_of}
 use Rattle.sx_world.specs.Held.{Running, Shows, Did, Wanted}
 use Rattle.sx_observe.specs.Observing.{Records, AddsFront, Observes, ObservesFront}
-use Rattle.sx_run.specs.Accepted.{setting}
+use Rattle.spec_run.specs.Accepted.{setting}
 use Rattle.sx_world.proofs.doing.Doing.{with_nodes, node_shown}
 use Rattle.sx_world.proofs.passing.Going.{next}
 use Rattle.sx_observe.proofs.Runners.{observed_behind}
-use Rattle.sx_lists.proofs.Lists.{get_same}
+use Rattle.lemmas.proofs.Lists.{get_same}
 
 -- what is seen of a step, by whose code the node after it tells
 abbrev pub seen_behind : Setting → ℕ → State → List Made → Observed

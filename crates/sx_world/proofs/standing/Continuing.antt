@@ -9,20 +9,20 @@ use Rattle.sx_deploy.specs.Deployment.{Deployed}
 use Rattle.sx_deploy.specs.Law as deployment
 use Rattle.sx_model.specs.Legal.{before}
 use Rattle.sx_model.proofs.Telling.{tells}
-use Rattle.sx_run.specs.Setting.{Site, Setting}
-use Rattle.sx_run.specs.State.{World, switched_on}
-use Rattle.sx_run.specs.Run.{after_line, line_counted, run}
-use Rattle.sx_run.specs.Law.{IsSoundSetting}
+use Rattle.spec_run.specs.Setting.{Site, Setting}
+use Rattle.spec_run.specs.State.{World, switched_on}
+use Rattle.spec_run.specs.Run.{after_line, line_counted, run}
+use Rattle.spec_run.specs.Law.{IsSoundSetting}
 use Rattle.sx_world.specs.Held.{Held}
-use Rattle.sx_run.specs.Accepted.{setting}
+use Rattle.spec_run.specs.Accepted.{setting}
 use Rattle.sx_world.specs.Standing.{Stands}
 use Rattle.sx_world.specs.Continued.{Acts, LeadTo, StaysLegal}
-use Rattle.sx_run.proofs.acts.Counting.{run_counts}
-use Rattle.sx_run.proofs.accepted.FormedLines.{in_form}
+use Rattle.spec_run.proofs.acts.Counting.{run_counts}
+use Rattle.spec_run.proofs.accepted.FormedLines.{in_form}
 use Rattle.sx_world.proofs.standing.Readying.{run_then, formed_then}
-use Rattle.sx_run.proofs.RunsLegal.{runs_legal}
-use Rattle.sx_run.proofs.RunsInOrder.{runs_in_order}
-use Rattle.sx_run.proofs.turns.RunsTakeTurns.{runs_take_turns}
+use Rattle.spec_run.proofs.RunsLegal.{runs_legal}
+use Rattle.spec_run.proofs.RunsInOrder.{runs_in_order}
+use Rattle.spec_run.proofs.turns.RunsTakeTurns.{runs_take_turns}
 
 run_items : (set : Setting) (lines : List Line) (line : Line) (w : World)
     → (run set w (lines ++ line ∷ [])).items ≡ (run set w lines).items ++ (after_line set (line_counted (run set w lines).world) line).items

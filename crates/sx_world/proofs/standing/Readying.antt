@@ -5,20 +5,20 @@ use Rattle.sx_tag.specs.Mac.{Mac}
 use Rattle.sx_trace.specs.declared.items.Item.{Item}
 use Rattle.sx_sched.specs.Lines.{Line, Blank, Run, Finish, Put, Set, Take, Give, Forge, Sense, Irq, Reset, Ask, Answer, Load, Call}
 use Rattle.sx_sched.specs.InForm.{IsLine}
-use Rattle.sx_machine.specs.State.{State}
+use Rattle.spec_machine.specs.State.{State}
 use Rattle.sx_deploy.specs.Deployment.{Deployed}
 use Rattle.sx_deploy.specs.Law as deployment
-use Rattle.sx_run.specs.Setting.{Site, Setting}
-use Rattle.sx_run.specs.State.{World, switched_on}
-use Rattle.sx_run.specs.Run.{after_line, line_counted, run}
-use Rattle.sx_run.specs.Law.{IsSoundSetting, LineInForm, LinesInForm}
+use Rattle.spec_run.specs.Setting.{Site, Setting}
+use Rattle.spec_run.specs.State.{World, switched_on}
+use Rattle.spec_run.specs.Run.{after_line, line_counted, run}
+use Rattle.spec_run.specs.Law.{IsSoundSetting, LineInForm, LinesInForm}
 use Rattle.sx_world.specs.Held.{Held, Running, Shows, Did, Wanted, targets_from}
 use Rattle.sx_observe.specs.Observing.{AddsFront}
-use Rattle.sx_run.specs.Accepted.{setting}
+use Rattle.spec_run.specs.Accepted.{setting}
 use Rattle.sx_world.specs.Standing.{Stands}
 use Rattle.sx_world.specs.Ready.{IsReady}
-use Rattle.sx_run.proofs.acts.Bounds.{NodeWithin, Within, steps_in, line_within, counted_within, lines_within, part_at}
-use Rattle.sx_run.proofs.accepted.FormedLines.{in_form}
+use Rattle.spec_run.proofs.acts.Bounds.{NodeWithin, Within, steps_in, line_within, counted_within, lines_within, part_at}
+use Rattle.spec_run.proofs.accepted.FormedLines.{in_form}
 
 pub targets_long : (set : Setting) (m : ℕ) (sites : List Site) → length (targets_from set m sites) ≡ length sites
 targets_long set m [] = refl

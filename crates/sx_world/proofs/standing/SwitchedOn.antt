@@ -11,7 +11,7 @@ use Rattle.sx_rules.specs.Placed.{Placed}
 use Rattle.sx_rules.proofs.Placing.{starts_placed}
 use Rattle.sx_ledger.specs.declared.entry.Entry.{Entry}
 use Rattle.sx_ledger.specs.Entries.{entry_of}
-use Rattle.sx_machine.specs.State.{State}
+use Rattle.spec_machine.specs.State.{State}
 use Rattle.sx_deploy.specs.Deployment.{Deployed}
 use Rattle.sx_deploy.specs.Law as deployment
 use Rattle.sx_mean.specs.declared.events.End.{End}
@@ -19,17 +19,17 @@ use Rattle.sx_mean.specs.Ends.{ends_of}
 use Rattle.sx_tag.specs.Keys.{identity}
 use Rattle.sx_tag.specs.Mac.{Mac}
 use Rattle.sx_deployer.specs.Keeping.{Keeping, Known, first}
-use Rattle.sx_run.specs.Setting.{Site, Setting}
-use Rattle.sx_run.specs.State.{nodes_from, switched_on}
-use Rattle.sx_run.specs.Accepted.{sites_of}
+use Rattle.spec_run.specs.Setting.{Site, Setting}
+use Rattle.spec_run.specs.State.{nodes_from, switched_on}
+use Rattle.spec_run.specs.Accepted.{sites_of}
 use Rattle.sx_world.specs.Held.{Held, Running, IsKept, ArePlaced, Shows, targets_from}
 use Rattle.sx_observe.specs.Observing.{Records}
-use Rattle.sx_run.specs.Accepted.{setting}
+use Rattle.spec_run.specs.Accepted.{setting}
 use Rattle.sx_world.specs.Standing.{Stands}
-use Rattle.sx_run.proofs.accepted.LaidSites.{site_at}
+use Rattle.spec_run.proofs.accepted.LaidSites.{site_at}
 use Rattle.sx_world.proofs.granting.SameKeys.{known_at}
-use Rattle.sx_run.proofs.tie.Lists.{list_at_is}
-use Rattle.sx_run.proofs.tie.Start.{get_nodes}
+use Rattle.spec_run.proofs.tie.Lists.{list_at_is}
+use Rattle.spec_run.proofs.tie.Start.{get_nodes}
 
 -- each site is at a node that has a key
 pub keyed : (d : Deployed) → deployment.IsSoundDeployment d → (ts : List (List ℕ)) (m : ℕ) (site : Site) → slice_get (sites_of d.app.parts d.layouts d.providers ts) m ≡ Some site

@@ -1,6 +1,6 @@
 use Rattle.std.proofs.Common.{subst, true}
 use Rattle.sx_isa.specs.declared.instruction.Operand.TheVariants.{Absolute, Reg}
-use Rattle.sx_machine.specs.Rows.{two}
+use Rattle.spec_machine.specs.Rows.{two}
 use Rattle.sx_executor.specs.Machine.{Machine}
 use Rattle.sx_core.specs.Quickly.{EndsStep}
 use Rattle.sx_core.proofs.at_hand.absolute_onto_register.Goals as goal

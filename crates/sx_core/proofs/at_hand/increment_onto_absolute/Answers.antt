@@ -1,6 +1,6 @@
 use Rattle.std.proofs.Common.{rules, true, subst}
 use Rattle.sx_isa.specs.declared.instruction.Operand.TheVariants.{Increment, Absolute}
-use Rattle.sx_machine.specs.Rows.{two}
+use Rattle.spec_machine.specs.Rows.{two}
 use Rattle.sx_executor.specs.Machine.{Machine, RunsPlan}
 use Rattle.sx_core.proofs.at_hand.increment_onto_absolute.Goals as goal
 

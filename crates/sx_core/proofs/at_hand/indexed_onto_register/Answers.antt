@@ -1,7 +1,7 @@
 use Rattle.std.proofs.Common.{ℕ, subst, true}
 use Rattle.sx_isa.specs.declared.instruction.Operand.TheVariants.{Absolute, Reg}
-use Rattle.sx_machine.specs.Registers.{reg, onward}
-use Rattle.sx_machine.specs.Rows.{two}
+use Rattle.spec_machine.specs.Registers.{reg, onward}
+use Rattle.spec_machine.specs.Rows.{two}
 use Rattle.sx_executor.specs.Machine.{Machine}
 use Rattle.sx_core.specs.Quickly.{EndsStep}
 use Rattle.sx_core.proofs.at_hand.indexed_onto_register.Goals as goal

@@ -1,6 +1,6 @@
 use Rattle.std.proofs.Common.{subst}
-use Rattle.sx_machine.specs.Registers.{at_pc}
-use Rattle.sx_machine.specs.Rows.{in_memory}
+use Rattle.spec_machine.specs.Registers.{at_pc}
+use Rattle.spec_machine.specs.Rows.{in_memory}
 use Rattle.sx_executor.specs.Machine.{Machine, RunsPlan}
 use Rattle.sx_core.proofs.one_operand.in_memory.Goals as goal
 

@@ -1,8 +1,8 @@
 use Rattle.std.proofs.Common.{rules, ◌≡◌, ap, sym, subst, ◌∙◌}
 use Rattle.sx_isa.specs.Extending.{extended}
 use Rattle.sx_isa.specs.declared.instruction.Op2.TheVariants.{Mov}
-use Rattle.sx_machine.specs.Registers.{at_pc, onward}
-use Rattle.sx_machine.specs.Rows.{row}
+use Rattle.spec_machine.specs.Registers.{at_pc, onward}
+use Rattle.spec_machine.specs.Rows.{row}
 use Rattle.sx_executor.specs.declared.shortcut.Double.{Double}
 use Rattle.sx_executor.specs.declared.shortcut.Double.TheVariants.{FromIndexed}
 use Rattle.sx_executor.specs.Shortcuts.{double_of}

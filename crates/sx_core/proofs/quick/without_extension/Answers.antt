@@ -1,7 +1,7 @@
 use Rattle.std.proofs.Common.{rules, ◌≡◌, ap, sym, subst, ◌∙◌}
 use Rattle.sx_isa.specs.declared.instruction.Op2.TheVariants.{Mov}
-use Rattle.sx_machine.specs.Registers.{at_pc}
-use Rattle.sx_machine.specs.Rows.{row}
+use Rattle.spec_machine.specs.Registers.{at_pc}
+use Rattle.spec_machine.specs.Rows.{row}
 use Rattle.sx_executor.specs.declared.shortcut.Single.{Single}
 use Rattle.sx_executor.specs.declared.shortcut.Single.TheVariants.{FromIncrement}
 use Rattle.sx_executor.specs.Shortcuts.{single_of}

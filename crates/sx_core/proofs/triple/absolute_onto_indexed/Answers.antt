@@ -1,6 +1,6 @@
 use Rattle.std.proofs.Common.{subst, true}
 use Rattle.sx_isa.specs.declared.instruction.Operand.TheVariants.{Absolute, Indexed}
-use Rattle.sx_machine.specs.Rows.{two}
+use Rattle.spec_machine.specs.Rows.{two}
 use Rattle.sx_executor.specs.Machine.{Machine}
 use Rattle.sx_core.specs.Quickly.{EndsStep}
 use Rattle.sx_core.proofs.triple.absolute_onto_indexed.Goals as goal

@@ -1,6 +1,6 @@
 use Rattle.std.proofs.Common.{◌≡◌, [], map, length}
 use Rattle.std.specs.Vec.Iter.{into_iter_items}
-use Rattle.sx_stage.specs.Stage.{made_after}
+use Rattle.sx_entries.specs.Stage.{made_after}
 use Rattle.sx_deploy.specs.Checks.{checked_nth}
 use Rattle.sx_deploy.specs.Seen.{checked_as, parsed_as}
 use Rattle.sx_deploy.proofs.checks.checked_all.Given as goal

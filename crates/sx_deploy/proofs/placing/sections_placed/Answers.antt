@@ -1,7 +1,7 @@
 use Rattle.std.proofs.Common.{subst, [], Result, List, Vec, Global}
-use Rattle.sx_stage.specs.Gives.{Gives}
-use Rattle.sx_stage.specs.declared.fault.DeployFault.{DeployFault}
-use Rattle.sx_stage.proofs.Mapped.{made_after-map}
+use Rattle.sx_entries.specs.Gives.{Gives}
+use Rattle.sx_entries.specs.declared.fault.DeployFault.{DeployFault}
+use Rattle.sx_entries.proofs.Mapped.{made_after-map}
 use Rattle.sx_deploy.specs.Places.{placed_module}
 use Rattle.sx_deploy.specs.Seen.{checked_as}
 use Rattle.sx_deploy.specs.declared.placing.Placement.{Placement}

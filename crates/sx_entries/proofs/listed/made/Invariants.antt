@@ -1,5 +1,5 @@
 use Rattle.std.proofs.Common.{◌≡◌, []}
-use Rattle.sx_stage.specs.Stage.{made_after}
+use Rattle.sx_entries.specs.Stage.{made_after}
 use Rattle.std.specs.Vec.Iter.{into_iter_items}
 use Rattle.sx_entries.proofs.listed.made.Given as goal
 

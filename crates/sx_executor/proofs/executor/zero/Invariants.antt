@@ -1,5 +1,5 @@
 use Rattle.std.proofs.Common.{◌≡◌}
-use Rattle.sx_machine.specs.Memory.{zeroed}
+use Rattle.spec_machine.specs.Memory.{zeroed}
 use Rattle.sx_executor.proofs.executor.zero.Given as goal
 
 abbrev pub invariant-loop-i : goal.invariant-loop-i

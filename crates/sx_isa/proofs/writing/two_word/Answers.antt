@@ -1,7 +1,7 @@
 use Rattle.std.proofs.Common.{arith, ◌*◌, ◌%◌}
 use Rattle.sx_isa.proofs.Bits.{two_fields}
 use Rattle.sx_isa.proofs.writing.two_word.Goals as goal
-use Rattle.sx_lists.specs.Truth.{truth}
+use Rattle.lemmas.specs.Truth.{truth}
 
 pub returns : goal.returns
 returns c =

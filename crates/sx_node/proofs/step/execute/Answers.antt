@@ -1,6 +1,6 @@
 use Rattle.std.proofs.Common.{subst}
 use Rattle.sx_tag.specs.Keys.{boot_key}
-use Rattle.sx_machine.specs.Run.{Outcome}
+use Rattle.spec_machine.specs.Run.{Outcome}
 use Rattle.sx_sancus.specs.Told.{given_by, Concludes}
 use Rattle.sx_node.proofs.BootKey.{same_with}
 use Rattle.sx_node.proofs.step.execute.Goals as goal

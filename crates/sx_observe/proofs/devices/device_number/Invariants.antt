@@ -1,6 +1,6 @@
 use Rattle.std.proofs.Common.{◌≡◌, drop}
 use Rattle.std.specs.Prelude.{slice_index}
-use Rattle.sx_run.specs.Setting.{devices_at}
+use Rattle.spec_run.specs.Setting.{devices_at}
 use Rattle.sx_observe.proofs.devices.device_number.Given as goal
 
 abbrev pub invariant-loop-d : goal.invariant-loop-d

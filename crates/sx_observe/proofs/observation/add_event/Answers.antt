@@ -1,6 +1,6 @@
 use Rattle.std.proofs.Common.{Some, sym, ap}
 use Rattle.sx_observe.specs.InMemory.{setting_in}
-use Rattle.sx_run.specs.Observation.{event_seen}
+use Rattle.spec_run.specs.Observation.{event_seen}
 use Rattle.sx_observe.proofs.Fronts.{due_none, due_same}
 use Rattle.sx_observe.proofs.observation.add_event.Goals as goal
 

@@ -1,8 +1,8 @@
 use Rattle.std.proofs.Common.{Some}
 use Rattle.sx_mean.specs.View.{app_as}
 use Rattle.sx_observe.specs.InMemory.{setting_in}
-use Rattle.sx_run.specs.Ledger.{header_of, body_of}
-use Rattle.sx_run.specs.Observation.{event_seen, has_wrapped, has_unwrapped}
+use Rattle.spec_run.specs.Ledger.{header_of, body_of}
+use Rattle.spec_run.specs.Observation.{event_seen, has_wrapped, has_unwrapped}
 use Rattle.sx_observe.proofs.Fronts.{due_none, due_same, due_items, wrapped_seen, unwrapped_seen}
 use Rattle.sx_observe.proofs.observation.add_own_event.Goals as goal
 

@@ -1,9 +1,9 @@
 use Rattle.sx_mean.specs.View.{app_as}
 use Rattle.sx_observe.specs.InMemory.{setting_in}
-use Rattle.sx_run.specs.Observation.{event_seen, touch_items}
+use Rattle.spec_run.specs.Observation.{event_seen, touch_items}
 use Rattle.sx_observe.proofs.Fronts.{front_more, due_next}
 use Rattle.sx_observe.proofs.observation.add_seen.Goals as goal
-use Rattle.sx_lists.proofs.Results.{on_any_err}
+use Rattle.lemmas.proofs.Results.{on_any_err}
 
 pub returns-in_err-add_touches-clause-front : goal.returns-in_err-add_touches-clause-front
 returns-in_err-add_touches-clause-front g c =

@@ -2,11 +2,11 @@ use Rattle.std.proofs.Common.{◌++◌, drop, get_or, arith, refl, sym, ap, ◌�
 use Rattle.std.proofs.Math.ListN.{drop_of_length-le}
 use Rattle.std.proofs.lemmas.List.{append-nil}
 use Rattle.sx_mean.specs.View.{app_as}
-use Rattle.sx_machine.specs.declared.kinds.Touch.TheVariants.{Quiet}
-use Rattle.sx_run.specs.Observation.{touch_items}
+use Rattle.spec_machine.specs.declared.kinds.Touch.TheVariants.{Quiet}
+use Rattle.spec_run.specs.Observation.{touch_items}
 use Rattle.sx_observe.proofs.Fronts.{comes_all, comes_front, front_same, touches_on}
 use Rattle.sx_observe.proofs.observation.add_touches.Goals as goal
-use Rattle.sx_lists.proofs.Results.{on_any_err}
+use Rattle.lemmas.proofs.Results.{on_any_err}
 
 pub loop-touch-preserved : goal.loop-touch-preserved
 loop-touch-preserved c =

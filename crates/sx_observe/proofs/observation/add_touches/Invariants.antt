@@ -1,6 +1,6 @@
 use Rattle.std.proofs.Common.{drop}
 use Rattle.sx_mean.specs.View.{app_as}
-use Rattle.sx_run.specs.Observation.{touch_items}
+use Rattle.spec_run.specs.Observation.{touch_items}
 use Rattle.sx_observe.proofs.Fronts.{Comes}
 use Rattle.sx_observe.proofs.observation.add_touches.Given as goal
 

@@ -1,6 +1,6 @@
 use Rattle.std.proofs.Common.{◌≡◌, drop}
 use Rattle.std.specs.List.{position_from}
-use Rattle.sx_run.specs.Setting.{deployed, is_at_site}
+use Rattle.spec_run.specs.Setting.{deployed, is_at_site}
 use Rattle.sx_observe.proofs.sites.deployed.Given as goal
 
 abbrev pub invariant-loop-m : goal.invariant-loop-m

@@ -3,8 +3,8 @@ use Rattle.std.proofs.lemmas.List.{length-map, take_all}
 use Rattle.sx_deploy.specs.SeenDeployment.{deployed_as}
 use Rattle.sx_image.specs.declared.image.Image.{Image}
 use Rattle.sx_mean.specs.View.{part_as}
-use Rattle.sx_run.specs.Accepted.{sites_of}
-use Rattle.sx_run.specs.Setting.{Site}
+use Rattle.spec_run.specs.Accepted.{sites_of}
+use Rattle.spec_run.specs.Setting.{Site}
 use Rattle.sx_observe.proofs.SitesOf.{all_sited, take_next}
 use Rattle.sx_observe.proofs.sites.sites_of.Goals as goal
 

@@ -1,6 +1,6 @@
 use Rattle.std.proofs.Common.{◌≡◌, map, take}
 use Rattle.sx_deploy.specs.SeenDeployment.{deployed_as}
-use Rattle.sx_run.specs.Accepted.{sites_of}
+use Rattle.spec_run.specs.Accepted.{sites_of}
 use Rattle.sx_observe.proofs.sites.sites_of.Given as goal
 
 abbrev pub invariant-loop-m : goal.invariant-loop-m

@@ -2,7 +2,7 @@ use Rattle.std.proofs.Common.{◌∷◌, refl, arith}
 use Rattle.sx_lang.specs.declared.tree.Decl.{Decl}
 use Rattle.sx_lang.specs.declared.tree.DeviceKind.{DeviceKind}
 use Rattle.sx_lex.specs.declared.tokens.Kind.TheVariants.{Sensor, Actuator, Input, Output, Var, Array}
-use Rattle.sx_grammar.specs.Machine.{A_name, After_input, After_output, After_var, After_array}
+use Rattle.spec_grammar.specs.Machine.{A_name, After_input, After_output, After_var, After_array}
 use Rattle.sx_parse.specs.Wanted.{end_wanted}
 use Rattle.sx_parse.proofs.Declarations.{started, shorter}
 use Rattle.sx_parse.proofs.declaration.declaration.Goals as goal

@@ -1,5 +1,5 @@
 use Rattle.std.proofs.Common.{length}
-use Rattle.sx_grammar.specs.Machine.{Declarations}
+use Rattle.spec_grammar.specs.Machine.{Declarations}
 use Rattle.sx_parse.specs.Declaring.{Declared}
 use Rattle.sx_parse.proofs.declaration.declarations.Given as goal
 

@@ -1,4 +1,4 @@
-use Rattle.sx_grammar.specs.Machine.{After_var}
+use Rattle.spec_grammar.specs.Machine.{After_var}
 use Rattle.sx_parse.proofs.Declarations.{named, shorter}
 use Rattle.sx_parse.proofs.declaration.variable.Goals as goal
 

@@ -1,6 +1,6 @@
 use Rattle.std.proofs.Common.{◌+◌, ◌<◌, ◌∷◌, length, ◌*◌}
 use Rattle.sx_lang.specs.View.{expression_of}
-use Rattle.sx_grammar.specs.Machine.{Operand, Factors, Addends, Of_expression}
+use Rattle.spec_grammar.specs.Machine.{Operand, Factors, Addends, Of_expression}
 use Rattle.sx_parse.specs.Wanted.{sum_wanted}
 use Rattle.sx_parse.specs.Reading.{ReadsValue}
 use Rattle.sx_parse.proofs.expression.+expression.Given as goal

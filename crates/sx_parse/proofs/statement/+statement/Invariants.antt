@@ -1,6 +1,6 @@
 use Rattle.std.proofs.Common.{◌<◌, ◌∷◌, length}
 use Rattle.sx_lang.specs.View.{block_of}
-use Rattle.sx_grammar.specs.Machine.{A_block, Statements, Of_block}
+use Rattle.spec_grammar.specs.Machine.{A_block, Statements, Of_block}
 use Rattle.sx_parse.specs.Reading.{ReadsValue}
 use Rattle.sx_parse.proofs.statement.+statement.Given as goal
 

@@ -1,6 +1,6 @@
 use Rattle.std.proofs.Common.{sym, subst, map}
 use Rattle.sx_lang.specs.View.{handler_of, module_of}
-use Rattle.sx_grammar.specs.Text.{Spells}
+use Rattle.spec_grammar.specs.Text.{Spells}
 use Rattle.sx_print.specs.Pieces.{declarations_pieces, handlers_pieces}
 use Rattle.sx_print.specs.Written.{Wrote}
 use Rattle.sx_print.proofs.Spells.{module_utf8, module_spelled}

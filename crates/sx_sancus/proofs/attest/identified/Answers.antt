@@ -1,6 +1,6 @@
 use Rattle.std.proofs.Common.{rules, ◌≡◌, List, ℕ, slice_index, subst, ◌∙◌}
-use Rattle.sx_machine.specs.Run.{Outcome, Violated}
-use Rattle.sx_machine.specs.Answers.{followed}
+use Rattle.spec_machine.specs.Run.{Outcome, Violated}
+use Rattle.spec_machine.specs.Answers.{followed}
 use Rattle.sx_sancus.specs.Told.{given_by}
 use Rattle.sx_sancus.specs.Parts.{given_tag, attested_by, answer_outcome}
 use Rattle.sx_sancus.proofs.attest.identified.Goals as goal

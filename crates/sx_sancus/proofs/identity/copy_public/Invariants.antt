@@ -1,5 +1,5 @@
 use Rattle.std.proofs.Common.{◌≡◌, ◌+◌, take}
-use Rattle.sx_machine.specs.Memory.{bytes_from}
+use Rattle.spec_machine.specs.Memory.{bytes_from}
 use Rattle.sx_sancus.proofs.identity.copy_public.Given as goal
 
 abbrev pub invariant-loop-i : goal.invariant-loop-i

@@ -1,8 +1,8 @@
 use Rattle.std.proofs.Common.{◌≡◌, ◌++◌, ◌-◌, List, ℕ, subst, append_assoc}
 use Rattle.sx_tag.specs.Keys.{identity}
 use Rattle.sx_tag.specs.Stream.{Leads}
-use Rattle.sx_machine.specs.Memory.{bytes_from}
-use Rattle.sx_machine.specs.Protect.{identity_at}
+use Rattle.spec_machine.specs.Memory.{bytes_from}
+use Rattle.spec_machine.specs.Protect.{identity_at}
 use Rattle.sx_sancus.proofs.identity.feed_identity.Goals as goal
 
 pub returns : goal.returns

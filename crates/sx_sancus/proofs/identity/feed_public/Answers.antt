@@ -1,7 +1,7 @@
 use Rattle.std.proofs.Common.{◌≡◌, ◌+◌, ◌-◌, ◌*◌, ◌%◌, ◌++◌, List, ℕ, subst, append-nil, ap, ◌∙◌, arith}
 use Rattle.sx_tag.specs.Stream.{Leads}
-use Rattle.sx_machine.specs.Memory.{bytes_from}
-use Rattle.sx_machine.proofs.BytesFrom.{bytes_none}
+use Rattle.spec_machine.specs.Memory.{bytes_from}
+use Rattle.spec_machine.proofs.BytesFrom.{bytes_none}
 use Rattle.sx_sancus.proofs.Stretches.{fed_on}
 use Rattle.sx_sancus.proofs.identity.feed_public.Goals as goal
 

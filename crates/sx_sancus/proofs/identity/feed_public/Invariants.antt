@@ -1,6 +1,6 @@
 use Rattle.std.proofs.Common.{◌*◌, ◌++◌, List, ℕ}
 use Rattle.sx_tag.specs.Stream.{Leads}
-use Rattle.sx_machine.specs.Memory.{bytes_from}
+use Rattle.spec_machine.specs.Memory.{bytes_from}
 use Rattle.sx_sancus.proofs.identity.feed_public.Given as goal
 
 abbrev pub invariant-loop-i : goal.invariant-loop-i

@@ -1,8 +1,8 @@
 use Rattle.std.proofs.Common.{rules, ◌≡◌, List, ℕ, slice_index, subst, ◌∙◌}
 use Rattle.sx_bus.specs.declared.devices.Window.{Window}
-use Rattle.sx_machine.specs.Plan.{Plan, Bytes}
-use Rattle.sx_machine.specs.ModuleRows.{with_key}
-use Rattle.sx_machine.specs.Run.{Outcome}
+use Rattle.spec_machine.specs.Plan.{Plan, Bytes}
+use Rattle.spec_machine.specs.ModuleRows.{with_key}
+use Rattle.spec_machine.specs.Run.{Outcome}
 use Rattle.sx_sancus.specs.Told.{ran_of}
 use Rattle.sx_sancus.specs.Parts.{tested_buffers}
 use Rattle.sx_sancus.proofs.inputs.read_inputs.Goals as goal

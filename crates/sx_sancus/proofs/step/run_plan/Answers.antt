@@ -1,6 +1,6 @@
 use Rattle.std.proofs.Common.{◌≡◌, Some, sym, subst, ◌∙◌}
 use Rattle.sx_rules.specs.Access.{section_of}
-use Rattle.sx_machine.specs.Plan.{Plan}
+use Rattle.spec_machine.specs.Plan.{Plan}
 use Rattle.sx_sancus.specs.Told.{given_by, ran_with, Concludes}
 use Rattle.sx_sancus.proofs.Rows.{attest_row, wrap_row, unwrap_row}
 use Rattle.sx_sancus.proofs.step.run_plan.Goals as goal

@@ -1,5 +1,5 @@
 use Rattle.std.proofs.Common.{rules, ◌≡◌, sym, subst}
-use Rattle.sx_machine.specs.Run.{Outcome}
+use Rattle.spec_machine.specs.Run.{Outcome}
 use Rattle.sx_sancus.specs.Told.{given_by, Concludes}
 use Rattle.sx_sancus.proofs.Rows.{other_code}
 use Rattle.sx_sancus.proofs.step.step_sancus.Goals as goal

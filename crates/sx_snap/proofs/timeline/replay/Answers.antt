@@ -3,10 +3,10 @@ use Rattle.std.proofs.lemmas.List.{length-map}
 use Rattle.sx_deploy.specs.SeenDeployment.{deployed_as}
 use Rattle.sx_sched.specs.Lines.{Line}
 use Rattle.sx_sched.specs.Seen.{line_of}
-use Rattle.sx_run.specs.Accepted.{setting}
-use Rattle.sx_run.specs.Law.{IsSoundSetting}
-use Rattle.sx_run.specs.Setting.{Site}
-use Rattle.sx_run.specs.State.{World}
+use Rattle.spec_run.specs.Accepted.{setting}
+use Rattle.spec_run.specs.Law.{IsSoundSetting}
+use Rattle.spec_run.specs.Setting.{Site}
+use Rattle.spec_run.specs.State.{World}
 use Rattle.sx_world.specs.Whole.{next}
 use Rattle.sx_world.specs.Standing.{Stands}
 use Rattle.sx_snap.specs.Timeline.{world_at}

@@ -1,7 +1,7 @@
 use Rattle.std.specs.Prelude.{map, take}
 use Rattle.sx_deploy.specs.SeenDeployment.{deployed_as}
 use Rattle.sx_sched.specs.Seen.{line_of}
-use Rattle.sx_run.specs.Accepted.{setting}
+use Rattle.spec_run.specs.Accepted.{setting}
 use Rattle.sx_snap.specs.Checkpoints.{StandsAfter}
 use Rattle.sx_snap.proofs.timeline.replay.Given as goal
 

@@ -1,4 +1,4 @@
-use Rattle.sx_invoke.specs.Protocol.{entry_register}
+use Rattle.spec_invocation.specs.Protocol.{entry_register}
 use Rattle.std.proofs.Common.{◌≡◌, ◌+◌, [], ◌∷◌, ◌++◌, length, refl, ap, ◌∙◌, arith}
 use Rattle.sx_lang.specs.View.{module_of}
 use Rattle.sx_ir.specs.declared.ir.Ir.TheVariants as ir

@@ -1,4 +1,4 @@
-use Rattle.sx_invoke.specs.Protocol.{header_size, other_tag, value_size}
+use Rattle.spec_invocation.specs.Protocol.{header_size, other_tag, value_size}
 use Rattle.std.proofs.Common.{ℕ, ◌+◌, ◌*◌, List, [], ◌∷◌, ◌++◌, length, ap, ◌∙◌, refl}
 use Rattle.sx_lang.specs.View.{module_of}
 use Rattle.sx_ir.specs.declared.ir.Ir.{Ir}

@@ -1,4 +1,4 @@
-use Rattle.sx_invoke.specs.Protocol.{other_tag}
+use Rattle.spec_invocation.specs.Protocol.{other_tag}
 use Rattle.std.proofs.Common.{◌+◌, [], ◌∷◌, ◌++◌, length, refl, arith}
 use Rattle.sx_ir.specs.declared.ir.Ir.TheVariants as ir
 use Rattle.sx_stub.specs.Stub.{cases, is_keyed_code, open_any, refuse_if, refuse_unless}

@@ -1,4 +1,4 @@
-use Rattle.sx_invoke.specs.Protocol.{set_key_kind, set_key_size}
+use Rattle.spec_invocation.specs.Protocol.{set_key_kind, set_key_size}
 use Rattle.std.proofs.Common.{◌+◌, [], ◌∷◌, ◌++◌, length, refl, arith}
 use Rattle.sx_ir.specs.declared.ir.Ir.TheVariants as ir
 use Rattle.sx_stub.specs.Stub.{is_no_side, refuse_if, refuse_kind, wanted_end}

@@ -1,6 +1,6 @@
 use Rattle.std.proofs.Common.{◌≡◌, ◌+◌, ◌++◌, length, sym, ap, ◌∙◌, arith}
 use Rattle.sx_lang.specs.View.{module_of}
-use Rattle.sx_invoke.specs.Protocol.{attest_entry, input_entry, set_key_entry}
+use Rattle.spec_invocation.specs.Protocol.{attest_entry, input_entry, set_key_entry}
 use Rattle.sx_stub.specs.Stub.{attest_length, input_length, sample_place, set_key_length}
 use Rattle.sx_stub.specs.Stub.{attest_code, input_code, jump_on, sample_code, search_code, set_key_code}
 use Rattle.sx_stub.proofs.Steps.{behind, grown}

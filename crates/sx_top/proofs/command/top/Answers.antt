@@ -4,16 +4,16 @@ use Rattle.sx_tag.specs.Mac.{hmac_sha256}
 use Rattle.sx_top.specs.declared.words.Command.{Command}
 use Rattle.sx_top.specs.declared.words.Command.TheVariants.{Run, Check, Explain, Drive, Snap, Gen, Asm, Dis, Holds, Watch}
 use Rattle.sx_top.specs.Chosen.{CarriesFew}
-use Rattle.sx_command.specs.Refusals.{usage_line}
-use Rattle.sx_command_run.proofs.Said.{says_not_two}
-use Rattle.sx_command_check.proofs.Promised.{check_not_two}
-use Rattle.sx_command_explain.proofs.Promised.{explain_not_two}
-use Rattle.sx_command_watch.proofs.Promised.{watch_not_two}
-use Rattle.sx_command_drive.proofs.Said.{says_not_two as drive_not_two}
-use Rattle.sx_command_snap.proofs.Said.{says_not_two as snap_not_two}
-use Rattle.sx_command_holds.proofs.Promised.{holds_not_two}
-use Rattle.sx_command_gen.proofs.Generated.{gen_not_two}
-use Rattle.sx_command_asm.proofs.Statused.{asm_not_two, dis_not_two}
+use Rattle.command_text.specs.Refusals.{usage_line}
+use Rattle.command_run.proofs.Said.{says_not_two}
+use Rattle.command_check.proofs.Promised.{check_not_two}
+use Rattle.command_explain.proofs.Promised.{explain_not_two}
+use Rattle.command_watch.proofs.Promised.{watch_not_two}
+use Rattle.command_drive.proofs.Said.{says_not_two as drive_not_two}
+use Rattle.command_snap.proofs.Said.{says_not_two as snap_not_two}
+use Rattle.command_holds.proofs.Promised.{holds_not_two}
+use Rattle.command_gen.proofs.Generated.{gen_not_two}
+use Rattle.command_asm.proofs.Statused.{asm_not_two, dis_not_two}
 use Rattle.sx_top.proofs.Usage.{program}
 use Rattle.sx_top.proofs.command.top.Goals as goal
 

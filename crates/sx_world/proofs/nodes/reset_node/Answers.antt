@@ -1,6 +1,6 @@
 use Rattle.std.proofs.Common.{get_or}
-use Rattle.sx_machine.specs.State.{State}
-use Rattle.sx_machine.specs.State as state
+use Rattle.spec_machine.specs.State.{State}
+use Rattle.spec_machine.specs.State as state
 use Rattle.sx_world.proofs.doing.NodeAt.{slot_is, set_as, stands_at}
 use Rattle.sx_world.proofs.nodes.reset_node.Goals as goal
 

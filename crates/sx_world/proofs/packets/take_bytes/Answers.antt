@@ -1,7 +1,7 @@
 use Rattle.std.proofs.Common.{◌≡◌, length, Ok, sym, ap, ◌∙◌}
 use Rattle.std.proofs.lemmas.List.{with_items_is}
-use Rattle.sx_machine.specs.State.{State}
-use Rattle.sx_machine.specs.Acts.{take}
+use Rattle.spec_machine.specs.State.{State}
+use Rattle.spec_machine.specs.Acts.{take}
 use Rattle.sx_world.proofs.doing.KeptPackets.{node_at}
 use Rattle.sx_world.proofs.packets.take_bytes.Goals as goal
 

@@ -1,5 +1,5 @@
 use Rattle.std.proofs.Common.{◌<◌, true, sym, subst, ap, ◌∙◌}
-use Rattle.sx_machine.specs.State.{State}
+use Rattle.spec_machine.specs.State.{State}
 use Rattle.sx_world.proofs.passing.Passed.{quiet_boot}
 use Rattle.sx_world.proofs.quiet.module_stretch.Goals as goal
 

@@ -1,6 +1,6 @@
 use Rattle.std.proofs.Common.{◌≡◌, ◌≤◌, ◌==◌, drop}
 use Rattle.std.specs.List.{position_from}
-use Rattle.sx_run.specs.Setting.{devices_at}
+use Rattle.spec_run.specs.Setting.{devices_at}
 use Rattle.sx_world.proofs.sensors.place_at.Given as goal
 
 abbrev pub invariant-loop-i : goal.invariant-loop-i

@@ -1,6 +1,6 @@
 use Rattle.std.proofs.Common.{get_or, sym}
-use Rattle.sx_machine.specs.State.{State}
-use Rattle.sx_machine.specs.Acts as acts
+use Rattle.spec_machine.specs.State.{State}
+use Rattle.spec_machine.specs.Acts as acts
 use Rattle.sx_world.proofs.doing.NodeAt.{slot_is, set_as, shows_as, stands_at}
 use Rattle.sx_world.proofs.stepping.irq_node.Goals as goal
 

@@ -4,7 +4,7 @@ use Rattle.sx_deploy.specs.SeenDeployment.{deployed_as}
 use Rattle.sx_deployer.specs.Keeping.{Known, known}
 use Rattle.sx_deployer.specs.declared.target.Target.{Target}
 use Rattle.sx_world.specs.Held.{targets_from}
-use Rattle.sx_run.specs.Accepted.{setting}
+use Rattle.spec_run.specs.Accepted.{setting}
 use Rattle.sx_world.proofs.standing.Readying.{targets_long}
 use Rattle.sx_observe.proofs.SitesOf.{take_next}
 use Rattle.sx_world.proofs.targets.targets_of.Goals as goal

@@ -3,7 +3,7 @@ use Rattle.sx_deploy.specs.SeenDeployment.{deployed_as}
 use Rattle.sx_deployer.specs.Keeping.{known}
 use Rattle.sx_tag.specs.Mac.{Mac}
 use Rattle.sx_world.specs.Held.{targets_from}
-use Rattle.sx_run.specs.Accepted.{setting}
+use Rattle.spec_run.specs.Accepted.{setting}
 use Rattle.sx_world.proofs.targets.targets_of.Given as goal
 
 abbrev pub invariant-loop-m : goal.invariant-loop-m

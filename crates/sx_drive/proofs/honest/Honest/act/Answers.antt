@@ -1,7 +1,7 @@
 use Rattle.std.proofs.Common.{◌∙◌, List, [], OnOk, OnErr, ap, sym, subst}
 use Rattle.sx_trace.specs.declared.items.Item.{Item}
 use Rattle.sx_sched.specs.Seen.{line_of}
-use Rattle.sx_run.specs.Law.{IsSoundSetting}
+use Rattle.spec_run.specs.Law.{IsSoundSetting}
 use Rattle.sx_world.specs.Standing.{IsGoing}
 use Rattle.sx_world.specs.Continued.{Acts, ActsInPart}
 use Rattle.sx_world.specs.InMemory.{world_setting}

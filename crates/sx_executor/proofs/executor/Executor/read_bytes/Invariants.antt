@@ -1,5 +1,5 @@
 use Rattle.std.proofs.Common.{◌≡◌, take}
-use Rattle.sx_machine.specs.Memory.{bytes_from}
+use Rattle.spec_machine.specs.Memory.{bytes_from}
 use Rattle.sx_executor.proofs.executor.Executor.read_bytes.Given as goal
 
 abbrev pub invariant-loop-i : goal.invariant-loop-i

@@ -1,5 +1,5 @@
 use Rattle.std.proofs.Common.{◌≡◌, ◌+◌, drop}
-use Rattle.sx_machine.specs.Memory.{put_bytes}
+use Rattle.spec_machine.specs.Memory.{put_bytes}
 use Rattle.sx_executor.proofs.executor.Executor.write_bytes.Given as goal
 
 -- the bytes that are left, from the next address on, complete what was to be written

@@ -8,7 +8,7 @@ use Rattle.sx_model.specs.Memory.{may_take_memory}
 use Rattle.sx_explain.proofs.Ending.{answer_is, err_is, follows_is}
 use Rattle.sx_explain.proofs.Following.{tried_up, unjudged_follows}
 use Rattle.sx_explain.proofs.judge.Judge.item.Goals as goal
-use Rattle.sx_lists.proofs.Results.{on_any_err}
+use Rattle.lemmas.proofs.Results.{on_any_err}
 
 pub catch_up-requires : goal.catch_up-requires
 catch_up-requires c = (valid_applications (app_as c.args.app.now) c.requires.valid).few_links

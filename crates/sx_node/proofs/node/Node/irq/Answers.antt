@@ -1,5 +1,5 @@
-use Rattle.sx_machine.proofs.ActGuard.{irq_guarded}
-use Rattle.sx_machine.proofs.RunGuard.{not_zero}
+use Rattle.spec_machine.proofs.ActGuard.{irq_guarded}
+use Rattle.spec_machine.proofs.RunGuard.{not_zero}
 use Rattle.sx_node.proofs.node.Node.irq.Goals as goal
 
 pub returns-in-Ok-clause-guarded : goal.returns-in-Ok-clause-guarded

@@ -1,4 +1,4 @@
-use Rattle.sx_machine.proofs.ActGuard.{put_guarded}
+use Rattle.spec_machine.proofs.ActGuard.{put_guarded}
 use Rattle.sx_node.proofs.node.Node.put.Goals as goal
 
 pub returns-clause-guarded : goal.returns-clause-guarded

@@ -1,4 +1,4 @@
-use Rattle.sx_machine.proofs.ActGuard.{reset_guarded}
+use Rattle.spec_machine.proofs.ActGuard.{reset_guarded}
 use Rattle.sx_node.proofs.node.Node.reset.Goals as goal
 
 pub returns-clause-guarded : goal.returns-clause-guarded

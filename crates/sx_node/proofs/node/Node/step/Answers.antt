@@ -1,4 +1,4 @@
-use Rattle.sx_machine.proofs.StepGuard.{step_guarded}
+use Rattle.spec_machine.proofs.StepGuard.{step_guarded}
 use Rattle.sx_node.proofs.node.Node.step.Goals as goal
 
 pub returns-in-Ok-clause-guarded : goal.returns-in-Ok-clause-guarded

@@ -1,5 +1,5 @@
 use Rattle.std.proofs.Common.{length}
-use Rattle.sx_machine.proofs.ActGuard.{take_guarded}
+use Rattle.spec_machine.proofs.ActGuard.{take_guarded}
 use Rattle.sx_node.proofs.node.Node.take.Goals as goal
 
 pub returns-clause-guarded : goal.returns-clause-guarded

@@ -4,7 +4,7 @@ use Rattle.std.specs.Prelude.{slice_get}
 use Rattle.sx_deploy.specs.SeenDeployment.{deployed_as}
 use Rattle.sx_sched.specs.Lines.{Line}
 use Rattle.sx_sched.specs.Seen.{line_of}
-use Rattle.sx_run.specs.AcceptedLaw.{AreLines}
+use Rattle.spec_run.specs.AcceptedLaw.{AreLines}
 use Rattle.sx_snap.specs.Kept.{Kept}
 use Rattle.sx_snap.proofs.Stretches.{items_found, line_read, line_there}
 use Rattle.sx_snap.proofs.timeline.Timeline.items.Goals as goal

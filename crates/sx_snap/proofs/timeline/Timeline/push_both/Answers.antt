@@ -4,13 +4,13 @@ use Rattle.std.proofs.lemmas.List.{map-append}
 use Rattle.sx_sched.specs.Lines.{Line}
 use Rattle.sx_sched.specs.Seen.{line_of}
 use Rattle.sx_sched.specs.declared.lines.Line.{Line as Read}
-use Rattle.sx_run.specs.Setting.{Site}
+use Rattle.spec_run.specs.Setting.{Site}
 use Rattle.sx_world.specs.Held.{Held}
 use Rattle.sx_snap.specs.Kept.{Kept, first_sites}
 use Rattle.sx_snap.proofs.Longer.{first_kept, on_ok}
 use Rattle.sx_snap.proofs.timeline.Timeline.push_both.Goals.{in-Ok, in-Err}
 use Rattle.sx_snap.proofs.timeline.Timeline.push_both.Goals as goal
-use Rattle.sx_lists.proofs.Results.{on_any_err}
+use Rattle.lemmas.proofs.Results.{on_any_err}
 
 pub returns-clause-ok : goal.returns-clause-ok
 returns-clause-ok g c = elim c.match-push.branch [

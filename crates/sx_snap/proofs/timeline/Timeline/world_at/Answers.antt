@@ -2,9 +2,9 @@ use Rattle.std.proofs.Common.{◌∙◌, ◌/◌, ◌*◌, List, map, ap, sym, s
 use Rattle.sx_deploy.specs.SeenDeployment.{deployed_as}
 use Rattle.sx_sched.specs.Seen.{line_of}
 use Rattle.sx_sched.specs.declared.lines.Line.{Line as Read}
-use Rattle.sx_run.specs.Accepted.{setting}
-use Rattle.sx_run.specs.Law.{IsSoundSetting}
-use Rattle.sx_run.specs.Setting.{Site}
+use Rattle.spec_run.specs.Accepted.{setting}
+use Rattle.spec_run.specs.Law.{IsSoundSetting}
+use Rattle.spec_run.specs.Setting.{Site}
 use Rattle.sx_snap.specs.Kept.{Kept}
 use Rattle.sx_snap.proofs.Stretches.{from_checkpoint, same_run}
 use Rattle.sx_snap.proofs.timeline.Timeline.world_at.Goals as goal

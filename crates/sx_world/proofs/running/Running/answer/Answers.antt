@@ -3,11 +3,11 @@ use Rattle.std.specs.Prelude.{slice_get}
 use Rattle.std.proofs.lemmas.List.{length-map}
 use Rattle.sx_deploy.specs.SeenDeployment.{deployed_as}
 use Rattle.sx_mean.specs.View.{part_as}
-use Rattle.sx_run.specs.Acts.{after_answer}
+use Rattle.spec_run.specs.Acts.{after_answer}
 use Rattle.sx_world.specs.Granted.{accepted_ask, judged_by}
 use Rattle.sx_world.specs.Held.{Running, DoesAct}
-use Rattle.sx_run.specs.Accepted.{setting}
-use Rattle.sx_run.specs.Setting.{Site}
+use Rattle.spec_run.specs.Accepted.{setting}
+use Rattle.spec_run.specs.Setting.{Site}
 use Rattle.sx_world.proofs.granting.Confirming.{answer_does, denied_does}
 use Rattle.sx_world.proofs.running.Running.answer.Goals as goal
 

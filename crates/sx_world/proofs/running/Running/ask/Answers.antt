@@ -1,7 +1,7 @@
 use Rattle.std.proofs.Common.{◌<◌, map, sym, subst}
 use Rattle.std.proofs.lemmas.List.{length-map}
-use Rattle.sx_run.specs.Acts.{ask}
-use Rattle.sx_run.specs.Setting.{Setting}
+use Rattle.spec_run.specs.Acts.{ask}
+use Rattle.spec_run.specs.Setting.{Setting}
 use Rattle.sx_world.specs.Held.{Running, DoesAct}
 use Rattle.sx_world.proofs.granting.Sent.{ask_does}
 use Rattle.sx_observe.proofs.Fronts.{front_same}

@@ -1,12 +1,12 @@
 use Rattle.std.proofs.Common.{◌≡◌, ◌<◌, [], ◌∷◌, ◌++◌, length, Option, Some, OnOk, sym, subst}
 use Rattle.std.specs.Prelude.{slice_get}
 use Rattle.sx_trace.specs.declared.items.Item.TheVariants.{Busy}
-use Rattle.sx_run.specs.Setting.{Site}
-use Rattle.sx_run.specs.Acts.{then_}
+use Rattle.spec_run.specs.Setting.{Site}
+use Rattle.spec_run.specs.Acts.{then_}
 use Rattle.sx_world.specs.Held.{DoesAct}
 use Rattle.sx_observe.specs.InMemory.{setting_in}
-use Rattle.sx_run.specs.Run.{call_registers}
-use Rattle.sx_run.specs.Run.{call, finish, set_all, unless_busy}
+use Rattle.spec_run.specs.Run.{call_registers}
+use Rattle.spec_run.specs.Run.{call, finish, set_all, unless_busy}
 use Rattle.sx_world.proofs.doing.Composed.{first_wanted, then_does}
 use Rattle.sx_world.proofs.granting.Given.{does_err}
 use Rattle.sx_world.proofs.doing.Loaded.{busy_does, called_does, element_at, long_by_boots, still_few}

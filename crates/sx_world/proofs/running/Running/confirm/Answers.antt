@@ -6,7 +6,7 @@ use Rattle.sx_deployer.specs.Granting.{Grant}
 use Rattle.sx_world.specs.Granted.{confirmed, granted}
 use Rattle.sx_world.specs.Held.{Running}
 use Rattle.sx_observe.specs.Observing.{Records}
-use Rattle.sx_run.specs.Accepted.{setting}
+use Rattle.spec_run.specs.Accepted.{setting}
 use Rattle.sx_observe.proofs.Fronts.{front_all}
 use Rattle.sx_world.proofs.granting.Confirming.{confirm_does, confirm_wanted, more_ok}
 use Rattle.sx_world.proofs.granting.Given.{does_err}

@@ -2,7 +2,7 @@ use Rattle.std.proofs.Common.{[], ◌∷◌, ◌==◌, subst}
 use Rattle.sx_trace.specs.declared.items.Item.TheVariants.{Budget}
 use Rattle.sx_world.specs.Held.{DoesAct}
 use Rattle.sx_observe.specs.InMemory.{setting_in}
-use Rattle.sx_run.specs.Run.{steps_of}
+use Rattle.spec_run.specs.Run.{steps_of}
 use Rattle.sx_world.proofs.running.Running.finish.Goals as goal
 
 pub returns : goal.returns

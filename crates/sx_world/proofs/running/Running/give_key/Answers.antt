@@ -2,11 +2,11 @@ use Rattle.std.proofs.Common.{map, List, refl, sym, subst, ◌∙◌}
 use Rattle.std.specs.Prelude.{slice_get}
 use Rattle.std.proofs.lemmas.List.{length-map}
 use Rattle.sx_deploy.specs.SeenDeployment.{deployed_as}
-use Rattle.sx_run.specs.Acts.{key_given}
+use Rattle.spec_run.specs.Acts.{key_given}
 use Rattle.sx_deployer.specs.Granting.{Grant}
 use Rattle.sx_world.specs.Held.{Running, DoesAct, Did}
-use Rattle.sx_run.specs.Accepted.{setting}
-use Rattle.sx_run.specs.Setting.{Site}
+use Rattle.spec_run.specs.Accepted.{setting}
+use Rattle.spec_run.specs.Setting.{Site}
 use Rattle.sx_world.proofs.granting.Given.{does_err, given_some, given_none}
 use Rattle.sx_observe.proofs.Fronts.{front_same}
 use Rattle.sx_world.proofs.running.Running.give_key.Goals as goal

@@ -1,8 +1,8 @@
 use Rattle.std.proofs.Common.{arith, drop, ◌+◌}
 use Rattle.std.proofs.Math.ListN.{drop_of_length-le}
 use Rattle.sx_deploy.specs.SeenDeployment.{deployed_as}
-use Rattle.sx_run.specs.Acts.{keys_given}
-use Rattle.sx_run.specs.Accepted.{setting}
+use Rattle.spec_run.specs.Acts.{keys_given}
+use Rattle.spec_run.specs.Accepted.{setting}
 use Rattle.sx_world.proofs.granting.Given.{giving_on, giving_all, giving_front, next_grant, does_err}
 use Rattle.sx_world.proofs.running.Running.give_keys.Goals as goal
 

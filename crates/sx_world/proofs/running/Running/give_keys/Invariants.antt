@@ -1,7 +1,7 @@
 use Rattle.std.proofs.Common.{◌+◌, ◌≤◌, length, drop, List}
 use Rattle.sx_deploy.specs.SeenDeployment.{deployed_as}
-use Rattle.sx_run.specs.Accepted.{setting}
-use Rattle.sx_run.specs.Setting.{Site}
+use Rattle.spec_run.specs.Accepted.{setting}
+use Rattle.spec_run.specs.Setting.{Site}
 use Rattle.sx_world.proofs.granting.Given.{Giving}
 use Rattle.sx_world.proofs.running.Running.give_keys.Given as goal
 

@@ -1,11 +1,11 @@
 use Rattle.std.proofs.Common.{◌≡◌, Some, sym, ap, ◌∙◌}
 use Rattle.std.specs.Prelude.{slice_get}
 use Rattle.std.proofs.lemmas.List.{with_items_is}
-use Rattle.sx_lists.proofs.Lists.{get_some}
-use Rattle.sx_machine.specs.State.{State}
-use Rattle.sx_machine.specs.Acts.{irq}
+use Rattle.lemmas.proofs.Lists.{get_some}
+use Rattle.spec_machine.specs.State.{State}
+use Rattle.spec_machine.specs.Acts.{irq}
 use Rattle.sx_deploy.specs.SeenDeployment.{deployed_as}
-use Rattle.sx_run.specs.Acts.{refused_item}
+use Rattle.spec_run.specs.Acts.{refused_item}
 use Rattle.sx_world.specs.Held.{Running}
 use Rattle.sx_observe.specs.InMemory.{setting_in}
 use Rattle.sx_world.proofs.doing.Doing.{lent_set, lent_long, as_kept, wanted_here}

@@ -1,11 +1,11 @@
 use Rattle.std.proofs.Common.{◌≡◌, [], ◌∷◌, ◌++◌, Option, Some, OnOk, sym, subst}
 use Rattle.std.specs.Prelude.{slice_get}
 use Rattle.sx_trace.specs.declared.items.Item.TheVariants.{Busy}
-use Rattle.sx_run.specs.Setting.{Site}
+use Rattle.spec_run.specs.Setting.{Site}
 use Rattle.sx_world.specs.Held.{DoesAct}
 use Rattle.sx_observe.specs.InMemory.{setting_in}
 use Rattle.sx_world.specs.Loading.{after_loading}
-use Rattle.sx_run.specs.Run.{load, unless_busy}
+use Rattle.spec_run.specs.Run.{load, unless_busy}
 use Rattle.sx_world.proofs.doing.Loaded.{idle_does, busy_does, element_at}
 use Rattle.sx_world.proofs.running.Running.load.Goals as goal
 

@@ -1,9 +1,9 @@
 use Rattle.std.proofs.Common.{[], false, subst}
 use Rattle.sx_sched.specs.declared.lines.Line.TheVariants as read
-use Rattle.sx_run.specs.Acts.{new_packet}
+use Rattle.spec_run.specs.Acts.{new_packet}
 use Rattle.sx_world.specs.Held.{DoesAct}
 use Rattle.sx_observe.specs.InMemory.{setting_in}
-use Rattle.sx_run.specs.Run.{put_on, steps_of}
+use Rattle.spec_run.specs.Run.{put_on, steps_of}
 use Rattle.sx_world.proofs.doing.Prepared.{counts_finish, line_does}
 use Rattle.sx_world.proofs.running.Running.perform.Goals as goal
 

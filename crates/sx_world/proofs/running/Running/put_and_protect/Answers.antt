@@ -1,11 +1,11 @@
 use Rattle.std.proofs.Common.{◌≡◌, ◌+◌, ◌/◌, length, Some, sym, subst, ap, ◌∙◌}
 use Rattle.std.specs.Prelude.{slice_get}
-use Rattle.sx_run.specs.Setting.{Site}
+use Rattle.spec_run.specs.Setting.{Site}
 use Rattle.sx_world.specs.Held.{Did, DoesAct, Wanted}
 use Rattle.sx_observe.specs.InMemory.{setting_in}
 use Rattle.sx_world.specs.Loading.{after_loading}
-use Rattle.sx_run.specs.Run.{protect_registers}
-use Rattle.sx_run.specs.Run.{put_pieces, set_all}
+use Rattle.spec_run.specs.Run.{protect_registers}
+use Rattle.spec_run.specs.Run.{put_pieces, set_all}
 use Rattle.sx_world.proofs.granting.Given.{does_err}
 use Rattle.sx_world.proofs.doing.Loaded.{still_few, image_wanted, code_wanted, given_wanted, loaded_does}
 use Rattle.sx_world.proofs.running.Running.put_and_protect.Goals as goal

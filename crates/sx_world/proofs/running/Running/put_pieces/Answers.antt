@@ -1,6 +1,6 @@
 use Rattle.std.proofs.Common.{◌+◌, ◌-◌, ◌*◌, ◌/◌, ◌<◌, ◌≤◌, length, take, drop, refl, subst, ap, ◌∙◌}
 use Rattle.std.specs.Int.{div_ceil}
-use Rattle.sx_run.specs.Run.{put_on, put_pieces}
+use Rattle.spec_run.specs.Run.{put_on, put_pieces}
 use Rattle.sx_world.proofs.doing.Composed.{remains_start, remains_on, remains_wanted, remains_none}
 use Rattle.sx_world.proofs.granting.Given.{does_err}
 use Rattle.sx_world.proofs.doing.Loaded.{long_by_boots, same_count, pieces_first, pieces_from, piece_within, next_piece, no_piece}

@@ -1,8 +1,8 @@
 use Rattle.std.proofs.Common.{◌≡◌, ◌+◌, ◌/◌, length}
 use Rattle.std.specs.Int.{div_ceil}
-use Rattle.sx_run.specs.Setting.{Setting}
+use Rattle.spec_run.specs.Setting.{Setting}
 use Rattle.sx_world.specs.Held.{boots_of}
-use Rattle.sx_run.specs.Run.{put_pieces}
+use Rattle.spec_run.specs.Run.{put_pieces}
 use Rattle.sx_world.proofs.doing.Composed.{Remains}
 use Rattle.sx_world.proofs.doing.Loaded.{pieces_from}
 use Rattle.sx_world.proofs.running.Running.put_pieces.Given as goal

@@ -3,10 +3,10 @@ use Rattle.std.specs.Prelude.{slice_get}
 use Rattle.std.proofs.lemmas.List.{with_items_is}
 use Rattle.sx_trace.specs.declared.items.Item.TheVariants.{Reset}
 use Rattle.sx_trace.specs.declared.items.Cause.TheVariants.{Asked}
-use Rattle.sx_machine.specs.State.{reset}
+use Rattle.spec_machine.specs.State.{reset}
 use Rattle.sx_world.specs.Held.{Running}
 use Rattle.sx_world.proofs.doing.Doing.{reset_did, as_kept, lent_set, lent_long, wanted_same}
-use Rattle.sx_run.specs.Acts.{at_node, with_node}
+use Rattle.spec_run.specs.Acts.{at_node, with_node}
 use Rattle.sx_world.proofs.doing.Composed.{does_any}
 use Rattle.sx_world.proofs.running.Running.reset.Goals as goal
 

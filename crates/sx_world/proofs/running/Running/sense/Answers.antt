@@ -5,11 +5,11 @@ use Rattle.std.specs.Vec.{vec_len}
 use Rattle.std.specs.Prelude.{unwrap_or}
 use Rattle.sx_mean.specs.declared.apps.AppDevice.{AppDevice}
 use Rattle.sx_deploy.specs.SeenDeployment.{deployed_as}
-use Rattle.sx_run.specs.Setting.{devices_at}
+use Rattle.spec_run.specs.Setting.{devices_at}
 use Rattle.sx_world.specs.Held.{Running}
-use Rattle.sx_run.specs.Accepted.{setting}
-use Rattle.sx_run.specs.Run.{place_at}
-use Rattle.sx_run.proofs.tie.Lists.{some_inj}
+use Rattle.spec_run.specs.Accepted.{setting}
+use Rattle.spec_run.specs.Run.{place_at}
+use Rattle.spec_run.proofs.tie.Lists.{some_inj}
 use Rattle.sx_world.proofs.doing.Loaded.{element_at}
 use Rattle.sx_world.proofs.doing.Sampled.{sensor_there, sense_does, sense_past}
 use Rattle.sx_world.proofs.running.Running.sense.Goals as goal

@@ -2,11 +2,11 @@ use Rattle.std.proofs.Common.{◌≡◌, [], ◌∷◌, refl, sym, ap, ◌∙◌
 use Rattle.std.specs.Prelude.{slice_get}
 use Rattle.std.proofs.lemmas.List.{with_items_is}
 use Rattle.sx_trace.specs.declared.items.Item.TheVariants.{Sense}
-use Rattle.sx_machine.specs.State.{State}
-use Rattle.sx_machine.specs.Acts.{busy, sense}
+use Rattle.spec_machine.specs.State.{State}
+use Rattle.spec_machine.specs.Acts.{busy, sense}
 use Rattle.sx_world.specs.Held.{Running}
 use Rattle.sx_world.proofs.doing.Doing.{done_did, as_kept, lent_set, lent_long, unless_kept, wanted_same}
-use Rattle.sx_run.specs.Acts.{at_node, done_on}
+use Rattle.spec_run.specs.Acts.{at_node, done_on}
 use Rattle.sx_world.proofs.doing.Composed.{does_any}
 use Rattle.sx_world.proofs.running.Running.sense_at.Goals as goal
 

@@ -1,5 +1,5 @@
 use Rattle.std.proofs.Common.{◌+◌, drop, arith, ◌∙◌}
-use Rattle.sx_run.specs.Run.{Register, set_on, set_all}
+use Rattle.spec_run.specs.Run.{Register, set_on, set_all}
 use Rattle.sx_world.proofs.doing.Composed.{remains_on, remains_wanted, remains_none}
 use Rattle.sx_world.proofs.granting.Given.{does_err}
 use Rattle.sx_world.proofs.doing.Loaded.{next_register, no_register, settable}

@@ -1,7 +1,7 @@
 use Rattle.std.proofs.Common.{◌≡◌, drop}
-use Rattle.sx_run.specs.Setting.{Setting}
+use Rattle.spec_run.specs.Setting.{Setting}
 use Rattle.sx_world.specs.Held.{boots_of}
-use Rattle.sx_run.specs.Run.{set_all}
+use Rattle.spec_run.specs.Run.{set_all}
 use Rattle.sx_world.specs.Loading.{AreSettable}
 use Rattle.sx_world.proofs.doing.Composed.{Remains}
 use Rattle.sx_world.proofs.running.Running.set_all.Given as goal

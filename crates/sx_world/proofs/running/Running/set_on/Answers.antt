@@ -1,12 +1,12 @@
 use Rattle.std.proofs.Common.{◌≡◌, [], refl, ap, ◌∙◌}
 use Rattle.std.specs.Prelude.{slice_get}
 use Rattle.std.proofs.lemmas.List.{with_items_is}
-use Rattle.sx_machine.specs.State.{State}
-use Rattle.sx_machine.specs.Acts.{set, busy}
+use Rattle.spec_machine.specs.State.{State}
+use Rattle.spec_machine.specs.Acts.{set, busy}
 use Rattle.sx_world.specs.Held.{Running}
 use Rattle.sx_world.proofs.doing.Doing.{done_did, as_kept, lent_set, lent_long, unless_kept, boots_kept, wanted_same}
-use Rattle.sx_run.proofs.acts.Bounds.{unless_boot}
-use Rattle.sx_run.specs.Run.{set_on}
+use Rattle.spec_run.proofs.acts.Bounds.{unless_boot}
+use Rattle.spec_run.specs.Run.{set_on}
 use Rattle.sx_world.proofs.doing.Composed.{does_any}
 use Rattle.sx_world.proofs.running.Running.set_on.Goals as goal
 

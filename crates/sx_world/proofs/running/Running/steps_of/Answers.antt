@@ -3,7 +3,7 @@ use Rattle.std.specs.Option.{option_to_list}
 use Rattle.sx_deploy.specs.SeenDeployment.{deployed_as}
 use Rattle.sx_observe.specs.InMemory.{setting_in}
 use Rattle.sx_world.specs.Passing.{after_steps, stepped}
-use Rattle.sx_run.specs.Run.{steps_of}
+use Rattle.spec_run.specs.Run.{steps_of}
 use Rattle.sx_world.proofs.doing.Composed.{does_both}
 use Rattle.sx_world.proofs.granting.Given.{does_err}
 use Rattle.sx_world.proofs.passing.Going.{going_front, going_end, going_none, going_done, went_on}

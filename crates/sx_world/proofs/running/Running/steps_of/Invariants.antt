@@ -1,7 +1,7 @@
 use Rattle.std.proofs.Common.{◌≡◌, ◌+◌, ◌==◌, ◌&&◌, ◌<◌, ◌≤◌, length, Some}
 use Rattle.std.specs.Prelude.{slice_get}
 use Rattle.std.specs.Option.{option_to_list}
-use Rattle.sx_machine.specs.State.{State}
+use Rattle.spec_machine.specs.State.{State}
 use Rattle.sx_observe.specs.InMemory.{setting_in}
 use Rattle.sx_world.proofs.passing.Going.{Going}
 use Rattle.sx_world.proofs.running.Running.steps_of.Given as goal

@@ -1,14 +1,14 @@
 use Rattle.std.proofs.Common.{◌≡◌, ℕ, Vec, Global, Some, Result, Ok, Err, IfOk, IfErr, refl, sym, subst, ap, ◌∙◌}
 use Rattle.std.specs.Prelude.{slice_get}
-use Rattle.sx_lists.proofs.Lists.{get_some}
-use Rattle.sx_machine.specs.declared.kinds.Refused.{Refused}
-use Rattle.sx_machine.specs.State.{State}
-use Rattle.sx_machine.specs.Acts.{take}
-use Rattle.sx_run.specs.Acts.{refused_item}
+use Rattle.lemmas.proofs.Lists.{get_some}
+use Rattle.spec_machine.specs.declared.kinds.Refused.{Refused}
+use Rattle.spec_machine.specs.State.{State}
+use Rattle.spec_machine.specs.Acts.{take}
+use Rattle.spec_run.specs.Acts.{refused_item}
 use Rattle.sx_world.specs.Held.{Running}
 use Rattle.sx_world.proofs.passing.Stepped.{refused_ok}
 use Rattle.sx_world.proofs.doing.KeptPackets.{took_does, took_refused}
-use Rattle.sx_run.specs.Acts.{at_node, after_take}
+use Rattle.spec_run.specs.Acts.{at_node, after_take}
 use Rattle.sx_observe.proofs.Fronts.{front_same}
 use Rattle.sx_world.proofs.doing.Doing.{wanted_same}
 use Rattle.sx_world.proofs.doing.Composed.{does_any}

@@ -3,7 +3,7 @@ use Rattle.sx_deploy.specs.SeenDeployment.{deployed_as}
 use Rattle.sx_sched.specs.Seen.{line_of}
 use Rattle.sx_world.specs.Held.{Held, Running}
 use Rattle.sx_world.specs.Ready.{IsReady}
-use Rattle.sx_run.specs.Setting.{Site}
+use Rattle.spec_run.specs.Setting.{Site}
 use Rattle.sx_observe.proofs.Fronts.{front_none}
 use Rattle.sx_world.proofs.standing.Continuing.{goes_on}
 use Rattle.sx_world.proofs.standing.Readying.{stands_ready, act_did, act_wanted}

@@ -5,10 +5,10 @@ use Rattle.sx_deploy.specs.SeenDeployment.{deployed_as}
 use Rattle.sx_deployer.specs.Keeping.{known}
 use Rattle.sx_image.specs.declared.image.Image.{Image}
 use Rattle.sx_mean.specs.View.{part_as}
-use Rattle.sx_run.specs.Accepted.{setting_of}
+use Rattle.spec_run.specs.Accepted.{setting_of}
 use Rattle.sx_world.specs.Held.{targets_from}
-use Rattle.sx_run.specs.Accepted.{setting}
-use Rattle.sx_run.specs.Setting.{Site}
+use Rattle.spec_run.specs.Accepted.{setting}
+use Rattle.spec_run.specs.Setting.{Site}
 use Rattle.sx_world.proofs.standing.Readying.{targets_long}
 use Rattle.sx_observe.proofs.SitesOf.{all_sited}
 use Rattle.sx_world.proofs.standing.SwitchedOn.{keyed, stands_first}

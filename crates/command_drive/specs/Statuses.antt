@@ -1,0 +1,10 @@
+-- The exit status of `drive`, whatever the images are, where no line was left out of its run.
+use Rattle.std.specs.Prelude.{ℕ, List}
+use Rattle.sx_io.specs.Reading.{Answer}
+use Rattle.sx_deploy.specs.Deployment.{Deployed}
+use Rattle.command_world.specs.Statuses.{stop_status}
+use Rattle.command_drive.specs.Readings.{readings_from}
+
+-- the exit status behind the head of a deployment
+abbrev pub drive_status : Deployed → List Answer → ℕ
+drive_status d more = stop_status (readings_from d 1 more).stop

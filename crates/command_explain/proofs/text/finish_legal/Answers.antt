@@ -1,0 +1,5 @@
+use Rattle.std.proofs.Common.{arith}
+use Rattle.command_explain.proofs.text.finish_legal.Goals as goal
+
+pub returns-clause-memory : goal.returns-clause-memory
+returns-clause-memory g c = λ six. omega (arith, six, c.finish.ensures.status (λ five. omega (arith, six, five)))

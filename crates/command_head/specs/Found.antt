@@ -1,0 +1,14 @@
+-- Whether an input has a head.
+use Rattle.std.specs.Prelude.{ℕ, ◌≡◌, List}
+use Rattle.sx_io.specs.Reading.{Answer}
+use Rattle.command_promise.specs.Told.{out_of_memory}
+use Rattle.command_promise.specs.Head.{Head, Found, head}
+
+-- the input has a head
+abbrev pub IsFound : Head → Type 0
+IsFound (Found text more) = Unit {0}
+IsFound _ = ⊥
+
+-- memory runs out only where there is a head: that there is none is reported without memory
+abbrev pub RunsOutBehindHead : ℕ → List Answer → Type 0
+RunsOutBehindHead status answers = status ≡ out_of_memory → IsFound (head answers)

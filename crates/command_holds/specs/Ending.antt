@@ -1,0 +1,59 @@
+-- How the parts of the command end. Nobody has to believe this file.
+use Rattle.std.specs.Prelude.{◌≡◌, ℕ, Bool, List, Ok}
+use Rattle.sx_io.specs.Streams.{SourceAt, SinkAt}
+use Rattle.sx_io.specs.Next.{Ahead}
+use Rattle.command_promise.specs.Told.{CommandAt, CommandEnds, Told, command_at}
+use Rattle.command_promise.specs.Reads.{anything}
+use Rattle.command_promise.specs.Got.{Got}
+use Rattle.command_promise.specs.Head.{Found, Unread, head, head_lines}
+use Rattle.sx_deploy.specs.Deployment.{Deployed}
+use Rattle.sx_watch.specs.Watched.{PropertyTree}
+use Rattle.law_never.specs.Never.{IsNeverBroken}
+use Rattle.command_holds.specs.Holds.{AreMeanings, Decision, Meanings, decided_output}
+use Rattle.command_holds.specs.Holds.{holds_all, holds_property}
+use Rattle.command_holds.specs.Promise.{NeverProperty, SaysOf}
+
+-- nothing was shown, and that was written
+abbrev pub GivesUp : Bool → SinkAt → SinkAt → ℕ → Type 0
+GivesUp to_tell k0 k1 status = (decision : Decision) × CommandEnds to_tell k0 k1 status
+    (decided_output decision) × (status ≡ 0 → ⊥)
+
+-- what was decided of a property was written, and status 0 says that it is never broken
+abbrev pub AnswersOf : Bool → SinkAt → SinkAt → ℕ → Deployed → PropertyTree → Type 0
+AnswersOf to_tell k0 k1 status d p = (decision : Decision) × CommandEnds to_tell k0 k1 status
+    (decided_output decision) × (status ≡ 0 → IsNeverBroken d.app p)
+
+-- so of a property's text
+abbrev pub EndsOf : Bool → SinkAt → SinkAt → ℕ → Deployed → List ℕ → Type 0
+EndsOf to_tell k0 k1 status d text = (decision : Decision)
+    × ((means : Meanings) → AreMeanings means
+    → CommandEnds to_tell k0 k1 status (holds_property decision (means.property d.names d.app text))
+    × (status ≡ 0 → NeverProperty d (means.property d.names d.app text)))
+
+-- whatever was read before, where this text is the head
+abbrev pub EndsBehind : Bool → Bool → SourceAt → SourceAt → Ahead → SinkAt → SinkAt → ℕ → List ℕ
+    → Meanings → Decision → Type 0
+EndsBehind tells to_tell s1 s2 now k0 k1 status text means decision = (s0 : SourceAt)
+    → Got tells head_lines head_lines s0 s1 now head (λ more. Found text more) Unread anything
+    → Told tells to_tell head_lines (command_at s0 k0) (command_at s2 k1) status
+    (holds_all means decision) (SaysOf means status)
+
+-- behind a text that is this deployment
+abbrev pub DeployedEnds : Bool → Bool → SourceAt → SourceAt → Ahead → SinkAt → SinkAt → ℕ → Deployed
+    → Type 0
+DeployedEnds tells to_tell s1 s2 now k0 k1 status d = (decision : Decision)
+    × ((means : Meanings) → AreMeanings means → (text : List ℕ) → means.deployment text ≡ Ok d
+    → EndsBehind tells to_tell s1 s2 now k0 k1 status text means decision)
+
+-- behind any text
+abbrev pub TextEnds : Bool → Bool → SourceAt → SourceAt → Ahead → SinkAt → SinkAt → ℕ → List ℕ
+    → Type 0
+TextEnds tells to_tell s1 s2 now k0 k1 status text = (decision : Decision)
+    × ((means : Meanings) → AreMeanings means
+    → EndsBehind tells to_tell s1 s2 now k0 k1 status text means decision)
+
+-- and of the whole command
+abbrev pub ToldOf : Bool → Bool → CommandAt → CommandAt → ℕ → Type 0
+ToldOf tells to_tell m0 m1 status = (decision : Decision)
+    × ((means : Meanings) → AreMeanings means
+    → Told tells to_tell head_lines m0 m1 status (holds_all means decision) (SaysOf means status))

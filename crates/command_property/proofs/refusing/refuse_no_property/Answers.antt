@@ -1,0 +1,11 @@
+use Rattle.std.proofs.Common.{◌≡◌, ℕ, arith, refl}
+use Rattle.command_text.proofs.Ends.{never_six}
+use Rattle.command_property.specs.Refused.{property_line}
+use Rattle.command_property.proofs.refusing.refuse_no_property.Goals as goal
+
+pub returns : goal.returns
+unfolding property_line
+returns g c = record {
+  ends = c.finish.ensures.ends;
+  memory = never_six _ 7 c.finish.ensures.status (λ e. omega (arith, e));
+}

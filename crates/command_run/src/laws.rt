@@ -1,0 +1,26 @@
+//! That inputs which keep the rules are those of status 0, and that runs of the same input are the
+//! same. Each law is a function that does nothing: its contract is the law.
+
+ghost use Rattle.std.specs.Prelude.{◌≡◌, List};
+ghost use Rattle.sx_io.specs.Reading.{Answer};
+ghost use Rattle.sx_sched.specs.Reading.{Assembler};
+ghost use Rattle.command_promise.specs.Head.{head};
+ghost use Rattle.command_head.specs.Meanings.{Meaning};
+ghost use Rattle.command_world.specs.WellFormed.{IsGoodInput};
+ghost use Rattle.command_world.specs.Statuses.{schedule_status};
+ghost use Rattle.command_deploy.specs.Deploy.{deploy_status};
+ghost use Rattle.command_run.specs.Laws.{RunsAreSame};
+
+/// A deployment that keeps the rules, the line `%%` and a schedule that does have status 0. So
+/// `complete` of `RunSays` says of these that they are run to their end.
+pub fn good_input_has_status_0()
+    ensures { (assemble : Assembler) (meaning : Meaning) (answers : List Answer)
+        → IsGoodInput assemble meaning (head answers)
+        → deploy_status (schedule_status assemble) meaning answers ≡ 0 }
+{}
+
+/// Two calls over the same input, in which no read and no write failed and memory sufficed, write
+/// the same trace: the images too follow from the input.
+pub fn runs_are_same()
+    ensures { RunsAreSame }
+{}

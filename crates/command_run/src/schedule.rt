@@ -1,0 +1,122 @@
+//! The lines of a schedule. Each is judged and performed, and its items are written, before the
+//! next is read.
+
+ghost use Rattle.std.specs.Prelude.{◌≡◌, ◌+◌, ◌≤◌, IsTrue};
+ghost use Rattle.sx_asm.specs.Assembled.{assembled};
+ghost use Rattle.sx_trace.specs.ValidNames.{are_valid};
+ghost use Rattle.command_promise.specs.Told.{command_at, out_of_memory};
+ghost use Rattle.command_promise.specs.Parts.{Rest};
+ghost use Rattle.command_promise.specs.Head.{head_lines};
+ghost use Rattle.sx_deploy.specs.SeenDeployment.{deployed_as};
+ghost use Rattle.sx_deploy.specs.Law.{IsSoundDeployment};
+ghost use Rattle.sx_world.specs.InMemory.{world_setting};
+ghost use Rattle.spec_run.specs.Law.{IsSoundSetting};
+ghost use Rattle.sx_world.specs.Standing.{IsGoing, Stands};
+ghost use Rattle.spec_run.specs.State.{switched_on};
+ghost use Rattle.command_head.specs.Given.{RanOutSince};
+ghost use Rattle.command_run.specs.Run.{run_at_start};
+ghost use Rattle.command_run.specs.Runs.{run_may};
+ghost use Rattle.command_world.specs.Schedule.{judged_line};
+ghost use Rattle.command_run.specs.Turns.{TellsMade, TurnsFrom};
+ghost use Rattle.command_world.specs.Turning.{MayRunOut};
+
+use crate::trace::put_items;
+use command_promise::{OUT_OF_MEMORY, READ_FAILED, Turned, finish};
+use command_world::judging::{TOO_LONG, break_off, judge_line};
+use std::alloc::Global;
+use sx_bus::Copied;
+use sx_deploy::deployment::Deployment;
+use sx_io::{LineRead, Lines, Sink, Source};
+use sx_sched::lines::LineError;
+use sx_tag::Tag;
+use sx_trace::items::Item;
+use sx_world::world::World;
+
+/// Does what a line says, and writes its items; where memory runs out, those that were made before.
+/// `items` is the loop's, so that lines use its memory one after the other.
+fn turn<K: Sink, B: Copied, T: Tag>(
+    alloc: Global,
+    output: &mut K,
+    world: &mut World<B, T>,
+    deployment: &Deployment,
+    items: &mut Vec<Item>,
+    said: &[u8],
+    number: u32,
+) -> Turned
+    requires sound { IsSoundDeployment (deployed_as deployment.now) }
+    requires images { IsSoundSetting (world_setting T.mac deployment.now world.old) }
+    requires going { IsGoing (world_setting T.mac deployment.now world.old) world.old }
+    requires names { IsTrue (are_valid (deployed_as deployment.now).names) }
+    requires counted { world.old.performed + 1 ≡ number }
+    ensures turns { TurnsFrom K.tells (K.at output.old) (K.at output.new)
+        (deployed_as deployment.now).names (world_setting T.mac deployment.now world.old) world.old
+        world.new number said.now result }
+    ensures memory { result ≡ Turned.Stop out_of_memory
+        → MayRunOut (judged_line assembled (deployed_as deployment.now).names number said.now) }
+    ensures made { TellsMade K.tells (K.at output.old) (K.at output.new)
+        (deployed_as deployment.now).names world.old world.new items.new.items result }
+    ensures few { result ≡ Turned.On → number ≤ 65536 }
+    ensures sites { world.new.sites ≡ world.old.sites }
+    ensures counts { result ≡ Turned.On → world.new.performed ≡ number }
+{
+    items.clear();
+    match judge_line(alloc, &deployment.names, said, number) {
+        Ok(line) => match world.act(deployment, &line, items) {
+            Ok(()) => put_items(output, &deployment.names, items),
+            Err(_) => match put_items(output, &deployment.names, items) {
+                Turned::On => Turned::Stop(OUT_OF_MEMORY),
+                Turned::Stop(status) => Turned::Stop(status),
+            },
+        },
+        Err(LineError::Fault(rule)) => Turned::Stop(break_off(output, rule, number)),
+        Err(LineError::OutOfMemory) => Turned::Stop(OUT_OF_MEMORY),
+    }
+}
+
+/// Runs the lines of a schedule in a world where all was just switched on.
+pub(crate) fn run_lines<S: Source, K: Sink, B: Copied, T: Tag>(
+    alloc: Global,
+    lines: &mut Lines,
+    input: &mut S,
+    output: &mut K,
+    deployment: &Deployment,
+    world: &mut World<B, T>,
+) -> u8
+    requires sound { IsSoundDeployment (deployed_as deployment.now) }
+    requires images { IsSoundSetting (world_setting T.mac deployment.now world.old) }
+    requires names { IsTrue (are_valid (deployed_as deployment.now).names) }
+    requires new { world.old.performed ≡ 0 }
+    requires stands { Stands (world_setting T.mac deployment.now world.old) world.old
+        (switched_on (world_setting T.mac deployment.now world.old)) }
+    ensures rest { Rest S.tells K.tells head_lines lines.old
+        (command_at (S.at input.old) (K.at output.old))
+        (command_at (S.at input.new) (K.at output.new)) result
+        (run_at_start assembled (deployed_as deployment.now).names
+        (world_setting T.mac deployment.now world.old)) }
+    ensures wanted { result ≡ out_of_memory → RanOutSince head_lines head_lines
+        (run_may assembled (deployed_as deployment.now)) S.tells (S.at input.old) (S.at input.new)
+        lines.old lines.new }
+{
+    let mut into = [0; 4096];
+    let mut items = Vec::new(alloc);
+    let mut number: u32 = 1;
+    'lines: loop {
+        match lines.next(input, &mut into) {
+            LineRead::End => return finish(output, b"end\n", 0),
+            LineRead::TooLong => return break_off(output, TOO_LONG, number),
+            LineRead::Failed => return finish(output, b"fault read\n", READ_FAILED),
+            LineRead::Text(n) => match turn(
+                alloc,
+                output,
+                world,
+                deployment,
+                &mut items,
+                &into[..n],
+                number,
+            ) {
+                Turned::On => number += 1,
+                Turned::Stop(status) => return status,
+            },
+        }
+    }
+}

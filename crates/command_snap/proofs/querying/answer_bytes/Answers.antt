@@ -1,0 +1,19 @@
+use Rattle.std.proofs.Common.{◌≡◌, List, ℕ, subst, sym}
+use Rattle.std.specs.Prelude.{IfOk}
+use Rattle.sx_deploy.specs.SeenDeployment.{deployed_as}
+use Rattle.spec_run.specs.Accepted.{setting}
+use Rattle.command_snap.specs.Answers.{answer_text, bytes_line}
+use Rattle.command_snap.proofs.Written.{of_found}
+use Rattle.command_snap.proofs.querying.answer_bytes.Goals as goal
+
+pub returns : goal.returns
+unfolding answer_text
+returns g c =
+    let d = deployed_as c.args.deployment.now in
+    let set = setting g.T.Tag.mac d c.args.timeline.now.sites in
+    let range = c.args.range in
+    let P : List ℕ → Type 0 = λ due. IfOk c.bytes_line.result (λ text. text.items ≡ due) in
+    subst P
+    (sym (of_found (bytes_line d.names range.number range.from range.len c.args.at) set c.args.timeline.now.lines c.args.at range.number _ c.node.result.now
+    c.in_ok-world.ensures.world c.node.ensures))
+    c.bytes_line.ensures

@@ -1,0 +1,22 @@
+-- What the command `snap` promises, of its streams at its start (m0) and at its end (m1).
+use Rattle.std.specs.Prelude.{ℕ, ◌≡◌, Bool}
+use Rattle.command_promise.specs.Told.{CommandAt, out_of_memory}
+use Rattle.sx_tag.specs.Mac.{Mac}
+use Rattle.command_deploy.specs.Deploys.{DeploySays, OwnPart}
+use Rattle.command_snap.specs.Snap.{snap_deployed}
+use Rattle.command_snap.specs.Statuses.{snap_status}
+use Rattle.command_snap.specs.Wants.{snap_may}
+
+-- what is `snap`'s own behind the head; it is cut short only where memory runs out
+abbrev pub snap_part : Mac → OwnPart
+snap_part mac = record {
+  output = snap_deployed mac;
+  status = snap_status;
+  Cut = λ status. status ≡ out_of_memory;
+  MayWant = snap_may;
+  With = λ deployment texts. Unit {0};
+}
+
+-- the command `snap`
+abbrev pub SnapSays : Mac → Bool → Bool → CommandAt → CommandAt → ℕ → Type 0
+SnapSays mac = DeploySays mac (snap_part mac)

@@ -1,0 +1,18 @@
+-- What commands say of reads and writes that fail, of their streams at the start (m0) and at the
+-- end (m1).
+use Rattle.std.specs.Prelude.{ℕ, ◌≡◌}
+use Rattle.sx_io.specs.Counts.{next_count, Rose}
+use Rattle.sx_io.specs.Streams.{OneReadFault}
+use Rattle.command_promise.specs.Told.{CommandAt, read_failed, write_failed}
+
+-- no read and no write failed: neither count rose, nor stands at its last value
+abbrev pub IsFaultless : CommandAt → CommandAt → Type 0
+IsFaultless m0 m1 =
+    (Rose m0.source.faults m1.source.faults → ⊥) × (Rose m0.sink.faults m1.sink.faults → ⊥)
+
+-- A status tells of faults: 4 only of one read that failed, after which nothing was read; 5 exactly
+-- of one write that failed.
+pub record TellsFaults (m0 m1 : CommandAt) (status : ℕ) : Type 0 where
+  pub read : status ≡ read_failed → OneReadFault m0.source m1.source
+  pub write : status ≡ write_failed → m1.sink.faults ≡ next_count m0.sink.faults
+  pub no_write : (status ≡ write_failed → ⊥) → m1.sink.faults ≡ m0.sink.faults

@@ -1,0 +1,30 @@
+use Rattle.std.proofs.Common.{◌+◌, List, ap, refl, sym}
+use Rattle.sx_io.specs.Reading.{Answer}
+use Rattle.command_promise.specs.Told.{Output, read_line}
+use Rattle.command_promise.proofs.Laws.{begun-line, ends-same, told-stop, told-end, told-too-long, told-failed}
+use Rattle.command_explain.specs.Explain.{broken_output}
+use Rattle.command_explain.specs.Trace.{stop_behind}
+use Rattle.command_watch.specs.Watch.{stop_output}
+use Rattle.command_watch.proofs.trace.watch_end.Goals as goal
+
+pub returns-in-End : goal.returns-in-End
+returns-in-End g c = λ means p items is s counted limit m0 defined aside noted b.
+    let f : List Answer → Output = λ more. stop_output items (stop_behind (means.item c.args.names.now) (c.args.count + 2) more) in
+    told-end {f = f} refl b c.in-End.ensures.next (c.finish_kept.ensures p items s counted)
+
+pub returns-in-TooLong : goal.returns-in-TooLong
+returns-in-TooLong g c = λ means p items is s counted limit m0 defined aside noted b.
+    let f : List Answer → Output = λ more. stop_output items (stop_behind (means.item c.args.names.now) (c.args.count + 2) more) in
+    told-too-long {f = f} refl b c.in-TooLong.ensures.next c.break_off.ensures.ends
+
+pub returns-in-Failed : goal.returns-in-Failed
+unfolding read_line
+returns-in-Failed g c = λ means p items is s counted limit m0 defined aside noted b.
+    let f : List Answer → Output = λ more. stop_output items (stop_behind (means.item c.args.names.now) (c.args.count + 2) more) in
+    told-failed {f = f} refl b c.in-Failed.ensures.next c.finish.ensures.ends
+
+pub returns-in-Text : goal.returns-in-Text
+returns-in-Text g c = λ means p items is s counted limit m0 defined aside noted b.
+    let f : List Answer → Output = λ more. stop_output items (stop_behind (means.item c.args.names.now) (c.args.count + 2) more) in
+    told-stop (begun-line f refl b c.in-Text.ensures.next)
+    (λ more. ends-same _ _ _ _ _ _ (ap (λ rule. broken_output rule (c.args.count + 2)) (sym (c.rule_behind.ensures means is))) c.break_off-in-Text.ensures.ends)

@@ -1,0 +1,108 @@
+use Rattle.std.proofs.Common.{◌≡◌, ◌∙◌, ◌∷◌, ◌++◌, ◌≤◌, [], ℕ, take, length, arith, ap, refl, sym, subst, List, Result, Err, Ok}
+use Rattle.std.specs.Prelude.{OnOk}
+use Rattle.std.proofs.lemmas.List.{length-append}
+use Rattle.sx_io.specs.Streams.{SinkAt}
+use Rattle.sx_io.specs.Reading.{Answer}
+use Rattle.command_promise.specs.Told.{Output, command_at, read_line}
+use Rattle.command_promise.specs.Parts.{Begun, Notes}
+use Rattle.command_promise.proofs.Laws.{begun-line, begun-same, ends-same, told-end, told-failed, told-stop, told-too-long}
+use Rattle.command_explain.specs.Explain.{broken_output}
+use Rattle.command_explain.specs.Trace.{judged_line, line_of, stop_behind, trace_lines}
+use Rattle.command_watch.specs.Watch.{stop_output, watch_from}
+use Rattle.command_watch.proofs.Written.{said_bad, said_end, said_item, said_last, said_long, said_unread}
+use Rattle.command_watch.proofs.trace.watch_lines.Goals as goal
+
+few_of : {X E : Type 0} → (r : Result X E) (x : X) (n : ℕ) → r ≡ Ok x → OnOk r (n ≤ 4000000) → n ≤ 4000000
+few_of (Ok y) x n e h = h
+few_of (Err y) x n e h = absurd (cc e)
+
+pub lines-init : goal.lines-init
+lines-init g c = record { between = record { few = omega arith; items = []; counted = refl; stands = λ p s. s; begun = λ means p is s limit m0 defined aside noted b. b } }
+
+pub returns-in-End : goal.returns-in-End
+returns-in-End g c = λ means p is s limit m0 defined aside noted b.
+    let st = c.lines.invariant.between in
+    let u = (st.stands p s).unbroken in
+    let item = means.item c.args.names.now in
+    told-end {f = watch_from p item st.items} (said_unread p item st.items u []) (st.begun means p is s limit m0 defined aside noted b) c.in-End.ensures.next
+    (ends-same _ _ _ _ _ _ (said_end p item st.items u [] ∙ ap (broken_output 3) (sym st.counted)) c.break_off.ensures.ends)
+
+pub returns-in-TooLong : goal.returns-in-TooLong
+returns-in-TooLong g c = λ means p is s limit m0 defined aside noted b.
+    let st = c.lines.invariant.between in
+    let u = (st.stands p s).unbroken in
+    let item = means.item c.args.names.now in
+    told-too-long {f = watch_from p item st.items} (said_unread p item st.items u []) (st.begun means p is s limit m0 defined aside noted b) c.in-TooLong.ensures.next
+    (ends-same _ _ _ _ _ _ (said_long p item st.items u [] ∙ ap (broken_output 2) (sym st.counted)) c.break_off-in-TooLong.ensures.ends)
+
+pub returns-in-Failed : goal.returns-in-Failed
+unfolding read_line
+returns-in-Failed g c = λ means p is s limit m0 defined aside noted b.
+    let st = c.lines.invariant.between in
+    let u = (st.stands p s).unbroken in
+    let item = means.item c.args.names.now in
+    told-failed {f = watch_from p item st.items} (said_unread p item st.items u []) (st.begun means p is s limit m0 defined aside noted b) c.in-Failed.ensures.next
+    (ends-same _ _ _ _ _ _ (said_unread p item st.items u []) c.finish.ensures.ends)
+
+pub returns-in-Err : goal.returns-in-Err
+returns-in-Err g c = λ means p is s limit m0 defined aside noted b.
+    let st = c.lines.invariant.between in
+    let u = (st.stands p s).unbroken in
+    let item = means.item c.args.names.now in
+    let text = take c.in-Text.n c.next.new.into in
+    let line = c.judge_line.ensures.line means is in
+    told-stop (begun-line (watch_from p item st.items) (said_unread p item st.items u []) (st.begun means p is s limit m0 defined aside noted b) c.in-Text.ensures.next)
+    (λ more. ends-same _ _ _ _ _ _
+    (said_bad p item st.items u text c.in-Err.rule more (ap (λ (n : ℕ). judged_line n (line_of item text)) (sym st.counted) ∙ sym line ∙ c.in-Err.is)
+    ∙ ap (broken_output c.in-Err.rule) (sym st.counted)) c.break_off-in-Err.ensures.ends)
+
+pub returns-in-Ok-Last : goal.returns-in-Ok-Last
+returns-in-Ok-Last g c = λ means p is s limit m0 defined aside noted b.
+    let st = c.lines.invariant.between in
+    let u = (st.stands p s).unbroken in
+    let item = means.item c.args.names.now in
+    let text = take c.in-Text.n c.next.new.into in
+    let line = c.judge_line.ensures.line means is in
+    let count : ℕ = length st.items in
+    c.watch_end.ensures means p st.items is (st.stands p s) (let n = st.counted in omega (arith, n)) limit m0 defined aside noted
+    (begun-same _ (λ more. said_last p item st.items u text more (ap (λ (n : ℕ). judged_line n (line_of item text)) (sym st.counted) ∙ sym line ∙ (c.in-Ok-Last.is ∙ ap Ok c.in-Ok-Last.field-0-is))
+    ∙ ap (λ (n : ℕ). stop_output st.items (stop_behind item n more)) (let n = st.counted in omega (arith, n)))
+    (begun-line (watch_from p item st.items) (said_unread p item st.items u []) (st.begun means p is s limit m0 defined aside noted b) c.in-Text.ensures.next))
+
+pub returns-in-Stop : goal.returns-in-Stop
+returns-in-Stop g c = λ means p is s limit m0 defined aside noted b.
+    let st = c.lines.invariant.between in
+    let u = (st.stands p s).unbroken in
+    let item = means.item c.args.names.now in
+    let text = take c.in-Text.n c.next.new.into in
+    let line = c.judge_line.ensures.line means is in
+    let i = c.in-Ok-Item.item in
+    let turned = c.in-Stop.ensures p st.items (st.stands p s) st.counted in
+    told-stop (begun-line (watch_from p item st.items) (said_unread p item st.items u []) (st.begun means p is s limit m0 defined aside noted b) c.in-Text.ensures.next)
+    (λ more. ends-same _ _ _ _ _ _
+    (said_item p item st.items text i more (ap (λ (n : ℕ). judged_line n (line_of item text)) (sym st.counted) ∙ sym line ∙ (c.in-Ok-Item.is ∙ ap Ok c.in-Ok-Item.field-0-is)))
+    (turned item more))
+
+pub lines-preserved : goal.lines-preserved
+lines-preserved g c =
+    let st = c.lines.invariant.between in
+    let i = c.in-Ok-Item.item in
+    let few = few_of c.judge_line.result _ c.lines.number (c.in-Ok-Item.is ∙ ap Ok c.in-Ok-Item.field-0-is) c.judge_line.ensures.few in record {
+      between = record {
+        few = omega (arith, few);
+        items = st.items ++ i ∷ [];
+        counted = (let l = length-append st.items (i ∷ []) in let n = st.counted in omega (arith, l, n));
+        stands = λ p s. (c.in-On.ensures p st.items (st.stands p s) st.counted).1;
+        begun = λ means p is s limit m0 defined aside noted b.
+            let u = (st.stands p s).unbroken in
+            let item = means.item c.args.names.now in
+            let text = take c.in-Text.n c.next.new.into in
+            let line = c.judge_line.ensures.line means is in
+            let next : List Answer → Output = watch_from p item (st.items ++ i ∷ []) in
+            let at : SinkAt → Type 0 = λ k. Begun g.S.Source.tells g.K.Sink.tells limit trace_lines m0 (command_at (g.S.Source.at c.next.new.source) k) c.next.new.self defined next (Notes aside noted) in
+            subst at (sym (c.in-On.ensures p st.items (st.stands p s) st.counted).0)
+            (begun-same next
+            (λ more. said_item p item st.items text i more (ap (λ (n : ℕ). judged_line n (line_of item text)) (sym st.counted) ∙ sym line ∙ (c.in-Ok-Item.is ∙ ap Ok c.in-Ok-Item.field-0-is)))
+            (begun-line (watch_from p item st.items) (said_unread p item st.items u []) (st.begun means p is s limit m0 defined aside noted b) c.in-Text.ensures.next));
+      };
+    }

@@ -1,0 +1,12 @@
+use Rattle.std.proofs.Common.{refl, []}
+use Rattle.command_promise.proofs.Laws.{told-stop, ends-out-of-memory, prefix-none}
+use Rattle.sx_watch.specs.Watched.{property_as}
+use Rattle.command_watch.specs.Watch.{watch_from}
+use Rattle.command_watch.proofs.trace.watch_trace.Goals as goal
+
+pub returns-in-Ok : goal.returns-in-Ok
+returns-in-Ok g c = λ means is. c.watch_lines.ensures means (property_as c.args.property) is c.in-Ok.ensures
+
+pub returns-in-Err : goal.returns-in-Err
+returns-in-Err g c = λ means is limit m0 defined aside noted b.
+    told-stop b (λ more. ends-out-of-memory _ _ _ (watch_from (property_as c.args.property) (means.item c.args.names.now) [] more) (λ t. prefix-none _ _ _ refl) refl)

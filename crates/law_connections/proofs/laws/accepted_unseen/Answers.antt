@@ -1,0 +1,5 @@
+use Rattle.law_connections.proofs.Final.{accepted_unseen}
+use Rattle.law_connections.proofs.laws.accepted_unseen.Goals as goal
+
+pub returns : goal.returns
+returns c = accepted_unseen

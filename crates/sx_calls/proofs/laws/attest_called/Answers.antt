@@ -1,5 +1,0 @@
-use Rattle.sx_calls.proofs.Four.{attest_called}
-use Rattle.sx_calls.proofs.laws.attest_called.Goals as goal
-
-pub returns : goal.returns
-returns c = attest_called

@@ -1,5 +1,0 @@
-use Rattle.sx_calls.proofs.Budgets.{callable_in_runs}
-use Rattle.sx_calls.proofs.laws.callable_in_runs.Goals as goal
-
-pub returns : goal.returns
-returns c = callable_in_runs

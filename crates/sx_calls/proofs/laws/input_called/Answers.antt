@@ -1,5 +1,0 @@
-use Rattle.sx_calls.proofs.Four.{input_called}
-use Rattle.sx_calls.proofs.laws.input_called.Goals as goal
-
-pub returns : goal.returns
-returns c = input_called

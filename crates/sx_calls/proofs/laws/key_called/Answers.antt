@@ -1,5 +1,0 @@
-use Rattle.sx_calls.proofs.Four.{key_called}
-use Rattle.sx_calls.proofs.laws.key_called.Goals as goal
-
-pub returns : goal.returns
-returns c = key_called

@@ -1,5 +1,0 @@
-use Rattle.sx_calls.proofs.GoingOn.{marks_go_on}
-use Rattle.sx_calls.proofs.laws.marks_go_on.Goals as goal
-
-pub returns : goal.returns
-returns c = marks_go_on

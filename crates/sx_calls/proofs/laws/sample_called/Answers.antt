@@ -1,5 +1,0 @@
-use Rattle.sx_calls.proofs.Four.{sample_called}
-use Rattle.sx_calls.proofs.laws.sample_called.Goals as goal
-
-pub returns : goal.returns
-returns c = sample_called

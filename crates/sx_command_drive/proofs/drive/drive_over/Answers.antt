@@ -1,5 +1,0 @@
-use Rattle.sx_command_drive.proofs.Said.{drive_says}
-use Rattle.sx_command_drive.proofs.drive.drive_over.Goals as goal
-
-pub returns : goal.returns
-returns g c = drive_says g.T.Tag.mac g.met.T.Tag.is_tag c.deploy_over.ensures

@@ -1,5 +1,0 @@
-use Rattle.sx_command_explain.proofs.Found.{are_meant, meant}
-use Rattle.sx_command_explain.proofs.laws.some_meanings.Goals as goal
-
-pub returns : goal.returns
-returns c = (meant, are_meant)

@@ -1,6 +1,0 @@
-use Rattle.std.proofs.Common.{◌∙◌, ap}
-use Rattle.sx_command_explain.specs.Trace.{rule_behind}
-use Rattle.sx_command_explain.proofs.lines.rule_behind.Goals as goal
-
-pub returns : goal.returns
-returns c = λ means is. c.broken_by.ensures ∙ ap rule_behind (c.line_of.ensures means is)

@@ -1,5 +1,0 @@
-use Rattle.sx_command_holds.proofs.Promised.{promised}
-use Rattle.sx_command_holds.proofs.holds.holds_over.Goals as goal
-
-pub returns : goal.returns
-returns g c = promised c.holds_told.ensures

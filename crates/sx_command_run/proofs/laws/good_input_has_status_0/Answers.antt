@@ -1,6 +1,0 @@
-use Rattle.sx_head.specs.Head.{head}
-use Rattle.sx_command_deploy.proofs.Good.{input_zero}
-use Rattle.sx_command_run.proofs.laws.good_input_has_status_0.Goals as goal
-
-pub returns : goal.returns
-returns c = λ assemble meaning answers good. input_zero assemble meaning (head answers) good

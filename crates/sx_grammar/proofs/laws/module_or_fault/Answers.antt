@@ -1,5 +1,0 @@
-use Rattle.sx_grammar.proofs.Texts as texts
-use Rattle.sx_grammar.proofs.laws.module_or_fault.Goals as goal
-
-pub returns : goal.returns
-returns c = texts.module_or_fault

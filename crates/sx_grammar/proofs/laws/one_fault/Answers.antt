@@ -1,5 +1,0 @@
-use Rattle.sx_grammar.proofs.OneFault as faults
-use Rattle.sx_grammar.proofs.laws.one_fault.Goals as goal
-
-pub returns : goal.returns
-returns c = faults.one_fault

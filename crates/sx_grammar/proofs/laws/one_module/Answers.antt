@@ -1,5 +1,0 @@
-use Rattle.sx_grammar.proofs.OneModule as modules
-use Rattle.sx_grammar.proofs.laws.one_module.Goals as goal
-
-pub returns : goal.returns
-returns c = modules.one_module

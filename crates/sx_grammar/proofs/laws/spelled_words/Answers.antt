@@ -1,5 +1,0 @@
-use Rattle.sx_grammar.proofs.SpelledWords as words
-use Rattle.sx_grammar.proofs.laws.spelled_words.Goals as goal
-
-pub returns : goal.returns
-returns c = words.spelled_words

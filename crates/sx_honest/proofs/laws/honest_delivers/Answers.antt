@@ -1,5 +1,0 @@
-use Rattle.sx_honest.proofs.Honest.{honest_delivers}
-use Rattle.sx_honest.proofs.laws.honest_delivers.Goals as goal
-
-pub returns : goal.returns
-returns c = honest_delivers

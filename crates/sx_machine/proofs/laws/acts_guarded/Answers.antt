@@ -1,5 +1,0 @@
-use Rattle.sx_machine.proofs.RunGuard.{acts_guarded}
-use Rattle.sx_machine.proofs.laws.acts_guarded.Goals as goal
-
-pub returns : goal.returns
-returns c = acts_guarded

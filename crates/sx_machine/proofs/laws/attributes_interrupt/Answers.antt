@@ -1,5 +1,0 @@
-use Rattle.sx_machine.proofs.Attribution.{attributes_interrupt}
-use Rattle.sx_machine.proofs.laws.attributes_interrupt.Goals as goal
-
-pub returns : goal.returns
-returns c = attributes_interrupt

@@ -1,5 +1,0 @@
-use Rattle.sx_machine.proofs.Frame.{interrupts_framed}
-use Rattle.sx_machine.proofs.laws.interrupts_framed.Goals as goal
-
-pub returns : goal.returns
-returns c = interrupts_framed

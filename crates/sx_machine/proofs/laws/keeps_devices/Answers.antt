@@ -1,5 +1,0 @@
-use Rattle.sx_machine.proofs.Stays.{keeps_devices}
-use Rattle.sx_machine.proofs.laws.keeps_devices.Goals as goal
-
-pub returns : goal.returns
-returns c = keeps_devices

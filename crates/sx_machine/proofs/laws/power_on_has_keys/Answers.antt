@@ -1,5 +1,0 @@
-use Rattle.sx_machine.proofs.Keys.{power_on_has_keys}
-use Rattle.sx_machine.proofs.laws.power_on_has_keys.Goals as goal
-
-pub returns : goal.returns
-returns c = power_on_has_keys

@@ -1,5 +1,0 @@
-use Rattle.sx_machine.proofs.PublicKept.{public_kept}
-use Rattle.sx_machine.proofs.laws.public_kept.Goals as goal
-
-pub returns : goal.returns
-returns c = public_kept

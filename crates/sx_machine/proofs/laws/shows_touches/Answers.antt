@@ -1,5 +1,0 @@
-use Rattle.sx_machine.proofs.Sparse.{shows_touches}
-use Rattle.sx_machine.proofs.laws.shows_touches.Goals as goal
-
-pub returns : goal.returns
-returns c = shows_touches

@@ -1,5 +1,0 @@
-use Rattle.sx_machine.proofs.Frame.{steps_framed}
-use Rattle.sx_machine.proofs.laws.steps_framed.Goals as goal
-
-pub returns : goal.returns
-returns c = steps_framed

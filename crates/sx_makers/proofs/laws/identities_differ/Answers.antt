@@ -1,5 +1,0 @@
-use Rattle.sx_makers.proofs.Impostors.{identities_differ}
-use Rattle.sx_makers.proofs.laws.identities_differ.Goals as goal
-
-pub returns : goal.returns
-returns c = identities_differ

@@ -1,8 +1,0 @@
-use Rattle.std.specs.Prelude.{All}
-use Rattle.sx_model.specs.order.Given.{IsGiven}
-use Rattle.sx_run.proofs.turns.RunsAreGiven.{runs_are_given}
-use Rattle.sx_run.proofs.AcceptedRuns.{of_accepted}
-use Rattle.sx_run.proofs.laws.accepted_runs_are_given.Goals as goal
-
-pub returns : goal.returns
-returns c = of_accepted (λ app items. All IsGiven items) runs_are_given

@@ -1,7 +1,0 @@
-use Rattle.sx_model.specs.order.Turns.{OneAtATime}
-use Rattle.sx_run.proofs.turns.RunsTakeTurns.{runs_take_turns}
-use Rattle.sx_run.proofs.AcceptedRuns.{of_accepted}
-use Rattle.sx_run.proofs.laws.accepted_runs_take_turns.Goals as goal
-
-pub returns : goal.returns
-returns c = of_accepted OneAtATime runs_take_turns

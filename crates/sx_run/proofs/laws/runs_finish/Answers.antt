@@ -1,5 +1,0 @@
-use Rattle.sx_run.proofs.RunsFinish.{runs_finish}
-use Rattle.sx_run.proofs.laws.runs_finish.Goals as goal
-
-pub returns : goal.returns
-returns c = runs_finish

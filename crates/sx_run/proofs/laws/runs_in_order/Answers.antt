@@ -1,5 +1,0 @@
-use Rattle.sx_run.proofs.RunsInOrder.{runs_in_order}
-use Rattle.sx_run.proofs.laws.runs_in_order.Goals as goal
-
-pub returns : goal.returns
-returns c = runs_in_order

@@ -1,5 +1,0 @@
-use Rattle.sx_run.proofs.RunsLegal.{runs_legal}
-use Rattle.sx_run.proofs.laws.runs_legal.Goals as goal
-
-pub returns : goal.returns
-returns c = runs_legal

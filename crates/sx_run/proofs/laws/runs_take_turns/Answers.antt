@@ -1,5 +1,0 @@
-use Rattle.sx_run.proofs.turns.RunsTakeTurns.{runs_take_turns}
-use Rattle.sx_run.proofs.laws.runs_take_turns.Goals as goal
-
-pub returns : goal.returns
-returns c = runs_take_turns

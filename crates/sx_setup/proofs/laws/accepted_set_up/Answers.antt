@@ -1,5 +1,0 @@
-use Rattle.sx_setup.proofs.Accepting.{accepted_set_up}
-use Rattle.sx_setup.proofs.laws.accepted_set_up.Goals as goal
-
-pub returns : goal.returns
-returns c = accepted_set_up

@@ -1,5 +1,0 @@
-use Rattle.sx_setup.proofs.Computed.{lighting_set_up}
-use Rattle.sx_setup.proofs.laws.lighting_set_up.Goals as goal
-
-pub returns : goal.returns
-returns c = lighting_set_up

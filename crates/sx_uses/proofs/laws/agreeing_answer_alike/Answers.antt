@@ -1,5 +1,0 @@
-use Rattle.sx_uses.proofs.Whole.{agreeing_answer_alike}
-use Rattle.sx_uses.proofs.laws.agreeing_answer_alike.Goals as goal
-
-pub returns : goal.returns
-returns c = agreeing_answer_alike

@@ -1,5 +1,0 @@
-use Rattle.sx_uses.proofs.Hit.{forged_is_hit}
-use Rattle.sx_uses.proofs.laws.forged_is_hit.Goals as goal
-
-pub returns : goal.returns
-returns c = forged_is_hit

@@ -1,5 +1,0 @@
-use Rattle.sx_uses.proofs.Whole.{runs_alone}
-use Rattle.sx_uses.proofs.laws.runs_alone.Goals as goal
-
-pub returns : goal.returns
-returns c = runs_alone

@@ -1,5 +1,0 @@
-use Rattle.sx_uses.proofs.Whole.{scripts_alone}
-use Rattle.sx_uses.proofs.laws.scripts_alone.Goals as goal
-
-pub returns : goal.returns
-returns c = scripts_alone

@@ -1,5 +1,0 @@
-use Rattle.sx_uses.proofs.Unasked.{unasked_is_unseen}
-use Rattle.sx_uses.proofs.laws.unasked_is_unseen.Goals as goal
-
-pub returns : goal.returns
-returns c = unasked_is_unseen

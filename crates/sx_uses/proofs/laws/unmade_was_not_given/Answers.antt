@@ -1,5 +1,0 @@
-use Rattle.sx_uses.proofs.Fresh.{unmade_was_not_given}
-use Rattle.sx_uses.proofs.laws.unmade_was_not_given.Goals as goal
-
-pub returns : goal.returns
-returns c = unmade_was_not_given

@@ -1,5 +1,0 @@
-use Rattle.sx_uses.proofs.Trying.{unwraps_are_tried}
-use Rattle.sx_uses.proofs.laws.unwraps_are_tried.Goals as goal
-
-pub returns : goal.returns
-returns c = unwraps_are_tried

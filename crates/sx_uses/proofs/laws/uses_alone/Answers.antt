@@ -1,5 +1,0 @@
-use Rattle.sx_uses.proofs.Alone.{uses_alone}
-use Rattle.sx_uses.proofs.laws.uses_alone.Goals as goal
-
-pub returns : goal.returns
-returns c = uses_alone
