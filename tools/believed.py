@@ -181,7 +181,7 @@ class Repository:
     def target(path):
         """The module that a path names; of a type of the source the crate and the type."""
         words = path.split(".")
-        if len(words) > 2 and words[1] == "specs" and words[0].startswith("sx_"):
+        if len(words) > 2 and words[1] == "specs" and (CRATES / words[0]).is_dir():
             if words[2] == "declared":
                 return (f"{words[0]}.declared", words[4])
             return ".".join([words[0], *words[2:]])

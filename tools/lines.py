@@ -5,7 +5,7 @@ import re
 from pathlib import Path
 
 CRATES = Path(__file__).resolve().parent.parent / "crates"
-TESTS = "test_program"
+TESTS = "test_"
 
 
 def lines(files):

@@ -123,7 +123,8 @@ def is_there(path):
 def bad_paths(document):
     """The paths in crates that a document names and that aren't there."""
     text = re.sub(r"^```.*?^```", "", document.read_text(), flags=re.MULTILINE | re.DOTALL)
-    paths = re.findall(r"`((?:crates/)?sx_\w+/(?:[\w.+-]+/?)+)", text)
+    crates = "|".join(it.name for it in (TOP / "crates").iterdir() if it.is_dir())
+    paths = re.findall(rf"`((?:crates/)?(?:{crates})/(?:src|specs|proofs|must-fail)(?:/[\w.+-]+)*/?)", text)
     return [path for path in paths if not is_there(path.rstrip("/"))]
 
 
