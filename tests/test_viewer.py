@@ -600,6 +600,19 @@ class Words(unittest.TestCase):
         self.assertIn("as a set-key packet for its end of logic.bright → lamp.show in epoch 3, lamp accepts", said)
 
 
+@unittest.skipUnless(NODE, "there is no node")
+class Drawing(unittest.TestCase):
+    """The picture in the README, by the viewer's scripts alone."""
+
+    @needs_program
+    def test_it_is_up_to_date(self):
+        tool = [sys.executable, TOP / "tools" / "picture.py", EXAMPLES / "forged_packet.txt"]
+        ran = subprocess.run(tool, capture_output=True, text=True, env=os.environ | {"SANCUS_PROGRAM": PROGRAM})
+        self.assertEqual((ran.returncode, ran.stderr), (0, ""))
+        self.assertTrue(ran.stdout == (TOP / "docs" / "run.svg").read_text(), "`tools/picture.py --write` makes docs/run.svg again")
+        ElementTree.fromstring(ran.stdout)
+
+
 class Page(Room):
     """What `sancus view` writes, without a browser."""
 
