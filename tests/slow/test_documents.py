@@ -258,7 +258,7 @@ def try_document(document):
 def every_document():
     attacks = sorted((EXAMPLES / "attacks").glob("*.txt"))
     parking = EXAMPLES / "parking" / "README.md"
-    return [TOP / "README.md", parking, *sorted((TOP / "docs").glob("*.md")), *sorted(EXAMPLES.glob("*.txt")), *attacks]
+    return [TOP / "README.md", TOP / "crates" / "README.md", parking, *sorted((TOP / "docs").glob("*.md")), *sorted(EXAMPLES.glob("*.txt")), *attacks]
 
 
 def tried(documents):
@@ -273,6 +273,10 @@ class Documents(unittest.TestCase):
         for document, (said, failed) in tried(every_document()):
             with self.subTest(document=document.name):
                 self.assertEqual(failed, 0, "\n".join(it for it in said if "FAILED" in it))
+
+    def test_the_lines_to_believe(self):
+        last = bash("python3 tools/believed.py | tail -n 1", TOP).stdout.strip()
+        self.assertIn(f"`{last}`", (TOP / "README.md").read_text())
 
 
 def main(names):
