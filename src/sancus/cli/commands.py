@@ -354,6 +354,20 @@ The program runs as the lines are written, so packets, boots and pieces are thos
         after="With pytest, test_*.sancus are collected where the package is installed.",
     ),
     Command(
+        "fmt",
+        "lays out the sources of deployments, and properties",
+        (Argument("FILE", MANY, "deployments, perhaps with lines after %%, and properties; -, standard input"),),
+        (
+            Option("--check", "writes nothing, prints the names of files that would change, and ends with status 1 then"),
+            Option("--diff", "writes nothing, prints what would change, and ends with status 1 then"),
+        ),
+        "sancus fmt --check examples/lighting.txt",
+        "It changes line breaks, indents and blanks of sources between three quotes, and prints the names of the files that "
+        "it wrote; of standard input it prints the text. A file stays as it is unless its tokens and comments are the "
+        "same, and the program compiles the same images of it.",
+        typed="a deployment or a property",
+    ),
+    Command(
         "hex",
         "turns programs of other tools into schedule lines, and images into files for them",
         (

@@ -94,6 +94,12 @@ def holds(context: Context, given: Given) -> int:
     return holds(context, given)
 
 
+def fmt(context: Context, given: Given) -> int:
+    from sancus.cli.formatting import answer
+
+    return answer(context, given)
+
+
 def hex_files(context: Context, given: Given) -> int:
     from sancus.cli.hexfiles import answer
 
@@ -202,6 +208,7 @@ ANSWERS: Dict[str, Callable[[Context, Given], int]] = {
     "new": new,
     "place": place,
     "test": test,
+    "fmt": fmt,
     "hex": hex_files,
     "tag": tag,
     "goal": goal,

@@ -125,3 +125,21 @@ def plan_of(head: bytes) -> Optional[Plan]:
         return Plan(toml.read(head.decode("utf-8-sig")))
     except (ValueError, RecursionError):
         return None
+
+
+def source_start(head: bytes, plan: Plan, index: int) -> Optional[int]:
+    """Where a module's source begins in the text of its deployment, whose lines end in a newline alone; None if it
+    isn't found there as it is."""
+    modules = plan.modules
+    source = modules[index].get("source") if index < len(modules) else None
+    if not isinstance(source, str) or not source:
+        return None
+    found, at = source.encode(errors="surrogateescape"), -1
+    for _ in range(sum(it.get("source") == source for it in modules[:index]) + 1):
+        at = head.find(found, at + 1)
+        # a source's text begins after a quote, or at the line after one
+        while at >= 0 and head[:at].rstrip(b"\n")[-1:] not in (b'"', b"'"):
+            at = head.find(found, at + 1)
+        if at < 0:
+            return None
+    return at

@@ -11,7 +11,7 @@ from typing import Callable, Dict, List, Optional, Tuple
 
 from sancus.model import acts, assembly, guesses, language, rules, tables, toml
 from sancus.model.acts import ACTS, QUERIES, Field, Word, words_at
-from sancus.model.deployment import KINDS, Plan, plan_of
+from sancus.model.deployment import KINDS, Plan, plan_of, source_start
 from sancus.model.people import PEOPLE
 from sancus.model.shown import MOST_SHOWN, short, text_of
 from sancus.model.table import words as table_words
@@ -106,19 +106,10 @@ class Teller:
     def source_place(self, index: int, line: int, column: int) -> Optional[Tuple[int, int]]:
         """The line of the input, and the byte column in it, of a place in a module's source; None if that isn't
         found."""
-        modules = self.plan.modules if self.plan else []
-        source = modules[index].get("source") if index < len(modules) else None
-        if not isinstance(source, str) or not source:
+        head = self.head.replace(b"\r\n", b"\n")
+        at = source_start(head, self.plan, index) if self.plan else None
+        if at is None:
             return None
-        head, found = self.head.replace(b"\r\n", b"\n"), source.encode(errors="surrogateescape")
-        at = -1
-        for _ in range(sum(it.get("source") == source for it in modules[:index]) + 1):
-            at = head.find(found, at + 1)
-            # a source's text begins after a quote, or at the line after one
-            while at >= 0 and head[:at].rstrip(b"\n")[-1:] not in (b'"', b"'"):
-                at = head.find(found, at + 1)
-            if at < 0:
-                return None
         first = head.count(b"\n", 0, at) + 1
         return first + line - 1, column + (at - head.rfind(b"\n", 0, at) - 1 if line == 1 else 0)
 

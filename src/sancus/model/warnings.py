@@ -2,6 +2,7 @@
 
 from __future__ import annotations
 
+from dataclasses import dataclass
 from typing import Dict, Iterator, List, Tuple
 
 from sancus.model import language
@@ -16,45 +17,58 @@ MOST_PLACES = 4
 Place = Tuple[int, int, str]
 
 
-def of_keys(plan: Plan) -> List[str]:
-    lines = []
+@dataclass(frozen=True)
+class About:
+    """A warning about an entry, by its kind and its number; of the whole deployment it has none."""
+
+    kind: str
+    index: int
+    what: str
+
+    def __str__(self) -> str:
+        return f"warning: {self.what}"
+
+
+def about_keys(plan: Plan) -> Iterator[About]:
     seen: Dict[str, str] = {}
-    for node in plan.nodes:
+    for index, node in enumerate(plan.nodes):
         key, name = str(node.get("key")).lower(), str(node.get("name"))
         if key in seen:
-            lines.append(
-                f"warning: nodes {seen[key]} and {name} have one key, so modules with the same places and text on both "
-                "can pass for one another: an item `forged` may come without a tag that was guessed"
+            yield About(
+                "node",
+                index,
+                f"nodes {seen[key]} and {name} have one key, so modules with the same places and text on both can pass "
+                "for one another: an item `forged` may come without a tag that was guessed",
             )
         seen.setdefault(key, name)
     if plan.connections and "secret" not in plan.toml:
-        lines.append(
-            "warning: the deployment has connections and no `secret`, so their keys come from sixteen zero bytes, "
-            "which anybody knows and can forge events with"
+        yield About(
+            "",
+            0,
+            "the deployment has connections and no `secret`, so their keys come from sixteen zero bytes, which anybody "
+            "knows and can forge events with",
         )
-    return lines
 
 
-def of_ports(plan: Plan) -> List[str]:
+def about_ports(plan: Plan) -> Iterator[About]:
     """Inputs and outputs that lead nowhere: mostly a connection or a handler was forgotten."""
-    lines = []
     sent = {(module_of(it.get("from")), port_of(it.get("from"))) for it in plan.connections}
     taken = {(module_of(it.get("to")), port_of(it.get("to"))) for it in plan.connections}
-    for name in plan.names("module"):
+    for index, name in enumerate(plan.names("module")):
         tree = plan.tree(name)
         if not tree:
             continue
         for port in tree.names("output"):
             if (name, port) not in sent:
-                lines.append(f"warning: no connection leads from the output {name}.{port}: what it sends is lost")
+                yield About("module", index, f"no connection leads from the output {name}.{port}: what it sends is lost")
         for port in tree.names("input"):
             if (name, port) not in taken:
-                lines.append(f"warning: no connection leads to the input {name}.{port}")
+                yield About("module", index, f"no connection leads to the input {name}.{port}")
             if not tree.handler_of(port):
-                lines.append(f"warning: {name} has no handler `on {port}(..)`: what comes there changes nothing")
+                yield About("module", index, f"{name} has no handler `on {port}(..)`: what comes there changes nothing")
         if "sensor" in [it.kind for it in tree.declared] and not tree.handler_of(None):
-            lines.append(f"warning: {name} has a sensor and no handler `sample(..)`: a reading changes nothing")
-    return lines
+            what = f"{name} has a sensor and no handler `sample(..)`: a reading changes nothing"
+            yield About("module", index, what)
 
 
 def below_zero(it: Expression) -> int:
@@ -101,18 +115,36 @@ def of_statement(tree: Module, it: Statement) -> Iterator[Place]:
                 yield from of_index(tree, part.name, part.index, part.at, "0 is read")
 
 
-def of_values(teller: Teller) -> List[str]:
+@dataclass(frozen=True)
+class InSource:
+    """A warning about a place in a module's source."""
+
+    index: int
+    at: int
+    length: int
+    what: str
+
+
+def about_values(plan: Plan) -> Iterator[InSource]:
     """Comparisons with a number below 0, those that are always or never true, and elements past an array's end."""
-    lines: List[str] = []
-    for index, module in enumerate(teller.plan.modules if teller.plan else []):
-        tree = teller.plan.tree(str(module.get("name"))) if teller.plan else None
+    for index, name in enumerate(plan.names("module")):
+        tree = plan.tree(name)
         statements = [it for handler in (tree.handlers if tree else []) for it in walk(handler.body)]
         found = [place for it in statements for place in of_statement(tree, it)] if tree else []
-        for at, length, what in found[:MOST_PLACES]:
-            line, column = language.place_of(str(module["source"]), at)
-            lines += [f"warning: {what}", *teller.in_source(index, line, column, length)]
+        yield from (InSource(index, *place) for place in found[:MOST_PLACES])
+
+
+def of_values(teller: Teller) -> List[str]:
+    plan, lines = teller.plan, []
+    for it in about_values(plan) if plan else ():
+        line, column = language.place_of(str(plan.modules[it.index]["source"]), it.at)  # type: ignore[union-attr]
+        lines += [f"warning: {it.what}", *teller.in_source(it.index, line, column, it.length)]
     return lines
 
 
+def of_keys(plan: Plan) -> List[str]:
+    return list(map(str, about_keys(plan)))
+
+
 def of_deployment(plan: Plan) -> List[str]:
-    return of_keys(plan) + of_ports(plan)
+    return [*of_keys(plan), *map(str, about_ports(plan))]
