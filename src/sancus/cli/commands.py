@@ -368,6 +368,15 @@ The program runs as the lines are written, so packets, boots and pieces are thos
         typed="a deployment or a property",
     ),
     Command(
+        "lsp",
+        "serves editors: faults as you type, what a name means and where it is declared, completion and layout",
+        (),
+        (),
+        "sancus lsp",
+        "It speaks the Language Server Protocol on standard input and output, of deployments, schedules and properties; an "
+        "editor starts it (docs/HOWTO.md).",
+    ),
+    Command(
         "hex",
         "turns programs of other tools into schedule lines, and images into files for them",
         (

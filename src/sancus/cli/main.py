@@ -100,6 +100,12 @@ def fmt(context: Context, given: Given) -> int:
     return answer(context, given)
 
 
+def lsp(context: Context, _given: Given) -> int:
+    from sancus.cli.serving import answer
+
+    return answer(context)
+
+
 def hex_files(context: Context, given: Given) -> int:
     from sancus.cli.hexfiles import answer
 
@@ -209,6 +215,7 @@ ANSWERS: Dict[str, Callable[[Context, Given], int]] = {
     "place": place,
     "test": test,
     "fmt": fmt,
+    "lsp": lsp,
     "hex": hex_files,
     "tag": tag,
     "goal": goal,

@@ -41,6 +41,6 @@ def property_text(text: bytes) -> bytes:
 def formatted(program: Program, name: str, text: bytes) -> bytes:
     """A file laid out. CantLayOut says why it stays as it is."""
     kind = kind_of(name, text)
-    if kind is Kind.LINES:
-        raise CantLayOut("it has lines of a schedule and no source")
+    if kind in (Kind.LINES, Kind.OTHER):
+        raise CantLayOut("it has lines of a schedule and no source" if kind is Kind.LINES else "it is no deployment")
     return property_text(text) if kind is Kind.PROPERTY else deployment(program, text, name)

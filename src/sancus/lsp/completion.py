@@ -1,0 +1,151 @@
+"""What can be written at a place of a text, and what a text holds."""
+
+from __future__ import annotations
+
+import re
+from typing import Any, Dict, Iterable, List, Optional, Sequence
+
+from sancus.lsp.checks import Placed
+from sancus.lsp.documents import Document
+from sancus.lsp.names import OF_KEYS, Source, before, kinds_of, source_at, sources
+from sancus.model.acts import ACTS, fields_told
+from sancus.model.deployment import KINDS, Plan
+from sancus.model.kinds import Kind
+from sancus.model.language import PROPERTY_WORDS, VALUED, WATCHED, WORDS
+from sancus.model.schedule import FORMS
+from sancus.model.shown import text_of
+from sancus.model.tables import OPTIONAL, TYPES
+
+Offer = Dict[str, Any]
+# Kinds of what is offered, and of symbols, as the protocol numbers them.
+FUNCTION, VARIABLE, KEYWORD, VALUE, FIELD = 3, 6, 14, 12, 5
+SYMBOLS = {"node": 2, "device": 8, "module": 5, "connection": 24}
+HANDLER = 12
+
+DECLARED = re.compile(r"\b(var|array|input|output|let)\s+([a-z][a-z0-9_]*)")
+PARAMETER = re.compile(r"\(\s*([a-z][a-z0-9_]*)\s*\)\s*\{")
+WORD_BEFORE = re.compile(r"(\w+)\s+\w*$")
+OF_MODULES = {"sensor", "actuator", "input", "output", "sample", "send", "emit"}
+# A text in quotes that isn't closed, after its key.
+QUOTED = re.compile(r"(\w+)\s*=\s*\"([^\"]*)$")
+TABLE = re.compile(r"(?m)^\s*\[\[\s*(\w+)\s*\]\]")
+KEY_BEGUN = re.compile(r"(?:^|[{,])\s*\w*$")
+
+
+def offers(labels: Iterable[str], kind: int, detail: str = "") -> List[Offer]:
+    return [{"label": it, "kind": kind, **({"detail": detail} if detail else {})} for it in labels]
+
+
+def entries(plan: Optional[Plan], kinds: Sequence[str]) -> List[Offer]:
+    return [it for kind in kinds for it in offers(plan.names(kind), VARIABLE, kind)] if plan else []
+
+
+# --- Sources ----------------------------------------------------------------------------------------------------------
+
+
+def in_source(source: Source, line: str) -> List[Offer]:
+    """Names and words of the handler language; declarations are looked for by their words, since a text that is being
+    written is seldom in the grammar."""
+    known = [(it[1], it[2]) for it in DECLARED.finditer(source.text)]
+    before_it = WORD_BEFORE.search(line)
+    wanted = {"send": "output", "on": "input"}.get(before_it[1]) if before_it else None
+    if wanted:
+        return offers((name for kind, name in known if kind == wanted), VARIABLE, wanted)
+    parameters = offers(sorted({it[1] for it in PARAMETER.finditer(source.text)}), VARIABLE, "value")
+    names = [it for kind, name in known for it in offers([name], VARIABLE, kind)]
+    return [*names, *parameters, *offers(sorted(WORDS), KEYWORD)]
+
+
+def in_property(it: Document, source: Source, line: str) -> List[Offer]:
+    words = line.split()
+    heading = words[words.index("on") :] if "on" in words and "{" not in line else []
+    place = len(heading) - (0 if line.endswith((" ", "\t")) else 1)
+    if heading and place == 1:
+        return [{"label": kind, "kind": KEYWORD, "detail": of} for kind, of in WATCHED.items()]
+    if heading and place == 2 and heading[1] in WATCHED:
+        made = entries(it.plan, [WATCHED[heading[1]]])
+        return [{**one, "insertText": f"{one['label']}(v)"} for one in made] if heading[1] in VALUED else made
+    known = [(one[1], one[2]) for one in DECLARED.finditer(source.text)]
+    names = [one for kind, name in known for one in offers([name], VARIABLE, kind)]
+    return [*names, *offers(sorted(PROPERTY_WORDS - OF_MODULES), KEYWORD)]
+
+
+# --- Tables and lines -------------------------------------------------------------------------------------------------
+
+
+def ports(it: Document, kind: str) -> List[Offer]:
+    """The outputs, or the inputs, of all modules."""
+    found = ((one.module, one.tree) for one in sources(it) if one.tree)
+    return offers((f"{module}.{port}" for module, tree in found for port in tree.names(kind)), FIELD, kind)
+
+
+def in_head(it: Document, text: str, line: str) -> List[Offer]:
+    """A name between quotes, or a key."""
+    quoted = QUOTED.search(line)
+    if quoted:
+        key = quoted[1]
+        if key == "kind":
+            return offers(("sensor", "actuator"), VALUE)
+        if key in ("from", "to"):
+            return ports(it, "output" if key == "from" else "input")
+        return entries(it.plan, OF_KEYS.get(key, ()))
+    if not KEY_BEGUN.search(line):
+        return []
+    inline = re.findall(r"(\w+)\s*=\s*\[", text) if "{" in line else []
+    table = inline[-1] if inline else next((one[1] for one in reversed([*TABLE.finditer(text)])), "top")
+    return offers([*TYPES.get(table, {}), *OPTIONAL.get(table, {})], FIELD)
+
+
+def packets(plan: Plan) -> List[str]:
+    """The names that `deploy` and `carry` give to packets."""
+    ways = [(plan.sender(it), plan.receiver(it)) for it in plan.names("connection")]
+    asked = [f"{what}.{it}" for it in plan.names("module") for what in ("ask", "answer")]
+    return [*dict.fromkeys(f"event.{sender}.{receiver}" for sender, receiver in ways), *asked]
+
+
+def in_line(it: Document, line: str) -> List[Offer]:
+    words = line.split()
+    place = len(words) - (0 if not line or line.endswith((" ", "\t")) else 1)
+    if place == 0:
+        acts = [{"label": act, "kind": FUNCTION, "detail": fields_told(act, ACTS)} for act in ACTS]
+        return acts + [{"label": act, "kind": FUNCTION, "detail": form} for act, (_, _, form) in FORMS.items()]
+    plan, field = it.plan, "".join(one.name for one in ACTS.get(words[0], [])[place - 1 : place])
+    if not plan or words[0] in ("#", "#:", "#>"):
+        return []
+    if field == "PACKET":
+        return offers(packets(plan), VALUE)
+    if field == "DEVICE" or words[0] == "flow":
+        return offers((one["name"] for one in plan.devices if one.get("kind") == "sensor"), VARIABLE, "sensor")
+    return entries(plan, kinds_of(words, place) if words[0] in FORMS or words[0] in ACTS else [])
+
+
+def completion(it: Document, at: int) -> List[Offer]:
+    """What can be written at a place."""
+    line, source = text_of(before(it, at)), source_at(it, at)
+    if it.kind is Kind.PROPERTY and source:
+        return in_property(it, source, line)
+    if it.kind is Kind.LINES or at > len(it.head):
+        return in_line(it, line)
+    text = text_of(it.text.data[:at])
+    if text.count('"""') % 2:
+        return in_source(source or Source(0, text.rpartition('"""')[2], None), line)
+    return in_head(it, text, line)
+
+
+# --- Symbols ----------------------------------------------------------------------------------------------------------
+
+
+def symbols(it: Document) -> List[Dict[str, Any]]:
+    """The entries of a deployment, or the handlers of a property."""
+    if it.kind is Kind.PROPERTY:
+        tree = sources(it)[0].tree
+        handlers = [(one.heading, one) for one in (tree.handlers if tree else [])]
+        spans = [(f"on {head.words}", HANDLER, it.text.range(head.at, head.at + len(head.name))) for head, _ in handlers if head]
+    elif it.kind is Kind.DEPLOYMENT and it.plan:
+        teller, plan = Placed(it.kept()), it.plan
+        named = [(kind, at, name) for kind in KINDS for at, name in enumerate(plan.names(kind)) if plan.toml.get(kind)]
+        lines = [(name, SYMBOLS[kind], teller.entry_line(kind, at)) for kind, at, name in named]
+        spans = [(name, kind, it.text.span(line)) for name, kind, line in lines if line]
+    else:
+        spans = []
+    return [{"name": name, "kind": kind, "range": where, "selectionRange": where} for name, kind, where in spans]
