@@ -1,4 +1,4 @@
-"""editors/vim: what Vim's highlighting calls some words of the lighting example."""
+"""editors/vim: what Vim's highlighting calls some words of a deployment, a schedule and a property."""
 
 import shutil
 import subprocess
@@ -18,12 +18,23 @@ sancusNote ^# 1\.
 sancusAct ^load eye
 sancusNumber 0x300 0x400$
 """
+SCHEDULE = "deploy all\n#> protect a eye\nsense light 120\n"
+WANTED_OF_SCHEDULE = """sancusEase ^deploy
+sancusWanted ^#> protect
+sancusAct ^sense
+sancusNumber 120
+"""
+PROPERTY = "var lit; // one\non out lamp(v) { if lit { fail; } }\n"
+WANTED_OF_PROPERTY = """sancusRemark // one
+sancusKind out lamp
+sancusWord fail;
+"""
 LOOK = r"""
 set nocompatible
 set runtimepath^={top}/editors/vim
 filetype on
 syntax enable
-edit {room}/lighting.sancus
+edit {room}/{name}
 syntax sync fromstart
 let lines = ['filetype ' . &filetype]
 for wanted in readfile('{room}/wanted')
@@ -45,11 +56,17 @@ def highlights():
 @unittest.skipUnless(highlights(), "there is no vim with highlighting")
 class Editor(Room):
     def test_groups(self):
-        self.file("lighting.sancus", LIGHTING)
-        self.file("wanted", WANTED)
-        look = self.file("look.vim", LOOK.format(top=TOP, room=self.room))
-        subprocess.run(["vim", "-Nu", "NONE", "-i", "NONE", "-es", "-S", look], stdin=subprocess.DEVNULL)
-        self.assertEqual((self.room / "found").read_text(), f"filetype sancus\n{WANTED}")
+        for name, filetype, text, wanted in (
+            ("lighting.sancus", "sancus", LIGHTING, WANTED),
+            ("day.schedule", "sancus_schedule", SCHEDULE, WANTED_OF_SCHEDULE),
+            ("lit.property", "sancus_property", PROPERTY, WANTED_OF_PROPERTY),
+        ):
+            with self.subTest(name):
+                self.file(name, text)
+                self.file("wanted", wanted)
+                look = self.file("look.vim", LOOK.format(top=TOP, room=self.room, name=name))
+                subprocess.run(["vim", "-Nu", "NONE", "-i", "NONE", "-es", "-S", look], stdin=subprocess.DEVNULL)
+                self.assertEqual((self.room / "found").read_text(), f"filetype {filetype}\n{wanted}")
 
 
 if __name__ == "__main__":
