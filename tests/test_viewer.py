@@ -342,6 +342,17 @@ class Viewer(unittest.TestCase):
         self.assertEqual(self.texts("#notes div"), [])
         self.assertEqual(self.texts(".row .cell")[-1], "10done lamp 1 0")
 
+    def test_an_item_that_breaks_a_property(self):
+        lines, items = readings(3)
+        at = items.index("out lamp 0") + 1
+        self.show(run_of(lines, items) | {"broken": f"{at} item {at} breaks it".encode()})
+        (row,) = self.texts(".row.broken")
+        self.assertIn("out lamp 0", row)
+        self.assertIn(f"Item {at} breaks it", self.texts("#notes div"))
+        self.assertIn(f"item {at} breaks it", self.texts("#more div"))
+        self.show(run_of(lines, items) | {"broken": b"0 no item breaks it"})
+        self.assertEqual((self.texts(".row.broken"), self.texts("#notes div")[-1]), ([], "No item breaks it"))
+
     def test_hostile_texts_stay_texts(self):
         text = '# </script><img src=x onerror="window.bad=1">'
         self.show(run_of([text, *readings(1)[0]], readings(1)[1]))
@@ -651,6 +662,23 @@ class Page(Room):
         self.assertEqual(ran.status, 0)
         self.says(ran, "has readings")
         self.assertIn("> sense light 120\n", self.held(page, "output"))
+
+    @needs_program
+    def test_a_property(self):
+        """The item that breaks it, of a run, of its output and of readings."""
+        page, lamp = self.room / "p.html", EXAMPLES / "lighting.txt"
+        dark = self.file("dark.property", "// Never.\non out lamp(v) { if v { fail; } }\n")
+        said = f"item 42, `out lamp 1`, breaks {dark}, by line 2: `on out lamp(v) {{ if v {{ fail; }} }}`"
+        ran = sancus("run", lamp)
+        for given in ([lamp], [lamp, self.file("o", ran.out)]):
+            ran = sancus("view", *given, "--property", dark, "--page", page)
+            self.assertEqual((ran.status, ran.said), (0, f"sancus: {said}\n"))
+            self.assertEqual(self.held(page, "broken"), f"42 {said}")
+        ran = sancus("view", EXAMPLES / "readings.txt", "--property", self.file("none.property", ""), "--page", page)
+        self.assertTrue(self.held(page, "broken").startswith("0 no item up to the end"))
+        ran = sancus("view", lamp, "--property", self.file("bad.property", "on out lmp(v) { }\n"), "--page", page)
+        self.assertEqual(ran.status, 122)
+        self.says(ran, "fault property P3 1 8", "bad.property:1: on out lmp(v)", "did you mean `lamp`?")
 
     @needs_program
     def test_files(self):

@@ -231,6 +231,7 @@ The program runs as the lines are written, so packets, boots and pieces are thos
         (
             Option("--drive", "draws the honest run of readings"),
             Option("--page", "writes the page there, by default beside the last file: day.html, or pump.day.html", "PAGE"),
+            Option("--property", "marks the item that breaks this property (docs/PROPERTIES.md)", "FILE"),
             Option("--beside", "draws the runs of two FILEs side by side, and marks the first item in which they differ"),
             Option("--empty", "writes the page without a run, which opens files by itself"),
             FORCE,

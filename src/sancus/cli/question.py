@@ -88,7 +88,10 @@ class Question:
         """The item of a run at which the program says that the property is broken."""
         sink = Collected()
         text = self.head + b"%%\n" + self.text + b"%%\n" + output
-        must_know(self.context.program.ran_of(["watch"], text, sink), "watch")
+        ran = self.context.program.ran_of(["watch"], text, sink)
+        must_know(ran, "watch")
+        if ran.last.startswith("fault property "):
+            raise Refused(ran, self.told(ran, "watch"))
         found = re.match(rb"broken ([0-9]+)\n", sink.data())
         return int(found[1]) if found else None
 

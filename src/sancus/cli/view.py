@@ -4,18 +4,23 @@ from __future__ import annotations
 
 import re
 from pathlib import Path
-from typing import List, Optional
+from typing import List, Optional, Tuple
 
 from sancus.cli.commands import Given, Usage
 from sancus.cli.context import Context
 from sancus.cli.inspecting import put_together
 from sancus.cli.output import print_lines
 from sancus.cli.people import as_schedule
+from sancus.cli.question import Question, Refused
 from sancus.cli.reading import look_at, read_all
 from sancus.cli.writing import must_be_free, write_file
+from sancus.model.asking import Answer
 from sancus.model.deployment import plan_of
 from sancus.model.faults import Teller
 from sancus.model.inspection import are_readings
+from sancus.model.property import watched_of
+from sancus.model.texts import MARK, Input, Origin, kept_of
+from sancus.model.traces import of_drive, trace_of
 from sancus.status import BAD_TEXT, Ended
 from sancus.viewer.join import joined
 from sancus.viewer.pages import Drawn, Texts, is_page, of_readings, of_run, page_of
@@ -43,6 +48,14 @@ def given_texts(files: List[str]) -> Texts:
     return {name: read_all(it) for name, it in zip(names, files)}
 
 
+def of_texts(texts: Texts) -> Drawn:
+    """A run that was made before."""
+    lines = texts["output"].split(b"\n")[:-1]
+    if b"trace" not in lines:
+        return Drawn(texts, trace=of_drive(Answer(0, texts["output"]))[1].output)
+    return Drawn(texts, trace=b"".join(it + b"\n" for it in lines if not it.startswith(b"> ")))
+
+
 def run_drawn(context: Context, given: Given, files: List[str]) -> Drawn:
     """A run that is made now; it ends here if there is nothing to draw."""
     kept, data = put_together(files, context)
@@ -68,6 +81,42 @@ def run_drawn(context: Context, given: Given, files: List[str]) -> Drawn:
     return drawn
 
 
+# --- A property -------------------------------------------------------------------------------------------------------
+
+
+def question(context: Context, name: str, drawn: Drawn) -> Question:
+    """What is asked of a run: its deployment and a property."""
+    head, text = Input(drawn.texts["input"]).head, read_all(name)
+    if not drawn.trace:
+        raise Ended(BAD_TEXT, f"there is no trace for {name}")
+    data = b"".join(it if it.endswith(b"\n") else it + b"\n" for it in (head, MARK, text, MARK))
+    kept = kept_of(data, "")
+    kept.origins.append(Origin(head.count(b"\n") + 2, name, 1))
+    return Question(context, name, kept, data)
+
+
+def broken(asked: Question, trace: bytes) -> Tuple[int, str]:
+    """The number of the item that breaks a property, and that in words; 0 if none does."""
+    number = asked.broken_at(trace)
+    if number is None:
+        return 0, f"no item up to the end, or the first `forged`, breaks {asked.name}"
+    property, texts = asked.property(), trace_of(trace).texts
+    line = property.judged(map(watched_of, texts[:number]))
+    source = property.source.split("\n")[line - 1].strip() if line else ""
+    by = f", by line {line}: `{source}`" if line else ""
+    return number, f"item {number}, `{texts[number - 1]}`, breaks {asked.name}{by}"
+
+
+def mark_broken(context: Context, name: str, drawn: Drawn) -> None:
+    """Puts into a run where it breaks a property, and says so."""
+    try:
+        number, words = broken(question(context, name, drawn), drawn.trace)
+    except Refused as error:
+        raise Ended(BAD_TEXT, error.ran.last, *error.told) from None
+    drawn.texts["broken"] = f"{number} {words}".encode(errors="surrogateescape")
+    context.voice.say(words)
+
+
 def answer(context: Context, given: Given) -> int:
     files = [*given.texts("INPUT"), *given.texts("FILE")]
     if given.has("empty"):
@@ -87,7 +136,9 @@ def answer(context: Context, given: Given) -> int:
     if has_output and len(files) > 3:
         raise Usage("after what `run` wrote `view` takes only what `explain` wrote of it", given.command)
     page = page_for(given, named[:2] if has_output else named, files)
-    drawn = Drawn(given_texts(files)) if has_output else run_drawn(context, given, files)
+    drawn = of_texts(given_texts(files)) if has_output else run_drawn(context, given, files)
+    if given.text("property"):
+        mark_broken(context, given.text("property"), drawn)
     title = ", ".join(Path(it).name for it in dict.fromkeys([named[-1], named[0]]))
     write_file(page, page_of({**drawn.texts, "name": title.encode(errors="surrogateescape")}))
     print_lines(str(page))

@@ -13,7 +13,8 @@ class Page {
     this.run = null;
     this.at = 0;
     this.hits = new Set();
-    this.differing = null;
+    // the row of an item of which something is said, and what the item is
+    this.marked = null;
     this.look = {scale: 1, isFull: false, hidden: new Set(), order: []};
     this.listen();
   }
@@ -47,16 +48,19 @@ class Page {
     this.tellCounts();
     this.layOut();
     this.begin();
-    if (this.texts.differs) this.showDifference();
+    this.marked = null;
+    for (const kind of ["differs", "broken"])
+      if (this.texts[kind]) this.showMarked(kind, this.texts[kind]);
     byId("scroll").focus({preventScroll: true});
   }
 
-  // Shows where this run first differs from the one beside it: a number, and words.
-  showDifference() {
-    const [number, words] = this.texts.differs.split(/ (.*)/s);
-    this.differing = this.run.output?.items[number - 1]?.row ?? null;
+  // Shows the item in which this run first differs from the one beside it, or that breaks a property: its number, and words.
+  showMarked(kind, text) {
+    const [number, words] = text.split(/ (.*)/s), row = this.run.output?.items[number - 1]?.row;
     this.warn(words[0].toUpperCase() + words.slice(1));
-    if (this.differing) this.go(this.differing);
+    if (!row) return;
+    this.marked = {kind, row, words};
+    this.go(row);
   }
 
   // Opens after the set-up, which is folded.
@@ -187,7 +191,7 @@ class Page {
       after: row.isAfter,
       chain: inChain.has(row),
       hit: this.hits.has(row),
-      differs: row === this.differing,
+      [this.marked?.kind]: row === this.marked?.row,
       fault: row.fault
     };
     classes.raw = row.item && this.run.plan.isPastDriver(row.item);
@@ -261,6 +265,7 @@ class Page {
           `: ${counted(row.group.rows.length, "row")}, ${counted(row.group.items, "item")}. Enter unfolds.`);
     if (row.kind === "note") say(row.text);
     if (row.kind === "act" || row.kind === "item") this.tellLine(row, say);
+    if (row === this.marked?.row && this.marked.kind === "broken") say(html("span", "is-forged", this.marked.words));
     for (const {module, text} of this.valuesHere(row)) say("Variables of ", html("b", "", module), ": ", html("code", "", text));
     const packet = row.line ? this.run.packetOf(row) : null, acts = this.run.packets.get(packet) ?? [];
     if (acts.length)

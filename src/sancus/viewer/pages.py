@@ -19,17 +19,18 @@ Texts = Dict[str, bytes]
 
 @dataclass
 class Drawn:
-    """A run to draw: the program's output, how it ended, and what is to be said of it."""
+    """A run to draw: the program's output, how it ended, what is to be said of it, and its trace alone."""
 
     texts: Texts
     last: str = ""
     status: int = 0
     note: str = ""
+    trace: bytes = b""
 
 
-def drawn(text: bytes, output: bytes, causes: bytes, answer: Answer, note: str = "") -> Drawn:
+def drawn(text: bytes, output: bytes, causes: bytes, answer: Answer, trace: bytes, note: str = "") -> Drawn:
     last = text_of(answer.lines[-1]) if answer.lines else ""
-    return Drawn({"input": text, "output": output, "causes": causes}, last, answer.status, note)
+    return Drawn({"input": text, "output": output, "causes": causes}, last, answer.status, note, trace)
 
 
 def without_lines(text: bytes) -> bytes:
@@ -57,14 +58,14 @@ def of_run(data: Input, program: Program) -> Drawn:
         if has_trace:
             note = f"no marked run, so the page matches items and lines: {error}"
     causes = causes_of(program, data.head, answer.output) if has_trace else b""
-    return drawn(data.data, output, causes, answer, note)
+    return drawn(data.data, output, causes, answer, answer.output, note)
 
 
 def of_readings(data: Input, program: Program) -> Drawn:
     """An honest run of readings, whose output has the lines of its schedule."""
     answer = program.answer(["drive"], data.data)
     _, trace = of_drive(answer)
-    return drawn(data.data, answer.output, causes_of(program, data.head, trace.output), answer)
+    return drawn(data.data, answer.output, causes_of(program, data.head, trace.output), answer, trace.output)
 
 
 def page_of(texts: Texts) -> str:
