@@ -17,16 +17,16 @@ from typing import TYPE_CHECKING, Any
 if TYPE_CHECKING:
     from sancus import items
     from sancus.app import App, load, loads
-    from sancus.errors import Fault, NoProgram, Refused
+    from sancus.errors import Fault, NoCampaign, NoProgram, Refused
     from sancus.run import Run, State, Verdict
     from sancus.schedule import Schedule
 
 __version__ = "0.1.0"
-__all__ = ["App", "Fault", "NoProgram", "Refused", "Run", "Schedule", "State", "Verdict", "items", "load", "loads"]
+__all__ = ["App", "Fault", "NoCampaign", "NoProgram", "Refused", "Run", "Schedule", "State", "Verdict", "items", "load", "loads"]
 
 HOMES = {
     **dict.fromkeys(("App", "load", "loads"), "sancus.app"),
-    **dict.fromkeys(("Fault", "NoProgram", "Refused"), "sancus.errors"),
+    **dict.fromkeys(("Fault", "NoCampaign", "NoProgram", "Refused"), "sancus.errors"),
     **dict.fromkeys(("Run", "State", "Verdict"), "sancus.run"),
     "Schedule": "sancus.schedule",
 }

@@ -29,3 +29,11 @@ class NoProgram(Exception):
     def __init__(self, *words: str) -> None:
         super().__init__("\n".join(words))
         self.words = list(words)
+
+
+class NoCampaign(Exception):
+    """A campaign can't begin or go on; `words` say why."""
+
+    def __init__(self, *words: str) -> None:
+        super().__init__("\n".join(words))
+        self.words = list(words)

@@ -8,7 +8,7 @@ from functools import cached_property
 from typing import TYPE_CHECKING, Any, Dict, List, Optional, Union
 
 from sancus.errors import Fault, Refused
-from sancus.items import Forged, Item, Out, item_of
+from sancus.items import Forged, Item, item_of
 from sancus.model import causes, stepping, variables
 from sancus.model.asking import Answer
 from sancus.model.faults import Teller
@@ -114,7 +114,8 @@ class Run:
 
     def outs(self, module: Optional[str] = None) -> List[int]:
         """The values that a module wrote to its actuator, or all modules to theirs."""
-        return [it.value for it in self.items if isinstance(it, Out) and module in (None, it.module)]
+        words = [it.split(" ") for it in self.texts if it.startswith("out ")]
+        return [int(it[2]) for it in words if module in (None, it[1])]
 
     @property
     def forged(self) -> Optional[Forged]:

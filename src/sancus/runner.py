@@ -5,8 +5,9 @@ memory, and nothing of this process is copied.
 from __future__ import annotations
 
 import os
+import resource
 import tempfile
-from contextlib import contextmanager
+from contextlib import contextmanager, suppress
 from dataclasses import dataclass
 from functools import lru_cache
 from typing import Iterator, List
@@ -37,6 +38,8 @@ class Runner:
 
     words: List[str]
     is_fast: bool = True
+    # how many seconds of a processor it may take for an answer, on Linux; 0 for as many as it needs
+    seconds: int = 0
 
     def command(self, words: List[str]) -> List[str]:
         return [*self.words, *words]
@@ -56,11 +59,21 @@ class Runner:
             process = os.posix_spawn(command[0], command, os.environ, file_actions=streams)
         except OSError as error:
             raise NoProgram(f"{command[0]} can't be started: {os.strerror(error.errno or 0)}") from None
+        if self.seconds:
+            limit(process, self.seconds)
         _, status = os.waitpid(process, 0)
         return os.waitstatus_to_exitcode(status)
 
     def ask(self, words: List[str], text: bytes) -> bytes:
         return self.answer(words, text).output
+
+
+def limit(process: int, seconds: int) -> None:
+    """Has a process ended by SIGXCPU after so many seconds of a processor."""
+    if hasattr(resource, "prlimit"):
+        # (it may have ended already)
+        with suppress(ProcessLookupError):
+            resource.prlimit(process, resource.RLIMIT_CPU, (seconds, seconds + 1))
 
 
 @lru_cache(maxsize=4)

@@ -378,6 +378,32 @@ The program runs as the lines are written, so packets, boots and pieces are thos
         "editor starts it (docs/HOWTO.md).",
     ),
     Command(
+        "campaign",
+        "runs a deployment under many schedules, and counts what is wrong",
+        (
+            Argument("DEPLOYMENT", ONE, "the deployment"),
+            Argument("FILE", MANY, "--merge: files of campaigns, whose rows are taken in"),
+        ),
+        (
+            Option("--seeds", "runs these seeds, B not among them; by default 0..1000", "A..B"),
+            Option("--network", "draws readings, a fate for each event that follows, and resets: the default"),
+            Option("--hostile", "also draws single events, and events that are held back, replayed or changed"),
+            Option("--generate", "has a function of a Python file draw the acts (docs/API.md)", "FILE:FUNCTION"),
+            Option("--check", "has a function of a Python file say what is wrong with a run", "FILE:FUNCTION"),
+            Option("--holds", "asks the program whether a run breaks this property", "FILE"),
+            Option("--seconds", "ends each run after so many seconds of a processor, by default 10", "N"),
+            Option("--jobs", "runs so many processes, by default one for each processor", "N"),
+            Option("--dask", "has the workers of this scheduler of Dask run them", "ADDRESS"),
+            Option("--to", "keeps a row for each seed there, by default campaign.sqlite", "FILE"),
+            Option("--show", "prints the summary of the rows that are there, and runs nothing"),
+            Option("--shrink", "prints the schedule of the fewest acts that does what this seed does", "SEED"),
+            Option("--merge", "takes in the rows of each FILE"),
+        ),
+        "sancus campaign examples/lighting.txt --seeds 0..200 --to lighting.sqlite",
+        "Each seed draws acts, of which a schedule is written and run once. A call that was ended goes on where it was if "
+        "it is made again. It ends with status 1 if something is wrong.",
+    ),
+    Command(
         "hex",
         "turns programs of other tools into schedule lines, and images into files for them",
         (

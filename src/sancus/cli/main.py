@@ -82,6 +82,12 @@ def test(context: Context, given: Given) -> int:
     return answer(context, given)
 
 
+def campaign(context: Context, given: Given) -> int:
+    from sancus.cli.campaign import answer
+
+    return answer(context, given)
+
+
 def watch(context: Context, given: Given) -> int:
     from sancus.cli.holds import watch
 
@@ -216,6 +222,7 @@ ANSWERS: Dict[str, Callable[[Context, Given], int]] = {
     "test": test,
     "fmt": fmt,
     "lsp": lsp,
+    "campaign": campaign,
     "hex": hex_files,
     "tag": tag,
     "goal": goal,

@@ -1,0 +1,165 @@
+"""`sancus campaign`: a bug is found and shrunk, each seed has its row once, and bad input loses none."""
+
+import os
+import re
+import resource
+import signal
+import sqlite3
+import subprocess
+import time
+import unittest
+from contextlib import closing
+
+from support import EXAMPLES, PROGRAM, SANCUS, Room, needs_program, program, sancus
+
+PUMP = EXAMPLES / "campaign" / "pump.toml"
+ONCE = f"{EXAMPLES / 'campaign' / 'once.py'}:once"
+TWICE = "a dose is given twice"
+# Its generators: one that fails at some seeds, one that draws no acts, and one whose run takes minutes.
+GENERATORS = """
+def fails(layout, random):
+    if random.random() < 0.02:
+        raise ValueError("no luck")
+    return []
+
+
+def numbers(layout, random):
+    return [3]
+
+
+def unknown(layout, random):
+    from sancus.campaign import Carry
+    return [Carry("pull")]
+
+
+def endless(layout, random):
+    return ["put a 0x800 ff3f", "set a pc 0x800", *["run a 65535"] * 65000]
+"""
+
+
+def rows_of(path):
+    with closing(sqlite3.connect(path)) as file:
+        return file.execute("select * from runs order by seed").fetchall()
+
+
+def doses(text):
+    """The doses of a schedule's run, as the program prints them."""
+    return [it for it in program("run", text=text).lines if it.startswith("out valve ")]
+
+
+@needs_program
+class Campaigns(Room):
+    def setUp(self):
+        super().setUp()
+        self.generators = self.file("generators.py", GENERATORS)
+        self.rows = self.room / "campaign.sqlite"
+
+    def campaign(self, *words):
+        return sancus("campaign", PUMP, *words, cwd=self.room)
+
+    def test_a_bug_is_found_and_made_small(self):
+        ran = self.campaign("--seeds", "0..200", "--check", ONCE)
+        self.assertEqual(ran.status, 1)
+        wrong = [it for it in rows_of(self.rows) if it[1]]
+        self.assertEqual({it[1] for it in wrong}, {TWICE})
+        self.assertIn(f"  {TWICE}: seed {wrong[0][0]} first", ran.lines[-1])
+        shrunk = self.campaign("--check", ONCE, "--shrink", str(wrong[0][0]))
+        self.assertEqual(shrunk.status, 0)
+        found = doses(shrunk.out)
+        self.assertGreater(len(found), len(set(found)))
+        acts = re.findall(rb"(?m)^# (?:reading|reset) ", shrunk.out.partition(b"\n%%\n")[2])
+        self.assertLessEqual(len(acts), 7)
+        self.says(shrunk, f"{TWICE}: ", f"became {len(acts)}")
+
+    def test_a_property_finds_the_same(self):
+        self.campaign("--seeds", "0..200", "--check", ONCE)
+        ran = self.campaign("--seeds", "0..200", "--holds", PUMP.parent / "once.property", "--to", "other.sqlite")
+        self.assertEqual(ran.status, 1)
+        found = {it[0] for it in rows_of(self.room / "other.sqlite") if it[1] == "breaks once.property"}
+        self.assertLessEqual(found, {it[0] for it in rows_of(self.rows) if it[1]})
+        self.assertTrue(found)
+
+    def test_hostile_acts(self):
+        self.campaign("--hostile", "--seeds", "0..60")
+        self.assertEqual([it[1] for it in rows_of(self.rows)], [""] * 60)
+
+    def test_it_goes_on_after_a_kill(self):
+        call = [SANCUS, "campaign", PUMP, "--seeds", "0..800", "--jobs", "2", "--to"]
+        env = {**os.environ, "SANCUS_PROGRAM": PROGRAM}
+        begun = subprocess.Popen([*call, self.rows], env=env, stdout=subprocess.DEVNULL, stderr=subprocess.DEVNULL)
+        while begun.poll() is None and not (self.rows.exists() and len(self.seeds())):
+            time.sleep(0.02)
+        begun.send_signal(signal.SIGKILL)
+        begun.wait()
+        self.assertLess(len(self.seeds()), 800)
+        self.assertEqual(self.campaign("--seeds", "0..800").status, 0)
+        self.campaign("--seeds", "0..800", "--to", "whole.sqlite")
+        self.assertEqual(rows_of(self.rows), rows_of(self.room / "whole.sqlite"))
+        self.assertEqual(self.seeds(), list(range(800)))
+
+    def seeds(self):
+        try:
+            return [it[0] for it in rows_of(self.rows)]
+        except sqlite3.OperationalError:
+            return []
+
+    def test_parts_are_merged(self):
+        self.campaign("--seeds", "0..90", "--to", "whole.sqlite")
+        for seeds, name in (("0..50", "a.sqlite"), ("40..90", "b.sqlite")):
+            self.campaign("--seeds", seeds, "--to", name)
+        ran = self.campaign("--merge", "a.sqlite", "b.sqlite")
+        self.assertEqual(ran.lines, self.campaign("--show", "--to", "whole.sqlite").lines)
+        self.assertEqual(rows_of(self.rows), rows_of(self.room / "whole.sqlite"))
+        self.campaign("--hostile", "--seeds", "0..1", "--to", "c.sqlite")
+        ran = self.campaign("--merge", "c.sqlite")
+        self.assertEqual(ran.status, 122)
+        self.says(ran, "another campaign: the generator differs")
+
+    def test_a_run_that_takes_too_long(self):
+        ran = self.campaign("--generate", f"{self.generators}:endless", "--seconds", "1", "--seeds", "5..6")
+        self.assertEqual(ran.status, 1)
+        self.assertEqual(rows_of(self.rows), [(5, "took longer than 1 s", 65002, 0, "", 0, "")])
+
+    def test_bad_input_ends_it_with_words(self):
+        for words, said in [
+            (["--generate", "generators.py:fails"], "generators.py: fails fails: line 4: ValueError: no luck"),
+            (["--generate", "generators.py:numbers"], "a generator returns a list of acts, and not [3]"),
+            (["--generate", "generators.py:unknown"], "an act names 'pull', which the deployment doesn't have"),
+            (["--generate", "generators.py:lost"], "generators.py has no function lost"),
+            (["--check", "once.py:once"], "once.py can't be read: No such file or directory"),
+            (["--check", "once"], "once isn't FILE:FUNCTION"),
+            (["--show", "--to", "no.sqlite"], "there is no file no.sqlite"),
+            (["--holds", self.file("bad.property", "on out pump(v) { fail; }")], "fault property"),
+        ]:
+            ran = self.campaign("--seeds", "0..500", *words)
+            self.assertEqual((ran.status, ran.out), (122, b""), words)
+            self.rows.unlink(missing_ok=True)
+            self.says(ran, said)
+        for words in (["--seeds", "5..2"], ["--network", "--hostile"], ["more.toml"]):
+            self.assertEqual(self.campaign(*words).status, 2)
+
+    def test_rows_before_a_fault_stay(self):
+        self.campaign("--generate", "generators.py:fails", "--seeds", "0..500", "--jobs", "1")
+        kept = self.seeds()
+        self.assertTrue(kept)
+        ran = self.campaign("--seeds", "0..500")
+        self.assertEqual(ran.status, 122)
+        self.says(ran, "campaign.sqlite has another campaign: the generator differs")
+        self.assertEqual(self.seeds(), kept)
+
+    def test_a_full_disk(self):
+        whole = [SANCUS, "campaign", PUMP, "--seeds", "0..1500", "--to", self.rows]
+        full = lambda: resource.setrlimit(resource.RLIMIT_FSIZE, (1 << 16, 1 << 16))  # noqa: E731
+        env = {**os.environ, "SANCUS_PROGRAM": PROGRAM}
+        ran = subprocess.run(whole, env=env, capture_output=True, text=True, preexec_fn=full)
+        self.assertEqual((ran.returncode, ran.stdout), (5, ""))
+        self.assertRegex(ran.stderr, "campaign.sqlite: .*(full|error).*; the rows that it has stay")
+        kept = rows_of(self.rows)
+        self.assertTrue(kept)
+        self.assertEqual(self.campaign("--seeds", "0..1500").status, 0)
+        self.assertLessEqual({*kept}, {*rows_of(self.rows)})
+        self.assertEqual(self.seeds(), list(range(1500)))
+
+
+if __name__ == "__main__":
+    unittest.main()
