@@ -35,7 +35,7 @@ from sancus.runner import Runner, runner
 
 __all__ = [
     "Act", "Carry", "Change", "Chunk", "Code", "Fate", "Hold", "Layout", "Plan", "Property", "Reading", "Replay", "Reset",
-    "Row", "Sample", "Worker", "code_of", "run_chunk", "sum_of_program",
+    "Row", "Sample", "Worker", "code_of", "plan_of", "run_chunk",
 ]  # fmt: skip
 
 # A chunk of seeds ends after so many seconds, so that little is lost with a process that is ended.
@@ -120,10 +120,11 @@ class Plan:
     # the command that starts the program, and the sum of its file
     command: Tuple[str, ...]
     program: str
-    generate: Union[str, Code] = "network"
-    check: Union[Code, Property, None] = None
+    # `network` or `hostile`, or a function of the layout and a Random
+    generate: Union[str, Code]
+    check: Union[Code, Property, None]
     # how many seconds of a processor each run may take
-    seconds: int = 10
+    seconds: int
 
     def parts(self) -> Dict[str, str]:
         """A sum of each part of which rows depend."""
@@ -137,6 +138,14 @@ class Plan:
             "version of sancus": repr([__version__, *own]),
         }
         return {name: sum_of(it.encode(errors="surrogateescape")) for name, it in made.items()}
+
+
+def plan_of(
+    app: App, generate: Union[str, Code] = "network", check: Union[Code, Property, None] = None, seconds: int = 10
+) -> Plan:
+    """The plan of a campaign of an application."""
+    command = tuple(app.program.command([]))
+    return Plan(app.head, command, sum_of_program(command), generate, check, seconds)
 
 
 def sum_of_program(command: Iterable[str]) -> str:

@@ -6,10 +6,10 @@ import os
 import re
 import sqlite3
 import sys
-from typing import ContextManager, List, Optional, Tuple, Union
+from typing import ContextManager, List, Optional, Tuple
 
 from sancus.app import App
-from sancus.campaign import Code, Plan, Property, Worker, code_of, sum_of_program, worker_of
+from sancus.campaign import Plan, Property, Worker, code_of, plan_of, worker_of
 from sancus.campaign_engines import Engine, on_a_cluster, on_this_machine, processors
 from sancus.campaign_store import MOST_SEEDS, Outcome, Store, Summary
 from sancus.cli.commands import Given, Usage
@@ -75,7 +75,7 @@ def answered(context: Context, given: Given) -> int:
         return summed_up(context, given, Store(file_of(given), must_exist=True))
     if given.has("merge"):
         return merged(context, given)
-    plan = plan_of(context, given, head)
+    plan = planned(context, given, head)
     # (what can't be taken is told before processes are started, which inherit this)
     worker = worker_of(plan)
     if given.text("shrink"):
@@ -103,21 +103,15 @@ def seeds_of(given: Given) -> Tuple[int, int]:
     return first, end
 
 
-def plan_of(context: Context, given: Given, head: bytes) -> Plan:
+def planned(context: Context, given: Given, head: bytes) -> Plan:
     build = context.program.build()
     if not build.is_fast:
         raise Ended(NO_ANSWER, "a campaign needs a build that answers at once: `./sancus build` makes the proved one")
-    seconds = least(given, "seconds", SECONDS)
     app = App(head, given.text("DEPLOYMENT"), program=Runner(build.command))
-    code: Union[str, Code] = code_of(given.text("generate")) if given.text("generate") else "network"
-    return Plan(
-        app.head,
-        tuple(build.command),
-        sum_of_program(build.command),
-        "hostile" if given.has("hostile") else code,
-        code_of(given.text("check")) if given.text("check") else property_of(given, app),
-        seconds,
-    )
+    drawn = "hostile" if given.has("hostile") else "network"
+    generate = code_of(given.text("generate")) if given.text("generate") else drawn
+    check = code_of(given.text("check")) if given.text("check") else property_of(given, app)
+    return plan_of(app, generate, check, least(given, "seconds", SECONDS))
 
 
 def property_of(given: Given, app: App) -> Optional[Property]:
