@@ -272,7 +272,7 @@ def program_of(plan: Plan) -> Runner:
         words = runner().words
     if sum_of_program(words) != plan.program:
         raise NoProgram(f"the program on {platform.node()} isn't the one of the campaign")
-    return Runner(words, seconds=plan.seconds)
+    return Runner(words, processor_seconds=plan.seconds)
 
 
 @lru_cache(maxsize=2)

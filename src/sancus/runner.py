@@ -39,7 +39,7 @@ class Runner:
     words: List[str]
     is_fast: bool = True
     # how many seconds of a processor it may take for an answer, on Linux; 0 for as many as it needs
-    seconds: int = 0
+    processor_seconds: int = 0
 
     def command(self, words: List[str]) -> List[str]:
         return [*self.words, *words]
@@ -59,8 +59,8 @@ class Runner:
             process = os.posix_spawn(command[0], command, os.environ, file_actions=streams)
         except OSError as error:
             raise NoProgram(f"{command[0]} can't be started: {os.strerror(error.errno or 0)}") from None
-        if self.seconds:
-            limit(process, self.seconds)
+        if self.processor_seconds:
+            limit(process, self.processor_seconds)
         _, status = os.waitpid(process, 0)
         return os.waitstatus_to_exitcode(status)
 

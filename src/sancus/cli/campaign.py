@@ -6,10 +6,10 @@ import os
 import re
 import sqlite3
 import sys
-from typing import ContextManager, List, Optional, Tuple
+from typing import ContextManager, List, Optional, Tuple, Union
 
 from sancus.app import App
-from sancus.campaign import Plan, Property, Worker, code_of, plan_of, worker_of
+from sancus.campaign import Code, Plan, Property, Worker, code_of, plan_of, worker_of
 from sancus.campaign_engines import Engine, on_a_cluster, on_this_machine, processors
 from sancus.campaign_store import MOST_SEEDS, Outcome, Store, Summary
 from sancus.cli.commands import Given, Usage
@@ -109,7 +109,7 @@ def planned(context: Context, given: Given, head: bytes) -> Plan:
         raise Ended(NO_ANSWER, "a campaign needs a build that answers at once: `./sancus build` makes the proved one")
     app = App(head, given.text("DEPLOYMENT"), program=Runner(build.command))
     drawn = "hostile" if given.has("hostile") else "network"
-    generate = code_of(given.text("generate")) if given.text("generate") else drawn
+    generate: Union[str, Code] = code_of(given.text("generate")) if given.text("generate") else drawn
     check = code_of(given.text("check")) if given.text("check") else property_of(given, app)
     return plan_of(app, generate, check, least(given, "seconds", SECONDS))
 
