@@ -66,7 +66,7 @@ class Api(unittest.TestCase):
             made.deploy()
             before = made.lines
             for text, words in (
-                ("put a 70000 00", "S5: a field is no number, or out of range"),
+                ("put a 70000 00", "S5: a field isn't a number, or is out of range"),
                 ("take a", "S7: it has too many words or too few"),
                 ("carry eye logic", "eye sent nothing at its last call"),
             ):

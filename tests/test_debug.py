@@ -130,12 +130,12 @@ class Variables(Room):
             (("vars", LIGHTING_FILE, "eye", "x"), "x is no line of the schedule"),
             (("vars", self.file("a", HEAD), "eye", "1"), "has no line %%"),
             (("vars", self.file("b", b"node = 3\n%%\n"), "eye", "1"), "`node` must be an array of tables"),
-            (("vars", self.file("c", LIGHTING + b"fly\n"), "eye", "46"), "S3: its first word is no act"),
+            (("vars", self.file("c", LIGHTING + b"fly\n"), "eye", "46"), "S3: no line of a schedule begins with this word"),
             (("vars", LIGHTING_FILE, "eye", "lighting.txt:9"), "it has 45, counted from 1 after %%; the first is"),
             (("steps", LIGHTING_FILE, "0"), "line 0 is power-on"),
-            (("steps", self.file("d", HEAD), self.file("e", "fly 3\n"), "1"), "S3: its first word is no act"),
+            (("steps", self.file("d", HEAD), self.file("e", "fly 3\n"), "1"), "S3: no line of a schedule begins with this word"),
             (("steps", self.file("d", HEAD), self.file("g", "call eye 3\n"), "1"), "S7: it has too many words or too few"),
-            (("steps", self.file("d", HEAD), self.file("h", "run a x\n"), "1"), "S5: a field is no number"),
+            (("steps", self.file("d", HEAD), self.file("h", "run a x\n"), "1"), "S5: a field isn't a number"),
             (("vars", self.file("d", HEAD), self.file("f", "deploy ear\n"), "eye", "1"), "there is no module ear"),
         ):
             ran = sancus(*words)

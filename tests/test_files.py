@@ -154,7 +154,7 @@ class Streams(Room):
         os.write(leader, b"\x04")
         out, said = process.communicate(timeout=60)
         self.assertEqual((process.returncode, out), (0, b"end\n"))
-        self.assertIn(b"sancus: line 3: nothing\nsancus: S3: its first word is no act\n", said)
+        self.assertIn(b"sancus: line 3: nothing\nsancus: S3: no line of a schedule begins with this word\n", said)
         self.assertIn(b"did you mean `reset`?", said)
         os.close(leader)
         os.close(follower)

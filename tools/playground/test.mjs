@@ -158,7 +158,7 @@ async function testFaults(test) {
         at = part => lines.findIndex(it => it.includes(part)) + 1;
   const changed = (old, now) => text.replace(old, now), head = `${text.split("\n%%\n")[0]}\n`;
   const cases = [
-    ["a schedule", "run", changed("load logic", "laod logic"), "S3: its first word is no act", at("load logic")],
+    ["a schedule", "run", changed("load logic", "laod logic"), "S3: no line of a schedule begins with this word", at("load logic")],
     [
       "a source's grammar", "check", changed("on show(v) { emit v; }", "on show(v) { emit v }"), "D7",
       at("on show(v)")
@@ -238,7 +238,7 @@ async function testPeople(test) {
   expect("and the picture begins after their set-up", here.includes("7:00"), here);
   await test.picture("people");
   const head = example("lighting").split("%%\n")[0], at = head.split("\n").length + 2;
-  for (const [line, words] of [["carry eye lmp", "there is no module lmp; did you mean `lamp`?"], ["laod eye", "S3: its first word is no act"]]) {
+  for (const [line, words] of [["carry eye lmp", "there is no module lmp; did you mean `lamp`?"], ["laod eye", "S3: no line of a schedule begins with this word"]]) {
     await test.write(`${head}%%\ndeploy all\nsample eye 5\n${line}\n`);
     await test.click("do-run");
     const said = await test.said(), marked = await test.value(`Number(${element("marked")}.dataset.line)`);
