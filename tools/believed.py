@@ -54,6 +54,26 @@ ODDS = [
         "Fresh.UnmadeWasNotGiven", "Fresh.ForgedWasNotGiven", "Unasked.UnaskedIsUnseen", "Hit.ForgedIsHit", "Hit.AnswersHitFresh",
     )),
 ]
+# Promises of docs/GUARANTEES.md with the statements that carry them; `*` is every definition of a file. tools/contracts.py lists what they reach.
+PROMISES = {
+    "what `guarded` says": ["law_isolation.Guarded.GuardedRun", "law_isolation.Laws.*"],
+    "what one `call` line does": ["law_calls.Laws.*", "law_calls.FourCalls.*"],
+    "what an honest run delivers": ["command_drive.Drives.DriveSays"],
+    "what `forged` says": FORGED,
+    "what the keys of connections show": LINKS,
+    "how seldom a `forged` comes": ODDS,
+    "what runs show in order": ["spec_run.AcceptedLaw.*"],
+    "what no run does": ["command_holds.Promise.HoldsTold"],
+    "what `legal` says": ["command_explain.Explains.ExplainSays"],
+    "a trace under a property": ["command_watch.Watches.WatchSays"],
+    "`snap`": ["command_snap.Snaps.SnapSays"],
+    "`gen`": ["sx_top.Promises.GenSays"],
+    "`check`": ["command_check.Promise.CheckTold"],
+    "`asm` and `dis`": ["command_asm.Assembling.AsmTold", "command_asm.Disassembling.DisTold"],
+    "the node": ["spec_machine.Laws.*", "spec_machine.NodeLaws.*"],
+    "compiled modules": ["sx_image.Realizes.Realizes"],
+    "memory in pages": ["sx_pages.Pages.*", "sx_paged.Memory.*"],
+}
 OF_FORGED = ("law_forgery", "law_connections")
 OF_PROPERTIES = ("sx_watch", "law_never", "command_property", "command_watch", "command_holds")
 # The images are a function of the deployment; which one, the compiler says, and nobody has to believe that.
@@ -219,7 +239,7 @@ class Repository:
         for name in names:
             crate, rest = name.split(".", 1)
             module, _, own = rest.rpartition(".")
-            found = [k for k in self.definitions if k[1] == own and k[0].endswith("." + module)
+            found = [k for k in self.definitions if own in ("*", k[1]) and k[0].endswith("." + module)
                      and crate in ("*", k[0].split(".")[0])]
             if not found:
                 sys.exit(f"no definition {name}")
@@ -253,6 +273,13 @@ class Repository:
             print(f"  {files[place]:4} {place}")
 
 
+def base(repository):
+    """What the headline rests on, in three parts, each by its name."""
+    source, core = repository.reached(SOURCE), repository.reached(CORE)
+    headline = repository.reached(CORE + HEADLINE, OF_FORGED)
+    return {"the source": source, "the rest of the core": core - source, "from the text on": headline - core}
+
+
 def main():
     repository = Repository()
     if sys.argv[1:]:
@@ -281,4 +308,5 @@ def main():
     print(", ".join(f"{name} {repository.lines(keys)}" for name, keys in tiers.items()), "lines")
 
 
-main()
+if __name__ == "__main__":
+    main()

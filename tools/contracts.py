@@ -1,5 +1,6 @@
 #!/usr/bin/env python3
-"""Makes docs/CRATES.md of the contracts in the crates: each law with what it says, each public call with its clauses.
+"""Makes docs/CRATES.md of the contracts in the crates: each law with what it says, each public call with its clauses, and the files of definitions
+that each promise rests on.
 
     tools/contracts.py             prints a line if docs/CRATES.md isn't what these sources give, and nothing if it is
     tools/contracts.py --write     makes it again
@@ -13,6 +14,7 @@ import textwrap
 from dataclasses import dataclass, field
 from pathlib import Path
 
+from believed import PROMISES, Repository, base
 from crate_lists import TOP, blocks, first_sentence, root_file
 
 PAGE = "docs/CRATES.md"
@@ -27,6 +29,15 @@ all of them together, and [crates/README.md](../crates/README.md) shows how the 
 A *law* is a public function with an empty body: its contract is a theorem, and the brackets have the file of `specs/` and the definition that state it.
 Of a public *call* the brackets have the names of the clauses of its contract (`ensures`), or of a clause without a name the first statement that it
 names, if there is one. Every function is also proved to be safe and to end: no index is out of range, no sum wraps, no cast loses bits.
+"""
+
+BELIEFS = """\
+## The definitions to believe
+
+These are the files of `specs/` that the headline of [GUARANTEES](GUARANTEES.md#the-headline) reaches, in three parts. The core is for every sound
+setting and every list of lines in form; what comes *from the text on* leads there from the text that is read, and to the text that is written. For
+other promises the files are listed that they reach beside these, with the statements that carry them; `tools/believed.py STATEMENT` prints all that a
+statement reaches, with its lines.
 """
 
 IMPORT = re.compile(r"ghost use Rattle\.(?!std\.|core\.)\w+\.specs\.(?!declared)([\w.]+)\.\{([^}]*)\}")
@@ -142,10 +153,32 @@ def section(crate):
     return lines
 
 
+def files_of(repository, keys):
+    """The files of specs/ that have these definitions, by their crates."""
+    by_crate = {}
+    for place in sorted({repository.definitions[key].place for key in keys}):
+        crate, _, file = place.partition("/specs/")
+        if file:
+            by_crate.setdefault(crate, []).append(f"`{file.removesuffix('.antt')}`")
+    return "; ".join(f"{crate}: {', '.join(files)}" for crate, files in by_crate.items())
+
+
+def beliefs():
+    """What the page has of the definitions to believe."""
+    repository = Repository()
+    parts = base(repository)
+    headline = set().union(*parts.values())
+    rows = [(name, "", keys) for name, keys in parts.items()]
+    rows += [(name, " (" + ", ".join(f"`{it}`" for it in stated) + ")", repository.reached(stated) - headline) for name, stated in PROMISES.items()]
+    for name, stated, keys in rows:
+        yield from textwrap.wrap(f"- *{name[0].upper() + name[1:]}*{stated}: {files_of(repository, keys) or 'none'}", WIDTH, subsequent_indent="  ")
+
+
 def page():
     """The text of docs/CRATES.md."""
     crates = [crate for block in blocks() for crate in block.crates]
-    return "\n".join([HEAD.rstrip(), *(line for crate in crates for line in section(crate)), ""])
+    sections = [line for crate in crates for line in section(crate)]
+    return "\n".join([HEAD.rstrip(), "", BELIEFS.rstrip(), "", *beliefs(), *sections, ""])
 
 
 def main():
