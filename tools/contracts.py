@@ -124,19 +124,12 @@ def clauses(call):
     return f" ({said})" if said else ""
 
 
-def laws_of(found):
-    """The laws of a crate, a line each."""
-    for law in found:
-        yield from textwrap.wrap(f"- `{law.name}`{clauses(law)}: {law.said}.", WIDTH, subsequent_indent="  ")
-
-
-def calls_by_home(found):
-    """The calls of a crate, a paragraph for each type or trait, and one for what is none's."""
-    homes = dict.fromkeys(call.home for call in found)
-    for home in homes:
-        said = ", ".join(f"`{call.name}`{clauses(call)}" for call in found if call.home == home)
-        start = f"`{home}`: " if home else ""
-        yield from textwrap.wrap(f"- {start}{said}", WIDTH, subsequent_indent="  ")
+def lines_of(found):
+    """Laws or calls, a line each: the name, the clauses, the first sentence."""
+    for call in found:
+        name = f"{call.home}::{call.name}" if call.home else call.name
+        said = f": {call.said}." if call.said else ""
+        yield from textwrap.wrap(f"- `{name}`{clauses(call)}{said}", WIDTH, subsequent_indent="  ")
 
 
 def section(crate):
@@ -147,9 +140,9 @@ def section(crate):
     laws, others = [it for it in found if it.is_law], [it for it in found if not it.is_law]
     lines = ["", f"## {crate}", "", *textwrap.wrap(first_sentence(crate), WIDTH)]
     if laws:
-        lines += ["", "Laws:", "", *laws_of(laws)]
+        lines += ["", "Laws:", "", *lines_of(laws)]
     if others:
-        lines += ["", "Calls:", "", *calls_by_home(others)]
+        lines += ["", "Calls:", "", *lines_of(others)]
     return lines
 
 
