@@ -25,6 +25,7 @@ class Desk {
     if (lacks) return this.refuse(lacks);
     this.runner = new Runner(busy => byId("do-stop").disabled = !busy);
     this.lesson = new Lesson(this);
+    this.property = new PropertyPanel(this);
     this.listen();
     this.begin();
   }
@@ -84,6 +85,7 @@ class Desk {
     const word = COMMANDS.includes(asked.get("do")) ? asked.get("do") : null;
     const before = history.state?.name, lesson = asked.get("lesson");
     if (lesson !== null) return this.inLesson(Number(lesson), before ? sources.text(before) : null, before);
+    if (asked.has("p")) this.property.open(await unpackedText(asked.get("p")).catch(() => ""));
     if (before && sources.text(before) !== null) return this.take(sources.text(before), before, word);
     if (asked.has("z")) return this.takeLinked(asked.get("z"), word);
     if (held.output && !this.turn) return this.hold(held);
@@ -280,8 +282,9 @@ class Desk {
   // --- the input in an address ---
 
   async link() {
-    const packed = await packedText(this.editor.text);
-    this.address = `#z=${packed}&do=${this.word ?? this.purpose()}`;
+    const packed = await packedText(this.editor.text), {property} = this;
+    const more = property.isOpen ? `&p=${await packedText(property.text)}` : "";
+    this.address = `#z=${packed}&do=${this.word ?? this.purpose()}${more}`;
     location.replace(this.address);
     history.replaceState({name: this.name}, "");
     const isCopied = await navigator.clipboard?.writeText(location.href).then(() => true, () => false);

@@ -1,6 +1,6 @@
 // Tests playground.html in each browser that is installed, by what it shows. Not a part of the gate.
 //
-//   node tools/playground/test.mjs [--program release/sancus_run] [--pictures FOLDER] [--browser Firefox]
+//   node tools/playground/test.mjs [--program release/sancus_run] [--pictures FOLDER] [--browser Firefox] [--test Property]
 //
 // Outputs are compared with those of the native program.
 import {spawnSync} from "node:child_process";
@@ -17,7 +17,7 @@ const given = process.argv.slice(2);
 const option = (name, otherwise) => given.includes(name) ? given[given.indexOf(name) + 1] : otherwise;
 const program = option("--program", fileURLToPath(new URL("release/sancus_run", TOP)));
 const pictures = option("--pictures", null);
-const wanted = option("--browser", null);
+const wanted = option("--browser", null), only = option("--test", null);
 
 const JS = JSON.stringify;
 let failed = 0;
@@ -247,6 +247,41 @@ async function testPeople(test) {
   }
 }
 
+async function testProperty(test) {
+  await test.open("#example=lighting");
+  await test.value(act(`${element("property")}.open = true`));
+  const told = () => test.value(shown("property-told"));
+  const ask = async text => {
+    await test.value(act(`${element("property-text")}.value = ${JS(text)}; ${element("property-text")}.dispatchEvent(new Event("input"))`));
+    await test.click("do-holds");
+    return told();
+  };
+  const bright = readFileSync(new URL("examples/properties/bright.property", TOP), "utf8");
+  const holds = await ask(bright);
+  expect("a property that holds", holds.startsWith("holds (proved)") && holds.includes("No item of this run breaks it"), holds);
+  const fails = await ask("on out lamp(v) { if v { fail; } }");
+  expect("one that the run breaks", fails.startsWith("unknown") && fails.includes("item 42, `out lamp 1`, breaks the property"), fails);
+  const row = await test.value(`document.querySelector(".row.broken")?.textContent ?? ""`);
+  expect("the picture marks the item", row.includes("out lamp 1"), row);
+  await test.picture("property");
+  for (const [text, words] of [
+    ["on out lmp(v) { fail; }", "P3: the deployment has no such item, at line 1, column 8"],
+    ["\non out lamp(v) { send; }", "P2: the property isn't in the grammar of docs/PROPERTIES.md, at line 2, column 18"],
+    ["on out lamp(v) { w = v; }", "rule 2 of the language"],
+  ]) {
+    const said = await ask(text);
+    expect(`a fault of a property: ${words}`, said.includes(words), said);
+  }
+  await ask(bright);
+  await test.value(act(`${element("do-link")}.click()`));
+  await test.until(`${shown("said")}.startsWith("The address of this page")`);
+  const hash = await test.value("location.hash");
+  await test.value(act("localStorage.clear()"));
+  await test.open(hash);
+  expect("an address carries the property", await test.value(`${element("property-text")}.value`) === bright, hash);
+  await test.value(act("localStorage.clear()"));
+}
+
 async function testStop(test) {
   // (a jump to itself, for as long as a schedule may have it run)
   await test.write(`%%\nasm n 0x4000 jmp 0x4000\nset n pc 0x4000\n${"run n 65535\n".repeat(60000)}`);
@@ -366,7 +401,7 @@ async function testLayout(test) {
   const isInside = await test.value(
       "document.documentElement.scrollWidth <= innerWidth && document.documentElement.scrollHeight <= innerHeight");
   expect("nothing stands outside the window", isInside);
-  const hidden = await test.value(`[...document.querySelectorAll("#desk button, header button")].filter(it => it.offsetParent).filter(it => {
+  const hidden = await test.value(`[...document.querySelectorAll("#desk button, header button")].filter(it => it.offsetParent && !it.closest("details:not([open])")).filter(it => {
     const {left, right, top, bottom} = it.getBoundingClientRect();
     const seen = document.elementFromPoint((left + right) / 2, (top + bottom) / 2);
     return left < 0 || top < 0 || right > innerWidth || bottom > innerHeight || seen !== it;
@@ -420,6 +455,9 @@ async function testWithoutWebAssembly(Browser) {
   await browser.end();
 }
 
+const TESTS = [
+  testTexts, testOpen, testLayout, testWords, testFaults, testPeople, testProperty, testStop, testLink, testSaved, testKeys, testExamples,
+];
 const made = spawnSync("python3", [fileURLToPath(new URL("make.py", import.meta.url)), "--check"]);
 expect("the page is what its parts give", made.status === 0, String(made.stderr));
 for (const Browser of BROWSERS.filter(it => !wanted || it.name === wanted)) {
@@ -431,12 +469,11 @@ for (const Browser of BROWSERS.filter(it => !wanted || it.name === wanted)) {
   const browser = new Browser(), test = new Test(browser);
   await browser.begin({width: 1280, height: 720});
   await test.open();
-  for (const one of [testTexts, testOpen, testLayout, testWords, testFaults, testPeople, testStop, testLink, testSaved, testKeys, testExamples])
-    await one(test);
+  for (const one of TESTS.filter(it => !only || it.name === `test${only}`)) await one(test);
   expect("no errors", !browser.errors.length, browser.errors);
-  await testPolicy(test);
+  if (!only) await testPolicy(test);
   await browser.end();
-  if (Browser.name !== "Chromium") continue;
+  if (only || Browser.name !== "Chromium") continue;
   await testPhone(Browser);
   await testWithoutWebAssembly(Browser);
 }
