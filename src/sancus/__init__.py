@@ -28,6 +28,7 @@ HOMES = {
     **dict.fromkeys(("App", "load", "loads"), "sancus.app"),
     **dict.fromkeys(("Fault", "NoCampaign", "NoProgram", "Refused"), "sancus.errors"),
     **dict.fromkeys(("Run", "State", "Verdict"), "sancus.run"),
+    "Live": "sancus.live",
     "Schedule": "sancus.schedule",
 }
 

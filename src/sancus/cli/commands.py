@@ -369,6 +369,25 @@ The program runs as the lines are written, so packets, boots and pieces are thos
         typed="a deployment or a property",
     ),
     Command(
+        "live",
+        "runs an application line by line, with each event on its way in your hands",
+        (
+            Argument("DEPLOYMENT", ONE, "a deployment, perhaps with a line %% and lines"),
+            Argument("LINES", MANY, "schedules, lines for people or a session that was saved, which are done first"),
+        ),
+        (),
+        "printf 'sample eye 7\\ndeliver 1\\ntwice 2\\nlegal\\n' | sancus live examples/lighting.txt",
+        "It reads lines of a schedule, lines for people (`sancus help schedule`), and besides",
+        table=(
+            ("net", "shows which events are on their way: what a module sends waits"),
+            ("deliver N, twice N, drop N", "hands event N to its module, once or two times, or loses it"),
+            ("undo [ACTS]", "takes back the last act, or so many"),
+            ("vars MODULE, why [ITEM], legal", "looks into the run: a module's variables, causes, whether it is legal"),
+            ("save FILE, quit", "writes the deployment and the lines so far; ends, as Ctrl-D does"),
+        ),
+        after="What can't be done is explained, and changes nothing; from a pipe it ends the session.",
+    ),
+    Command(
         "lsp",
         "serves editors: faults as you type, what a name means and where it is declared, completion and layout",
         (),

@@ -1,112 +1,189 @@
-"""A run whose lines may be for people, and are done one by one as they come: from files, a pipe or a terminal.
-
-At a terminal a line that can't be done is explained, and the run goes on with what it had. Elsewhere it ends the run,
-after the items of the lines before it.
-"""
+"""`sancus live`: a session with an application, at a terminal or from a pipe."""
 
 from __future__ import annotations
 
-from dataclasses import dataclass, field
-from typing import Iterator, List
+import cmd
+import sys
+from pathlib import Path
+from typing import Any, Iterable, List
 
+from sancus.app import App
+from sancus.cli.commands import Given
 from sancus.cli.context import Context
-from sancus.cli.people import Lines, begun, do_line, place
-from sancus.cli.program import Collected, Ran, Sink
-from sancus.cli.reading import Part
-from sancus.model.items import Item
-from sancus.model.schedule import Writer
-from sancus.model.session import Stopped
+from sancus.cli.output import print_lines
+from sancus.cli.reading import read_all
+from sancus.cli.writing import must_be_free, write_file
+from sancus.errors import Fault, Refused
+from sancus.items import Item
+from sancus.live import Live
+from sancus.model.acts import ACTS
+from sancus.model.deployment import KINDS
+from sancus.model.items import Item as Words
+from sancus.model.items import say
+from sancus.model.numbers import counted, number
+from sancus.model.schedule import FORMS
 from sancus.model.shown import text_of
-from sancus.model.texts import MARK, Kept, Origin, kept_of, without_return
+from sancus.model.texts import MARK, Input
+from sancus.model.variables import State
 from sancus.status import BAD_TEXT, Ended
 
-
-@dataclass
-class Coming:
-    """The lines of an input as they come."""
-
-    parts: List[Part]
-    kept: Kept = field(default_factory=Kept)
-    count: int = 0
-
-    def lines(self) -> Iterator[bytes]:
-        for part in self.parts:
-            self.kept.origins.append(Origin(self.count + 1, part.name, part.line, part.line_of))
-            yield from self.lines_of(part)
-
-    def lines_of(self, part: Part) -> Iterator[bytes]:
-        left, piece = b"", part.read()
-        while piece or left:
-            *whole, left = (left + piece).split(b"\n")
-            if not piece:
-                whole, left = [left], b""
-            for it in whole:
-                self.count += 1
-                self.kept.add(it + b"\n")
-                yield without_return(it)
-            piece = part.read() if piece else b""
-
-    @property
-    def place(self) -> str:
-        """The place of the line that came last."""
-        return place(self.kept, self.count)
+# How a session begins that was saved, and may be saved again.
+BEGUN = "# A session of `sancus live`."
+HELP = (
+    ("LINE", "does a line of a schedule, or one for people, and shows its items"),
+    ("net", "shows which events are on their way"),
+    ("deliver N", "hands event N to its module"),
+    ("twice N", "hands it to its module two times"),
+    ("drop N", "loses it"),
+    ("undo [ACTS]", "takes back the last act, or so many"),
+    ("vars MODULE", "shows a module's variables and ends"),
+    ("why [ITEM]", "shows the causes of an item, by its number or how it begins; of the last `out`"),
+    ("legal", "says whether the sources allow all of it"),
+    ("save FILE", "writes the deployment and the lines so far"),
+    ("quit", "ends the session, as Ctrl-D does"),
+)
 
 
-class Answering(Writer):
-    """A writer that prints the items of each line when it was done."""
-
-    sink: Sink
-    # whether each line is judged before it is done, since one that breaks a rule would end the run
-    is_careful = False
-
-    def put(self, *words: str) -> List[Item]:
-        if self.is_careful:
-            self.judge(" ".join(words))
-        items = super().put(*words)
-        self.sink.write(b"".join(it.text.encode(errors="surrogateescape") + b"\n" for it in items))
-        return items
-
-    def judge(self, text: str) -> None:
-        """Has the program judge a line by itself: rules look at no other line."""
-        act = text.encode(errors="surrogateescape")
-        answer = self.program.ask(["run"], self.head + b"%%\n" + act + b"\n").strip()
-        last = text_of(answer.rpartition(b"\n")[2])
-        if last.startswith("fault schedule "):
-            raise Stopped(last)
+def item_line(it: Item, live: Live) -> str:
+    return f"  {it.number:>3} {it.text:<28} {say(Words(it.number, it.text), live.app.plan)}".rstrip()
 
 
-def run_live(context: Context, parts: List[Part], is_typed: bool, sink: Sink) -> Ran:
-    """Runs an input line by line, and returns what is kept of the schedule that it became."""
-    coming = Coming(parts)
-    lines = coming.lines()
-    has_mark = any(it == MARK for it in lines)
-    first = bytes(coming.kept.first)
-    judged = Collected()
-    ran = context.program.ran_of(["run"], first, judged)
-    if not has_mark or ran.status:
-        sink.write(judged.data())
-        sink.close()
-        return Ran(ran.status, ran.last, coming.kept)
-    sink.write(judged.data()[: -len(b"end\n")])
-    made = Lines(first[: -len(b"%%\n")], [], coming.kept)
-    writer = begun(made, context, Answering)
-    writer.sink, writer.is_careful = sink, is_typed
+def state_lines(state: State) -> List[str]:
+    if not state.is_protected:
+        return [f"  {state.module} isn't there, at boot {state.boot} of its node"]
+    cells = [f"  {name} = {value}" for name, value in state.variables.items()]
+    opened = [f"{name} ({side})" for (name, side), counts in state.ends.items() if counts]
+    return [*cells, f"  open: {' '.join(opened) or 'no end'}"]
+
+
+class Shell(cmd.Cmd):
+    """Reads acts, one a line, and shows what they gave."""
+
+    def __init__(self, live: Live, context: Context) -> None:
+        super().__init__()
+        self.live, self.context = live, context
+        self.is_typed = sys.stdin.isatty()
+        self.use_rawinput = self.is_typed
+        self.prompt = "sancus> " if self.is_typed else ""
+
+    def onecmd(self, line: str) -> bool:
+        """Does an act. One that can't be done is explained; from a pipe it ends the session."""
+        try:
+            return bool(super().onecmd(line))
+        except Refused as error:
+            if not self.is_typed:
+                raise Ended(BAD_TEXT, *error.words) from None
+            self.context.voice.must_say(*error.words)
+        except Ended as error:
+            if not self.is_typed:
+                raise
+            self.context.voice.must_say(*error.lines)
+        return False
+
+    def show(self, items: Iterable[Item]) -> None:
+        notes = self.live.schedule.writer.notes
+        print_lines(*(item_line(it, self.live) for it in items))
+        self.context.voice.say(*notes)
+        notes.clear()
+        if self.live.waiting:
+            self.do_net("")
+
+    def number(self, text: str) -> int:
+        found = number(text.strip() or "1")
+        if found is None:
+            raise Refused(text, f"`{text}` is no number")
+        return found
+
+    def default(self, line: str) -> None:
+        self.show(self.live.line(line))
+
+    def emptyline(self) -> bool:
+        return False
+
+    def do_EOF(self, _: str) -> bool:
+        if self.is_typed:
+            print_lines("")
+        return True
+
+    def do_quit(self, _: str) -> bool:
+        return True
+
+    def do_help(self, _: str) -> None:
+        print_lines(*(f"  {name:<12} {says}" for name, says in HELP), f"  lines: {' '.join([*FORMS, *ACTS])}")
+
+    def do_net(self, _: str) -> None:
+        print_lines(*(f"  on its way {it}" for it in map(str, self.live.waiting)))
+        if not self.live.waiting:
+            print_lines("  nothing is on its way")
+
+    def do_deliver(self, text: str) -> None:
+        self.show(self.live.deliver(self.number(text)))
+
+    def do_twice(self, text: str) -> None:
+        self.show(self.live.twice(self.number(text)))
+
+    def do_drop(self, text: str) -> None:
+        self.live.drop(self.number(text))
+        self.do_net("")
+
+    def do_undo(self, text: str) -> None:
+        self.live.undo(self.number(text))
+        print_lines(f"  {len(self.live.lines)} lines are left")
+        self.do_net("")
+
+    def do_vars(self, text: str) -> None:
+        print_lines(*state_lines(self.live.variables(text.strip())))
+
+    def do_why(self, text: str) -> None:
+        print_lines(*(f"  {it}" for it in self.live.why(text.strip()).split("\n")))
+
+    def do_legal(self, _: str) -> None:
+        print_lines(*(f"  {it}" for it in self.live.verdict()))
+
+    def do_save(self, text: str) -> None:
+        path = Path(text.strip())
+        if not text.strip():
+            raise Refused("save", "`save FILE` names a file")
+        must_be_free(path, [], lambda it: f"\n{BEGUN}\n" in it, False, "session", "name another file")
+        lines = [text_of(MARK), BEGUN, *(it for it in self.live.lines if it != BEGUN)]
+        write_file(path, text_of(self.live.app.head) + "".join(f"{it}\n" for it in lines))
+        print_lines(f"  {path}")
+
+    # --- Completion at a terminal ---
+
+    def completenames(self, text: str, *_: object) -> List[str]:
+        own = [it.partition(" ")[0] for it, _ in HELP[1:]]
+        return [it for it in (*own, *FORMS, *ACTS) if it.startswith(text)]
+
+    def completedefault(self, *given: Any) -> List[str]:
+        names = [name for kind in KINDS for name in self.live.app.plan.names(kind)]
+        return [it for it in names if it.startswith(given[0])]
+
+    complete_vars = completedefault
+
+
+def begun(context: Context, files: List[str]) -> Live:
+    """A session of a deployment, after the lines that are given with it."""
+    first, *more = files
+    data = Input(read_all(first))
+    texts = [data.rest, *map(read_all, more)]
+    lines = [text_of(it) for text in texts for it in Input(MARK + b"\n" + text).schedule if it != MARK]
     try:
-        for it in lines:
-            answer_line(writer, coming.place, text_of(it), made, context)
-    finally:
-        writer.session.close()
-    sink.write(b"end\n")
-    sink.close()
-    text = first + "".join(f"{it}\n" for it in writer.lines).encode(errors="surrogateescape")
-    return Ran(0, "end", kept_of(text, ""))
+        return Live(App(data.head, first, program=context.program), lines)
+    except Fault as fault:
+        raise Ended(BAD_TEXT, fault.text, *fault.words) from None
+    except Refused as error:
+        raise Ended(BAD_TEXT, f"{error.line}: {error.words[0]}", *error.words[1:]) from None
 
 
-def answer_line(writer: Answering, at: str, text: str, made: Lines, context: Context) -> None:
-    """Does a line, and says what is to be noted of it; one that was typed and can't be done only says why."""
-    try:
-        context.voice.say(*do_line(writer, at, text, made, context))
-    except Ended as error:
-        if not writer.is_careful or error.status != BAD_TEXT:
-            raise
-        context.voice.must_say(*error.lines)
+def answer(context: Context, given: Given) -> int:
+    files = [given.text("DEPLOYMENT"), *given.texts("LINES")]
+    with begun(context, files) as live:
+        shell = Shell(live, context)
+        if shell.is_typed:
+            print_lines("lines of a schedule or for people; `help` lists what else there is")
+        if live.schedule.items:
+            print_lines(f"  {counted(len(live.schedule.items), 'item')} so far")
+            shell.show([])
+        shell.cmdloop()
+    return 0

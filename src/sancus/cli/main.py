@@ -106,6 +106,12 @@ def fmt(context: Context, given: Given) -> int:
     return answer(context, given)
 
 
+def live(context: Context, given: Given) -> int:
+    from sancus.cli.live import answer
+
+    return answer(context, given)
+
+
 def lsp(context: Context, _given: Given) -> int:
     from sancus.cli.serving import answer
 
@@ -221,6 +227,7 @@ ANSWERS: Dict[str, Callable[[Context, Given], int]] = {
     "place": place,
     "test": test,
     "fmt": fmt,
+    "live": live,
     "lsp": lsp,
     "campaign": campaign,
     "hex": hex_files,

@@ -126,7 +126,7 @@ def run_of_people(context: Context, given: Given, files: List[str], sink: Sink) 
 
         return snap(context, *gathered(parts or [file_part(files[0])]), sink)
     if is_typed or has_people or any(map(begins_for_people, (parts or [])[1:])):
-        from sancus.cli.live import run_live
+        from sancus.cli.answering import run_live
 
         return run_live(context, parts or [file_part(files[0])], is_typed, sink)
     return run_parts(context, given, files, parts, sink)
