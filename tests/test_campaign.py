@@ -12,6 +12,8 @@ from contextlib import closing
 
 from support import EXAMPLES, PROGRAM, SANCUS, Room, needs_program, program, sancus
 
+from sancus.cli.progress import line
+
 PUMP = EXAMPLES / "campaign" / "pump.toml"
 ONCE = f"{EXAMPLES / 'campaign' / 'once.py'}:once"
 TWICE = "a dose is given twice"
@@ -33,7 +35,7 @@ def unknown(layout, random):
 
 
 def endless(layout, random):
-    return ["put a 0x800 ff3f", "set a pc 0x800", *["run a 65535"] * 65000]
+    return ["put a 0x600 ff3f", "set a pc 0x600", *["run a 65535"] * 65000]
 """
 
 
@@ -84,18 +86,18 @@ class Campaigns(Room):
         self.assertEqual([it[1] for it in rows_of(self.rows)], [""] * 60)
 
     def test_it_goes_on_after_a_kill(self):
-        call = [SANCUS, "campaign", PUMP, "--seeds", "0..800", "--jobs", "2", "--to"]
+        call = [SANCUS, "campaign", PUMP, "--seeds", "0..600", "--jobs", "2", "--to"]
         env = {**os.environ, "SANCUS_PROGRAM": PROGRAM}
         begun = subprocess.Popen([*call, self.rows], env=env, stdout=subprocess.DEVNULL, stderr=subprocess.DEVNULL)
         while begun.poll() is None and not (self.rows.exists() and len(self.seeds())):
             time.sleep(0.02)
         begun.send_signal(signal.SIGKILL)
         begun.wait()
-        self.assertLess(len(self.seeds()), 800)
-        self.assertEqual(self.campaign("--seeds", "0..800").status, 0)
-        self.campaign("--seeds", "0..800", "--to", "whole.sqlite")
+        self.assertLess(len(self.seeds()), 600)
+        self.assertEqual(self.campaign("--seeds", "0..600").status, 0)
+        self.campaign("--seeds", "0..600", "--to", "whole.sqlite")
         self.assertEqual(rows_of(self.rows), rows_of(self.room / "whole.sqlite"))
-        self.assertEqual(self.seeds(), list(range(800)))
+        self.assertEqual(self.seeds(), list(range(600)))
 
     def seeds(self):
         try:
@@ -114,6 +116,11 @@ class Campaigns(Room):
         ran = self.campaign("--merge", "c.sqlite")
         self.assertEqual(ran.status, 122)
         self.says(ran, "another campaign: the generator differs")
+        ran = sancus("campaign", EXAMPLES / "lighting.txt", "--show", cwd=self.room)
+        self.says(ran, "another campaign: the deployment differs")
+
+    def test_progress(self):
+        self.assertEqual(line(4250, 10000, 12, 10.0), "4,250 of 10,000 runs, 425 a second, 14 s left, 12 wrong")
 
     def test_a_run_that_takes_too_long(self):
         ran = self.campaign("--generate", f"{self.generators}:endless", "--seconds", "1", "--seeds", "5..6")
@@ -131,7 +138,7 @@ class Campaigns(Room):
             (["--show", "--to", "no.sqlite"], "there is no file no.sqlite"),
             (["--holds", self.file("bad.property", "on out pump(v) { fail; }")], "fault property"),
         ]:
-            ran = self.campaign("--seeds", "0..500", *words)
+            ran = self.campaign("--seeds", "0..250", *words)
             self.assertEqual((ran.status, ran.out), (122, b""), words)
             self.rows.unlink(missing_ok=True)
             self.says(ran, said)
@@ -139,26 +146,26 @@ class Campaigns(Room):
             self.assertEqual(self.campaign(*words).status, 2)
 
     def test_rows_before_a_fault_stay(self):
-        self.campaign("--generate", "generators.py:fails", "--seeds", "0..500", "--jobs", "1")
+        self.campaign("--generate", "generators.py:fails", "--seeds", "0..250", "--jobs", "1")
         kept = self.seeds()
         self.assertTrue(kept)
-        ran = self.campaign("--seeds", "0..500")
+        ran = self.campaign("--seeds", "0..250")
         self.assertEqual(ran.status, 122)
         self.says(ran, "campaign.sqlite has another campaign: the generator differs")
         self.assertEqual(self.seeds(), kept)
 
     def test_a_full_disk(self):
-        whole = [SANCUS, "campaign", PUMP, "--seeds", "0..1500", "--to", self.rows]
-        full = lambda: resource.setrlimit(resource.RLIMIT_FSIZE, (1 << 16, 1 << 16))  # noqa: E731
+        whole = [SANCUS, "campaign", PUMP, "--seeds", "0..900", "--to", self.rows]
+        full = lambda: resource.setrlimit(resource.RLIMIT_FSIZE, (1 << 15, 1 << 15))  # noqa: E731
         env = {**os.environ, "SANCUS_PROGRAM": PROGRAM}
         ran = subprocess.run(whole, env=env, capture_output=True, text=True, preexec_fn=full)
         self.assertEqual((ran.returncode, ran.stdout), (5, ""))
         self.assertRegex(ran.stderr, "campaign.sqlite: .*(full|error).*; the rows that it has stay")
         kept = rows_of(self.rows)
         self.assertTrue(kept)
-        self.assertEqual(self.campaign("--seeds", "0..1500").status, 0)
+        self.assertEqual(self.campaign("--seeds", "0..900").status, 0)
         self.assertLessEqual({*kept}, {*rows_of(self.rows)})
-        self.assertEqual(self.seeds(), list(range(1500)))
+        self.assertEqual(self.seeds(), list(range(900)))
 
 
 if __name__ == "__main__":

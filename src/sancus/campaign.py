@@ -38,6 +38,7 @@ __all__ = [
     "Row", "Sample", "Worker", "code_of", "plan_of", "run_chunk",
 ]  # fmt: skip
 
+ACTS = get_args(Act)
 # A chunk of seeds ends after so many seconds, so that little is lost with a process that is ended.
 SECONDS_A_CHUNK = 2.0
 # What `run` ends with if it is whole, if a line of the schedule breaks a rule, and if it is ended for its time.
@@ -130,14 +131,14 @@ class Plan:
         """A sum of each part of which rows depend."""
         own = [Path(str(it.__file__)).read_bytes() for it in (campaign_acts, generators, scribe)]
         made = {
-            "deployment": repr(self.head),
             "generator": self.generate.key if isinstance(self.generate, Code) else self.generate,
             "check": self.check.key if self.check else "",
             "limit of time": str(self.seconds),
             "program": self.program,
             "version of sancus": repr([__version__, *own]),
         }
-        return {name: sum_of(it.encode(errors="surrogateescape")) for name, it in made.items()}
+        sums = {name: sum_of(it.encode(errors="surrogateescape")) for name, it in made.items()}
+        return {**deployment_part(self.head), **sums}
 
 
 def plan_of(
@@ -146,6 +147,11 @@ def plan_of(
     """The plan of a campaign of an application."""
     command = tuple(app.program.command([]))
     return Plan(app.head, command, sum_of_program(command), generate, check, seconds)
+
+
+def deployment_part(head: bytes) -> Dict[str, str]:
+    """The sum of a campaign's deployment, by its name."""
+    return {"deployment": sum_of(head.rstrip(b"\n"))}
 
 
 def sum_of_program(command: Iterable[str]) -> str:
@@ -204,7 +210,7 @@ class Worker:
     def acts(self, seed: int) -> List[Act]:
         """The acts of a seed."""
         made = self.generate(Random(f"sancus {seed}"))
-        if not isinstance(made, (list, tuple)) or not all(isinstance(it, get_args(Act)) for it in made):
+        if not isinstance(made, (list, tuple)) or not all(isinstance(it, ACTS) for it in made):
             raise NoCampaign(f"a generator returns a list of acts, and not {str(made)[:60]}")
         return list(made)
 

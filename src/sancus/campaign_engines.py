@@ -66,8 +66,11 @@ def on_this_machine(jobs: int) -> Iterator[Engine]:
     pool = ProcessPoolExecutor(jobs, multiprocessing.get_context("fork"), initializer=begin)
     try:
         yield Engine(pool, CHUNKS_EACH * jobs)
-    finally:
+    except BaseException:
+        # (its processes end with this one)
         pool.shutdown(wait=False, cancel_futures=True)
+        raise
+    pool.shutdown()
 
 
 def begin() -> None:

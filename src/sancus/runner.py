@@ -8,9 +8,9 @@ import os
 import resource
 import tempfile
 from contextlib import contextmanager, suppress
-from dataclasses import dataclass
+from dataclasses import dataclass, field
 from functools import lru_cache
-from typing import Iterator, List
+from typing import Dict, Iterator, List
 
 from sancus.builds import Builds, home
 from sancus.errors import NoProgram
@@ -40,6 +40,8 @@ class Runner:
     is_fast: bool = True
     # how many seconds of a processor it may take for an answer, on Linux; 0 for as many as it needs
     processor_seconds: int = 0
+    # (which takes a while to put together)
+    environment: Dict[bytes, bytes] = field(default_factory=lambda: dict(os.environb), repr=False, compare=False)
 
     def command(self, words: List[str]) -> List[str]:
         return [*self.words, *words]
@@ -56,7 +58,7 @@ class Runner:
         command = self.command(words)
         streams = [(os.POSIX_SPAWN_DUP2, given, 0), (os.POSIX_SPAWN_DUP2, written, 1)]
         try:
-            process = os.posix_spawn(command[0], command, os.environ, file_actions=streams)
+            process = os.posix_spawn(command[0], command, self.environment, file_actions=streams)
         except OSError as error:
             raise NoProgram(f"{command[0]} can't be started: {os.strerror(error.errno or 0)}") from None
         if self.processor_seconds:

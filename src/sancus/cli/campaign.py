@@ -9,7 +9,7 @@ import sys
 from typing import ContextManager, List, Optional, Tuple, Union
 
 from sancus.app import App
-from sancus.campaign import Code, Plan, Property, Worker, code_of, plan_of, worker_of
+from sancus.campaign import Code, Plan, Property, Worker, code_of, deployment_part, plan_of, worker_of
 from sancus.campaign_engines import Engine, on_a_cluster, on_this_machine, processors
 from sancus.campaign_store import MOST_SEEDS, Outcome, Store, Summary
 from sancus.cli.commands import Given, Usage
@@ -72,9 +72,9 @@ def see_installed() -> None:
 def answered(context: Context, given: Given) -> int:
     head = Input(read_all(given.text("DEPLOYMENT"))).head
     if given.has("show"):
-        return summed_up(context, given, Store(file_of(given), must_exist=True))
+        return summed_up(context, given, rows_of(file_of(given), head))
     if given.has("merge"):
-        return merged(context, given)
+        return merged(context, given, head)
     plan = planned(context, given, head)
     # (what can't be taken is told before processes are started, which inherit this)
     worker = worker_of(plan)
@@ -152,11 +152,18 @@ def run(
         raise NoCampaign(*words, GOES_ON)
 
 
-def merged(context: Context, given: Given) -> int:
+def rows_of(path: str, head: bytes) -> Store:
+    """A file that is there, with rows of a campaign of this deployment."""
+    store = Store(path, must_exist=True)
+    store.must_be_of(deployment_part(head))
+    return store
+
+
+def merged(context: Context, given: Given, head: bytes) -> int:
     """Takes in the rows of other files, which are all of one campaign."""
     store = Store(file_of(given))
     for path in given.texts("FILE"):
-        other = Store(path, must_exist=True)
+        other = rows_of(path, head)
         store.must_be_of(other.parts())
         store.merge(other)
     return summed_up(context, given, store)

@@ -11,7 +11,7 @@ from dataclasses import dataclass, field
 from typing import Deque, Dict, Iterable, List, NamedTuple, Optional, Set, Tuple
 
 from sancus.model.campaign_acts import Act, Carry, Change, Fate, Hold, Reading, Replay, Reset, Sample, said
-from sancus.model.deployment import Plan, port_of
+from sancus.model.deployment import Plan, module_of, port_of
 from sancus.model.meaning import Act as Reacted
 from sancus.model.meaning import first_cells, react
 from sancus.model.people import NAMING
@@ -91,7 +91,10 @@ class Layout:
         self.sender = {it: plan.sender(it) for it in self.connections}
         self.receiver = {it: plan.receiver(it) for it in self.connections}
         self.input = {str(it["name"]): port_of(it["to"]) for it in plan.connections}
-        self.output = {str(it["name"]): port_of(it["from"]) for it in plan.connections}
+        # the connections that lead from each output of a module
+        self.leading: Dict[Tuple[str, str], List[str]] = {}
+        for it in plan.connections:
+            self.leading.setdefault((module_of(it["from"]), port_of(it["from"])), []).append(str(it["name"]))
         places = [it for node in self.nodes for it in windows_of(plan, node)]
         self.inside = {module: inside for module, inside, _ in places}
         self.outside = {module: outside for module, _, outside in places}
@@ -110,10 +113,6 @@ class Layout:
             acts = react(tree, event, value, now)
             self.known[key] = (frozen(now), acts)
         return self.known.get(key, (cells, []))
-
-    def sent_from(self, module: str, output: str) -> List[str]:
-        """The connections that lead from an output."""
-        return [it for it in self.connections if (self.sender[it], self.output[it]) == (module, output)]
 
     def reached(self, module: str) -> List[str]:
         """The connections that lead on from a module, the nearest first."""
@@ -233,8 +232,8 @@ class Scribe:
     def react(self, module: str, event: Optional[str], value: int) -> None:
         """A module's handler runs, and what it sends is in its window then."""
         self.cells[module], acts = self.layout.reaction(module, event, value, self.cells[module])
-        sent = [(it, value) for kind, output, value in acts if kind == "send" for it in self.layout.sent_from(module, output)]
-        first = self.layout.outside[module]
+        leading, first = self.layout.leading, self.layout.outside[module]
+        sent = [(it, word) for kind, to, word in acts if kind == "send" for it in leading.get((module, to), ())]
         self.waiting[module] = [self.sent(it, word, first + EVENT * at) for at, (it, word) in enumerate(sent)]
 
     def sent(self, connection: str, value: int, at: int) -> Event:

@@ -20,7 +20,7 @@ class Trace:
 
 def trace_of(output: bytes) -> Trace:
     """The output of `run`."""
-    lines = [text_of(it) for it in output.split(b"\n")[:-1]]
+    lines = text_of(output).split("\n")[:-1]
     at = lines.index("trace") if "trace" in lines else len(lines)
     words = [it.split(" ") for it in lines[:at] if it.startswith("image ")]
     images = {it[1]: bytes.fromhex(it[2]) for it in words}
