@@ -2,12 +2,16 @@
 What it makes of lines for people is what `sancus schedule` makes of them."""
 
 import json
+import os
 import shutil
 import subprocess
 import sys
 import unittest
+from unittest.mock import patch
 
-from support import EXAMPLES, HEAD, TOP, needs_program, sancus
+from support import EXAMPLES, HEAD, PROGRAM, TOP, needs_program, sancus
+
+import sancus as api
 
 NODE = shutil.which("node") or shutil.which("nodejs")
 PARKING = (EXAMPLES / "parking" / "parking.toml").read_bytes()
@@ -73,6 +77,20 @@ class People(unittest.TestCase):
             self.assertIsNone(made["wrong"])
             self.assertEqual(wanted.status, 0, wanted.said)
             self.assertEqual(without_marks(made["parts"][0]), without_marks(wanted.out.decode()))
+
+    def test_what_is_on_its_way(self):
+        """As a session of `sancus live` has it, in whose lines some events were taken, given and dropped."""
+        begin = "deploy all\nsample eye 120\ntake a 0x400 24 as e1.eye.logic\nsample eye 7\n"
+        for lines in (
+            begin,
+            f"{begin}take a 0x400 24 as e2.eye.logic\ngive e1.eye.logic a\ncall logic 2\n",
+            f"{begin}take a 0x400 24 as e2.eye.logic\n# drop e2.eye.logic\n",
+            f"{begin}carry eye logic\n",
+            "deploy all\nflow light 120\n",
+        ):
+            made = self.made(HEAD + b"%%\n" + lines.encode())
+            with patch.dict(os.environ, SANCUS_PROGRAM=PROGRAM), api.Live(api.loads(HEAD), lines.splitlines()) as live:
+                self.assertEqual([it["name"] for it in made["events"]], [it.name for it in live.waiting], lines)
 
     def test_mistakes(self):
         for lines, line, words in (

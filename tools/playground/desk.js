@@ -26,6 +26,7 @@ class Desk {
     this.runner = new Runner(busy => byId("do-stop").disabled = !busy);
     this.lesson = new Lesson(this);
     this.property = new PropertyPanel(this);
+    this.live = new LivePanel(this);
     this.listen();
     this.begin();
   }
@@ -139,6 +140,14 @@ class Desk {
     await this.does(word ?? this.purpose());
   }
 
+  // Puts a text in the place of the one that is written, as a person would, and runs it.
+  async write(text) {
+    this.editor.text = text;
+    this.editor.show(this.editor.lines.length);
+    this.isChanged();
+    await this.does("run");
+  }
+
   isChanged() {
     this.last = null;
     this.show(this.nameNow(this.editor.text));
@@ -194,6 +203,7 @@ class Desk {
     if (job.run?.trace) this.last = job.run;
     if (texts.length) this.drawn(texts);
     if (word === "run" || word === "drive") await this.lesson.ran(text, ended);
+    if (isNow() && word === "run") await this.live.ran(job.people);
     if (!isNow()) return;
     document.documentElement.dataset.done = turn;
   }

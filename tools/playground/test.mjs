@@ -247,6 +247,46 @@ async function testPeople(test) {
   }
 }
 
+async function testLive(test) {
+  await test.value(act("localStorage.clear()"));
+  const head = `${example("lighting").split("%%\n")[0]}%%\n`;
+  await test.open("#example=lighting");
+  await test.write(head);
+  await test.value(act(`${element("live")}.open = true`));
+  const line = async text => {
+    await test.value(act(`delete ${DONE}; ${element("live-line")}.value = ${JS(text)}; ${element("live-do")}.click()`));
+    return test.done();
+  };
+  const events = () => test.value(`[...${element("live-events")}.children].map(it => it.firstChild.data.trim())`);
+  const press = async (row, name) => {
+    const button = `[...${element("live-events")}.children[${row}].querySelectorAll("button")].find(it => it.textContent === ${JS(name)})`;
+    await test.value(act(`delete ${DONE}; ${button}.click()`));
+    return test.done();
+  };
+  for (const text of ["deploy all", "sample eye 120", "sample eye 7"]) await line(text);
+  const both = ["1: eye → logic by up", "2: eye → logic by up"];
+  expect("what a module sends waits", JS(await events()) === JS(both), await events());
+  await press(1, "Deliver");
+  expect("an event is delivered", (await test.wrote()).includes("take logic up 1 7"), await test.wrote());
+  const after = ["1: eye → logic by up", "3: logic → lamp by down"];
+  expect("and what follows waits", JS(await events()) === JS(after), await events());
+  await test.picture("live");
+  await press(0, "Twice");
+  expect("an older event is refused, twice", (await test.wrote()).split("done logic 6 0").length === 3, await test.wrote());
+  await test.click("live-undo");
+  expect("that is taken back", JS(await events()) === JS(after) && !(await test.wrote()).includes("done logic 6 0"), await events());
+  await press(0, "Drop");
+  await line("carry logic lamp");
+  expect("`carry` delivers", JS(await events()) === "[]" && (await test.wrote()).includes("out lamp 0"), await events());
+  const text = await test.text();
+  expect("the input is the session", text.includes("take a 0x400 24 as e1.eye.logic\n") && text.includes("# drop e1.eye.logic\n"), text);
+  await line("sample lamp 1");
+  expect("what can't be done is explained", (await test.said()).includes("lamp drives no sensor"), await test.said());
+  await test.click("live-undo");
+  expect("and taken back", await test.text() === text, await test.text());
+  await test.value(act("localStorage.clear()"));
+}
+
 async function testProperty(test) {
   await test.open("#example=lighting");
   await test.value(act(`${element("property")}.open = true`));
@@ -456,7 +496,7 @@ async function testWithoutWebAssembly(Browser) {
 }
 
 const TESTS = [
-  testTexts, testOpen, testLayout, testWords, testFaults, testPeople, testProperty, testStop, testLink, testSaved, testKeys, testExamples,
+  testTexts, testOpen, testLayout, testWords, testFaults, testPeople, testLive, testProperty, testStop, testLink, testSaved, testKeys, testExamples,
 ];
 const made = spawnSync("python3", [fileURLToPath(new URL("make.py", import.meta.url)), "--check"]);
 expect("the page is what its parts give", made.status === 0, String(made.stderr));

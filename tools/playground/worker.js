@@ -27,6 +27,7 @@ class Session {
     this.rest = second < 0 ? [] : lines.slice(second);
     this.plan = Deployment.of(text);
     this.writer = new Writer(this.plan, (...asked) => this.read(...asked));
+    this.network = new Network(this.writer);
     this.marker = this.plan.names("module")[0];
     this.output = "";
     this.notes = [];
@@ -37,6 +38,7 @@ class Session {
     for (const {text, number} of this.lines) {
       this.at = number;
       yield* this.writer.line(text, number);
+      this.network.note(text);
       this.notes.push(...this.writer.notes.splice(0).map(words => ({words, line: number})));
     }
   }
@@ -53,7 +55,7 @@ class Session {
     return runOnce(this.module, ["run"], new Feed(`${this.head}%%\n`, more), keep);
   }
 
-  // What the lines became, what they showed, and the line that can't be done, with the fault or the words for it.
+  // What the lines became, what they showed, what is on its way then, and the line that can't be done, with the fault or the words for it.
   result() {
     let wrong = null;
     try {
@@ -65,7 +67,8 @@ class Session {
       wrong = {line: this.at, words: error.message};
     }
     const lines = wrong?.rule ? this.writer.lines.slice(0, -1) : this.writer.lines;
-    return {notes: this.notes, wrong, parts: [[`${this.head}%%`, ...lines, ...this.rest, ""].join("\n")]};
+    const events = wrong ? [] : this.network.events();
+    return {notes: this.notes, wrong, events, parts: [[`${this.head}%%`, ...lines, ...this.rest, ""].join("\n")]};
   }
 
   // The first bytes at places of a node's memory after lines of a schedule.
