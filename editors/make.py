@@ -22,8 +22,8 @@ from sancus.model.tables import OPTIONAL, TYPES  # noqa: E402
 
 @dataclass(frozen=True)
 class Rule:
-    """What some words of a text are: the name of their group, a pattern, in which \\< and \\> are the ends of a word, what follows them, and what
-    themes of VS Code and of Vim call them."""
+    """What some words of a text are: the name of their group, a pattern, in which \\< and \\> are the ends of a word, what
+    follows them, and what themes of VS Code and of Vim call them."""
 
     name: str
     pattern: str

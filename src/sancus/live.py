@@ -1,8 +1,8 @@
-"""A session with an application: lines are done one by one, and each event that a module sends waits on its way until it
-is delivered, dropped or delivered twice. Each act can be taken back.
+"""A session with an application: lines are done one by one, and each event that a module sends waits on its way until
+it is delivered, dropped or delivered twice. Each act can be taken back.
 
-The session is a schedule for people, which says all of it: an event that waits has a name, as `e1.eye.logic`, by which a
-line took it, another gives it, and a comment drops it. So a session that was saved can be gone on with.
+The session is its lines, a schedule for people: an event that waits has a name, as `e1.eye.logic`, by which a line took
+it, another gives it, and a comment drops it. So a session that was saved goes on where it ended.
 """
 
 from __future__ import annotations
@@ -224,7 +224,8 @@ class Live:
         writer, found = self.schedule.writer, []
         for sender, call in sorted(writer.state.calls.items(), key=lambda it: it[1].line):
             places = [] if call.window is None else writer.pieces(sender, call)
-            new = [it for it in places if it.at not in call.carried and (sender, call.line, it.at) not in self.network.taken]
+            gone = {*call.carried, *(at for it, line, at in self.network.taken if (it, line) == (sender, call.line))}
+            new = [it for it in places if it.at not in gone]
             found += [(sender, it.at, self.app.plan.receiver(it.connection)) for it in new]
         numbered = enumerate(found, self.network.next)
         return [(self.app.plan.node_of(it), at, f"e{which}.{it}.{to}") for which, (it, at, to) in numbered]

@@ -22,7 +22,9 @@ class LivePanel {
 
   // After a run: what of it is on its way. `people` is what the lines became, if they are for people.
   async ran(people) {
-    if (byId("live").open) await this.look(people);
+    if (!byId("live").open) return;
+    if (this.desk.editor.text === this.made) page.select(page.run.shown.length - 1);
+    await this.look(people);
   }
 
   async look(people = null) {

@@ -139,8 +139,8 @@ def symbols(it: Document) -> List[Dict[str, Any]]:
     """The entries of a deployment, or the handlers of a property."""
     if it.kind is Kind.PROPERTY:
         tree = sources(it)[0].tree
-        handlers = [(one.heading, one) for one in (tree.handlers if tree else [])]
-        spans = [(f"on {head.words}", HANDLER, it.text.range(head.at, head.at + len(head.name))) for head, _ in handlers if head]
+        headings = [one.heading for one in (tree.handlers if tree else []) if one.heading]
+        spans = [(f"on {head.words}", HANDLER, it.text.range(head.at, head.at + len(head.name))) for head in headings]
     elif it.kind is Kind.DEPLOYMENT and it.plan:
         teller, plan = Placed(it.kept()), it.plan
         named = [(kind, at, name) for kind in KINDS for at, name in enumerate(plan.names(kind)) if plan.toml.get(kind)]

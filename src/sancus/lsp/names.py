@@ -167,8 +167,8 @@ def of_entry(plan: Plan, kind: str, one: Entry) -> str:
     if kind == "device":
         driver = plan.driver_of(str(name))
         by = f", driven by {driver['name']}" if driver else ""
-        at = one.get("at")
-        return f"{one.get('kind')} {name} on node {one.get('node')} at {f'0x{at:04x}' if isinstance(at, int) else at}{by}"
+        at = f" at 0x{one['at']:04x}" if isinstance(one.get("at"), int) else ""
+        return f"{one.get('kind')} {name} on node {one.get('node')}{at}{by}"
     if kind == "connection":
         return f"connection {name} from {one.get('from')} to {one.get('to')}"
     modules = [it for it in plan.names("module") if plan.node_of(it) == name]

@@ -7,7 +7,7 @@ import sys
 import traceback
 from dataclasses import dataclass, field
 from difflib import SequenceMatcher
-from queue import Empty, SimpleQueue
+from queue import SimpleQueue
 from threading import Thread
 from typing import Any, BinaryIO, Callable, Dict, List, Optional, Set
 
@@ -87,10 +87,15 @@ class Server:
     def serve(self) -> int:
         """Answers until the client says `exit` or goes; the status is 0 if it said `shutdown` before."""
         Thread(target=self.read_all, daemon=True).start()
-        while True:
-            data = self.next()
-            if data is None or self.handle(data):
-                return 0 if self.is_shut else 1
+        try:
+            while True:
+                data = self.next()
+                if data is None or self.handle(data):
+                    break
+        except BrokenPipeError:
+            # (the client went without a word)
+            pass
+        return 0 if self.is_shut else 1
 
     def read_all(self) -> None:
         data: Optional[bytes] = b""
@@ -102,14 +107,12 @@ class Server:
             self.waiting.put(data)
 
     def next(self) -> Optional[bytes]:
-        """The next message; if none waits, what changed is checked first."""
-        try:
-            return self.waiting.get_nowait()
-        except Empty:
-            for uri in sorted(self.changed):
-                self.publish(uri)
-            self.changed.clear()
-            return self.waiting.get()
+        """The next message; while none waits, what changed is checked."""
+        while self.changed and self.waiting.empty():
+            uri = min(self.changed)
+            self.changed.remove(uri)
+            self.publish(uri)
+        return self.waiting.get()
 
     def send(self, **message: Any) -> None:
         data = json.dumps({"jsonrpc": "2.0", **message}).encode()
@@ -138,6 +141,8 @@ class Server:
             self.send(id=number, result=self.result(method, params))
         except Failed as error:
             self.send(id=number, error={"code": error.code, "message": str(error)})
+        except BrokenPipeError:
+            raise
         except Exception as error:  # noqa: BLE001 (a server goes on)
             traceback.print_exc(file=sys.stderr)
             self.send(id=number, error={"code": INTERNAL_ERROR, "message": f"{type(error).__name__}: {error}"})

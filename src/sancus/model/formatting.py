@@ -1,4 +1,4 @@
-"""Lays out a file and has that checked: its tokens and comments stay, and the program compiles the same images of it."""
+"""Lays out a file and has that checked: its tokens and comments stay, and the program compiles the same images."""
 
 from __future__ import annotations
 
