@@ -132,7 +132,7 @@ class Server(Room):
         for old, new, part, length, words in (
             ("emit v; }", "emit v }", "emit v }", 1, "expected an operator, `;` or `[`, and found `}`"),
             ("v > limit", "v > limt", "limt", 4, "`limt` isn't declared; did you mean `limit`?"),
-            ("load lamp", "load lmp", "lmp", 3, "S4: a field is no name of the deployment"),
+            ("load lamp", "load lmp", "lmp", 3, "did you mean `lamp`?"),
         ):
             changed = LIGHT.replace(old, new)
             found = self.change(changed)
@@ -188,7 +188,7 @@ class Server(Room):
         self.assertEqual(len(self.change(f"{HEAD}x = 1\n")), 1)
 
     def test_a_run_that_is_long(self):
-        lines = "asm a 0x800 jmp 0x800\nset a pc 0x800\n" + "run a 65535\n" * 8000
+        lines = "asm a 0x800 jmp 0x800\nset a pc 0x800\n" + "run a 65535\n" * 60000
         (found,) = self.open(f"{LIGHT}{lines}")
         self.assertEqual(found.severity, 3)
         self.assertIn("this takes longer than 1 s", found.words)

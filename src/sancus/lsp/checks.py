@@ -2,14 +2,14 @@
 
 from __future__ import annotations
 
+import subprocess
 from contextlib import contextmanager
 from dataclasses import dataclass, field
-from signal import SIGKILL, SIGXCPU
 from threading import Timer
 from typing import Any, Dict, Iterator, List, Optional
 
 from sancus.app import App
-from sancus.errors import Refused
+from sancus.errors import NoProgram, Refused
 from sancus.lsp.documents import Document
 from sancus.lsp.text import Range
 from sancus.model import warnings
@@ -28,8 +28,8 @@ from sancus.status import Ended
 
 Diagnostic = Dict[str, Any]
 ERROR, WARNING, INFORMATION = 1, 2, 3
-# How many seconds of a processor the program has for one text: a line of a schedule may take a million steps.
-SECONDS = 1
+# How many seconds an editor waits for an answer: a line of a schedule may take a million steps.
+PATIENCE = 1.0
 
 
 class TooLong(Exception):
@@ -38,15 +38,18 @@ class TooLong(Exception):
 
 @dataclass(frozen=True)
 class Limited(Runner):
-    """The program, which is ended if it takes too long."""
+    """The program, which is ended if somebody waits too long for it, on a busy machine too."""
 
-    seconds: int = SECONDS
+    patience: float = PATIENCE
 
     def answer(self, words: List[str], text: bytes) -> Answer:
-        answer = super().answer(words, text)
-        if answer.status in (-SIGXCPU, -SIGKILL):
-            raise TooLong
-        return answer
+        try:
+            ran = subprocess.run(self.command(words), input=text, stdout=subprocess.PIPE, timeout=self.patience)
+        except subprocess.TimeoutExpired:
+            raise TooLong from None
+        except OSError as error:
+            raise NoProgram(f"{self.words[0]} can't be started: {error.strerror}") from None
+        return Answer(ran.returncode, ran.stdout)
 
 
 @dataclass(frozen=True)
@@ -94,7 +97,7 @@ def command_of(plan: Optional[Plan], data: Input) -> str:
 
 
 @contextmanager
-def limited(schedule: Schedule, seconds: int) -> Iterator[None]:
+def limited(schedule: Schedule, seconds: float) -> Iterator[None]:
     """Ends a run that takes too long."""
     timer = Timer(seconds, lambda: schedule.writer.session.process.kill())
     timer.start()
@@ -121,7 +124,7 @@ class Checker:
             if not any(found["severity"] == ERROR for found in made):
                 made += self.of_property(it) if it.kind is Kind.PROPERTY else self.of_lines(it)
         except TooLong:
-            words = f"this takes longer than {self.program.seconds} s, so the editor doesn't wait: `sancus run` does"
+            words = f"this takes longer than {self.program.patience:g} s, so the editor doesn't wait: `sancus run` does"
             made.append(diagnostic(it.text.span(it.first), words, INFORMATION))
         return made
 
@@ -188,7 +191,7 @@ class Checker:
         made: List[Diagnostic] = []
         lines = data.schedule[: data.schedule.index(MARK)] if MARK in data.schedule else data.schedule
         app = App(it.head, it.name, program=self.program)
-        with app.schedule() as schedule, limited(schedule, self.program.seconds):
+        with app.schedule() as schedule, limited(schedule, self.program.patience):
             for number, line in enumerate(map(text_of, lines), it.first):
                 noted = len(schedule.notes)
                 try:
