@@ -45,7 +45,7 @@ ODDS = [
     "law_counting.Guesses.FewGuessesHit", "law_counting.Pads.CiphersAreRandom",
     *(f"law_makers.{law}" for law in (
         "Makers.MakersSeeTheSame", "Makers.DistinguisherIsRun", "Makers.DistinguisherKnowsNoKey",
-        "LinkMakers.LinkMakersSeeTheSame", "Time.StepsShowNoKey", "Time.RegistersShowNoLink",
+        "LinkMakers.SeesNoLink", "Time.StepsShowNoKey", "Time.ShowsNoLink",
         "Impostors.IdentitiesDiffer", "Impostors.ImpostorsHaveOtherNames", "Impostors.NamesAreUnlawful",
     )),
     *(f"law_uses.{law}" for law in (

@@ -17,7 +17,7 @@ use Rattle.sx_compile.specs.Compiled.{compiled_text}
 use Rattle.spec_run.specs.Setting.{Site}
 use Rattle.spec_run.specs.Accepted.{AreImages, setting_of}
 use Rattle.spec_run.proofs.accepted.LaidSites.{site_at}
-use Rattle.spec_run.proofs.accepted.Settled.{settled}
+use Rattle.spec_run.proofs.accepted.Settled.{lawfully}
 use Rattle.spec_run.proofs.tie.Lists.{some_inj}
 use Rattle.law_connections.specs.Compiles.{IsCompiledAt}
 use Rattle.law_connections.specs.Laws.{HidesKeys}
@@ -88,4 +88,4 @@ pub deployed_moved : (mac : Mac) (text : List ℕ) (d : Deployed) (texts : List 
     → HasMoved (setting_of mac d texts)
 deployed_moved mac text d texts tag read images made =
     let acc = sound text d read in
-    unlinks_all (setting_of mac d texts) (settled mac d texts acc images tag) (compiled_always (setting_of mac d texts) (compiled_at mac d texts acc made)).0
+    unlinks_all (setting_of mac d texts) (lawfully mac d texts acc images tag) (compiled_always (setting_of mac d texts) (compiled_at mac d texts acc made)).0

@@ -101,7 +101,7 @@ key_called set w c link epoch k side e key sound h low lt len found closed bytes
     let header = set_key_header link epoch (side_number side) in
     let has : has_end set.app m link side ≡ true = has_end-found link side ends k e (found_at link side ends k e found) in
     let opens = key_shows set.app m c.node.boot link epoch key w.ledger side has made in
-    does set w c set_key_entry c.node.devices _ sound h (omega arith)
+    does set w c set_key_entry c.node.devices _ sound.sound h (omega arith)
     (set_key_returns (setup_of set c) (state_at set c) c.node.mem c.node.devices link epoch k side e key low sound.tag lt len found closed bytes)
     (ap (λ is. record { items = is ++ []; ledger = w.ledger }) opens ∙ ap (λ l. record { items = item.Open m link side epoch ∷ []; ledger = l }) (sym (append-nil w.ledger)))
 
@@ -158,9 +158,9 @@ input_called set w c k i v e sound h low few found opens above below bytes made 
     let take : Item = item.Take m link (65536 * epoch_of x.field + i) v in
     let has : has_end set.app m link To ≡ true = has_end-found link To taken k e (found_at link To taken k e found) in
     let took = input_shows set.app m boot i v x w.ledger has made in
-    let rest = acts_show set.app n m boot su c.part c.node.devices done.acts (with_end st.ends k (numbered x (i + 1))) h.part (emits set w c sound h (event.Input e.port v) st.cells) w.ledger in
+    let rest = acts_show set.app n m boot su c.part c.node.devices done.acts (with_end st.ends k (numbered x (i + 1))) h.part (emits set w c sound.sound h (event.Input e.port v) st.cells) w.ledger in
     let o = marks_observed set.app n m boot d.marks w.ledger in
-    does set w c input_entry c.node.devices _ sound h (omega arith)
+    does set w c input_entry c.node.devices _ sound.sound h (omega arith)
     (input_returns su st c.node.mem c.node.devices k i v e low sound.tag few found opens above below bytes)
     (ap (λ is. record { items = is ++ o.items; ledger = o.ledger }) took
     ∙ ap (λ (r : Observed). record { items = take ∷ r.items; ledger = r.ledger }) rest)
@@ -176,19 +176,19 @@ sample_called set w c k window sound h low few driver own fresh =
     let done = react c.part.tree (event.Sample window.value) st.cells in
     let d = acts_made su (Some k) done.acts st.ends in
     let sensor = device_number set.app n k in
-    let dep = sound.deployed m c.part c.site h.part h.sited in
-    let fits = (drivers_fit set sound m c.part c.site c.node c.section boot dep (node set w c sound h) (is_module set w c sound h)).1 driver in
+    let dep = sound.sound.deployed m c.part c.site h.part h.sited in
+    let fits = (drivers_fit set sound.sound m c.part c.site c.node c.section boot dep (node set w c sound.sound h) (is_module set w c sound.sound h)).1 driver in
     let one : fits.0 ≡ k = ap (λ (z : ℕ × Window). z.0) (some_inj (fits.0, fits.1) (k, window) (sym fits.2 ∙ own)) in
     let driven : c.part.device ≡ Some sensor =
     fits.3.device ∙ ap (λ j. Some (device_number set.app j fits.0)) (sym dep.node) ∙ ap (λ j. Some (device_number set.app n j)) one in
     let mine : is_driver set.app (Some m) sensor ≡ true =
     ap (λ o. contains (option_and_then (λ (q : PartTree). q.device) o) sensor) h.part ∙ ap (λ o. contains o sensor) driven ∙ eq-eqb sensor sensor refl in
     let index : own_device su c.node.devices ≡ Some k = ap index_in own in
-    let em = emits set w c sound h (event.Sample window.value) st.cells in
+    let em = emits set w c sound.sound h (event.Sample window.value) st.cells in
     let rest : marks_observed set.app n m boot d.marks w.ledger ≡ record { items = map (λ u. item.Out m u) (emitted done.acts); ledger = w.ledger ++ entries_of m d.marks } =
     subst (λ o. Shows set.app n m boot (acts_made su o done.acts st.ends).marks (emitted done.acts)) index (acts_show set.app n m boot su c.part c.node.devices done.acts st.ends h.part em) w.ledger in
     let o = marks_observed set.app n m boot d.marks w.ledger in
-    does set w c sample_entry (cleared c.node.devices k) _ sound h (omega arith)
+    does set w c sample_entry (cleared c.node.devices k) _ sound.sound h (omega arith)
     (sample_returns su st c.node.mem c.node.devices k window low sound.tag few driver own fresh)
     (ap (λ (b : Bool). record { items = (if b then item.Read m window.value else item.Drain sensor) ∷ o.items; ledger = o.ledger }) mine
     ∙ ap (λ (r : Observed). record { items = item.Read m window.value ∷ r.items; ledger = r.ledger }) rest)

@@ -43,7 +43,7 @@ use Rattle.spec_run.specs.Observation.{sender_of}
 use Rattle.spec_run.specs.State.{World}
 use Rattle.spec_run.specs.Acts.{with_node}
 use Rattle.spec_run.specs.Run.{call}
-use Rattle.spec_run.specs.Law.{IsSoundSetting}
+use Rattle.spec_run.specs.Law.{IsSoundSetting, IsLawfulSetting}
 use Rattle.law_calls.specs.Calls.{Callee, IsCallable, setup_of, state_at, IsReturned}
 
 -- the values that acts put out
@@ -124,7 +124,7 @@ abbrev pub KeyCalled : Type 0
 KeyCalled =
     (set : Setting) (w : World) (c : Callee) (link epoch k : ℕ) (side : Side) (e : End)
     (key : List ℕ)
-    → IsSoundSetting set → IsCallable set w c → IsLowFree (setup_of set c) c.node.devices
+    → IsLawfulSetting set → IsCallable set w c → IsLowFree (setup_of set c) c.node.devices
     → link < 256 → length key ≡ key_size
     → end_found link side 0 (ends_of set.app c.number) ≡ Some (k, e)
     → let st = state_at set c in
@@ -151,7 +151,7 @@ InputCalled =
     let x = end_of st.ends k in
     let link = link_of x.field in
     let header = event_header (numbered x i) in
-    IsSoundSetting set → IsCallable set w c → IsLowFree su c.node.devices
+    IsLawfulSetting set → IsCallable set w c → IsLowFree su c.node.devices
     → MakesFew c.part.tree (ends_of set.app c.number)
     → end_found link To 0 (ends_of set.app c.number) ≡ Some (k, e) → x.is_open ≡ true
     → x.number ≤ i → i < last_number
@@ -176,7 +176,7 @@ SampleCalled =
     (set : Setting) (w : World) (c : Callee) (k : ℕ) (window : Window)
     → let su = setup_of set c in
     let st = state_at set c in
-    IsSoundSetting set → IsCallable set w c → IsLowFree su c.node.devices
+    IsLawfulSetting set → IsCallable set w c → IsLowFree su c.node.devices
     → MakesFew c.part.tree (ends_of set.app c.number)
     → is_sensor_driver (declared_kind c.part.tree.decls) ≡ true
     → own_window su c.node.devices ≡ Some (k, window) → window.fresh ≡ true

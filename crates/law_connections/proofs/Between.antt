@@ -20,7 +20,7 @@ use Rattle.spec_invocation.specs.Marks as mark
 use Rattle.sx_image.specs.Watched.{Watched, watch}
 use Rattle.sx_image.specs.Realizes.{Underway, Aborted, Exited}
 use Rattle.spec_run.specs.Setting.{Setting}
-use Rattle.spec_run.specs.Law.{IsSoundSetting}
+use Rattle.spec_run.specs.Law.{IsLawfulSetting}
 use Rattle.spec_run.proofs.steps.Entry.{at_site, quiet_left}
 use Rattle.law_calls.proofs.Middle.{Middle, first_middle}
 use Rattle.sx_tmpl.specs.Unseen.{HoldsNoKey, InSlotKey, StepShowsNone}
@@ -145,11 +145,11 @@ module _ (a : Setting) (nac : Mac) (keys : List (List ℕ)) (secret : List ℕ) 
       next = e.beside.outside.next;
     }
 
-    module _ (sound : IsSoundSetting a) (sound2 : IsSoundSetting (second a nac keys secret)) (unlinked : Unlinked a (second a nac keys secret)) where
+    module _ (sound : IsLawfulSetting a) (sound2 : IsLawfulSetting (second a nac keys secret)) (unlinked : Unlinked a (second a nac keys secret)) where
       size_is : e.sec.layout.priv_to ≡ e.sec.layout.priv_from + module_data_size e.q.tree (ends_count a nac keys secret e)
       size_is =
           let place = at_site e.site.node e.s.mem e.sec e.site e.at in
-          let dep = sound.deployed e.m e.q e.site e.part e.sited in
+          let dep = sound.sound.deployed e.m e.q e.site e.part e.sited in
           ap (λ (l : Layout). l.priv_to) place.layout ∙ dep.data_size
           ∙ ap (λ (l : Layout). l.priv_from + module_data_size e.q.tree (ends_count a nac keys secret e)) (sym place.layout)
 

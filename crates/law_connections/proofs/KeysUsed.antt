@@ -25,7 +25,7 @@ use Rattle.spec_invocation.specs.Pieces.{tag_size}
 use Rattle.sx_image.specs.Image.{private_bytes}
 use Rattle.sx_image.specs.Watched.{Watched}
 use Rattle.spec_run.specs.Setting.{Setting}
-use Rattle.spec_run.specs.Law.{IsSoundSetting}
+use Rattle.spec_run.specs.Law.{IsLawfulSetting}
 use Rattle.law_forgery.specs.Tags.{SameTags}
 use Rattle.law_forgery.proofs.Instructions.{wrapped_same, unwrapped_same}
 use Rattle.sx_lower.proofs.Slots.{end_among}
@@ -76,7 +76,7 @@ own_opened mac nac k l ad cipher tag regs one two few tags own =
     by false = tt
 
 module _ (a : Setting) (nac : Mac) (keys : List (List ℕ)) (secret : List ℕ) (e : Entry a nac keys secret)
-    (sound : IsSoundSetting a) (sound2 : IsSoundSetting (second a nac keys secret)) (unlinked : Unlinked a (second a nac keys secret)) where
+    (sound : IsLawfulSetting a) (sound2 : IsLawfulSetting (second a nac keys secret)) (unlinked : Unlinked a (second a nac keys secret)) where
   abbrev L : ℕ → List ℕ → List ℕ → Type 0
   L = Linked a nac keys secret
 

@@ -4,7 +4,7 @@ use Rattle.sx_tag.specs.Mac.{Mac}
 use Rattle.sx_tag.specs.Wrap.{xor_bytes}
 use Rattle.spec_run.specs.Setting.{Setting, Site}
 use Rattle.spec_run.specs.Deployer.{key_of, connection_key}
-use Rattle.spec_run.specs.Law.{IsSoundSetting}
+use Rattle.spec_run.specs.Law.{IsLawfulSetting}
 use Rattle.law_forgery.specs.Tags.{rekeyed}
 use Rattle.law_connections.specs.Unlinks.{IsMoving, IsDeployedKey, IsMoved}
 use Rattle.law_connections.specs.Laws.{RealizesAlways}
@@ -44,7 +44,7 @@ moved_setting move back holds a =
 
 -- It has the chosen keys for its connections, whatever test tells deployed modules' keys apart.
 abbrev pub Moves : Type 0
-Moves = (a : Setting) (move back : List ℕ → List ℕ) (holds : List ℕ → Bool) → IsSoundSetting a
+Moves = (a : Setting) (move back : List ℕ → List ℕ) (holds : List ℕ → Bool) → IsLawfulSetting a
     → RealizesAlways a → IsMoving move back → TellsApart a holds
     → ((link epoch : ℕ) → IsDeployedKey a (connection_key a link epoch) → ⊥)
     → IsMoved a move (moved_setting move back holds a)

@@ -15,10 +15,11 @@ use Rattle.spec_run.specs.Setting.{Setting, Site}
 use Rattle.byteorder.specs.Endian.{little_bytes}
 use Rattle.sx_wire.specs.Headers.{set_key_header}
 use Rattle.spec_run.specs.Deployer.{list_at, key_of, connection_key}
-use Rattle.spec_run.specs.Law.{IsSoundSetting, IsDriven}
+use Rattle.spec_run.specs.Law.{IsLawfulSetting, IsDriven}
 use Rattle.law_invocation.proofs.Wraps.{take_first}
 use Rattle.law_connections.specs.Unlinked.{Unlinked}
 use Rattle.law_connections.specs.Unlinks.{IsMoving, IsDeployedKey}
+use Rattle.spec_run.proofs.Tags.{tag_under}
 use Rattle.law_connections.specs.Laws.{RealizesAlways}
 use Rattle.law_connections.proofs.Moved.{TellsApart, mixed, change, moved, moved_setting, Moves}
 
@@ -204,33 +205,36 @@ module _ (move back : List ℕ → List ℕ) (moving : IsMoving move back) (hold
   driven_moved : (q : PartTree) (site : Site) (d : ℕ) → IsDriven a q site d → IsDriven (moved_setting move back holds a) q site d
   driven_moved q site d h = record { device = h.device; found = h.found; node = h.node; kind = h.kind; place = h.place }
 
-  sound_moved : IsSoundSetting a → RealizesAlways a → IsSoundSetting (moved_setting move back holds a)
-  sound_moved s always = record {
+  sound_moved : IsLawfulSetting a → RealizesAlways a → IsLawfulSetting (moved_setting move back holds a)
+  sound_moved lawful always = let s = lawful.sound in record {
     tag = lawful_moved;
-    keys = length-map a.keys move ∙ s.keys;
-    sites = s.sites;
-    places = s.places;
-    links = s.links;
-    windows = s.windows;
-    deployed = λ m q site part found.
-        let h = s.deployed m q site part found in
-        record {
-          node = h.node;
-          bounds = h.bounds;
-          parts = h.parts;
-          checked = h.checked;
-          provider = h.provider;
-          text_end = h.text_end;
-          data_end = h.data_end;
-          text = h.text;
-          data_size = h.data_size;
-          realizes = always m q site part found nac lawful_moved;
-          devices = h.devices;
-          text_free = h.text_free;
-          device = λ d e. driven_moved q site d (h.device d e);
-          none = h.none;
-        };
-    apart = s.apart;
+    sound = record {
+      tag = tag_under _ nac lawful_moved;
+      keys = length-map a.keys move ∙ s.keys;
+      sites = s.sites;
+      places = s.places;
+      links = s.links;
+      windows = s.windows;
+      deployed = λ m q site part found.
+          let h = s.deployed m q site part found in
+          record {
+            node = h.node;
+            bounds = h.bounds;
+            parts = h.parts;
+            checked = h.checked;
+            provider = h.provider;
+            text_end = h.text_end;
+            data_end = h.data_end;
+            text = h.text;
+            data_size = h.data_size;
+            realizes = always m q site part found nac lawful_moved;
+            devices = h.devices;
+            text_free = h.text_free;
+            device = λ d e. driven_moved q site d (h.device d e);
+            none = h.none;
+          };
+      apart = s.apart;
+    };
   }
 
 pub moves : Moves

@@ -25,7 +25,7 @@ use Rattle.sx_bulk.proofs.Accepts.{accepted}
 use Rattle.sx_bulk.proofs.Entries.{entries, counted}
 use Rattle.spec_run.specs.Accepted.{AreImages, setting_of, sites_of}
 use Rattle.spec_run.specs.AcceptedLaw.{AreLines}
-use Rattle.spec_run.proofs.accepted.Settled.{settled}
+use Rattle.spec_run.proofs.accepted.Settled.{lawfully}
 use Rattle.spec_run.proofs.accepted.FormedLines.{lines_in_form}
 use Rattle.law_forgery.proofs.Naming.{names_agree}
 use Rattle.law_forgery.proofs.Tabling.{tags_tabled}
@@ -94,7 +94,7 @@ module _ (d : Deployed) (read : IsRead head (Ok d)) (named : d.names ≡ names) 
       let accepts = sound head d read in
       let t = tags_tabled set in
       record {
-        sound = settled mac d images accepts are lawful;
+        sound = lawfully mac d images accepts are lawful;
         form = lines_in_form mac d (sites_of d.app.parts d.layouts d.providers images) accepts lighting_lines in_form;
         few = few;
         names = (t.0, names_agree t.0 set long t.1);

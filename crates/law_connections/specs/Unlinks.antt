@@ -3,7 +3,7 @@ use Rattle.std.specs.Prelude.{◌≡◌, ℕ, ◌<◌, List, length, slice_get, 
 use Rattle.sx_tag.specs.Keys.{module_key}
 use Rattle.spec_run.specs.Setting.{Setting, Site}
 use Rattle.spec_run.specs.Deployer.{list_at, key_of, connection_key}
-use Rattle.spec_run.specs.Law.{IsSoundSetting}
+use Rattle.spec_run.specs.Law.{IsLawfulSetting}
 use Rattle.law_forgery.specs.Tags.{SameTags}
 use Rattle.law_connections.specs.Unlinked.{Unlinked}
 use Rattle.law_connections.specs.LinksUnseen.{SameModule}
@@ -22,7 +22,7 @@ IsDeployedKey a k = (m : ℕ) × (boot : ℕ) × (site : Site) × (slice_get a.s
 -- A sound setting whose connections have these keys. Of other keys, one that stays has the same
 -- tags in both settings, and so has that of each module, unless a deployed module has this key.
 pub record IsMoved (a : Setting) (move : List ℕ → List ℕ) (b : Setting) : Type 0 where
-  pub sound : IsSoundSetting b
+  pub sound : IsLawfulSetting b
   pub unlinked : Unlinked a b
   pub moved : (link epoch : ℕ) → connection_key b link epoch ≡ move (connection_key a link epoch)
   pub stay : (k : List ℕ) → move k ≡ k → (IsDeployedKey a k → ⊥) → SameTags a.mac k b.mac k

@@ -8,7 +8,7 @@ use Rattle.sx_bulk.specs.Bulk.{head}
 use Rattle.spec_run.specs.Setting.{Setting}
 use Rattle.spec_run.specs.Accepted.{AreImages, setting_of}
 use Rattle.spec_run.specs.AcceptedLaw.{AreLines}
-use Rattle.spec_run.specs.Law.{IsSoundSetting, LinesInForm}
+use Rattle.spec_run.specs.Law.{IsLawfulSetting, LinesInForm}
 use Rattle.law_forgery.specs.Tags.{AgreeOnTags}
 use Rattle.law_forgery.specs.Named.{named_setting}
 
@@ -29,7 +29,7 @@ lighting_lines =
 -- The setting is sound and the lines are in form, and as few as may be; and no tag tells the
 -- setting and one with names apart.
 pub record Meets (set : Setting) (lines : List Line) : Type 0 where
-  pub sound : IsSoundSetting set
+  pub sound : IsLawfulSetting set
   pub form : LinesInForm set lines
   pub few : length lines ≤ 65536
   pub names : (table : Mac) × AgreeOnTags set (named_setting table set)

@@ -24,7 +24,7 @@ use Rattle.spec_run.specs.Deployer.{connection_key}
 use Rattle.spec_run.specs.State.{World, Acted}
 use Rattle.spec_run.specs.Acts.{then_, with_node}
 use Rattle.spec_run.specs.Run.{after_line, call, line_counted, run}
-use Rattle.spec_run.specs.Law.{IsSoundSetting}
+use Rattle.spec_run.specs.Law.{IsLawfulSetting}
 use Rattle.lemmas.proofs.Lists.{get_same}
 use Rattle.law_calls.specs.Shown.{devices_after}
 use Rattle.law_calls.specs.FourCalls.{CallDoes, CallEffect}
@@ -75,7 +75,7 @@ pub record Stays (sec : Section) (s t : State) : Type 0 where
 pub stays : (sec : Section) (s t : State) → Serves sec s t → Stays sec s t
 stays sec s t h = record { node = h.node; idle = h.idle; boot = h.boot; key = h.key; sections = h.sections; windows = ap shapes h.devices; texts = h.texts; others = h.others }
 
-module _ (set : Setting) (sound : IsSoundSetting set) (room : HasRoom set) (c : Course) (w : World) (settled : Settled set w c)
+module _ (set : Setting) (sound : IsLawfulSetting set) (room : HasRoom set) (c : Course) (w : World) (settled : Settled set w c)
     (m : ℕ) (q : PartTree) (site : Site) (s : State) (part : slice_get set.app.parts m ≡ Some q) (sited : slice_get set.sites m ≡ Some site) (there : slice_get w.nodes site.node ≡ Some s) where
   abbrev pub sec : Section
   sec = section_at set (own_section set sound room c w settled m site s sited there).0 site

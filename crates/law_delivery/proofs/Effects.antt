@@ -20,7 +20,7 @@ use Rattle.spec_invocation.specs.ModuleState.{EndState}
 use Rattle.spec_run.specs.Setting.{Site, Setting}
 use Rattle.spec_run.specs.Observation.{sender_of}
 use Rattle.spec_run.specs.State.{World}
-use Rattle.spec_run.specs.Law.{IsSoundSetting}
+use Rattle.spec_run.specs.Law.{IsLawfulSetting}
 use Rattle.spec_run.proofs.tie.Lists.{get_within}
 use Rattle.law_invocation.specs.Effect.{acts_packets}
 use Rattle.law_invocation.proofs.Few.{few_made}
@@ -80,17 +80,17 @@ sent_by app m acts x a =
     ap (sender_of app) at ∙ ap Rattle.spec_run.specs.Observation.from_of l.there ∙ l.from
 
 -- a module's node is there
-pub node_there : (set : Setting) → IsSoundSetting set → is_valid set.app ≡ true → (c : Course) (w : World) → Settled set w c → (m : ℕ) (q : PartTree) (site : Site) → slice_get set.app.parts m ≡ Some q
+pub node_there : (set : Setting) → IsLawfulSetting set → is_valid set.app ≡ true → (c : Course) (w : World) → Settled set w c → (m : ℕ) (q : PartTree) (site : Site) → slice_get set.app.parts m ≡ Some q
     → slice_get set.sites m ≡ Some site → (s : State) × (slice_get w.nodes site.node ≡ Some s)
 node_there set sound valid c w settled m q site part sited =
     let a = ((valid_applications set.app valid).parts m q part).node in
-    let b = (sound.deployed m q site part sited).node in
+    let b = (sound.sound.deployed m q site part sited).node in
     let d = settled.as_many in
-    let e = sound.keys in
+    let e = sound.sound.keys in
     get_some w.nodes site.node (omega (arith, a, b, d, e))
 
-pub site_there : (set : Setting) → IsSoundSetting set → (m : ℕ) (q : PartTree) → slice_get set.app.parts m ≡ Some q → (site : Site) × (slice_get set.sites m ≡ Some site)
-site_there set sound m q part = (let a = get_within set.app.parts m q part in let b = sound.sites in get_some set.sites m (omega (arith, a, b)))
+pub site_there : (set : Setting) → IsLawfulSetting set → (m : ℕ) (q : PartTree) → slice_get set.app.parts m ≡ Some q → (site : Site) × (slice_get set.sites m ≡ Some site)
+site_there set sound m q part = (let a = get_within set.app.parts m q part in let b = sound.sound.sites in get_some set.sites m (omega (arith, a, b)))
 
 -- A course after an event of the m-th module, where these values wait from before.
 module _ (set : Setting) (c : Course) (m : ℕ) (acts : List Act) (past2 rest : List Waiting) (new : List ℕ) (outs : List Output) (items : List Item) (sent : past2 ++ rest ≡ all_sent c) where

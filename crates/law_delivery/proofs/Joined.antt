@@ -10,7 +10,7 @@ use Rattle.sx_trace.specs.declared.items.Item.{Item}
 use Rattle.spec_run.specs.Setting.{Setting}
 use Rattle.spec_run.specs.State.{World, Acted, switched_on}
 use Rattle.spec_run.specs.Run.{run}
-use Rattle.spec_run.specs.Law.{IsSoundSetting}
+use Rattle.spec_run.specs.Law.{IsLawfulSetting}
 use Rattle.spec_honest.specs.Plain.{MOST_DELIVERIES, Sampling, Waiting, oldest}
 use Rattle.spec_honest.specs.Course.{Course, IsSampling, course_start, delivered, lines_so_far, played, sensed, settled, setup_lines}
 use Rattle.spec_honest.specs.Delivers.{Delivers}
@@ -38,7 +38,7 @@ room_left u k p w h = omega (arith, h)
 began : (x a b : ℕ) → x + a ≡ b → b ≤ 65536 → a ≤ 65536
 began x a b e h = omega (arith, e, h)
 
-module _ (set : Setting) (sound : IsSoundSetting set) (room : HasRoom set) (words : HaveWords set.app) where
+module _ (set : Setting) (sound : IsLawfulSetting set) (room : HasRoom set) (words : HaveWords set.app) where
   abbrev app : AppTree
   app = set.app
 
@@ -88,7 +88,7 @@ module _ (set : Setting) (sound : IsSoundSetting set) (room : HasRoom set) (word
       (readings_lead n (k + 1) rs e d both.world (All-tail (IsSampling app) r rs all) (All-tail (λ (r : Sampling). r.value < 32768) r rs low) both.stands on.more last)
 
 -- after the set-up
-pub starts : (set : Setting) → IsSoundSetting set → HasRoom set → HaveWords set.app → Stands set (run set (switched_on set) (setup_schedule set.app)).world (course_start set.app)
+pub starts : (set : Setting) → IsLawfulSetting set → HasRoom set → HaveWords set.app → Stands set (run set (switched_on set) (setup_schedule set.app)).world (course_start set.app)
 starts set sound room words = record { settled = (is_set_up set sound room).settled; told = told_start set.app; words = words_start set.app words }
 
 pub honest_shows : HonestShows

@@ -41,7 +41,7 @@ use Rattle.spec_run.specs.Observation.{sender_of}
 use Rattle.spec_run.specs.State.{World, Acted}
 use Rattle.spec_run.specs.Acts.{then_, with_node}
 use Rattle.spec_run.specs.Run.{after_line, line_counted, run}
-use Rattle.spec_run.specs.Law.{IsSoundSetting}
+use Rattle.spec_run.specs.Law.{IsLawfulSetting}
 use Rattle.spec_run.proofs.tie.Lists.{get_within}
 use Rattle.lemmas.proofs.Lists.{get_same}
 use Rattle.law_invocation.specs.Effect.{Effect, acts_made, numbered}
@@ -112,7 +112,7 @@ low_field link h = omega (arith, h)
 first_epoch : (link i : ℕ) → link < 256 → 65536 * epoch_of link + i ≡ i
 first_epoch link i h = omega (arith, h)
 
-module _ (set : Setting) (sound : IsSoundSetting set) (room : HasRoom set) (words : HaveWords set.app) (c : Course) (w : World) (stands : Stands set w c)
+module _ (set : Setting) (sound : IsLawfulSetting set) (room : HasRoom set) (words : HaveWords set.app) (c : Course) (w : World) (stands : Stands set w c)
     (x : Waiting) (ws : List Waiting) (waits : c.plain.waiting ≡ x ∷ ws) (few : total (delivered set.app x ws c) ≤ 65535) where
   abbrev valid : is_valid set.app ≡ true
   valid = room.valid
@@ -188,7 +188,7 @@ module _ (set : Setting) (sound : IsSoundSetting set) (room : HasRoom set) (word
   i_small = (let a = words-few x.link c.past in let b = total_left in omega (arith, a, b))
 
   link_small : x.link < 64
-  link_small = (let a = sound.links in let b = linked in omega (arith, a, b))
+  link_small = (let a = sound.sound.links in let b = linked in omega (arith, a, b))
 
   v_small : IsWord v
   v_small = All-head HasWord x ws (subst (λ zs. All HasWord zs) waits stands.words.waiting)
@@ -462,4 +462,4 @@ module _ (set : Setting) (sound : IsSoundSetting set) (room : HasRoom set) (word
   delivery_leads =
       subst (λ (z : Course). Leads set w (delivery_lines set.app x c) (delivery_shown set.app x c) c z) next_is
       (subst (λ ls. Leads set w ls (delivery_shown set.app x c) c next) (delivery_is set valid x ws c waits linked)
-      (subst (λ (n : ℕ). Leads set w (lines_at n) (delivery_shown set.app x c) c next) (sound.deployed m q site g.to sited).node leads_next))
+      (subst (λ (n : ℕ). Leads set w (lines_at n) (delivery_shown set.app x c) c next) (sound.sound.deployed m q site g.to sited).node leads_next))

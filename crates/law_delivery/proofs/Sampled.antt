@@ -39,7 +39,7 @@ use Rattle.spec_run.specs.Setting.{Site, Setting, device_number, devices_at, is_
 use Rattle.spec_run.specs.State.{World, Acted}
 use Rattle.spec_run.specs.Acts.{at_node, done_on, then_, with_node}
 use Rattle.spec_run.specs.Run.{after_line, line_counted, place_at, run, sense_at}
-use Rattle.spec_run.specs.Law.{IsDeployedModule, IsDriven, IsSoundSetting}
+use Rattle.spec_run.specs.Law.{IsDeployedModule, IsDriven, IsLawfulSetting}
 use Rattle.spec_run.proofs.acts.Sensing.{place_is}
 use Rattle.spec_run.proofs.steps.Fits.{drivers_fit}
 use Rattle.spec_run.proofs.steps.Nodes.{index_get, shapes_long, windows_long}
@@ -97,7 +97,7 @@ driver_kind : (k : DeviceKind) → is_sensor_driver (Some k) ≡ is_sensor k
 driver_kind Sensor = refl
 driver_kind Actuator = refl
 
-module _ (set : Setting) (sound : IsSoundSetting set) (room : HasRoom set) (words : HaveWords set.app) (c : Course) (w : World) (stands : Stands set w c)
+module _ (set : Setting) (sound : IsLawfulSetting set) (room : HasRoom set) (words : HaveWords set.app) (c : Course) (w : World) (stands : Stands set w c)
     (r : Sampling) (is : IsSampling set.app r) (low : r.value < 32768) (few : total (sensed set.app r c) ≤ 65535) where
   abbrev valid : is_valid set.app ≡ true
   valid = room.valid
@@ -124,7 +124,7 @@ module _ (set : Setting) (sound : IsSoundSetting set) (room : HasRoom set) (word
   sited = found_site.1
 
   dep : IsDeployedModule set m q site
-  dep = sound.deployed m q site d.there sited
+  dep = sound.sound.deployed m q site d.there sited
 
   driven : IsDriven set q site r.device
   driven = dep.device r.device d.device
@@ -227,7 +227,7 @@ module _ (set : Setting) (sound : IsSoundSetting set) (room : HasRoom set) (word
   drives_sensor = ap is_sensor_driver driven.kind ∙ driver_kind driven.device.kind ∙ ap (λ o. kind_is is_sensor o) (sym driven.found) ∙ is.sensor
 
   fits : (k : ℕ) × (x : Window) × (own_window su s1.devices ≡ Some (k, x)) × OwnSensor set.app q.node q s1.devices k x
-  fits = (drivers_fit set sound m q site s1 sec s1.boot dep tied module_there).1 drives_sensor
+  fits = (drivers_fit set sound.sound m q site s1 sec s1.boot dep tied module_there).1 drives_sensor
 
   number : device_number set.app q.node fits.0 ≡ r.device
   number = same_Some (device_number set.app q.node fits.0) r.device (sym fits.3.device ∙ d.device)
@@ -239,7 +239,7 @@ module _ (set : Setting) (sound : IsSoundSetting set) (room : HasRoom set) (word
         get_within s1.devices fits.0 fits.1 fits.3.there,
         shapes_long s1.devices,
         ap length tied.windows,
-        windows_long q.node 0 set.app.devices set.places sound.places,
+        windows_long q.node 0 set.app.devices set.places sound.sound.places,
       )) in
       g.1 ∙ ap (λ (i : ℕ). Some i) (sym (index_get (devices_at q.node 0 set.app.devices) fits.0 g.0 g.1) ∙ number)
 

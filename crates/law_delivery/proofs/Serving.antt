@@ -23,7 +23,7 @@ use Rattle.spec_invocation.specs.ModuleState.{state_of}
 use Rattle.spec_run.specs.Setting.{Site, Setting, windows_at}
 use Rattle.spec_run.specs.Observation.{sender_of}
 use Rattle.spec_run.specs.State.{World}
-use Rattle.spec_run.specs.Law.{IsSoundSetting}
+use Rattle.spec_run.specs.Law.{IsLawfulSetting}
 use Rattle.spec_run.proofs.steps.Bystanders.{apart_self}
 use Rattle.spec_run.proofs.steps.Entry.{shapes_on}
 use Rattle.spec_run.proofs.steps.Steps.{bounds_of}
@@ -57,7 +57,7 @@ section_found set n id (y ∷ sites) (suc i) site e at = by (y.node == n) (secti
     by true r o = (r.0, inr r.1)
     by false r o = o
 
-module _ (set : Setting) (sound : IsSoundSetting set) (room : HasRoom set) (c : Course) (w : World) (settled : Settled set w c) where
+module _ (set : Setting) (sound : IsLawfulSetting set) (room : HasRoom set) (c : Course) (w : World) (settled : Settled set w c) where
   -- the section of a module at its node
   pub own_section : (m : ℕ) (site : Site) (s : State) → slice_get set.sites m ≡ Some site → slice_get w.nodes site.node ≡ Some s → (k : ℕ) × Lives s.sections.live (section_at set k site)
   own_section m site s sited there =
@@ -107,9 +107,9 @@ module _ (set : Setting) (sound : IsSoundSetting set) (room : HasRoom set) (c : 
       let fy : section_of s.sections.live y.id ≡ Some y = placed_found s.sections y node.placed ly in
       let xy : x ≡ y = same_Some x y (sym fx ∙ ap (λ i. section_of s.sections.live i) ids ∙ fy) in
       let layouts : a.layout ≡ b.layout = (sym la ∙ ap (λ (z : Section). z.layout) xy ∙ lb) in
-      elim (sound.apart m p a b sa sb same) [
+      elim (sound.sound.apart m p a b sa sb same) [
         | inl e ↦ differ e
-        | inr far ↦ apart_self a.layout.pub_from a.layout.pub_to (bounds_of a.layout (sound.deployed m q a part sa).bounds)
+        | inr far ↦ apart_self a.layout.pub_from a.layout.pub_to (bounds_of a.layout (sound.sound.deployed m q a part sa).bounds)
             (subst (λ (z : Layout). apart a.layout.pub_from a.layout.pub_to z.pub_from z.pub_to ≡ true) (sym layouts) far.0)
       ]
 

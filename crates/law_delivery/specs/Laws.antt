@@ -8,7 +8,7 @@ use Rattle.spec_run.specs.Setting.{Setting}
 use Rattle.spec_run.specs.Accepted.{AreImages, setting_of}
 use Rattle.spec_run.specs.State.{switched_on}
 use Rattle.spec_run.specs.Run.{run}
-use Rattle.spec_run.specs.Law.{IsSoundSetting, LinesInForm}
+use Rattle.spec_run.specs.Law.{IsLawfulSetting, LinesInForm}
 use Rattle.spec_honest.specs.Plain.{Sampling}
 use Rattle.spec_honest.specs.Course.{Course, IsHonest, lines_so_far}
 use Rattle.spec_honest.specs.Delivers.{Delivers}
@@ -22,14 +22,14 @@ HaveWords app = (m : ℕ) (q : PartTree) → slice_get app.parts m ≡ Some q �
 -- From power-on the lines of an honest run show exactly the items of its course. A reading's value
 -- is below 32,768.
 abbrev pub HonestShows : Type 0
-HonestShows = (set : Setting) (rs : List Sampling) (c : Course) → IsSoundSetting set → HasRoom set
+HonestShows = (set : Setting) (rs : List Sampling) (c : Course) → IsLawfulSetting set → HasRoom set
     → HaveWords set.app → IsHonest set.app rs c → All (λ (r : Sampling). r.value < 32768) rs
     → (run set (switched_on set) (honest_schedule set.app rs)).items ≡ c.items
 
 -- And so what they show delivers: the source allows it, nothing is forged, each value that is sent
 -- is taken once, and the outputs are those of the plain fold.
 abbrev pub HonestRunDelivers : Type 0
-HonestRunDelivers = (set : Setting) (rs : List Sampling) (c : Course) → IsSoundSetting set
+HonestRunDelivers = (set : Setting) (rs : List Sampling) (c : Course) → IsLawfulSetting set
     → HasRoom set → HaveWords set.app → IsHonest set.app rs c
     → All (λ (r : Sampling). r.value < 32768) rs
     → Delivers set.app rs (run set (switched_on set) (honest_schedule set.app rs)).items

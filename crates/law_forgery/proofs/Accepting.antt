@@ -10,7 +10,7 @@ use Rattle.sx_rules.specs.declared.access.Violation.{Violation}
 use Rattle.sx_rules.specs.declared.section.Section.{Section}
 use Rattle.sx_rules.specs.declared.section.Layout.{Layout}
 use Rattle.sx_rules.specs.Access.{Lives, section_of}
-use Rattle.sx_tag.specs.Mac.{Mac, GivesTags}
+use Rattle.sx_tag.specs.Mac.{Mac}
 use Rattle.sx_tag.specs.Keys.{kdf, module_key, identity}
 use Rattle.sx_tag.specs.Wrap.{xor_bytes, stream, crypt}
 use Rattle.spec_machine.specs.declared.kinds.Event.{Event}
@@ -30,7 +30,7 @@ use Rattle.spec_run.specs.Setting.{Setting, Site, is_at_site, deployed, module_o
 use Rattle.spec_run.specs.Ledger.{header_of, body_of}
 use Rattle.sx_wire.specs.Headers.{is_ask, is_set_key_header, is_event_header, begins}
 use Rattle.spec_run.specs.Deployer.{list_at, key_of, connection_key}
-use Rattle.spec_run.specs.Law.{IsSoundSetting}
+use Rattle.spec_run.specs.Law.{IsTagUnder, IsSoundSetting}
 use Rattle.spec_run.proofs.tie.Lists.{some_inj, get_within}
 use Rattle.spec_run.proofs.steps.Entry.{at_site}
 use Rattle.law_forgery.proofs.Turns.{setup_of, turn_of, InTurn, NodeTurns}
@@ -48,18 +48,18 @@ length_take zero xs h = refl
 length_take (suc n) [] h = absurd (omega (arith, h))
 length_take (suc n) (x ∷ xs) h = ap suc (length_take n xs (omega (arith, h)))
 
-pub crypt_none : (mac : Mac) (key ad body : List ℕ) → GivesTags mac → crypt mac key ad body ≡ [] → body ≡ []
+pub crypt_none : (secret : List ℕ) (mac : Mac) (key ad body : List ℕ) → IsTagUnder secret mac → crypt mac key ad body ≡ [] → body ≡ []
 unfolding crypt
-crypt_none mac key ad body gives e = by body (stream mac key ad) (gives key (0x53 ∷ length ad ∷ (ad ++ 0 ∷ []))) e
+crypt_none secret mac key ad body tag e = by body (stream mac key ad) (tag.tags key 0x53 (length ad ∷ (ad ++ 0 ∷ [])) (λ z. absurd (omega (arith, z)))).0 e
   where
     by : (body s : List ℕ) → length s ≡ 32 → xor_bytes body s ≡ [] → body ≡ []
     by [] s l e = refl
     by (b ∷ body) [] l e = absurd (omega (arith, l))
     by (b ∷ body) (x ∷ s) l e = absurd cc
 
-pub key_long : (set : Setting) (link epoch : ℕ) → GivesTags set.mac → length (connection_key set link epoch) ≡ 16
+pub key_long : (set : Setting) (link epoch : ℕ) → IsTagUnder set.secret set.mac → length (connection_key set link epoch) ≡ 16
 unfolding kdf
-key_long set link epoch gives = length_take 16 _ (let g = gives set.secret (0x4B ∷ Rattle.byteorder.specs.Endian.little_bytes 2 (link + 256 * epoch)) in omega (arith, g))
+key_long set link epoch tag = length_take 16 _ (let g = (tag.derived (Rattle.byteorder.specs.Endian.little_bytes 2 (link + 256 * epoch))).0 in omega (arith, g))
 
 -- Where a test holds.
 

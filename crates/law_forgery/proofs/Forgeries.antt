@@ -11,9 +11,8 @@ use Rattle.sx_mean.specs.Ends.{ends_of}
 use Rattle.sx_ledger.specs.declared.entry.Maker.TheVariants as maker
 use Rattle.sx_rules.specs.declared.section.Section.{Section}
 use Rattle.sx_rules.specs.Access.{Lives, section_of}
-use Rattle.sx_tag.specs.Mac.{Mac, GivesTags}
+use Rattle.sx_tag.specs.Mac.{Mac}
 use Rattle.sx_tag.specs.Wrap.{crypt, padded, unwrapped, wrap_tag}
-use Rattle.sx_tag.proofs.UnwrapsWrapped.{crypt-crypt}
 use Rattle.spec_machine.specs.declared.kinds.Event.{Event}
 use Rattle.spec_machine.specs.declared.kinds.Event.TheVariants as event
 use Rattle.spec_machine.specs.declared.kinds.Exchange.{Exchange}
@@ -37,7 +36,8 @@ use Rattle.spec_run.specs.Deployer.{connection_key}
 use Rattle.spec_run.specs.Observation.{Observed, with_items, event_seen, has_wrapped, touch_items, sender_of, has_end}
 use Rattle.spec_run.specs.State.{World}
 use Rattle.spec_run.specs.Acts.{after_step}
-use Rattle.spec_run.specs.Law.{IsSoundSetting}
+use Rattle.spec_run.specs.Law.{IsTagUnder, IsSoundSetting}
+use Rattle.spec_run.proofs.Tags.{crypt_twice}
 use Rattle.spec_run.proofs.tie.Entries.{bytes_same, made_in}
 use Rattle.spec_run.proofs.tie.Lists.{get_within}
 use Rattle.spec_run.proofs.steps.Entry.{at_site}
@@ -84,10 +84,10 @@ opened_by mac key header cipher tag plain e = by (bytes_eq tag (take 16 (mac key
     by false t e = absurd cc
 
 -- what is unwrapped is the body whose cipher it is
-body_back : (mac : Mac) (key header cipher plain body : List ℕ) (n : ℕ) → GivesTags mac → length body ≡ n → n ≤ 32 → crypt mac key header body ≡ cipher
+body_back : (secret : List ℕ) (mac : Mac) (key header cipher plain body : List ℕ) (n : ℕ) → IsTagUnder secret mac → length body ≡ n → n ≤ 32 → crypt mac key header body ≡ cipher
     → plain ≡ padded (crypt mac key header cipher) → take n plain ≡ body
-body_back mac key header cipher plain body n gives long few c is =
-    let back : crypt mac key header cipher ≡ body = ap (crypt mac key header) (sym c) ∙ crypt-crypt mac key header body gives (omega (arith, long, few)) in
+body_back secret mac key header cipher plain body n tag long few c is =
+    let back : crypt mac key header cipher ≡ body = ap (crypt mac key header) (sym c) ∙ crypt_twice secret mac key header body tag (omega (arith, long, few)) in
     ap (take n) (is ∙ ap padded back) ∙ ap (λ (k : ℕ). take k (padded body)) (sym long) ∙ take_front body (replicate (32 - length body) 0)
 
 event_long : (header : List ℕ) → is_event_header header ≡ true → length header ≡ 6
@@ -261,8 +261,8 @@ module _ (set : Setting) (lines : List Line) (k : ℕ) (w : World) (n : ℕ) (s 
             → is_made w.ledger (made_entry maker.Deployer m s.boot (header_of x) (body_of x)) ≡ false → ⊥
         refuted body cipher plain c (inl was) is b unmade =
             let f = logged (made_entry maker.Deployer m s.boot (header_of x) body) was in
-            let long : length body ≡ 16 = ap (λ (z : Made). length z.body) f.1 ∙ key_long set f.0.«end».link f.0.epoch sound.tag.width in
-            let same : body_of x ≡ body = b ∙ body_back set.mac (key_at set s.boot (slice_get set.sites m)) (header_of x) cipher plain body 16 sound.tag.width long (omega arith) c is in
+            let long : length body ≡ 16 = ap (λ (z : Made). length z.body) f.1 ∙ key_long set f.0.«end».link f.0.epoch sound.tag in
+            let same : body_of x ≡ body = b ∙ body_back set.secret set.mac (key_at set s.boot (slice_get set.sites m)) (header_of x) cipher plain body 16 sound.tag long (omega arith) c is in
             true≢false (sym was ∙ subst (λ (z : List ℕ). is_made w.ledger (made_entry maker.Deployer m s.boot (header_of x) z) ≡ false) same unmade)
         refuted body cipher plain c (inr was) is b unmade =
             let k = key_begins (header_of x) sk in
@@ -315,7 +315,7 @@ module _ (set : Setting) (lines : List Line) (k : ℕ) (w : World) (n : ℕ) (s 
           | inl ask ↦ let l = ask_long (header_of x) ask.0 in let l2 = event_long (header_of x) ev in absurd (omega (arith, l, l2))
           | inr v ↦
               let same : body_of x ≡ body =
-              b ∙ body_back set.mac (connection_key set (link_in (header_of x)) (epoch_in (header_of x))) (header_of x) cipher plain body 2 sound.tag.width v.1 (omega arith) c is in
+              b ∙ body_back set.secret set.mac (connection_key set (link_in (header_of x)) (epoch_in (header_of x))) (header_of x) cipher plain body 2 sound.tag v.1 (omega arith) c is in
               let sender = subst (λ (i : ℕ). is_made w.ledger (made_entry (maker.Module i) NO_TARGET 0 (header_of x) body) ≡ true) (sym v.2) was.1 in
               true≢false (sym sender ∙ subst (λ (z : List ℕ). is_made w.ledger (made_entry (maker.Module (sender_of set.app (link_in (header_of x)))) NO_TARGET 0 (header_of x) z) ≡ false) same none)
         ]

@@ -12,7 +12,7 @@ use Rattle.law_forgery.specs.Named.{code, looked, named, names, NamesAgree}
 abbrev IsName : List ℕ → Type 0
 IsName l = (l ≡ []) ⊎ ((n : ℕ) × (l ≡ n ∷ []))
 
-is_name : (count i k : ℕ) → IsName (list_at (names i count) k)
+pub is_name : (count i k : ℕ) → IsName (list_at (names i count) k)
 is_name zero i k = inl refl
 is_name (suc count) i k = by (k == 0) (is_name count (i + 1) (k - 1))
   where
@@ -22,7 +22,7 @@ is_name (suc count) i k = by (k == 0) (is_name count (i + 1) (k - 1))
 
 module _ (table mac : Mac) where
   -- the key that comes of a name
-  key_named : (l : List ℕ) (boot provider : ℕ) (identity : List ℕ) → IsName l
+  pub key_named : (l : List ℕ) (boot provider : ℕ) (identity : List ℕ) → IsName l
       → module_key (named table mac) l boot provider identity ≡ l ++ code (to_le_bytes w32 boot) ∷ code (to_le_bytes w16 provider) ∷ code identity ∷ []
   unfolding module_key section_key boot_key kdf
   key_named l boot provider identity (inl e) =

@@ -90,13 +90,13 @@ module _ (set : Setting) (lines : List Line) (k : ℕ) (now : Moment) (who : Opt
         calls = subst (λ (z : Option ℕ). CallsFor set w z a.ask (OfModule m boot)) (sym a.deployer) (Answers m boot a.ask a.asked);
         presented = record { j = k; past = now; early = omega arith; at = at; stands = AsPacket p packet };
         whole = subst (λ (z : List ℕ). answer ≡ take 16 (set.mac z (0x54 ∷ length a.ask ∷ (a.ask ++ [])))) (sym right) a.whole;
-        unmade = λ body c was. refuted body (crypt_none set.mac _ a.ask body sound.tag.width c) was;
+        unmade = λ body c was. refuted body (crypt_none set.secret set.mac _ a.ask body sound.tag c) was;
       }
     where
       refuted : (body : List ℕ) → body ≡ [] → WasWrapped w.ledger (OfModule m boot) a.ask body → ⊥
       refuted body e (inl was) =
           let f = logged (made_entry maker.Deployer m boot a.ask body) was in
-          let long : length body ≡ 16 = ap (λ (z : Made). length z.body) f.1 ∙ key_long set f.0.«end».link f.0.epoch sound.tag.width in
+          let long : length body ≡ 16 = ap (λ (z : Made). length z.body) f.1 ∙ key_long set f.0.«end».link f.0.epoch sound.tag in
           let none = ap length e in
           absurd (omega (arith, long, none))
       refuted body e (inr was) = true≢false (sym was ∙ subst (λ (z : List ℕ). is_made w.ledger (made_entry (maker.Module m) NO_TARGET boot a.ask z) ≡ false) (sym e) a.unmade)

@@ -7,7 +7,7 @@ use Rattle.sx_deploy.specs.Deployment.{Deployed, IsRead}
 use Rattle.sx_deploy.specs.Law.{IsSoundDeployment}
 use Rattle.sx_deploy.proofs.Sound.{sound}
 use Rattle.spec_run.specs.Accepted.{AreByteTexts, AreImages, setting_of}
-use Rattle.spec_run.proofs.accepted.Settled.{settled}
+use Rattle.spec_run.proofs.accepted.Settled.{lawfully}
 use Rattle.spec_run.proofs.accepted.FormedLines.{sensor_at}
 use Rattle.spec_honest.specs.Plain.{driver_of as driver_in}
 use Rattle.law_setup.proofs.Accepting.{has_room}
@@ -21,7 +21,7 @@ use Rattle.law_honest.proofs.Tracking.{drivers_same}
 pub accepted_is_driveable : (text : List ℕ) (d : Deployed) → IsRead text (Ok d) → (mac : Mac) (texts : List (List ℕ)) → IsTag mac → AreImages mac d texts → AreByteTexts texts
     → (readings : List Reading) → All (IsReading d.app) readings → IsDriveable (setting_of mac d texts) readings
 accepted_is_driveable text d h mac texts tag images bytes readings all = record {
-  sound = settled mac d texts (sound text d h) images tag;
+  sound = lawfully mac d texts (sound text d h) images tag;
   room = has_room text d h mac texts bytes;
   words = λ m q there. ((sound text d h).modules m q there).words;
   are_readings = all;

@@ -11,7 +11,7 @@ use Rattle.sx_sched.specs.Lines.{Line, Answer, Ask, Call, Give, Load, Take}
 use Rattle.spec_run.specs.Setting.{Setting}
 use Rattle.spec_run.specs.State.{World, switched_on}
 use Rattle.spec_run.specs.Run.{run}
-use Rattle.spec_run.specs.Law.{IsSoundSetting}
+use Rattle.spec_run.specs.Law.{IsLawfulSetting}
 use Rattle.sx_world.specs.Whole.{next}
 use Rattle.spec_honest.specs.Course.{packet_items}
 use Rattle.law_setup.specs.Laws.{HasRoom}
@@ -206,6 +206,6 @@ parts_fare set (q ∷ qs) m number h whole at shown =
     (ap (λ (v : World). shown_by set v rest) played.world ∙ others)))
 
 -- All are, from power-on.
-pub setup_fares : (set : Setting) → IsSoundSetting set → HasRoom set → Fares set (switched_on set) (setup set (start set)) (setup_schedule set.app) (Waits [])
+pub setup_fares : (set : Setting) → IsLawfulSetting set → HasRoom set → Fares set (switched_on set) (setup set (start set)) (setup_schedule set.app) (Waits [])
 setup_fares set sound room =
     parts_fare set set.app.parts 0 0 (start set) (record { uncut = refl; room = omega arith }) (λ i. ap (slice_get set.app.parts) (zero-add i)) (set_up_shown set sound room)

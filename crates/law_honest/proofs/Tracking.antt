@@ -16,7 +16,7 @@ use Rattle.sx_trace.specs.declared.items.Item.TheVariants as item
 use Rattle.sx_sched.specs.Lines.{Line, Call, Give, Sense}
 use Rattle.spec_run.specs.Setting.{Setting}
 use Rattle.spec_run.specs.State.{World, Acted}
-use Rattle.spec_run.specs.Law.{IsSoundSetting}
+use Rattle.spec_run.specs.Law.{IsLawfulSetting}
 use Rattle.sx_world.specs.Whole.{next}
 use Rattle.spec_honest.specs.Plain.{Sampling, Waiting, acts_emit, acts_send, is_still, reaction, oldest as oldest_value}
 use Rattle.spec_honest.specs.Course.{Course, IsSampling, count_over, delivered, lines_so_far, packets_so_far, played, sensed, settled, setup_lines, setup_packets}
@@ -92,7 +92,7 @@ drivers_same d i (q ∷ qs) =
     ap (λ (b : Bool). cond b (Some i) (position_from (λ (q : PartTree). same_device (Some d) q.device) (i + 1) qs)) (device_same d q.device)
     ∙ ap (λ (o : Option ℕ). cond (contains q.device d) (Some i) o) (drivers_same d (i + 1) qs)
 
-module _ (set : Setting) (sound : IsSoundSetting set) (room : HasRoom set) (words : HaveWords set.app) where
+module _ (set : Setting) (sound : IsLawfulSetting set) (room : HasRoom set) (words : HaveWords set.app) where
   abbrev app : AppTree
   app = set.app
 

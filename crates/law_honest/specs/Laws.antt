@@ -7,7 +7,7 @@ use Rattle.sx_mean.specs.Application.{AppTree}
 use Rattle.sx_deploy.specs.Deployment.{Deployed, IsRead}
 use Rattle.spec_run.specs.Setting.{Setting}
 use Rattle.spec_run.specs.State.{switched_on}
-use Rattle.spec_run.specs.Law.{IsSoundSetting}
+use Rattle.spec_run.specs.Law.{IsLawfulSetting}
 use Rattle.spec_run.specs.Accepted.{AreByteTexts, AreImages, setting_of}
 use Rattle.spec_honest.specs.Course.{Course, IsHonest, IsSampling}
 use Rattle.spec_honest.specs.Delivers.{Delivers}
@@ -25,7 +25,7 @@ pub record IsReading (app : AppTree) (r : Reading) : Type 0 where
 -- what is asked of a setting and its readings; each accepted deployment, with images that realize
 -- its modules, has the first three
 pub record IsDriveable (set : Setting) (readings : List Reading) : Type 0 where
-  pub sound : IsSoundSetting set
+  pub sound : IsLawfulSetting set
   pub room : HasRoom set
   pub words : HaveWords set.app
   pub are_readings : All (IsReading set.app) readings

@@ -32,7 +32,7 @@ beginnings (b ∷ t) (c ∷ u) x y e h =
     first_of_list [] = 0
     first_of_list (z ∷ zs) = z
 
-word_told : (m n : ℕ) → m < 65536 → n < 65536 → to_le_bytes w16 m ≡ to_le_bytes w16 n → m ≡ n
+pub word_told : (m n : ℕ) → m < 65536 → n < 65536 → to_le_bytes w16 m ≡ to_le_bytes w16 n → m ≡ n
 word_told m n p q h = sym (from_le_bytes-to_le_bytes_2 m p) ∙ ap (from_le_bytes w16) h ∙ from_le_bytes-to_le_bytes_2 n q
 
 pub identities_differ : IdentitiesDiffer
@@ -56,7 +56,7 @@ identities_differ t u a b p q h =
         ∙ ap (λ (v : ℕ). record { pub_from = b.pub_from; pub_to = b.pub_to; priv_from = v; priv_to = a.priv_to }) y
         ∙ ap (λ (v : ℕ). record { pub_from = b.pub_from; pub_to = b.pub_to; priv_from = b.priv_from; priv_to = v }) z
 
-name_at : (count i n : ℕ) → n < count → list_at (names i count) n ≡ (i + n) ∷ []
+pub name_at : (count i n : ℕ) → n < count → list_at (names i count) n ≡ (i + n) ∷ []
 name_at zero i n lt = absurd (omega (arith, lt))
 name_at (suc count) i n lt = by (n == 0) refl (name_at count (i + 1) (n - 1))
   where
@@ -68,7 +68,7 @@ name_at (suc count) i n lt = by (n == 0) refl (name_at count (i + 1) (n - 1))
         let same : i + 1 + (n - 1) ≡ i + n = omega (arith, some) in
         rec (omega (arith, lt, some)) ∙ ap (λ (z : ℕ). z ∷ []) same
 
-code_told : (s t : List ℕ) → code s ≡ code t → s ≡ t
+pub code_told : (s t : List ℕ) → code s ≡ code t → s ≡ t
 code_told s t h = sym (read_back s) ∙ ap bytes_in h ∙ read_back t
 
 layout_self : (l : Layout) → same_layout l l ≡ true

@@ -4,7 +4,7 @@ use Rattle.sx_sched.specs.Lines.{Line}
 use Rattle.spec_run.specs.Setting.{Setting}
 use Rattle.spec_run.specs.State.{World, switched_on}
 use Rattle.spec_run.specs.Run.{run}
-use Rattle.spec_run.specs.Law.{IsSoundSetting, LinesInForm}
+use Rattle.spec_run.specs.Law.{IsLawfulSetting, LinesInForm}
 use Rattle.law_forgery.specs.Moments.{NoForged}
 use Rattle.law_connections.specs.Unlinked.{Unlinked}
 use Rattle.law_connections.specs.LinksUnseen.{upto_forged, SameWorldOutside, NothingGuessed, RunsAlike}
@@ -19,7 +19,7 @@ one_more a [] (z ∷ q) x y h e f = absurd h
 one_more a (z ∷ p) [] x y h e f = absurd h
 one_more a (z ∷ p) (u ∷ q) x y h e f = (h.0, h.1, one_more a p q x y h.2 e f)
 
-module _ (law : LinksUnseen) (a b : Setting) (make : Maker) (sound : IsSoundSetting a) (hides : HidesKeys a) (sound2 : IsSoundSetting b) (unlinked : Unlinked a b)
+module _ (law : LinksUnseen) (a b : Setting) (make : Maker) (sound : IsLawfulSetting a) (hides : HidesKeys a) (sound2 : IsLawfulSetting b) (unlinked : Unlinked a b)
     (looks : LooksOutside a make) where
   alike : (lines : List Line) → LinesInForm a lines → NothingGuessed a b lines → RunsAlike a b lines
   alike lines form none = law a lines sound hides form b sound2 unlinked none
@@ -55,5 +55,5 @@ module _ (law : LinksUnseen) (a b : Setting) (make : Maker) (sound : IsSoundSett
       )
 
 pub link_makers_see_the_same : LinkMakersSeeTheSame
-link_makers_see_the_same a b make n sound hides sound2 unlinked looks form none calm =
+link_makers_see_the_same a make n sound hides b sound2 unlinked looks form none calm =
     last links_unseen a b make sound hides sound2 unlinked looks n form none calm

@@ -36,6 +36,6 @@ ImpostorsHaveOtherNames = (set : Setting) (n boot at : ℕ) (mem : List ℕ) (x 
     (identity_with (bytes_from mem x.layout.pub_from (x.layout.pub_to - x.layout.pub_from)) x.layout)
     ≡ name_of set site.node at site.provider (identity_with site.text site.layout) → ⊥
 
--- The tag function of a setting with names isn't lawful, so such a setting isn't sound.
+-- The tag function of a setting with names isn't lawful: a derived name isn't as long as a tag.
 abbrev pub NamesAreUnlawful : Type 0
 NamesAreUnlawful = (table mac : Mac) → IsTag (named table mac) → ⊥

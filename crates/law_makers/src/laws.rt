@@ -5,6 +5,7 @@ ghost use Rattle.law_makers.specs.Impostors.{NamesAreUnlawful};
 ghost use Rattle.law_makers.specs.LinkMakers.{LinkMakersSeeTheSame};
 ghost use Rattle.law_makers.specs.Makers.{DistinguisherIsRun, DistinguisherKnowsNoKey};
 ghost use Rattle.law_makers.specs.Makers.{MakersSeeTheSame};
+ghost use Rattle.law_makers.specs.NamedSound.{NamedIsSound, RealizesUnder};
 ghost use Rattle.law_makers.specs.Time.{RegistersShowNoLink, StepsShowNoKey};
 
 /// A maker makes the same of two settings that no tag tells apart, and sees the same.
@@ -48,7 +49,18 @@ pub fn impostors_have_other_names()
     ensures { ImpostorsHaveOtherNames }
 {}
 
-/// A setting with names isn't sound.
+/// The tag function of a setting with names isn't lawful under names.
 pub fn names_are_unlawful()
     ensures { NamesAreUnlawful }
+{}
+
+/// An image that realizes its module under each lawful tag function does so under one that is lawful
+/// where it makes tags.
+pub fn realizes_under()
+    ensures { RealizesUnder }
+{}
+
+/// A setting with names is sound, so that the laws of runs hold of it.
+pub fn named_is_sound()
+    ensures { NamedIsSound }
 {}

@@ -3,7 +3,8 @@
 //!
 //! `specs/Makers.antt` has those who see everything but the keys of nodes and modules,
 //! `specs/LinkMakers.antt` those who don't see into deployed modules, `specs/Time.antt` what the
-//! number of instructions shows, and `specs/Impostors.antt` what a module's identity tells.
+//! number of instructions shows, `specs/Impostors.antt` what a module's identity tells, and
+//! `specs/NamedSound.antt` that the setting with names is sound.
 #![tactic(auto)]
 
 pub mod laws;

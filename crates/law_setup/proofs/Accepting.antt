@@ -10,7 +10,7 @@ use Rattle.sx_deploy.proofs.ValidApp.{app_valid}
 use Rattle.sx_tag.specs.Mac.{Mac}
 use Rattle.spec_run.specs.Accepted.{AreByteTexts, setting_of}
 use Rattle.spec_run.proofs.accepted.LaidSites.{laid_at, site_at}
-use Rattle.spec_run.proofs.accepted.Settled.{settled}
+use Rattle.spec_run.proofs.accepted.Settled.{lawfully}
 use Rattle.law_setup.specs.Laws.{AcceptedSetUp, HasRoom}
 use Rattle.law_setup.proofs.SetUp.{set_up}
 
@@ -36,4 +36,4 @@ has_room text d h mac texts bytes =
     }
 
 pub accepted_set_up : AcceptedSetUp
-accepted_set_up text d h mac texts tag images = set_up (setting_of mac d texts) (settled mac d texts (sound text d h) images tag) (has_room text d h mac texts images.bytes)
+accepted_set_up text d h mac texts tag images = set_up (setting_of mac d texts) (lawfully mac d texts (sound text d h) images tag) (has_room text d h mac texts images.bytes)

@@ -23,7 +23,7 @@ use Rattle.spec_run.specs.Ledger.{NO_TARGET, made_entry}
 use Rattle.spec_run.specs.State.{World, Acted}
 use Rattle.spec_run.specs.Acts.{then_, with_node, new_packet}
 use Rattle.spec_run.specs.Run.{after_line, call, line_counted, run}
-use Rattle.spec_run.specs.Law.{IsSoundSetting}
+use Rattle.spec_run.specs.Law.{IsLawfulSetting}
 use Rattle.spec_run.proofs.tie.Lists.{get_end}
 use Rattle.lemmas.proofs.Lists.{get_same}
 use Rattle.sx_wire.proofs.Numbers.{challenge_same}
@@ -49,7 +49,7 @@ ask_is : (a : ℕ) → is_ask (ask_packet a) ≡ true
 ask_is a = refl
 
 module _ (set : Setting) (w : World) (m : ℕ) (q : PartTree) (site : Site) (sec : Section) (s : State) (st : ModuleState) (old : Option (List ℕ))
-    (sound : IsSoundSetting set) (there : slice_get w.nodes site.node ≡ Some s) (h : IsServed set m q site sec s st)
+    (sound : IsLawfulSetting set) (there : slice_get w.nodes site.node ≡ Some s) (h : IsServed set m q site sec s st)
     (small : w.deployer.asks < 65536) (asked : slice_get w.deployer.open_asks m ≡ Some old) (fresh : slice_get w.deployer.attested m ≡ Some None) where
   abbrev n : ℕ
   n = site.node
@@ -117,7 +117,7 @@ module _ (set : Setting) (w : World) (m : ℕ) (q : PartTree) (site : Site) (sec
     items = item.Vouch m (challenge_in ask) ∷ [];
     entries = made_entry (maker.Module m) NO_TARGET s1.boot ask [] ∷ [];
   })
-  does = attest_called set w2 (callee m q site sec s1) ask sound (served_callable set w2 m q site sec s1 st served1 here1) (served_low set m q site sec s1 st served1) stands_there (ask_is a)
+  does = attest_called set w2 (callee m q site sec s1) ask sound.sound (served_callable set w2 m q site sec s1 st served1 here1) (served_low set m q site sec s1 st served1) stands_there (ask_is a)
 
   abbrev u : State
   u = does.after

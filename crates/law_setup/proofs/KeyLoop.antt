@@ -116,7 +116,7 @@ keys_taken set w m q site sec s cells number before (e ∷ es) sound there h end
     let found : end_found e.link e.side 0 (ends_of set.app m) ≡ placed (length before) e =
     ap (end_found e.link e.side 0) ends ∙ found_from before es e 0 all ∙ ap (λ (j : ℕ). placed j e) (zero_plus (length before)) in
     let linked = has_link 0 m set.app.links e (subst (λ z. HasEnd z e) (sym ends) (has_mid before es e)) in
-    let few = sound.links in
+    let few = sound.sound.links in
     let inside = get_within set.app.links linked.place linked.link linked.there in
     let at = linked.at in
     let small : e.link < 256 = omega (arith, few, inside, at) in

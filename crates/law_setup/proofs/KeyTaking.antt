@@ -35,7 +35,7 @@ use Rattle.spec_run.specs.Ledger.{made_entry, is_made}
 use Rattle.spec_run.specs.State.{World, Acted}
 use Rattle.spec_run.specs.Acts.{only, then_, with_node}
 use Rattle.spec_run.specs.Run.{after_line, call, line_counted, run}
-use Rattle.spec_run.specs.Law.{IsSoundSetting, image_at}
+use Rattle.spec_run.specs.Law.{IsLawfulSetting, image_at}
 use Rattle.lemmas.proofs.Lists.{get_same}
 use Rattle.law_invocation.specs.Gives.{IsLowFree}
 use Rattle.law_calls.specs.Calls.{IsCallable, IsReturned, setup_of}
@@ -153,7 +153,7 @@ served_put set m q site sec s st at bytes h le =
     (ap (state_of q.tree (ends_of set.app m)) (put_keeps_private s at bytes own le priv_high) ∙ h.state)
 
 module _ (set : Setting) (w : World) (m : ℕ) (q : PartTree) (site : Site) (sec : Section) (s : State) (st : ModuleState) (k j : ℕ) (e : End)
-    (sound : IsSoundSetting set) (there : slice_get w.nodes site.node ≡ Some s) (h : IsServed set m q site sec s st)
+    (sound : IsLawfulSetting set) (there : slice_get w.nodes site.node ≡ Some s) (h : IsServed set m q site sec s st)
     (found : end_found e.link e.side 0 (ends_of set.app m) ≡ Some (j, e)) (lt : e.link < 256)
     (closed : (end_of st.ends j).is_open ≡ false)
     (got : slice_get w.packets k ≡ Some (set_key set site (first_grant m e)))

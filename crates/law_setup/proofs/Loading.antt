@@ -39,7 +39,7 @@ use Rattle.spec_run.specs.Observation.{Observed, observed}
 use Rattle.spec_run.specs.State.{World, Acted}
 use Rattle.spec_run.specs.Acts.{after_step, at_node, only, then_, with_node}
 use Rattle.spec_run.specs.Run.{load, put_on, put_pieces, set_all, steps_of, is_reset}
-use Rattle.spec_run.specs.Law.{IsSoundSetting, IsDeployedModule}
+use Rattle.spec_run.specs.Law.{IsLawfulSetting, IsDeployedModule}
 use Rattle.lemmas.proofs.Lists.{get_same}
 use Rattle.spec_run.proofs.steps.Machine.{fresh_sections}
 use Rattle.spec_run.proofs.steps.Entry.{at_site}
@@ -158,7 +158,7 @@ pub record IsReadyToProtect (set : Setting) (m : ℕ) (q : PartTree) (site : Sit
   pub text : public_bytes site.layout s.mem ≡ site.text
   pub code : (slice_index s.mem 0 ≡ 0x81) × (slice_index s.mem 1 ≡ 0x13)
 
-module _ (set : Setting) (m : ℕ) (q : PartTree) (site : Site) (s : State) (sound : IsSoundSetting set) (h : IsReadyToProtect set m q site s) where
+module _ (set : Setting) (m : ℕ) (q : PartTree) (site : Site) (s : State) (sound : IsLawfulSetting set) (h : IsReadyToProtect set m q site s) where
   pc : pc_of s ≡ 0
   pc = ap (λ r. slice_index r 0) h.regs.2 ∙ given_pc site h.regs.0 h.regs.1
 
@@ -263,7 +263,7 @@ module _ (set : Setting) (m : ℕ) (q : PartTree) (site : Site) (s : State) (sou
   -- memory
   pub kept_after : (k : ℕ) → (k < site.layout.priv_from) ⊎ (site.layout.priv_to ≤ k) → slice_index t.mem k ≡ slice_index s.mem k
   kept_after k away =
-      let dep = sound.deployed m q site h.part h.sited in
+      let dep = sound.sound.deployed m q site h.part h.sited in
       let b = (and_parts (nat_lt site.layout.priv_from site.layout.priv_to) _ (and_parts (nat_lt site.layout.pub_from site.layout.pub_to) _ dep.bounds).1).0 in
       let lt = ltb-true site.layout.priv_from site.layout.priv_to b in
       zeroed_other s.mem site.layout.priv_from (site.layout.priv_to - site.layout.priv_from) k (elim away [ inl p ↦ inl p | inr p ↦ inr (omega (arith, p, lt)) ])
@@ -276,7 +276,7 @@ module _ (set : Setting) (m : ℕ) (q : PartTree) (site : Site) (s : State) (sou
 
   pub text_after : public_bytes site.layout t.mem ≡ site.text
   text_after =
-      let dep = sound.deployed m q site h.part h.sited in
+      let dep = sound.sound.deployed m q site h.part h.sited in
       same_bytes s.mem t.mem site.layout.pub_from (site.layout.pub_to - site.layout.pub_from)
       (λ k lo hi. kept_after k (apart_cases site.layout.pub_from site.layout.pub_to site.layout.priv_from site.layout.priv_to k dep.parts lo (omega (arith, lo, hi)))) ∙ h.text
 
@@ -295,9 +295,9 @@ module _ (set : Setting) (m : ℕ) (q : PartTree) (site : Site) (s : State) (sou
       ∙ first_is (is_at_site site.node t.mem new) set.sites m site h.sited (own_site site t.mem new refl refl text_after)
       (λ k site2 sk a.
       let b = at_site site.node t.mem new site2 a in
-      elim (sound.apart m k site site2 h.sited sk (sym b.node)) [
+      elim (sound.sound.apart m k site site2 h.sited sk (sym b.node)) [
         | inl e ↦ sym e
-        | inr p ↦ absurd (apart_self site.layout.pub_from site.layout.pub_to (bounds_of site.layout (sound.deployed m q site h.part h.sited).bounds)
+        | inr p ↦ absurd (apart_self site.layout.pub_from site.layout.pub_to (bounds_of site.layout (sound.sound.deployed m q site h.part h.sited).bounds)
             (subst (λ (z : Layout). apart site.layout.pub_from site.layout.pub_to z.pub_from z.pub_to ≡ true) (sym b.layout) p.0))
       ])
 
@@ -333,9 +333,9 @@ apart_away a b c d k e lo hi = elim (cases_Bool (nat_le b c)) [
   | inr x ↦ let le = leb-true d a (sym (ap (λ v. v || nat_le d a) x) ∙ e) in inl (omega (arith, le, hi))
 ]
 
-module _ (set : Setting) (w : World) (m : ℕ) (q : PartTree) (site : Site) (s : State) (sound : IsSoundSetting set) (h : IsLoadable set w m q site s) where
+module _ (set : Setting) (w : World) (m : ℕ) (q : PartTree) (site : Site) (s : State) (sound : IsLawfulSetting set) (h : IsLoadable set w m q site s) where
   dep : IsDeployedModule set m q site
-  dep = sound.deployed m q site h.part h.sited
+  dep = sound.sound.deployed m q site h.part h.sited
 
   abbrev n : ℕ
   n = site.node

@@ -27,7 +27,7 @@ use Rattle.spec_run.specs.Ledger.{Made, is_made}
 use Rattle.spec_run.specs.State.{World, Acted}
 use Rattle.spec_run.specs.Acts.{only, then_, with_node}
 use Rattle.spec_run.specs.Run.{line_counted, load, run}
-use Rattle.spec_run.specs.Law.{IsSoundSetting}
+use Rattle.spec_run.specs.Law.{IsLawfulSetting}
 use Rattle.spec_run.proofs.tie.Entries.{made_in}
 use Rattle.lemmas.proofs.Lists.{get_same, get_mid}
 use Rattle.spec_honest.specs.Course.{open_items, part_items}
@@ -74,7 +74,7 @@ first_lives [] ys x l = absurd l
 first_lives (y ∷ xs) ys x l = elim l [ inl e ↦ inl e | inr r ↦ inr (first_lives xs ys x r) ]
 
 module _ (set : Setting) (w : World) (m : ℕ) (q : PartTree) (site : Site) (s : State) (old : Option (List ℕ))
-    (sound : IsSoundSetting set) (h : IsLoadable set w m q site s) (windows : shapes s.devices ≡ windows_at site.node set.app.devices set.places)
+    (sound : IsLawfulSetting set) (h : IsLoadable set w m q site s) (windows : shapes s.devices ≡ windows_at site.node set.app.devices set.places)
     (asks : w.deployer.asks ≡ m) (small : m < 65536) (asked : slice_get w.deployer.open_asks m ≡ Some old) (fresh : slice_get w.deployer.attested m ≡ Some None)
     (zero_at : (c : ℕ) → slice_index w.deployer.epochs c ≡ 0) where
   abbrev n : ℕ
@@ -203,7 +203,7 @@ module _ (set : Setting) (w : World) (m : ℕ) (q : PartTree) (site : Site) (s :
       attested_now.moves keys_now.moves)
 
   node_same : n ≡ q.node
-  node_same = (sound.deployed m q site h.part h.sited).node
+  node_same = (sound.sound.deployed m q site h.part h.sited).node
 
   abbrev lines_at : ℕ → List Line
   lines_at k = (Load m ∷ []) ++ (asking_lines m k p ++ key_lines m k (p + 2) (length es))

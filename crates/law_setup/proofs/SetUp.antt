@@ -17,7 +17,7 @@ use Rattle.spec_run.specs.Deployer.{connection_key}
 use Rattle.spec_run.specs.State.{World, Acted, nodes_from, switched_on}
 use Rattle.spec_run.specs.Acts.{then_}
 use Rattle.spec_run.specs.Run.{run}
-use Rattle.spec_run.specs.Law.{IsSoundSetting, devices_of}
+use Rattle.spec_run.specs.Law.{IsLawfulSetting, devices_of}
 use Rattle.spec_run.proofs.steps.Entry.{shapes_on}
 use Rattle.spec_run.proofs.tie.Lists.{some_inj, list_at_is}
 use Rattle.spec_run.proofs.tie.Start.{nodes_long, on_is_node}
@@ -45,7 +45,7 @@ record Result (set : Setting) (m number : ℕ) (qs : List PartTree) (w : World) 
 no_more : {X : Type 0} → (xs ys : List X) → xs ≡ ys ++ [] → xs ≡ ys
 no_more xs ys e = e ∙ append-nil ys
 
-loop : (set : Setting) → IsSoundSetting set → HasRoom set → (qs : List PartTree) (ss : List Site) (before : List PartTree) (sb : List Site) (w : World)
+loop : (set : Setting) → IsLawfulSetting set → HasRoom set → (qs : List PartTree) (ss : List Site) (before : List PartTree) (sb : List Site) (w : World)
     → set.app.parts ≡ before ++ qs → set.sites ≡ sb ++ ss → length sb ≡ length before → SoFar set (length before) sb w → Result set (length before) (length w.packets) qs w
 loop set sound room [] [] before sb w parts sites len far = record {
   world = w;
@@ -60,12 +60,12 @@ loop set sound room [] [] before sb w parts sites len far = record {
     plus_none : (a : ℕ) → a ≡ a + 0
     plus_none a = omega arith
 loop set sound room [] (site ∷ ss) before sb w parts sites len far =
-    let a = sound.sites in
+    let a = sound.sound.sites in
     let b = ap (λ (x : List Site). length x) sites ∙ length-append sb (site ∷ ss) in
     let c = ap (λ (x : List PartTree). length x) parts ∙ length-append before [] in
     absurd (omega (arith, a, b, c, len))
 loop set sound room (q ∷ qs) [] before sb w parts sites len far =
-    let a = sound.sites in
+    let a = sound.sound.sites in
     let b = ap (λ (x : List Site). length x) sites ∙ length-append sb [] in
     let c = ap (λ (x : List PartTree). length x) parts ∙ length-append before (q ∷ qs) in
     absurd (omega (arith, a, b, c, len))
@@ -116,14 +116,14 @@ node_on set i (key ∷ keys) (suc n) s e =
     let next : i + 1 + n ≡ i + suc n = omega arith in
     (r.0, r.1, r.2 ∙ ap (λ (j : ℕ). power_on r.0 (devices_of set j)) next)
 
-first_far : (set : Setting) → IsSoundSetting set → SoFar set 0 [] (switched_on set)
+first_far : (set : Setting) → IsLawfulSetting set → SoFar set 0 [] (switched_on set)
 first_far set sound = record {
   as_many = nodes_long set 0 set.keys;
   nodes = λ n s e.
       let r = node_on set 0 set.keys n s e in
       let same : s ≡ power_on r.0 (devices_of set n) = r.2 ∙ ap (λ (j : ℕ). power_on r.0 (devices_of set j)) (zero_on n) in
       subst (λ y. NodeSoFar set n [] y) (sym same) (record {
-        node = on_is_node set n r.0 sound;
+        node = on_is_node set n r.0 sound.sound;
         idle = refl;
         boot = refl;
         key = sym (list_at_is set.keys n r.0 r.1);
@@ -167,7 +167,7 @@ none_waits x [] after e = cc
 none_waits x (y ∷ before) after e = cc
 
 settles : (set : Setting) (w : World) → SoFar set (length set.app.parts) set.sites w → length w.packets ≡ 0 + parts_packets set.app 0 set.app.parts
-    → IsSoundSetting set → Settled set w (course_start set.app)
+    → IsLawfulSetting set → Settled set w (course_start set.app)
 settles set w far count sound = record {
   as_many = far.as_many;
   nodes = λ n s e.
@@ -201,10 +201,10 @@ settles set w far count sound = record {
         plus : (a b : ℕ) → b ≡ 0 + a → b ≡ a + 0 + 0
         plus a b e = omega (arith, e)
 
-from_power_on : (set : Setting) → IsSoundSetting set → HasRoom set → Result set 0 0 set.app.parts (switched_on set)
+from_power_on : (set : Setting) → IsLawfulSetting set → HasRoom set → Result set 0 0 set.app.parts (switched_on set)
 from_power_on set sound room = loop set sound room set.app.parts set.sites [] [] (switched_on set) refl refl refl (first_far set sound)
 
-pub is_set_up : (set : Setting) → IsSoundSetting set → HasRoom set → IsSetUp set
+pub is_set_up : (set : Setting) → IsLawfulSetting set → HasRoom set → IsSetUp set
 is_set_up set sound room =
     let r = from_power_on set sound room in
     record {
@@ -213,7 +213,7 @@ is_set_up set sound room =
     }
 
 -- line by line
-pub set_up_shown : (set : Setting) → IsSoundSetting set → HasRoom set → shown_by set (switched_on set) (setup_schedule set.app) ≡ setup_shown set.app
+pub set_up_shown : (set : Setting) → IsLawfulSetting set → HasRoom set → shown_by set (switched_on set) (setup_schedule set.app) ≡ setup_shown set.app
 set_up_shown set sound room = (from_power_on set sound room).each
 
 pub set_up : SetUp

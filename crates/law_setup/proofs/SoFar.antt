@@ -25,7 +25,7 @@ use Rattle.spec_run.specs.Setting.{Site, Setting, windows_at}
 use Rattle.sx_deployer.specs.Granting.{DeployerState, grants_of}
 use Rattle.spec_run.specs.Deployer.{key_of, list_at}
 use Rattle.spec_run.specs.State.{World}
-use Rattle.spec_run.specs.Law.{AreApartLayouts, IsSoundSetting, IsDeployedModule, devices_of}
+use Rattle.spec_run.specs.Law.{AreApartLayouts, IsLawfulSetting, IsDeployedModule, devices_of}
 use Rattle.spec_run.proofs.steps.Entry.{shapes_on}
 use Rattle.spec_run.proofs.tie.Lists.{get_before, get_other, get_within, length_set, some_inj}
 use Rattle.lemmas.proofs.Lists.{get_same, get_mid, get_some}
@@ -94,7 +94,7 @@ pub record SoFar (set : Setting) (k : ℕ) (sb : List Site) (w : World) : Type 0
   pub attested : w.deployer.attested ≡ marks k set.app.parts
   pub epochs : w.deployer.epochs ≡ map (λ l. 0) set.app.links
 
-module _ (set : Setting) (sound : IsSoundSetting set) (room : HasRoom set) (before qs : List PartTree) (q : PartTree) (sb ss : List Site) (site : Site) (w : World)
+module _ (set : Setting) (sound : IsLawfulSetting set) (room : HasRoom set) (before qs : List PartTree) (q : PartTree) (sb ss : List Site) (site : Site) (w : World)
     (parts : set.app.parts ≡ before ++ q ∷ qs) (sites : set.sites ≡ sb ++ site ∷ ss) (len : length sb ≡ length before) (far : SoFar set (length before) sb w) where
   abbrev k : ℕ
   k = length before
@@ -112,7 +112,7 @@ module _ (set : Setting) (sound : IsSoundSetting set) (room : HasRoom set) (befo
   site_at = ap (λ z. slice_get z k) sites ∙ ap (λ j. slice_get (sb ++ site ∷ ss) j) (sym len) ∙ get_mid sb ss site
 
   dep : IsDeployedModule set k q site
-  dep = sound.deployed k q site part_at site_at
+  dep = sound.sound.deployed k q site part_at site_at
 
   app_is : IsApplication set.app
   app_is = valid_applications set.app room.valid
@@ -121,7 +121,7 @@ module _ (set : Setting) (sound : IsSoundSetting set) (room : HasRoom set) (befo
   placed = app_is.parts k q part_at
 
   node_there : n < length w.nodes
-  node_there = let a = far.as_many in let b = sound.keys in let c = placed.node in let d = dep.node in omega (arith, a, b, c, d)
+  node_there = let a = far.as_many in let b = sound.sound.keys in let c = placed.node in let d = dep.node in omega (arith, a, b, c, d)
 
   pub s_there : (s : State) × (slice_get w.nodes n ≡ Some s)
   s_there = get_some w.nodes n node_there
@@ -160,7 +160,7 @@ module _ (set : Setting) (sound : IsSoundSetting set) (room : HasRoom set) (befo
     clear x lives =
         let f = from_site x lives in
         let inside = get_within sb f.place f.site f.there in
-        elim (sound.apart k f.place site f.site site_at (whole f.place f.site f.there) (sym f.at)) [
+        elim (sound.sound.apart k f.place site f.site site_at (whole f.place f.site f.there) (sym f.at)) [
           | inl e ↦ absurd (omega (arith, e, inside, len))
           | inr a ↦ apart_all x.layout (subst (AreApartLayouts l) (sym f.layout) a)
         ]
@@ -177,13 +177,13 @@ module _ (set : Setting) (sound : IsSoundSetting set) (room : HasRoom set) (befo
     no_device_there : no_device (places_of s.devices) l ≡ true
     no_device_there =
         subst (λ (z : List Window). no_device (places_of z) l ≡ true) (sym ns.devices)
-        (no_word l.pub_from l.pub_to (devices_of set n) 0 even_start (sound.windows n).even
+        (no_word l.pub_from l.pub_to (devices_of set n) 0 even_start (sound.sound.windows n).even
         (λ at lo hi. subst (λ j. Rattle.sx_bus.specs.Devices.device_at (devices_of set j) at ≡ None) (sym dep.node) (dep.text_free at lo hi)))
 
     room_there : length s.sections.live < 8
     room_there =
         let a = fewer_sections set n 1 sb ss site before qs q len
-        (λ i x y px sy. (sound.deployed i x y (ap (λ z. slice_get z i) parts ∙ px) (ap (λ z. slice_get z i) sites ∙ sy)).node) (sym dep.node) in
+        (λ i x y px sy. (sound.sound.deployed i x y (ap (λ z. slice_get z i) parts ∙ px) (ap (λ z. slice_get z i) sites ∙ sy)).node) (sym dep.node) in
         let b : count_by (λ (x : PartTree). x.node == n) (before ++ q ∷ qs) ≤ 8 =
         subst (λ z. count_by (λ (x : PartTree). x.node == n) z ≤ 8) parts (subst (λ j. count_by (λ (x : PartTree). x.node == j) set.app.parts ≤ 8) (sym dep.node) placed.few_beside) in
         let c = ap (λ (z : List Section). length z) live_is in

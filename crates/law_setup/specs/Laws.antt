@@ -6,7 +6,7 @@ use Rattle.sx_deploy.specs.Deployment.{Deployed, IsRead}
 use Rattle.spec_run.specs.Setting.{Site, Setting}
 use Rattle.spec_run.specs.State.{switched_on}
 use Rattle.spec_run.specs.Run.{run}
-use Rattle.spec_run.specs.Law.{IsSoundSetting, LinesInForm}
+use Rattle.spec_run.specs.Law.{IsLawfulSetting, LinesInForm}
 use Rattle.spec_run.specs.Accepted.{AreImages, setting_of}
 use Rattle.spec_honest.specs.Course.{setup_items, setup_lines, setup_packets}
 use Rattle.law_setup.specs.Schedule.{setup_schedule}
@@ -25,7 +25,7 @@ abbrev pub ShowsSetUp : Setting → Type 0
 ShowsSetUp set = (run set (switched_on set) (setup_schedule set.app)).items ≡ setup_items set.app
 
 abbrev pub SetUp : Type 0
-SetUp = (set : Setting) → IsSoundSetting set → HasRoom set → ShowsSetUp set
+SetUp = (set : Setting) → IsLawfulSetting set → HasRoom set → ShowsSetUp set
 
 -- from text on: so it is for each deployment that is accepted, with images that realize its modules
 abbrev pub AcceptedSetUp : Type 0

@@ -41,7 +41,7 @@ abbrev pub Out : Outcome → Outcome → Type 0
 Out o p = LikeOutcome N N o p
 
 -- bytes are written where as many may be
-each_long : (live : List Section) (own : ℕ) (access : Access) (at : ℕ) (bs cs : List ℕ) → length bs ≡ length cs → may_each live own access at bs ≡ may_each live own access at cs
+pub each_long : (live : List Section) (own : ℕ) (access : Access) (at : ℕ) (bs cs : List ℕ) → length bs ≡ length cs → may_each live own access at bs ≡ may_each live own access at cs
 each_long live own access at [] [] e = refl
 each_long live own access at [] (c ∷ cs) e = absurd (omega (arith, e))
 each_long live own access at (b ∷ bs) [] e = absurd (omega (arith, e))

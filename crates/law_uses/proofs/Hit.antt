@@ -105,7 +105,7 @@ module _ (set : Setting) (sound : Rattle.spec_run.specs.Law.IsSoundSetting set) 
       → body ≡ [] → WasWrapped now.world.ledger (OfModule m boot) ask body → ⊥
   unmade m boot site ask body none e (inl was) =
       let l = (holds set lines sound k now (lines_form set lines sound form) f.at f.first).logged (made_entry maker.Deployer m boot ask body) was in
-      let long : length body ≡ 16 = ap (λ (z : Made). length z.body) l.1 ∙ key_long set l.0.«end».link l.0.epoch sound.tag.width in
+      let long : length body ≡ 16 = ap (λ (z : Made). length z.body) l.1 ∙ key_long set l.0.«end».link l.0.epoch sound.tag in
       let empty = ap length e in
       absurd (omega (arith, long, empty))
   unmade m boot site ask body none e (inr was) =
@@ -130,7 +130,7 @@ module _ (set : Setting) (sound : Rattle.spec_run.specs.Law.IsSoundSetting set) 
             (verdict_tries set lines k now f.at who m boot site answer a.ask (option_flatten (slice_get now.world.deployer.open_asks m)) a.asked)));
         right = ap (bytes_eq answer) (sym a.whole) ∙ bytes_eq-same answer;
         fresh = unmade_was_not_given set sound lines form k now f.at f.first m boot site a.ask [] e (λ body c was.
-            unmade m boot site a.ask body a.unmade (crypt_none set.mac (key_of set site boot) a.ask body sound.tag.width c) was);
+            unmade m boot site a.ask body a.unmade (crypt_none set.secret set.mac (key_of set site boot) a.ask body sound.tag c) was);
       }
 
 pub answers_hit_fresh : AnswersHitFresh

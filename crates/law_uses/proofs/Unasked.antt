@@ -28,10 +28,10 @@ module _ (set : Setting) (nac : Mac) (key rest : List ℕ) (d : DifferAt set.mac
   abbrev b : Setting
   b = record set { mac = nac }
 
-  derive : DeriveTheSame set.mac nac
+  pub derive : DeriveTheSame set.mac nac
   derive k r = d.others k (0x4B ∷ r) (λ e f. let z : 0x4B ≡ 0x54 = ap head_of f in absurd (omega (arith, z)))
 
-  held : (who : Holder) → key_held set who ≡ key_held b who
+  pub held : (who : Holder) → key_held set who ≡ key_held b who
   held = (keys_are_held set nac derive).1
 
   -- elsewhere both give the same
@@ -55,12 +55,12 @@ module _ (set : Setting) (nac : Mac) (key rest : List ℕ) (d : DifferAt set.mac
     ap (λ (k : List ℕ). nac k m) (sym (held who) ∙ e) ∙ ap (nac key) g,
   )
 
-  stream_same : (who : Holder) (header body : List ℕ) → crypt set.mac (key_held set who) header body ≡ crypt nac (key_held b who) header body
+  pub stream_same : (who : Holder) (header body : List ℕ) → crypt set.mac (key_held set who) header body ≡ crypt nac (key_held b who) header body
   unfolding crypt
   stream_same who header body =
       ap (xor_bytes body) (others who (0x53 ∷ length header ∷ (header ++ 0 ∷ [])) (λ e f. let z : 0x53 ≡ 0x54 = ap head_of f in absurd (omega (arith, z))))
 
-  long_here : (who : Holder) (m : List ℕ) → length (set.mac (key_held set who) m) ≡ length (nac (key_held b who) m)
+  pub long_here : (who : Holder) (m : List ℕ) → length (set.mac (key_held set who) m) ≡ length (nac (key_held b who) m)
   long_here who m = elim (here_or_same who m) [
     | inl h ↦ let p = at_it who m h.0 h.1 in ap length p.0 ∙ d.size ∙ sym (ap length p.1)
     | inr e ↦ ap length e
@@ -69,7 +69,7 @@ module _ (set : Setting) (nac : Mac) (key rest : List ℕ) (d : DifferAt set.mac
   taken_long : (xs ys : List ℕ) → length xs ≡ length ys → length (take 16 xs) ≡ length (take 16 ys)
   taken_long xs ys e = length-take 16 xs ∙ ap (λ (n : ℕ). Rattle.std.proofs.Common.min 16 n) e ∙ sym (length-take 16 ys)
 
-  tag_long : (who : Holder) (header cipher : List ℕ) → length (wrap_tag set.mac (key_held set who) header cipher) ≡ length (wrap_tag nac (key_held b who) header cipher)
+  pub tag_long : (who : Holder) (header cipher : List ℕ) → length (wrap_tag set.mac (key_held set who) header cipher) ≡ length (wrap_tag nac (key_held b who) header cipher)
   unfolding wrap_tag
   tag_long who header cipher =
       let m = 0x54 ∷ length header ∷ (header ++ cipher) in
@@ -90,7 +90,7 @@ module _ (set : Setting) (nac : Mac) (key rest : List ℕ) (d : DifferAt set.mac
         ∙ ap (λ (c : List ℕ). length (wrap_tag nac (key_held b who) header c)) (stream_same who header body),
   )
 
-  all_same : (us : List Use) → AllSpare set nac key rest us → SameUses set b us
+  pub all_same : (us : List Use) → AllSpare set nac key rest us → SameUses set b us
   all_same [] h = tt
   all_same (u ∷ us) h = (same u h.0, all_same us h.1)
 

@@ -90,7 +90,7 @@ line_same a nac keys secret (line.Answer m boot k) rest = refl
 line_same a nac keys secret (line.Load m) rest = refl
 line_same a nac keys secret (line.Call m e input output) rest = refl
 
-script_same : (a : Setting) (nac : Mac) (keys : List (List ℕ)) (secret : List ℕ) (lines : List Line) → script_of (rekeyed a nac keys secret) lines ≡ script_of a lines
+pub script_same : (a : Setting) (nac : Mac) (keys : List (List ℕ)) (secret : List ℕ) (lines : List Line) → script_of (rekeyed a nac keys secret) lines ≡ script_of a lines
 script_same a nac keys secret [] = refl
 script_same a nac keys secret (l ∷ lines) =
     ap (λ (f : List Look → Script). Do Begin f) (line_same a nac keys secret l (λ now. script_of (rekeyed a nac keys secret) lines))
@@ -258,7 +258,7 @@ kdf_same : (mac nac : Mac) → DeriveTheSame mac nac → (key part : List ℕ) �
 unfolding kdf
 kdf_same mac nac h key part = ap (take 16) (h key part)
 
-module_key_same : (mac nac : Mac) → DeriveTheSame mac nac → (key : List ℕ) (boot provider : ℕ) (id : List ℕ) → module_key mac key boot provider id ≡ module_key nac key boot provider id
+pub module_key_same : (mac nac : Mac) → DeriveTheSame mac nac → (key : List ℕ) (boot provider : ℕ) (id : List ℕ) → module_key mac key boot provider id ≡ module_key nac key boot provider id
 unfolding module_key section_key boot_key
 module_key_same mac nac h key boot provider id =
     let w32 = Rattle.std.specs.Int.to_le_bytes Rattle.std.specs.Int.w32 boot in

@@ -1,6 +1,6 @@
 -- What holds of every run: it is a legal run of the source, up to the first item that is forged.
-use Rattle.std.specs.Prelude.{◌≡◌, ℕ, ◌+◌, ◌<◌, ◌≤◌, ◌⊎◌, List, [], ◌∷◌, length, slice_get, Some}
-use Rattle.std.specs.Prelude.{None, true}
+use Rattle.std.specs.Prelude.{◌≡◌, ◌≢◌, ℕ, ◌+◌, ◌<◌, ◌≤◌, ◌⊎◌, List, [], ◌∷◌, length, slice_get}
+use Rattle.std.specs.Prelude.{Some, None, true, All}
 use Rattle.sx_lang.specs.Sizes.{module_data_size}
 use Rattle.sx_mean.specs.Application.{declared_kind, AppTree, PartTree, is_sensor}
 use Rattle.sx_mean.specs.declared.apps.AppDevice.{AppDevice}
@@ -10,7 +10,7 @@ use Rattle.sx_rules.specs.Admission.{good_bounds, parts_apart, apart}
 use Rattle.sx_bus.specs.declared.devices.Window.{Window}
 use Rattle.sx_bus.specs.Devices.{ArePlaces, powered_on, places_of, device_at}
 use Rattle.sx_sched.specs.Lines.{Line, Put, Set, Give, Sense, Irq, Ask, Call}
-use Rattle.sx_tag.specs.Mac.{IsTag}
+use Rattle.sx_tag.specs.Mac.{Mac, IsTag}
 use Rattle.sx_image.specs.Image.{Image}
 use Rattle.sx_image.specs.Realizes.{Realizes}
 use Rattle.spec_invocation.specs.Devices.{HasDevices}
@@ -67,10 +67,21 @@ pub record IsDeployedModule (set : Setting) (m : ℕ) (q : PartTree) (site : Sit
   pub device : (d : ℕ) → q.device ≡ Some d → IsDriven set q site d
   pub none : q.device ≡ None → declared_kind q.tree.decls ≡ None
 
+-- a tag of 32 bytes, each below 256
+abbrev pub IsTagBytes : List ℕ → Type 0
+IsTagBytes tag = (length tag ≡ 32) × All (λ b. b < 256) tag
+
+-- A tag function is lawful where it makes tags, and where it derives keys from the secret. Under
+-- other keys a message that begins with `K` may have any answer, so keys may be names.
+pub record IsTagUnder (secret : List ℕ) (mac : Mac) : Type 0 where
+  pub tags : (key : List ℕ) (kind : ℕ) (rest : List ℕ) → kind ≢ 0x4B
+      → IsTagBytes (mac key (kind ∷ rest))
+  pub derived : (rest : List ℕ) → IsTagBytes (mac secret (0x4B ∷ rest))
+
 -- what the law asks of a setting: a lawful tag, lists that fit the application, devices at places
 -- of their own, and modules that are deployed as the application says, on bytes of their own
 pub record IsSoundSetting (set : Setting) : Type 0 where
-  pub tag : IsTag set.mac
+  pub tag : IsTagUnder set.secret set.mac
   pub keys : length set.keys ≡ set.app.nodes
   pub sites : length set.sites ≡ length set.app.parts
   pub places : length set.places ≡ length set.app.devices
@@ -81,6 +92,11 @@ pub record IsSoundSetting (set : Setting) : Type 0 where
   pub apart : (m k : ℕ) (a b : Site) → slice_get set.sites m ≡ Some a
       → slice_get set.sites k ≡ Some b → a.node ≡ b.node → (m ≡ k)
       ⊎ AreApartLayouts a.layout b.layout
+
+-- and its tag function is lawful under every key
+pub record IsLawfulSetting (set : Setting) : Type 0 where
+  pub tag : IsTag set.mac
+  pub sound : IsSoundSetting set
 
 -- A line is in form: its numbers are in range, and `sense` is of a sensor.
 abbrev pub LineInForm : Setting → Line → Type 0

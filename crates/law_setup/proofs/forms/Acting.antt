@@ -20,7 +20,7 @@ use Rattle.spec_run.specs.Ledger.{NO_TARGET, made_entry, is_made}
 use Rattle.spec_run.specs.State.{World}
 use Rattle.spec_run.specs.Acts.{with_node, new_packet}
 use Rattle.spec_run.specs.Run.{after_line}
-use Rattle.spec_run.specs.Law.{IsSoundSetting}
+use Rattle.spec_run.specs.Law.{IsLawfulSetting}
 use Rattle.spec_honest.specs.Course.{packet_items}
 use Rattle.law_invocation.specs.Gives.{low_input, low_output}
 use Rattle.law_setup.proofs.forms.ByLine.{keys_shown}
@@ -56,7 +56,7 @@ with_keys set site w gs = record {
 -- of its ends follow
 abbrev pub AnswerAccepted : Type 0
 AnswerAccepted = (set : Setting) (w : World) (m k : ℕ) (site : Site) (ask answer : List ℕ)
-    → IsSoundSetting set → slice_get set.sites m ≡ Some site → slice_get w.packets k ≡ Some answer
+    → IsLawfulSetting set → slice_get set.sites m ≡ Some site → slice_get w.packets k ≡ Some answer
     → slice_get w.deployer.open_asks m ≡ Some (Some ask)
     → slice_get w.deployer.attested m ≡ Some None → answer ≡ expected set site 0 ask
     → is_made w.ledger (made_entry (maker.Module m) NO_TARGET 0 ask []) ≡ true
@@ -88,7 +88,7 @@ pub record TakesKey (set : Setting) (w : World) (m : ℕ) (q : PartTree) (site :
 -- a set-key packet for a closed end is given and taken: the end opens
 abbrev pub KeyTaken : Type 0
 KeyTaken = (set : Setting) (w : World) (m : ℕ) (q : PartTree) (site : Site) (sec : Section) (s : State) (st : ModuleState) (k j : ℕ) (e : End)
-    → IsSoundSetting set → slice_get w.nodes site.node ≡ Some s → IsServed set m q site sec s st
+    → IsLawfulSetting set → slice_get w.nodes site.node ≡ Some s → IsServed set m q site sec s st
     → end_found e.link e.side 0 (ends_of set.app m) ≡ Some (j, e) → e.link < 256
     → (end_of st.ends j).is_open ≡ false
     → slice_get w.packets k ≡ Some (set_key set site (first_grant m e))

@@ -17,7 +17,7 @@ use Rattle.spec_run.specs.Deployer.{after_acceptance, set_key, set_key_entry}
 use Rattle.spec_run.proofs.acts.Asking.{expected}
 use Rattle.spec_run.specs.Ledger.{Made, NO_TARGET, made_entry, is_made}
 use Rattle.spec_run.specs.State.{World}
-use Rattle.spec_run.specs.Law.{IsSoundSetting}
+use Rattle.spec_run.specs.Law.{IsLawfulSetting}
 use Rattle.spec_honest.specs.Course.{open_items, packet_items}
 use Rattle.law_invocation.specs.Gives.{low_input, low_output}
 use Rattle.law_setup.specs.Schedule.{key_lines}
@@ -57,7 +57,7 @@ grants_at epochs m es = Rattle.sx_deployer.specs.Granting.grants_of epochs m 0 e
 -- A module that was never attested is asked, answers, and is attested at boot 0.
 abbrev pub ModuleAttested : Type 0
 ModuleAttested = (set : Setting) (w : World) (m : ℕ) (q : PartTree) (site : Site) (sec : Section) (s : State) (st : ModuleState) (old : Option (List ℕ))
-    → IsSoundSetting set → slice_get w.nodes site.node ≡ Some s → IsServed set m q site sec s st
+    → IsLawfulSetting set → slice_get w.nodes site.node ≡ Some s → IsServed set m q site sec s st
     → w.deployer.asks < 65536 → slice_get w.deployer.open_asks m ≡ Some old
     → slice_get w.deployer.attested m ≡ Some None
     → let a = w.deployer.asks in
@@ -81,7 +81,7 @@ HaveKeys set w m site number (e ∷ es) =
 -- A module whose first ends are open takes the set-key packets of the others, one by one.
 abbrev pub KeysTaken : Type 0
 KeysTaken = (set : Setting) (w : World) (m : ℕ) (q : PartTree) (site : Site) (sec : Section) (s : State) (cells : List ℕ) (number : ℕ) (before es : List End)
-    → IsSoundSetting set → slice_get w.nodes site.node ≡ Some s
+    → IsLawfulSetting set → slice_get w.nodes site.node ≡ Some s
     → IsServed set m q site sec s (record { cells = cells; ends = map (first_end set) before ++ initial_ends es })
     → ends_of set.app m ≡ before ++ es → HaveKeys set w m site number es
     → DoesFor set w m q site sec s

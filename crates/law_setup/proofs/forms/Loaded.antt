@@ -16,7 +16,7 @@ use Rattle.spec_run.specs.Deployer.{key_of, list_at}
 use Rattle.spec_run.specs.State.{World}
 use Rattle.spec_run.specs.Acts.{with_node}
 use Rattle.spec_run.specs.Run.{load}
-use Rattle.spec_run.specs.Law.{IsSoundSetting}
+use Rattle.spec_run.specs.Law.{IsLawfulSetting}
 use Rattle.law_setup.proofs.forms.Settled.{ModuleStands}
 
 -- no section and no device of a node begins below 0x0200
@@ -67,4 +67,4 @@ pub record LoadDoes (set : Setting) (w : World) (m : ℕ) (q : PartTree) (site :
 
 abbrev pub ModuleLoaded : Type 0
 ModuleLoaded = (set : Setting) (w : World) (m : ℕ) (q : PartTree) (site : Site) (s : State)
-    → IsSoundSetting set → IsLoadable set w m q site s → LoadDoes set w m q site s
+    → IsLawfulSetting set → IsLoadable set w m q site s → LoadDoes set w m q site s

@@ -17,7 +17,7 @@ use Rattle.sx_deployer.specs.Granting.{after_ask}
 use Rattle.spec_run.specs.Deployer.{after_acceptance, key_of, set_key, set_key_entry}
 use Rattle.spec_run.proofs.acts.Asking.{expected}
 use Rattle.spec_run.specs.State.{World}
-use Rattle.spec_run.specs.Law.{IsSoundSetting}
+use Rattle.spec_run.specs.Law.{IsLawfulSetting}
 use Rattle.spec_honest.specs.Course.{part_items}
 use Rattle.law_setup.specs.Schedule.{part_lines}
 use Rattle.law_setup.proofs.forms.ByLine.{part_shown}
@@ -62,7 +62,7 @@ pub record SetsUp (set : Setting) (w : World) (m : ℕ) (q : PartTree) (site : S
 -- before it, never attested it, and all connections are in epoch 0.
 abbrev pub ModuleSetUp : Type 0
 ModuleSetUp = (set : Setting) (w : World) (m : ℕ) (q : PartTree) (site : Site) (s : State) (old : Option (List ℕ))
-    → IsSoundSetting set → IsLoadable set w m q site s
+    → IsLawfulSetting set → IsLoadable set w m q site s
     → shapes s.devices ≡ windows_at site.node set.app.devices set.places
     → w.deployer.asks ≡ m → m < 65536 → slice_get w.deployer.open_asks m ≡ Some old
     → slice_get w.deployer.attested m ≡ Some None

@@ -25,7 +25,8 @@ use Rattle.sx_mean.specs.Application.{PartTree}
 use Rattle.sx_mean.specs.Ends.{ends_of}
 use Rattle.sx_mean.proofs.Ends.{ends_counted}
 use Rattle.spec_run.specs.Setting.{Site, kind_of, windows_at}
-use Rattle.spec_run.specs.Law.{IsSoundSetting, IsDeployedModule, IsDriven, AreApartLayouts, image_at}
+use Rattle.spec_run.specs.Law.{IsSoundSetting, IsLawfulSetting, IsDeployedModule, IsDriven, AreApartLayouts, image_at}
+use Rattle.spec_run.proofs.Tags.{tag_under}
 use Rattle.spec_run.proofs.tie.Lists.{some_inj}
 use Rattle.spec_run.specs.Accepted.{setting_of, AreImages}
 use Rattle.spec_run.proofs.accepted.Windows.{found_at, own_device}
@@ -246,7 +247,7 @@ module _ (mac : Mac) (d : Deployed) (texts : List (List ℕ)) (acc : deployment.
   settled tag =
       let s = acc in
       record {
-        tag = tag;
+        tag = tag_under d.secret mac tag;
         keys = s.keys ∙ sym s.nodes;
         sites = sites_long d.app.parts d.layouts d.providers texts (laid_long d 0 d.app.parts d.layouts s.laid) (s.providers ∙ sym s.parts) images.as_many;
         places = s.places ∙ sym s.devices;
@@ -255,3 +256,6 @@ module _ (mac : Mac) (d : Deployed) (texts : List (List ℕ)) (acc : deployment.
         deployed = deployed_part;
         apart = apart_sites;
       }
+
+  pub lawfully : IsTag mac → IsLawfulSetting (setting_of mac d texts)
+  lawfully tag = record { tag = tag; sound = settled tag }

@@ -1,0 +1,5 @@
+use Rattle.law_makers.proofs.Realizing.{realizes_under}
+use Rattle.law_makers.proofs.laws.realizes_under.Goals as goal
+
+pub returns : goal.returns
+returns c = realizes_under
