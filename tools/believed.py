@@ -40,14 +40,21 @@ FORGED = [f"law_forgery.{law}" for law in (
 LINKS = [f"law_connections.{law}" for law in ("LinksUnseen.LinksAreUnseen", "Unlinks.HasMoved", "Found.KeysFound")]
 # What a property's text means, and when it is broken; what `watch` says of it is reached from the program.
 PROPERTIES = ["sx_watch.Text.IsProperty", "sx_watch.Watched.broken_at"]
-# How seldom a `forged` comes: counts, makers of schedules, and what a run asks of tags.
+# How seldom a `forged` comes: counts of tables, makers of schedules, and what their distinguishers say.
 ODDS = [
-    "law_counting.Guesses.FewGuessesHit", "law_counting.Pads.CiphersAreRandom",
+    *(f"law_rarity.{law}" for law in (
+        "Rare.ForgeriesAreRare", "Erring.AnswersAreTold", "Erring.DistinguisherSeldomErrs", "Names.NamedHasNames",
+    )),
+    "law_counting.Pads.CiphersAreRandom",
     *(f"law_makers.{law}" for law in (
         "Makers.MakersSeeTheSame", "Makers.DistinguisherIsRun", "Makers.DistinguisherKnowsNoKey",
-        "LinkMakers.SeesNoLink", "Time.StepsShowNoKey", "Time.ShowsNoLink",
+        "LinkMakers.SeesNoLink", "Time.StepsShowNoKey", "Time.ShowsNoLink", "NamedSound.NamedIsSound",
         "Impostors.IdentitiesDiffer", "Impostors.ImpostorsHaveOtherNames", "Impostors.NamesAreUnlawful",
     )),
+]
+# What a run asks of tags, and players who guess: steps to the laws of ODDS, which don't speak of them. Nobody has to believe these there.
+USES = [
+    "law_counting.Guesses.FewGuessesHit",
     *(f"law_uses.{law}" for law in (
         "UsesAlone.UsesAlone", "Whole.ScriptsAlone", "Whole.RunsAlone", "Whole.KeysAreHeld",
         "GivenLogged.GivenAreLogged", "GivenLogged.HeldAreLogged",
@@ -62,6 +69,7 @@ PROMISES = {
     "what `forged` says": FORGED,
     "what the keys of connections show": LINKS,
     "how seldom a `forged` comes": ODDS,
+    "what a run asks of tags": USES,
     "what runs show in order": ["spec_run.AcceptedLaw.*"],
     "what no run does": ["command_holds.Promise.HoldsTold"],
     "what `legal` says": ["command_explain.Explains.ExplainSays"],

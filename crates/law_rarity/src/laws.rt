@@ -1,0 +1,26 @@
+//! How rare forgeries are. Each law is a function that does nothing: its contract is the law.
+
+ghost use Rattle.law_rarity.specs.Erring.{AnswersAreTold, DistinguisherSeldomErrs};
+ghost use Rattle.law_rarity.specs.Names.{NamedHasNames};
+ghost use Rattle.law_rarity.specs.Rare.{ForgeriesAreRare};
+
+/// In a setting whose nodes hold names, the key of each module is its name.
+pub fn named_has_names()
+    ensures { NamedHasNames }
+{}
+
+/// Of all tables at most the part q / 2^128 leads to a run whose first `forged` comes with an answer.
+pub fn forgeries_are_rare()
+    ensures { ForgeriesAreRare }
+{}
+
+/// Over the tags of the key tree the distinguisher says whether the first `forged` comes with an
+/// answer.
+pub fn answers_are_told()
+    ensures { AnswersAreTold }
+{}
+
+/// Over a random table it seldom does.
+pub fn distinguisher_seldom_errs()
+    ensures { DistinguisherSeldomErrs }
+{}
