@@ -274,6 +274,13 @@ class Documents(unittest.TestCase):
             with self.subTest(document=document.name):
                 self.assertEqual(failed, 0, "\n".join(it for it in said if "FAILED" in it))
 
+    def test_the_first_commands(self):
+        """The README begins with a run, which is tried, and with the tests and the gate, which take longer and need only be there."""
+        run, tests, gate = (line.partition("#")[0] for line in blocks((TOP / "README.md").read_text())[0][2])
+        self.assertEqual(bash(run, TOP).returncode, 0)
+        self.assertEqual(bash(f"{tests} -k no_such_test 2>&1 | grep -c ImportError", TOP).stdout, "0\n")
+        self.assertEqual(bash(f"test -x {gate}", TOP).returncode, 0)
+
     def test_the_lines_to_believe(self):
         last = bash("python3 tools/believed.py | tail -n 1", TOP).stdout.strip()
         self.assertIn(f"`{last}`", (TOP / "README.md").read_text())
