@@ -16,26 +16,21 @@ ghost use Rattle.spec_machine.specs.Step.{word_outside, pc_of, own_of, start, en
 ghost use Rattle.spec_machine.specs.Answers.{Attempts};
 ghost use Rattle.spec_machine.specs.Guard.{Foreign};
 ghost use Rattle.spec_machine.specs.Guarding.{Guarded};
-ghost use Rattle.sx_sancus.specs.Told.{event_of, given_by, Concludes};
-ghost use Rattle.sx_tag.specs.Keys.{boot_key};
+ghost use Rattle.sx_sancus.specs.Told.{event_of};
 
 use crate::node::Node;
-use spec_machine::{Event, Exchange, Seen, Touch};
+use spec_machine::{Event, Seen, Touch};
 use sx_bus::Bus;
 use sx_core::step_plain;
-use sx_executor::Executor;
 use sx_executor::registers::PC;
 use sx_rules::Violation;
 use sx_sancus::{SancusEvent, step_sancus};
-use sx_tag::{Tag, boot_key};
+use sx_tag::Tag;
 
 /// The module instructions are the eight words from here on, but one.
 const FIRST_MODULE_WORD: u16 = 0x1380;
 
 const NO_MODULE_WORD: u16 = 0x1383;
-
-/// The code of the instruction that protects a module.
-const PROTECT: u8 = 1;
 
 /// What a step shows that a violation ended.
 pub(crate) fn reset_by(violation: Violation) -> Seen
@@ -73,39 +68,6 @@ fn event_of(own: u16, event: SancusEvent) -> Event
         SancusEvent::Wrapped => Event::Wrapped(own),
         SancusEvent::Unwrapped => Event::Unwrapped(own),
     }
-}
-
-/// The node's key in a boot for the instruction with this code. Protect alone derives a key from
-/// it, so for the others it isn't computed.
-fn base_for<T: Tag>(tag: &T, key: &[u8; 16], boot: u32, code: u8) -> [u8; 16]
-    ensures { code ≡ 1 → result ≡ boot_key T.mac key.now boot }
-{
-    if code == PROTECT {
-        boot_key(tag, key, boot)
-    } else {
-        [0; 16]
-    }
-}
-
-/// Executes a module instruction in a boot of a node with this key.
-fn execute<B: Bus, T: Tag>(
-    executor: &mut Executor<B>,
-    code: u8,
-    caller: u16,
-    tag: &T,
-    key: &[u8; 16],
-    boot: u32,
-    exchange: &mut Exchange,
-) -> Result<SancusEvent, Violation>
-    requires { is_code code ≡ true }
-    ensures { Concludes
-        (module_instruction T.mac code
-        (given_by executor.old caller (boot_key T.mac key.now boot) exchange.old)
-        executor.old.mem)
-        executor.old result executor.new exchange.new }
-{
-    let base = base_for(tag, key, boot, code);
-    step_sancus(executor, code, caller, tag, &base, exchange)
 }
 
 impl<B: Bus, T: Tag> Node<B, T> {
@@ -182,7 +144,7 @@ impl<B: Bus, T: Tag> Node<B, T> {
     {
         let caller = self.entered_from(own);
         self.executor.begin(own);
-        let event = execute(
+        let event = step_sancus(
             &mut self.executor,
             code,
             caller,

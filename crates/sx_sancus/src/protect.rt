@@ -4,6 +4,7 @@ ghost use Rattle.std.specs.Prelude.{◌≡◌, ℕ, List, Ok, IfOk, OnOk, OnErr}
 ghost use Rattle.std.specs.Result.{result_err};
 ghost use Rattle.sx_bus.specs.Devices.{places_of};
 ghost use Rattle.sx_rules.specs.Admission.{refusal};
+ghost use Rattle.sx_tag.specs.Keys.{boot_key};
 ghost use Rattle.spec_machine.specs.declared.kinds.Exchange.{Exchange};
 ghost use Rattle.spec_machine.specs.Protect.{protect, unprotect, layout_in, answer_registers};
 ghost use Rattle.spec_machine.specs.Protect.{number_of};
@@ -15,7 +16,7 @@ use crate::identity::key_for;
 use sx_bus::Bus;
 use sx_executor::Executor;
 use sx_rules::{Layout, Refusal};
-use sx_tag::Tag;
+use sx_tag::{Tag, boot_key};
 
 /// The number of a refusal, which R14 takes.
 fn number_of(refusal: Refusal) -> u16
@@ -54,37 +55,46 @@ fn answer<B: Bus>(executor: &mut Executor<B>, id: u16, number: u16)
     executor.conclude(id);
 }
 
-/// Admits the module that the registers name, with its key, and zeroes its private section. No key
-/// is derived for a module that is refused.
+/// Admits the module that the registers name, with its key of this boot of a node with the key
+/// `node_key`, and zeroes its private section. No key is derived for a module that is refused.
 fn admit<B: Bus, T: Tag>(
     executor: &mut Executor<B>,
     tag: &T,
-    base: &[u8; 16],
+    node_key: &[u8; 16],
+    boot: u32,
 ) -> Result<u16, Refusal>
     ensures refused { result_err result
         ≡ refusal executor.old.sections (layout_in executor.old.regs)
         (places_of executor.old.devices) }
     ensures id { IfOk result (λ id. id ≡ executor.old.sections.next) }
-    ensures admitted { OnOk result (executor.new ≡ after_admission T.mac executor.old base.now) }
+    ensures admitted { OnOk result (executor.new
+        ≡ after_admission T.mac executor.old (boot_key T.mac node_key.now boot)) }
     ensures unchanged { OnErr result (executor.new ≡ executor.old) }
 {
     let layout = layout_in(executor);
     let provider = executor.register(9);
     executor.test(layout)?;
-    let key = key_for(executor, tag, base, provider, &layout);
+    let base = boot_key(tag, node_key, boot);
+    let key = key_for(executor, tag, &base, provider, &layout);
     Ok(executor.admit(layout, provider, key))
 }
 
 /// Protects the module that R9 to R13 name; its key is derived from the public section's bytes as
 /// they are now, and its private section is zeroed. A refusal changes R14, R15 and PC alone.
 #[tactic(auto, unfolding(spec_machine::specs::Protect::protect))]
-pub fn protect<B: Bus, T: Tag>(executor: &mut Executor<B>, tag: &T, base: &[u8; 16]) -> SancusEvent
+pub fn protect<B: Bus, T: Tag>(
+    executor: &mut Executor<B>,
+    tag: &T,
+    node_key: &[u8; 16],
+    boot: u32,
+) -> SancusEvent
     ensures { (caller : ℕ) (exchange : Exchange)
         → Concludes
-        (protect T.mac (given_by executor.old caller base.now exchange) executor.old.mem)
+        (protect T.mac (given_by executor.old caller (boot_key T.mac node_key.now boot) exchange)
+        executor.old.mem)
         executor.old (Ok result) executor.new exchange }
 {
-    match admit(executor, tag, base) {
+    match admit(executor, tag, node_key, boot) {
         Ok(id) => {
             answer(executor, id, 0);
             SancusEvent::Protected(id)

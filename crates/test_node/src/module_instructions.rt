@@ -91,6 +91,7 @@ impl Parts {
             CALLER,
             &Weak,
             &[0; 16],
+            0,
             &mut self.exchange,
         )
     }

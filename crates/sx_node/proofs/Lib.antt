@@ -1,2 +1,0 @@
--- One file: only protect uses the boot key.
-pub mod BootKey
