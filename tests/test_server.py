@@ -223,6 +223,13 @@ class Server(Room):
                 found = self.at("definition", place(LIGHT, part, shift))
                 self.assertEqual((found["uri"], found["range"]["start"]), (self.uri, wanted))
 
+    def test_lines_that_end_in_a_carriage_return(self):
+        self.assertEqual(self.open(LIGHT.replace("\n", "\r\n")), [])
+        found = self.at("definition", place(LIGHT, "v > limit", 4))
+        self.assertEqual(found["range"]["start"], place(LIGHT, "limit = 100"))
+        (found,) = self.change(LIGHT.replace("v > limit", "v > limt").replace("\n", "\r\n"))
+        self.assertEqual((found.line, found.begin), (place(LIGHT, "v > limit")["line"], place(LIGHT, "v > limit", 4)["character"]))
+
     def test_definition_in_another_file(self):
         self.file("lighting.txt", LIGHTING)
         self.open(PROPERTY, "lit.property")

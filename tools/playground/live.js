@@ -41,19 +41,21 @@ class LivePanel {
     byId("live-undo").disabled = !this.before.length;
   }
 
+  // An event, and what can be done with it.
   row(event) {
-    const made = html("li"), {number, sender, receiver, connection} = event;
-    const button = (text, title, act) => {
-      const made = html("button", "", text);
-      made.title = title;
-      made.onclick = act;
-      return made;
-    };
+    const made = html("li"), {number, sender, receiver, connection, name} = event, once = this.delivery(event);
     made.append(
         `${number}: ${sender} → ${receiver} by ${connection} `,
-        button("Deliver", "Hands it to its module", () => this.act(...this.delivery(event))),
-        button("Twice", "Hands it to its module, and once more", () => this.act(...this.delivery(event), ...this.delivery(event))),
-        button("Drop", "Loses it", () => this.act(`# drop ${event.name}`)));
+        this.button("Deliver", "Hands it to its module", once),
+        this.button("Twice", "Hands it to its module, and once more", [...once, ...once]),
+        this.button("Drop", "Loses it", [`# drop ${name}`]));
+    return made;
+  }
+
+  button(text, title, lines) {
+    const made = html("button", "", text);
+    made.title = title;
+    made.onclick = () => this.act(...lines);
     return made;
   }
 

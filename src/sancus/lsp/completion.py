@@ -140,7 +140,8 @@ def symbols(it: Document) -> List[Dict[str, Any]]:
     if it.kind is Kind.PROPERTY:
         tree = sources(it)[0].tree
         headings = [one.heading for one in (tree.handlers if tree else []) if one.heading]
-        spans = [(f"on {head.words}", HANDLER, it.text.range(head.at, head.at + len(head.name))) for head in headings]
+        places = [(head, it.text.of_plain(head.at)) for head in headings]
+        spans = [(f"on {head.words}", HANDLER, it.text.range(at, at + len(head.name))) for head, at in places]
     elif it.kind is Kind.DEPLOYMENT and it.plan:
         teller, plan = Placed(it.kept()), it.plan
         named = [(kind, at, name) for kind in KINDS for at, name in enumerate(plan.names(kind)) if plan.toml.get(kind)]

@@ -28,7 +28,7 @@ OF_KEYS = {"node": ("node",), "device": ("device",), "from": ("module",), "to": 
 
 @dataclass(frozen=True)
 class Source:
-    """A source, or a property: where it begins in its text, what it is, and the module whose source it is."""
+    """A source, or a property: where it begins in the plain text, what it is, and the module whose source it is."""
 
     start: int
     text: str
@@ -79,18 +79,26 @@ def parsed(text: str) -> Optional[Module]:
 def sources(it: Document) -> List[Source]:
     """The sources of a deployment that stand there as they are; of a property, the property."""
     if it.kind is Kind.PROPERTY:
-        text = text_of(it.text.data)
+        text = text_of(it.text.plain)
         return [Source(0, text, parsed(text))]
     plan = it.plan
-    if it.kind is not Kind.DEPLOYMENT or not plan or b"\r" in it.head:
+    if it.kind is not Kind.DEPLOYMENT or not plan:
         return []
-    starts = [(source_start(it.head, plan, at), one) for at, one in enumerate(plan.modules)]
+    starts = [(source_start(it.text.plain, plan, at), one) for at, one in enumerate(plan.modules)]
     names = [(start, str(one.get("name")), str(one.get("source"))) for start, one in starts if start is not None]
     return [Source(start, text, plan.tree(name), name) for start, name, text in names]
 
 
 def source_at(it: Document, at: int) -> Optional[Source]:
+    at = it.text.in_plain(at)
     return next((one for one in sources(it) if one.start <= at <= one.start + len(one.text.encode())), None)
+
+
+def declaration(it: Document, source: Source, found: Tuple[str, int], name: str) -> Meaning:
+    """What a name of a source means, by its words and its place there."""
+    words, at = found
+    begin = it.text.of_plain(source.start + at)
+    return Meaning(words, it.uri, it.text.range(begin, begin + len(name)))
 
 
 def peers(plan: Plan, module: str, port: str) -> List[str]:
@@ -126,12 +134,11 @@ def in_source(it: Document, source: Source, word: Word) -> Optional[Meaning]:
     tree = source.tree
     if not tree:
         return None
-    at = word.begin - source.start
+    at = it.text.in_plain(word.begin) - source.start
     found = local(tree, word.text, at) or declared(tree, word.text, source.module, it.plan)
     if not found:
         return in_heading(it, word) if it.kind is Kind.PROPERTY else None
-    begin = source.start + found[1]
-    return Meaning(found[0], it.uri, it.text.range(begin, begin + len(word.text)))
+    return declaration(it, source, found, word.text)
 
 
 def in_heading(it: Document, word: Word) -> Optional[Meaning]:
@@ -196,8 +203,7 @@ def in_head(it: Document, word: Word) -> Optional[Meaning]:
     source = next((one for one in sources(it) if one.module == module), None)
     found = declared(source.tree, port, module, it.plan) if port and source and source.tree else None
     if source and found:
-        begin = source.start + found[1]
-        return Meaning(found[0], it.uri, it.text.range(begin, begin + len(port)))
+        return declaration(it, source, found, port)
     return entry(it, word.text, OF_KEYS.get(text_of(key[1]), KINDS))
 
 

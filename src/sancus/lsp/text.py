@@ -20,6 +20,16 @@ class Text:
         # where lines begin: an editor's, and the program's
         self.rows = [0, *(it.end() for it in BREAK.finditer(self.data))]
         self.lines = [0, *(it.end() for it in re.finditer(b"\n", self.data))]
+        # the text as the program reads it, in which no line ends in a carriage return
+        self.plain = self.data.replace(b"\r\n", b"\n")
+
+    def in_plain(self, at: int) -> int:
+        """The place in the plain text of a place."""
+        return at - self.data.count(b"\r\n", 0, at)
+
+    def of_plain(self, at: int) -> int:
+        """The place of a place in the plain text."""
+        return self.lines[self.plain.count(b"\n", 0, at)] + at - self.plain.rfind(b"\n", 0, at) - 1
 
     def position(self, at: int) -> Position:
         row = bisect_right(self.rows, at) - 1
