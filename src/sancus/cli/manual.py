@@ -34,7 +34,7 @@ def table(command: Command) -> List[str]:
 
 STATUSES = [
     ("0", "the whole output is written"),
-    ("1", "the deployment breaks a rule, test finds what isn't met, or campaign what is wrong"),
+    ("1", "the deployment breaks a rule, test finds what isn't met, campaign what is wrong, or fmt what would change"),
     ("2", "the arguments are no command"),
     ("3", "a line of a schedule, of readings or of a trace breaks a rule"),
     ("4", "a read failed"),
