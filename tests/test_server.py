@@ -256,6 +256,8 @@ class Server(Room):
         self.assertLessEqual({"limit", "v", "repeat"}, {*self.completed(*text.split("\1"))})
         text = LIGHT.replace('device = "light"', 'device = "\1"')
         self.assertEqual(self.completed(*text.split("\1")), ["light", "bulb"])
+        # (a quote that isn't closed is no TOML)
+        self.assertEqual(self.completed(*text.replace("\1\"", "\1").split("\1")), ["light", "bulb"])
         text = LIGHT.replace('to = "logic.level"', 'to = "\1"')
         self.assertIn("lamp.show", self.completed(*text.split("\1")))
 
@@ -263,7 +265,9 @@ class Server(Room):
         self.file("lighting.txt", LIGHTING)
         self.open(PROPERTY, "lit.property")
         self.assertIn("attested", self.completed(f"{PROPERTY}on "))
-        self.assertEqual(self.completed(f"{PROPERTY}on sense "), ["light", "bulb"])
+        self.assertEqual(self.completed(f"{PROPERTY}on sense "), ["light"])
+        self.assertEqual(self.completed(f"{PROPERTY}on out "), ["lamp"])
+        self.assertEqual(self.completed(f"{PROPERTY}on attested "), ["eye", "logic", "lamp"])
         self.assertLessEqual({"lit", "assume"}, {*self.completed(f"{PROPERTY}on reset b {{ ")})
 
     def test_symbols(self):

@@ -10,6 +10,7 @@ from sancus.lsp.documents import Document
 from sancus.lsp.names import OF_KEYS, Source, before, kinds_of, source_at, sources
 from sancus.model.acts import ACTS, fields_told
 from sancus.model.deployment import KINDS, Plan
+from sancus.model.guesses import NEEDED
 from sancus.model.kinds import Kind
 from sancus.model.language import PROPERTY_WORDS, VALUED, WATCHED, WORDS
 from sancus.model.schedule import FORMS
@@ -43,17 +44,29 @@ def entries(plan: Optional[Plan], kinds: Sequence[str]) -> List[Offer]:
 # --- Sources ----------------------------------------------------------------------------------------------------------
 
 
+def declared(source: Source) -> List[Offer]:
+    """The names of a source, found by the words before them: a text that is being written is seldom in the grammar."""
+    names = [{"label": it[2], "kind": VARIABLE, "detail": it[1]} for it in DECLARED.finditer(source.text)]
+    return [*names, *offers(sorted({it[1] for it in PARAMETER.finditer(source.text)}), VARIABLE, "value")]
+
+
 def in_source(source: Source, line: str) -> List[Offer]:
-    """Names and words of the handler language; declarations are looked for by their words, since a text that is being
-    written is seldom in the grammar."""
-    known = [(it[1], it[2]) for it in DECLARED.finditer(source.text)]
+    """Names and words of the handler language."""
     before_it = WORD_BEFORE.search(line)
     wanted = {"send": "output", "on": "input"}.get(before_it[1]) if before_it else None
     if wanted:
-        return offers((name for kind, name in known if kind == wanted), VARIABLE, wanted)
-    parameters = offers(sorted({it[1] for it in PARAMETER.finditer(source.text)}), VARIABLE, "value")
-    names = [it for kind, name in known for it in offers([name], VARIABLE, kind)]
-    return [*names, *parameters, *offers(sorted(WORDS), KEYWORD)]
+        return [it for it in declared(source) if it["detail"] == wanted]
+    return [*declared(source), *offers(sorted(WORDS), KEYWORD)]
+
+
+def watched(plan: Plan, kind: str) -> List[str]:
+    """What items of a kind can be of, as rule P3 of a property has it."""
+    what, needed = WATCHED[kind], NEEDED.get(kind)
+    devices = [str(it.get("name")) for it in plan.devices if needed in (None, it.get("kind"))]
+    if what == "device":
+        return devices
+    drives = [str(it.get("name")) for it in plan.modules if it.get("device") in devices]
+    return drives if what == "module" and needed else plan.names(what)
 
 
 def in_property(it: Document, source: Source, line: str) -> List[Offer]:
@@ -63,11 +76,9 @@ def in_property(it: Document, source: Source, line: str) -> List[Offer]:
     if heading and place == 1:
         return [{"label": kind, "kind": KEYWORD, "detail": of} for kind, of in WATCHED.items()]
     if heading and place == 2 and heading[1] in WATCHED:
-        made = entries(it.plan, [WATCHED[heading[1]]])
+        made = offers(watched(it.known, heading[1]) if it.known else [], VARIABLE, WATCHED[heading[1]])
         return [{**one, "insertText": f"{one['label']}(v)"} for one in made] if heading[1] in VALUED else made
-    known = [(one[1], one[2]) for one in DECLARED.finditer(source.text)]
-    names = [one for kind, name in known for one in offers([name], VARIABLE, kind)]
-    return [*names, *offers(sorted(PROPERTY_WORDS - OF_MODULES), KEYWORD)]
+    return [*declared(source), *offers(sorted(PROPERTY_WORDS - OF_MODULES), KEYWORD)]
 
 
 # --- Tables and lines -------------------------------------------------------------------------------------------------
@@ -75,8 +86,9 @@ def in_property(it: Document, source: Source, line: str) -> List[Offer]:
 
 def ports(it: Document, kind: str) -> List[Offer]:
     """The outputs, or the inputs, of all modules."""
-    found = ((one.module, one.tree) for one in sources(it) if one.tree)
-    return offers((f"{module}.{port}" for module, tree in found for port in tree.names(kind)), FIELD, kind)
+    plan = it.known
+    trees = [(name, plan.tree(name)) for name in plan.names("module")] if plan else []
+    return offers((f"{name}.{port}" for name, tree in trees if tree for port in tree.names(kind)), FIELD, kind)
 
 
 def in_head(it: Document, text: str, line: str) -> List[Offer]:
@@ -88,7 +100,7 @@ def in_head(it: Document, text: str, line: str) -> List[Offer]:
             return offers(("sensor", "actuator"), VALUE)
         if key in ("from", "to"):
             return ports(it, "output" if key == "from" else "input")
-        return entries(it.plan, OF_KEYS.get(key, ()))
+        return entries(it.known, OF_KEYS.get(key, ()))
     if not KEY_BEGUN.search(line):
         return []
     inline = re.findall(r"(\w+)\s*=\s*\[", text) if "{" in line else []
@@ -109,7 +121,7 @@ def in_line(it: Document, line: str) -> List[Offer]:
     if place == 0:
         acts = [{"label": act, "kind": FUNCTION, "detail": fields_told(act, ACTS)} for act in ACTS]
         return acts + [{"label": act, "kind": FUNCTION, "detail": form} for act, (_, _, form) in FORMS.items()]
-    plan, field = it.plan, "".join(one.name for one in ACTS.get(words[0], [])[place - 1 : place])
+    plan, field = it.known, "".join(one.name for one in ACTS.get(words[0], [])[place - 1 : place])
     if not plan or words[0] in ("#", "#:", "#>"):
         return []
     if field == "PACKET":

@@ -58,6 +58,8 @@ class Document:
     text: Text
     kind: Kind
     deployment: Optional[Deployment]
+    # the tables of its deployment as they could be read last: a text that is being written is often none
+    known: Optional[Plan] = None
 
     @property
     def name(self) -> str:
@@ -120,7 +122,9 @@ class Documents:
         text = Text(content)
         kind = kind_of(str(path_of(uri) or uri), text.data)
         found = Deployment(uri, text) if kind is Kind.DEPLOYMENT else self.deployment_of(uri, text)
+        before = self.by_uri.get(uri)
         made = self.by_uri[uri] = Document(uri, text, kind, found)
+        made.known = made.plan or (before.known if before else None)
         return made
 
     def deployment_of(self, uri: str, text: Text) -> Optional[Deployment]:
