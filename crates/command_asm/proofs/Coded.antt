@@ -10,7 +10,7 @@ judged_ok : (bad : Option ℕ) (r : Result (List ℕ) AsmError) (code : List ℕ
 judged_ok None r code e = e
 judged_ok (Some n) r code e = absurd (cc e)
 
--- the code that is listed stands in words, none above 65,535
+-- the code that is listed is in words, none above 65,535
 pub list_stands : (at : ℕ) (g : Gathered) (code slice : List ℕ) → at < 65536 → code_at at g ≡ Ok code → slice ≡ code → Standing at slice
 list_stands at g code slice low e same =
     let P : List ℕ → Type 0 = λ x. Standing at x in

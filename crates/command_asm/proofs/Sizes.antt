@@ -170,7 +170,7 @@ passed : {A B : Type 0} (r : Result A AsmError) (f : A → Result B AsmError) (y
 passed (Ok x) f y h = (x, refl, h)
 passed (Err e) f y h = absurd (cc h)
 
--- code stands in words, none above 65,535
+-- code is in words, none above 65,535
 pub record Standing (at : ℕ) (code : List ℕ) : Type 0 where
   pub even : length code % 2 ≡ 0
   pub fits : at + length code ≤ 65536

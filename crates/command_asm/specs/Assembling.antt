@@ -109,7 +109,7 @@ asm_input at Unread = unread_output
 abbrev pub asm_all : ℕ → List Answer → Output
 asm_all at answers = asm_input at (input answers)
 
--- what is written for the whole input, as it stood at the start
+-- what is written for the whole input, as it was at the start
 abbrev pub asm_of : ℕ → CommandAt → Output
 asm_of at m0 = asm_all at (scan asm_lines Ended [] m0.source.rest)
 

@@ -42,7 +42,7 @@ decoded (Err e) = None
 unfoldable pub line_bytes : ℕ → List ℕ → Option (List ℕ)
 line_bytes number text = if nat_lt most_lines number then None else decoded (decode_of text)
 
--- these bytes stand before those that are given
+-- these bytes come before those that are given
 abbrev pub in_front : List ℕ → HexInput → HexInput
 in_front bytes (Bytes more) = Bytes (bytes ++ more)
 in_front bytes (BadLine number) = BadLine number

@@ -7,7 +7,7 @@ use Rattle.sx_asm.specs.Shown.{listed}
 use Rattle.command_text.specs.Address.{address}
 use Rattle.command_text.specs.Output.{line}
 
--- the line of the first instruction of some bytes that stand at an address: the address, its bytes
+-- the line of the first instruction of some bytes at an address: the address, its bytes
 -- and its text
 unfoldable pub listing_line : ℕ → List ℕ → List ℕ
 listing_line at bytes =
@@ -23,6 +23,6 @@ listing_lines (suc k) at bytes =
     listing_line at bytes ++ listing_lines k (further at size) (drop size bytes)
     )
 
--- the lines of all instructions of some bytes that stand from an address on
+-- the lines of all instructions of some bytes from an address on
 unfoldable pub listing : ℕ → List ℕ → List ℕ
 listing at bytes = listing_lines (length bytes) at bytes

@@ -36,7 +36,7 @@ enum Reading {
 }
 
 /// The bytes that have come, while they aren't too many to be listed. Then no more are kept, since
-/// the input breaks a rule whatever else stands in it.
+/// the input breaks a rule whatever else is in it.
 #[derive(Drop)]
 struct Code {
     kept: ArrayVec<u8, MOST_CODE>,

@@ -18,7 +18,7 @@ abbrev pub IsAcceptedDeployment : Result Deployed DeployFault → Type 0
 IsAcceptedDeployment (Ok d) = Unit {0}
 IsAcceptedDeployment (Err f) = ⊥
 
--- a deployment that keeps the rules stands before a line `%%`
+-- a deployment that keeps the rules comes before a line `%%`
 abbrev pub IsGoodHead : Meaning → Head → Type 0
 IsGoodHead meaning (Found text more) = IsAcceptedDeployment (meaning text)
 IsGoodHead meaning TooLong = ⊥

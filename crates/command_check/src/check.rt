@@ -1,4 +1,4 @@
-//! The command `check`: it reads a deployment and says where its modules stand, or which rule it
+//! The command `check`: it reads a deployment and says where its modules are, or which rule it
 //! breaks.
 
 ghost use Rattle.std.specs.Prelude.{◌≡◌, ◌++◌, IfErr, IfOk, OnOk, Ok};
@@ -65,7 +65,7 @@ fn accepted(alloc: Global, deployment: &Deployment) -> Result<Vec<u8>, AllocErro
     Ok(text)
 }
 
-/// Writes where the modules stand.
+/// Writes where the modules are.
 fn accept<K: Sink>(alloc: Global, deployment: &Deployment, output: &mut K) -> u8
     ensures { CommandEnds K.tells (K.at output.old) (K.at output.new) result
         (check_output (Ok (deployed_as deployment.now))) }

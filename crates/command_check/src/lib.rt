@@ -1,4 +1,4 @@
-//! The command `check`: where the modules of a deployment stand, or which rule it breaks.
+//! The command `check`: where the modules of a deployment are, or which rule it breaks.
 //!
 //! What it promises is `CheckTold` of specs/Promise.antt: what is written, and the exit status, are
 //! `check_all` (specs/Check.antt) of the input's head.

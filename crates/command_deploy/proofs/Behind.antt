@@ -38,7 +38,7 @@ use Rattle.command_deploy.specs.Deploy.{Behind, Wants, deploy_output}
 no_bytes : AreByteTexts []
 no_bytes m t e = absurd (cc e)
 
--- what is done behind a head of a text
+-- what is done after a head of a text
 pub does_read : {tells to_tell : Bool} {now : Ahead} {s0 s1 : SourceAt} {k0 k1 : SinkAt} {status : ℕ} (mac : Mac) (own : Behind) (may : Wants) (text : List ℕ) (r : Result Deployment DeployError)
     → GivesOne deployed_as r (IsRead text)
     → IfOk r (λ d. (text : List ℕ) → IsRead text (Ok (deployed_as d)) → DeploysOrRanOut mac own may tells to_tell now (command_at s0 k0) (command_at s1 k1) status text)

@@ -1,4 +1,4 @@
--- What a command that deploys writes, and its exit status, over what it writes behind the head of a
+-- What a command that deploys writes, and its exit status, over what it writes after the head of a
 -- deployment, and its status there.
 use Rattle.std.specs.Prelude.{ℕ, List, Result, Ok, Err}
 use Rattle.sx_io.specs.Reading.{Answer}
@@ -11,16 +11,16 @@ use Rattle.sx_deploy.specs.Deployment.{Deployed}
 use Rattle.command_head.specs.Meanings.{Meaning}
 use Rattle.command_head.specs.Refused.{fault_output}
 
--- what is written behind the head of a deployment, by the texts of its modules' images and the
+-- what is written after the head of a deployment, by the texts of its modules' images and the
 -- answers to come
 abbrev pub Behind : Type 0
 Behind = Deployed → List (List ℕ) → List Answer → Output
 
--- whether a line behind the head of a deployment may want memory, by the lines between them
+-- whether a line after the head of a deployment may want memory, by the lines between them
 abbrev pub Wants : Type 1
 Wants = Deployed → List Answer → List ℕ → Type 0
 
--- what follows from a deployment that was read and the answers behind it, or from the rule that it
+-- what follows from a deployment that was read and the answers after it, or from the rule that it
 -- breaks
 abbrev pub by_deployment : {A : Type 0} → (Deployed → List Answer → A) → (DeployFault → A)
     → Result Deployed DeployFault → List Answer → A
@@ -35,12 +35,12 @@ by_head own broken unread meaning TooLong = broken (fault 1 Nowhere)
 by_head own broken unread meaning NoMark = broken (fault 2 Nowhere)
 by_head own broken unread meaning Unread = unread
 
--- what is written of a whole input, over what is written behind its head
+-- what is written of a whole input, over what is written after its head
 abbrev pub deploy_output : Behind → Meaning → List (List ℕ) → List Answer → Output
 deploy_output own meaning texts answers =
     by_head (λ d. own d texts) fault_output unread_output meaning (head answers)
 
--- the exit status, of the answers alone, over the status behind the head
+-- the exit status, of the answers alone, over the status after the head
 abbrev pub deploy_status : (Deployed → List Answer → ℕ) → Meaning → List Answer → ℕ
 deploy_status own meaning answers = by_head own (λ f. 1) read_failed meaning (head answers)
 

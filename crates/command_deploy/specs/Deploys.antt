@@ -14,7 +14,7 @@ use Rattle.command_head.specs.Wanting.{RanOutAt}
 use Rattle.command_world.specs.Compiled.{compiled_texts}
 use Rattle.command_deploy.specs.Deploy.{Behind, Wants, deploy_output, deploy_status}
 
--- What a command that deploys has of its own: what it writes behind the head, and its status there,
+-- What a command that deploys has of its own: what it writes after the head, and its status there,
 -- whatever the images are; the statuses with which it is cut short, whatever the input is; at which
 -- lines memory may run out; and what it promises of the images that were made, for a head of this
 -- text or for none.
@@ -50,7 +50,7 @@ pub record DeploysWith (mac : Mac) (part : OwnPart) (tells to_tell : Bool) (m0 m
 
 -- A command that deploys. Whatever the images are, its status is that of the input where no read
 -- and no write failed, unless the command was cut short; status 0 says that the input was read to
--- its end. Where memory ran out, no line behind the head was given, or the last that was given is
+-- its end. Where memory ran out, no line after the head was given, or the last that was given is
 -- one at which it may (`memory`).
 pub record DeploySays (mac : Mac) (part : OwnPart) (tells to_tell : Bool) (m0 m1 : CommandAt)
     (status : ℕ) : Type 0 where

@@ -21,10 +21,10 @@ use sx_tag::Tag;
 
 /// A command that deploys, by what is its own.
 pub trait Deploys {
-    // What is written behind the head of a deployment, for a tag.
+    // What is written after the head of a deployment, for a tag.
     ghost behind: { Mac → Behind };
 
-    // At which lines behind the head memory may run out.
+    // At which lines after the head memory may run out.
     ghost may: { Wants };
 
     /// Does what follows the head, with these images of the deployment's modules. Gives the exit

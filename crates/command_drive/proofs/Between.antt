@@ -1,4 +1,4 @@
--- How an honest run stands between two lines of readings.
+-- The state of an honest run between two lines of readings.
 use Rattle.std.proofs.Common.{◌≡◌, ℕ, Bool, false, List}
 use Rattle.sx_io.specs.Reading.{Answer, Limit}
 use Rattle.sx_io.specs.Next.{Ahead}

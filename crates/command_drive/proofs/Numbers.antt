@@ -21,7 +21,7 @@ use Rattle.law_delivery.specs.Schedule.{delivery_lines, event_lines, honest_sche
 use Rattle.law_delivery.proofs.Effects.{sends_few}
 use Rattle.law_delivery.proofs.Fitting.{delivery_is, reading_is, settling_fits}
 
--- the numbers of a line, before which b lines stand
+-- the numbers of a line, that come after b lines
 abbrev pub HasNumbers : ℕ → Line → Type 0
 HasNumbers b (Take n at len) = at < 65536
 HasNumbers b (Give k n at) = (k ≤ b) × (at < 65536)
@@ -29,7 +29,7 @@ HasNumbers b (Answer m boot k) = (boot ≤ b) × (k ≤ b)
 HasNumbers b (Call m e input output) = (e < 65536) × (input < 65536) × (output < 65536)
 HasNumbers b _ = Unit {0}
 
--- of lines, before which b lines stand
+-- of lines, that come after b lines
 abbrev pub AreNumbered : ℕ → List Line → Type 0
 AreNumbered b [] = Unit {0}
 AreNumbered b (l ∷ ls) = HasNumbers b l × AreNumbered (suc b) ls

@@ -1,4 +1,4 @@
--- What `drive` owes behind the head of a deployment.
+-- What `drive` owes after the head of a deployment.
 use Rattle.std.proofs.Common.{◌≡◌, ◌∙◌, ◌⊎◌, ℕ, ◌+◌, ◌<◌, List, [], ◌∷◌, refl, sym, ap, arith, Result, Ok, Err, inl, inr, Bool, true, false}
 use Rattle.std.specs.Prelude.{if◌then◌else◌}
 use Rattle.sx_io.specs.Reading.{Answer, Long}

@@ -106,7 +106,7 @@ told_wanted to_tell names k0 k1 said rest a e wrote same = λ left more.
     ends-out-of-memory to_tell k0 k1 (part_output names a left more)
     (λ t. prefix_said names k0.written k1.written said rest a.said o.text e (prefix-all k0.written k1.written (said_text names said) (wrote t))) same
 
--- all that was said was written, and the command went on behind it
+-- all that was said was written, and the command went on after it
 pub part_told : {E : Type 0} (to_tell : Bool) (names : NameLists) (k0 k1 k2 : SinkAt) (said : List Said) (r : Result Drove E) (a : Driven) (turned : Turned)
     → SaysAll said r a → ((left : List Answer → Output) → WroteSome to_tell k0 k1 (λ more. behind (said_text names said) (left more)) left)
     → (IsTrue to_tell → k1.written ≡ k0.written ++ said_text names said) → EndsPart to_tell k1 k2 r turned → TellsPart to_tell k0 k2 names a turned
@@ -132,7 +132,7 @@ part_stopped to_tell names k0 k1 said (Err e) a status says ends = λ left more.
     ends-same to_tell k0 k1 status (part_output names a left more) (behind (said_text names said) (behind (said_text names says.0) o))
     (said_front names said says.0 a.said o says.1) (ends (λ m. behind (said_text names says.0) o) more)
 
--- the command went on only behind a part that was done to its end
+-- the command went on only after a part that was done to its end
 pub ends_on : {E : Type 0} (to_tell : Bool) (k0 k1 : SinkAt) (r : Result Drove E) (turned : Turned) → EndsPart to_tell k0 k1 r turned → turned ≡ On → r ≡ Ok Done
 ends_on to_tell k0 k1 (Ok Done) turned ends on = refl
 ends_on to_tell k0 k1 (Ok Long) On ends on = absurd ends

@@ -84,7 +84,7 @@ unfolding said_line item_line
 items_same names [] = refl
 items_same names (i ∷ items) = ap (λ (t : List ℕ). said_line names (SaidItem i) ++ t) (items_same names items)
 
--- a line, and its items behind it
+-- a line, and its items after it
 said_whole : (names : NameLists) (batch : List ℕ) (x : Told)
     → (batch ++ said_line names (SaidLine (line_of x.line))) ++ items_text names x.items.items ≡ batch ++ said_text names (said_of x)
 said_whole names batch x =

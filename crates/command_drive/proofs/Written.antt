@@ -27,7 +27,7 @@ ended_short h stop e = ap (λ (b : Bool). if b then long_output else stop_output
 pub ended_long : (h : Honest) (stop : Stop) → h.long ≡ true → ended_output h stop ≡ long_output
 ended_long h stop e = ap (λ (b : Bool). if b then long_output else stop_output h.world.steps stop) e
 
--- what a part says stands before what the rest says
+-- what a part says comes before what the rest says
 said_then : (names : NameLists) (a b : Driven) (o : Output) → behind (said_text names (a.said ++ b.said)) o ≡ behind (said_text names a.said) (behind (said_text names b.said) o)
 said_then names a b o =
     ap (λ (t : List ℕ). record { text = t; status = o.status })
@@ -37,7 +37,7 @@ said_then names a b o =
 quiet_rest : (names : NameLists) (b : Driven) (stop : Stop) → Quiet b → told_run names b stop ≡ long_output
 quiet_rest names b stop q = ap (λ (xs : List Said). behind (said_text names xs) (ended_output b.honest stop)) q.nothing ∙ ended_long b.honest stop q.long
 
--- a part, and the readings behind it
+-- a part, and the readings after it
 part_rest : (d : Deployed) (set : Setting) (a : Driven) (x : Readings) (b : Bool) → a.honest.long ≡ b → AreThere d.names set → AreReadings d x.readings
     → told_run d.names (record { honest = (each (reads set) x.readings a.honest).honest; said = a.said ++ (each (reads set) x.readings a.honest).said }) x.stop
     ≡ behind (said_text d.names a.said) (if b then long_output else readings_output d.names set a.honest x)

@@ -1,4 +1,4 @@
--- What the command `drive` writes behind the head of a deployment, and its exit status: a function
+-- What the command `drive` writes after the head of a deployment, and its exit status: a function
 -- of the texts of the modules' images, and of the answers that the lines of its input give.
 use Rattle.std.specs.Prelude.{ℕ, if◌then◌else◌, List, ◌++◌, flat_map, codes, decimal}
 use Rattle.sx_io.specs.Reading.{Answer}
@@ -17,7 +17,7 @@ use Rattle.command_world.specs.Images.{images_text}
 use Rattle.command_world.specs.Schedule.{Stop, AtEnd, Unread, Breaks}
 use Rattle.command_drive.specs.Readings.{readings_from}
 
--- a line of the schedule stands after `> `, an item as a run writes it
+-- a line of the schedule comes after `> `, an item as a run writes it
 unfoldable pub said_line : NameLists → Said → List ℕ
 said_line names (SaidLine l) = line (codes "> " ++ line_text names l)
 said_line names (SaidItem i) = line (item_text names i)
@@ -48,7 +48,7 @@ stop_output steps AtEnd = record { text = steps_text steps; status = 0 }
 stop_output steps Unread = unread_output
 stop_output steps (Breaks rule number) = reading_fault rule number
 
--- what is written behind a run that came here; what has no room ends it
+-- what is written after a run that came here; what has no room ends it
 abbrev pub ended_output : Honest → Stop → Output
 ended_output h stop = if h.long then long_output else stop_output h.world.steps stop
 

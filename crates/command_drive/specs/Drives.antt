@@ -39,7 +39,7 @@ abbrev pub left_out : ℕ
 left_out = 9
 
 -- The run of the lines that were said, from power-on, shows the items that were said, those of each
--- line behind it (`told`); and in it each thing that happens leaves each private section alone.
+-- line after it (`told`); and in it each thing that happens leaves each private section alone.
 pub record IsTheRun (set : Setting) (a : Driven) : Type 0 where
   pub items : items_of a.said ≡ (run set (switched_on set) (lines_in a.said)).items
   pub steps : a.honest.world.steps ≡ (run set (switched_on set) (lines_in a.said)).world.steps
@@ -90,11 +90,11 @@ pub record DrivesWith (mac : Mac) (deployment : Option (List ℕ)) (texts : List
 abbrev pub items_said : Mac → Deployed → List (List ℕ) → List Answer → List Item
 items_said mac d texts readings = items_of (driven_of mac d texts readings).said
 
--- memory may run out at this line of readings, behind these
+-- memory may run out at this line of readings, after these
 abbrev pub drive_may : Deployed → List Answer → List ℕ → Type 0
 drive_may d earlier text = MayRunOut (judged_reading d (length earlier + 1) text)
 
--- what is `drive`'s own behind the head; it is cut short where memory runs out, or where a line was
+-- what is `drive`'s own after the head; it is cut short where memory runs out, or where a line was
 -- left out
 abbrev pub drive_part : Mac → OwnPart
 drive_part mac = record {

@@ -73,7 +73,7 @@ abbrev pub AreNamed : NameLists → List Said → Type 0
 AreNamed names [] = Unit {0}
 AreNamed names (x ∷ said) = IsNamedSaid names x × AreNamed names said
 
--- what a part says, and what is written behind it; what has no room ends the command
+-- what a part says, and what is written after it; what has no room ends the command
 abbrev pub part_output : NameLists → Driven → (Honest → List Answer → Output) → List Answer → Output
 part_output names a left more =
     behind (said_text names a.said) (if a.honest.long then long_output else left a.honest more)
@@ -89,7 +89,7 @@ abbrev pub SaysAll : {E : Type 0} → List Said → Result Drove E → Driven �
 SaysAll said (Ok drove) a = (said ≡ a.said) × (drove ≡ drove_of a.honest.long)
 SaysAll said (Err e) a = (rest : List Said) × (said ++ rest ≡ a.said)
 
--- where memory ran out, all that was said stands written
+-- where memory ran out, all that was said is written
 abbrev pub TellsSaid : Bool → SinkAt → SinkAt → NameLists → List Said → Turned → Type 0
 TellsSaid to_tell k0 k1 names said turned = turned ≡ Stop out_of_memory → IsTrue to_tell
     → k1.written ≡ k0.written ++ said_text names said
@@ -99,7 +99,7 @@ abbrev pub StopsLong : Bool → SinkAt → SinkAt → Turned → Type 0
 StopsLong to_tell k0 k1 On = ⊥
 StopsLong to_tell k0 k1 (Stop status) = CommandEnds to_tell k0 k1 status long_output
 
--- how a command goes on behind a part
+-- how a command goes on after a part
 abbrev pub EndsPart : {E : Type 0} → Bool → SinkAt → SinkAt → Result Drove E → Turned → Type 0
 EndsPart to_tell k0 k1 (Ok Done) turned = (turned ≡ On) × (k1 ≡ k0)
 EndsPart to_tell k0 k1 (Ok Long) turned = StopsLong to_tell k0 k1 turned

@@ -16,7 +16,7 @@ use Rattle.command_world.specs.Schedule.{Stop, AtEnd, Unread, Breaks}
 use Rattle.command_drive.specs.declared.readings.ReadingLine.{ReadingLine}
 use Rattle.command_drive.specs.declared.readings.ReadingLine.TheVariants as says
 
--- rule 2: 65,536 lines stand before it
+-- rule 2: 65,536 lines come before it
 abbrev pub too_many : ℕ
 too_many = 2
 

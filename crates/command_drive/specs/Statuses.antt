@@ -5,6 +5,6 @@ use Rattle.sx_deploy.specs.Deployment.{Deployed}
 use Rattle.command_world.specs.Statuses.{stop_status}
 use Rattle.command_drive.specs.Readings.{readings_from}
 
--- the exit status behind the head of a deployment
+-- the exit status after the head of a deployment
 abbrev pub drive_status : Deployed → List Answer → ℕ
 drive_status d more = stop_status (readings_from d 1 more).stop

@@ -1,4 +1,4 @@
-//! The command `drive`: behind the head it writes the honest run of the readings that follow.
+//! The command `drive`: after the head it writes the honest run of the readings that follow.
 
 ghost use Rattle.std.specs.Prelude.{◌≡◌, IfOk, IsTrue, false, length};
 ghost use Rattle.command_promise.specs.Told.{command_at, out_of_memory};

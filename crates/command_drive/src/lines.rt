@@ -56,7 +56,7 @@ fn steps_text(steps: u64) -> Text
     text
 }
 
-/// Ends the command behind all readings.
+/// Ends the command after all readings.
 fn end_run<K: Sink>(output: &mut K, steps: u64) -> u8
     ensures ends { CommandEnds K.tells (K.at output.old) (K.at output.new) result
         (record { text = steps_text steps; status = 0 }) }

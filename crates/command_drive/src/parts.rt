@@ -24,7 +24,7 @@ use sx_trace::names::Names;
 /// The exit status for a run of which a line was left out.
 const LEFT_OUT: u8 = 9;
 
-/// Goes on behind a part of the run that was written; stops where a line of it was left out, or
+/// Goes on after a part of the run that was written; stops where a line of it was left out, or
 /// memory ran out.
 #[tactic(auto, unfolding(crate::specs::Drive::long_line))]
 fn end_part<K: Sink>(output: &mut K, drove: Result<Drove, AllocError>) -> Turned

@@ -17,7 +17,7 @@ use sx_sched::words::{is_comment, one_word, split_word};
 /// A line has more than 4,096 bytes.
 pub(crate) const TOO_LONG: u8 = 1;
 
-/// 65,536 lines stand before it.
+/// 65,536 lines come before it.
 const TOO_MANY: u8 = 2;
 
 /// The number of words is wrong.

@@ -1,4 +1,4 @@
--- How the command stands between two lines of a trace.
+-- The state of the command between two lines of a trace.
 use Rattle.std.proofs.Common.{◌≡◌, ◌≤◌, ℕ, ◌+◌, Bool, List, [], length}
 use Rattle.sx_io.specs.Reading.{Answer, Limit}
 use Rattle.sx_io.specs.Next.{Ahead}

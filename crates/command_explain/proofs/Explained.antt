@@ -23,7 +23,7 @@ use Rattle.command_explain.specs.Laws.{Refused, TracesExplained, cause_line, cau
 use Rattle.command_explain.specs.Trace.{trace}
 use Rattle.command_explain.proofs.Keeping.{joined}
 
--- nothing is said behind a forged item
+-- nothing is said after a forged item
 behind_forged : (app : AppTree) (front items : List Item) (last : Output) → list_any is_forged front ≡ true → told_items app front items last ≡ last
 behind_forged app front [] last f = refl
 behind_forged app front (i ∷ is) last f =

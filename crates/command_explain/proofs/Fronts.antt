@@ -19,7 +19,7 @@ module _ (n : ℕ) (front into : List ℕ) (room : length front ≡ 8) (first : 
   abbrev text : List ℕ
   text = take n into
 
-  -- a text of at most 8 bytes stands in front, as long as it is
+  -- a text of at most 8 bytes is in front, as long as it is
   short_text : length text ≤ 7 → n ≡ length text
   short_text few =
       let whole = take_all 8 text (omega (arith, few)) in

@@ -1,4 +1,4 @@
--- From a head that was read to what `explain` says. A head is the same where the lines behind it may
+-- From a head that was read to what `explain` says. A head is the same where the lines after it may
 -- be longer.
 use Rattle.std.proofs.Common.{arith, codes, ◌≡◌, ◌∙◌, ℕ, ◌+◌, Bool, true, false, if◌then◌else◌, List, [], ◌∷◌, ◌++◌, length, nat_lt, refl, sym, ap, subst, Err}
 use Rattle.std.specs.Prelude.{◌==◌}
@@ -52,11 +52,11 @@ found_text a b xs ys e = cc e
 found_more : (a b : List ℕ) (xs ys : List Answer) → Found a xs ≡ Found b ys → xs ≡ ys
 found_more a b xs ys e = cc e
 
--- the limits behind a line, by whether it is the mark
+-- the limits after a line, by whether it is the mark
 abbrev lines_by : Bool → Limit
 lines_by m lines = if m then image_lines lines else explain_lines lines
 
--- behind these bytes of an input, of which this text of a head has come, stands what follows the head
+-- after these bytes of an input, of which this text of a head has come, comes what follows the head
 abbrev Behind : List ℕ → List ℕ → Limit → Limit → List ℕ → List ℕ → Type 0
 Behind text begun limit limit' bytes t = (e : Ending) (more : List ℕ) → head_behind text (scan limit e begun (bytes ++ more)) ≡ Found t (scan limit' e [] more)
 
@@ -156,7 +156,7 @@ longer_none text begun (b ∷ bs) e o n h =
     at_byte false true h next rest = h
     at_byte false false h next rest = rest h
 
--- ---- a head that was read, with longer lines behind it
+-- ---- a head that was read, with longer lines after it
 
 follows_longer : (s : ReaderState) (lines text : List ℕ) → Follows s head_lines head_lines lines head (λ more. Found text more)
     → Follows s explain_lines image_lines lines head (λ more. Found text more)

@@ -1,4 +1,4 @@
--- Lines that are kept to be written together: what is left of the command is due behind them. They were given before a read, from bytes that were held.
+-- Lines that are kept to be written together: what is left of the command is due after them. They were given before a read, from bytes that were held.
 use Rattle.std.proofs.Common.{◌≡◌, ◌∙◌, ◌⊎◌, inl, inr, ℕ, ◌+◌, ◌≤◌, Bool, true, false, List, [], ◌∷◌, ◌++◌, length, take, refl, sym, ap, subst, arith, append_assoc}
 use Rattle.std.specs.Prelude.{IsTrue, OnErr, OnOk, Some, Result, Ok, Err}
 use Rattle.std.proofs.lemmas.List.{append-nil, length-append}
@@ -32,7 +32,7 @@ puts_all to_tell k0 k1 kept bytes (Ok x) same ok failed faultless fault =
 puts_all to_tell k0 k1 kept bytes (Err e) same ok failed faultless fault =
     record { prefix = λ t. subst (λ (v : List ℕ). AppendsPrefix k0.written k1.written v) same (failed t); fault = fault }
 
--- the command ends behind what is kept
+-- the command ends after what is kept
 pub ends_kept : {to_tell : Bool} {k0 k1 k2 : SinkAt} {kept : List ℕ} {status : ℕ} (o : Output) → Wrote to_tell k0 k1 kept → CommandEnds to_tell k1 k2 status o
     → CommandEnds to_tell k0 k2 status (behind kept o)
 ends_kept {to_tell} {k0} {k1} {k2} {kept} {status} o put ends = ends-behind to_tell k0 k1 k2 kept status o put.wrote put.no_fault ends
@@ -71,7 +71,7 @@ pub waits_new : {tells to_tell : Bool} {limit : Limit} {m0 m1 : CommandAt} {now 
     → Begun tells to_tell limit trace_lines m0 m1 now defined left also → Waits tells to_tell limit m0 m1 now defined [] left also
 waits_new {tells} {to_tell} {limit} {m0} {m1} {now} {defined} {left} {also} b = record { how = inl (record { before = left; begun = b; same = λ answers. refl }) }
 
--- the text of what is kept, and of what is behind it
+-- the text of what is kept, and of what is after it
 pub joined : (a b : List ℕ) (o : Output) → behind a (behind b o) ≡ behind (a ++ b) o
 joined a b o = ap (λ (t : List ℕ). record { text = t; status = o.status }) (sym (append_assoc a b o.text))
 
@@ -165,7 +165,7 @@ part_of true k0 k1 k2 said part status o p w =
     }
 part_of false k0 k1 k2 said part status o p w = record { part = []; wrote = λ t. absurd (cc t) }
 
--- the command ends behind what is kept, or in writing it
+-- the command ends after what is kept, or in writing it
 pub waits_stop : {tells to_tell : Bool} {limit : Limit} {m0 : CommandAt} {s : SourceAt} {k1 k2 : SinkAt} {now : Ahead} {defined : List Answer → Output} {kept : List ℕ}
     {also : List Answer → Type 0} {status : ℕ} (f : List Answer → Output)
     → Waits tells to_tell limit m0 (command_at s k1) now defined kept f also → ((answers : List Answer) → CommandEnds to_tell k1 k2 status (behind kept (f answers)))

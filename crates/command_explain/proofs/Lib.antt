@@ -1,4 +1,4 @@
--- Read Written first: what is said of a trace, line by line. Between is how the command stands
+-- Read Written first: what is said of a trace, line by line. Between is the state of the command
 -- between two lines, Owing what is due of some lines, Statuses the exit status; Heads and Starting
 -- lead to the trace, and Promised has what follows for the whole command.
 pub mod Between

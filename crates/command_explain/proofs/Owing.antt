@@ -63,7 +63,7 @@ head_ends means TooLong e = absurd (omega (arith, e))
 head_ends means NoMark e = absurd (omega (arith, e))
 head_ends means heads.Unread e = ([], refl)
 
--- ---- behind `trace`
+-- ---- after `trace`
 
 due_end : (item : List ℕ → Option Item) (items : List Item) (number : ℕ) (ls : List (List ℕ)) → Due (λ more. stop_output items (stop_behind item number (lines_then ls more)))
 due_end item items number [] =

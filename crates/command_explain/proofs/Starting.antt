@@ -40,7 +40,7 @@ trace_is number text e = by_trace (is_trace text) (nat_le number most_images && 
 pub image_is : (number : ℕ) (text : List ℕ) → image_line number text ≡ image.Image → is_trace text ≡ false
 image_is number text e = by_image (is_trace text) (nat_le number most_images && is_image text) e
 
--- the limits behind a line, by whether it is `trace`
+-- the limits after a line, by whether it is `trace`
 abbrev pub lines_by : Bool → Limit
 lines_by t lines = if t then trace_lines lines else image_lines lines
 
@@ -72,7 +72,7 @@ module _ {tells to_tell : Bool} {limit : Limit} {m0 : CommandAt} {s1 s2 : Source
       begun-same (λ more. say (Behind more)) (λ more. ap (λ l. say (on_image number l more (start (number + 1) more))) e)
       (limited true (trace_is number (take n into) e))
 
--- ---- behind a head
+-- ---- after a head
 
 pub explain_behind : {tells to_tell : Bool} {now : Ahead} {s0 s1 : SourceAt} {k0 k1 : SinkAt} {status : ℕ} (text : List ℕ) (r : Result Deployment DeployError) → GivesOne deployed_as r (IsRead text)
     → IfOk r (λ d. (means : Meanings) → AreMeanings means → Rest tells to_tell image_lines now (command_at s0 k0) (command_at s1 k1) status (explain_deployed means (deployed_as d)))

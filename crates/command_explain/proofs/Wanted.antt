@@ -1,4 +1,4 @@
--- The lines that `explain` was given behind the head, and at which memory ran out.
+-- The lines that `explain` was given after the head, and at which memory ran out.
 use Rattle.std.specs.Prelude.{◌||◌, IfOk, OnErr, is_some}
 use Rattle.std.proofs.lemmas.List.{append-nil, length-append}
 use Rattle.std.proofs.Common.{◌≡◌, ◌∙◌, ◌⊎◌, ◌+◌, ◌≤◌, inl, inr, ◌∷◌, ◌++◌, ℕ, [], true, false, Bool, List, length, append_assoc, ap, refl, sym, subst, take, arith, Some, Result, Ok, Err}
@@ -193,7 +193,7 @@ module _ {tells : Bool} {s1 s2 s3 : SourceAt} {old now next : Ahead} {number : �
     started = λ more. behind_line_is image.Image e more;
   }
 
-  -- memory ran out behind `trace`
+  -- memory ran out after `trace`
   pub images_wants : {s4 : SourceAt} {new : Ahead} (means : Meanings) (d : Deployed) → image_line number (take n into) ≡ image.Trace → TraceWants (means.item d.names) tells s3 s4 next new
       → RanOutSince image_lines trace_lines (explain_may means d) tells s1 s4 old new
   images_wants {s4} {new} means d e w =
@@ -225,7 +225,7 @@ module _ {tells : Bool} {s1 s2 s3 : SourceAt} {old now next : Ahead} {number : �
             )
       ]
 
--- ---- behind a head
+-- ---- after a head
 
 pub read_wants : {tells : Bool} {s1 s2 : SourceAt} {old new : Ahead} {status : ℕ} (text : List ℕ) (r : Result Deployment DeployError) → GivesOne deployed_as r (IsRead text)
     → IfOk r (λ d. (means : Meanings) → AreMeanings means → status ≡ out_of_memory → RanOutSince image_lines trace_lines (explain_may means (deployed_as d)) tells s1 s2 old new)

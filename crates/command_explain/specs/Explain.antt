@@ -73,7 +73,7 @@ explain_from app item front answers =
     let t = trace item (length front + 1) answers in
     told_items app front t.items (stop_output (front ++ t.items) t.stop)
 
--- what is said behind a deployment
+-- what is said after a deployment
 abbrev pub explain_start : AppTree → (List ℕ → Option Item) → Start → Output
 explain_start app item (Behind more) = explain_from app item [] more
 explain_start app item (Missing stop) = stop_output [] stop

@@ -26,7 +26,7 @@ IsLegalTrace app item (Behind more) =
     ((trace item 1 more).stop ≡ Whole) × Legal app (before (trace item 1 more).items)
 IsLegalTrace app item (Missing stop) = ⊥
 
--- behind a deployment that keeps the rules
+-- after a deployment that keeps the rules
 abbrev pub IsLegalOf : Meanings → Result Deployed DeployFault → List Answer → Type 0
 IsLegalOf means (Ok d) more = IsLegalTrace d.app (means.item d.names) (start 1 more)
 IsLegalOf means (Err f) more = ⊥
@@ -37,7 +37,7 @@ IsLegalInput means TooLong = ⊥
 IsLegalInput means NoMark = ⊥
 IsLegalInput means Unread = ⊥
 
--- the answers of all lines of the input, as it stood at the start
+-- the answers of all lines of the input, as it was at the start
 abbrev pub input_of : CommandAt → List Answer
 input_of m0 = scan explain_lines Ended [] m0.source.rest
 
@@ -52,7 +52,7 @@ EndsAs to_tell m0 m1 status o = (status ≡ out_of_memory)
 -- and no write failed, all is as it is defined for the whole input (`exact`). Status 0 says that
 -- the input was read to its end (`read_all`), and that its trace is whole, and legal up to the
 -- first item that is forged (`legal`); and it comes for each such input (`complete`). What a legal
--- trace of a deployment rests on follows (`causes`). Where memory ran out, no line behind the head
+-- trace of a deployment rests on follows (`causes`). Where memory ran out, no line after the head
 -- was given, or the last that was given is one at which it may (`memory`).
 pub record ExplainSays (tells to_tell : Bool) (m0 m1 : CommandAt) (status : ℕ) : Type 0 where
   pub told : (means : Meanings) → AreMeanings means

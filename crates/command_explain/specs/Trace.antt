@@ -1,4 +1,4 @@
--- From the answers that the lines of an input give behind a deployment to the items of a trace.
+-- From the answers that the lines of an input give after a deployment to the items of a trace.
 -- Nothing is said here of what is written.
 use Rattle.std.specs.Prelude.{ℕ, ◌+◌, ◌&&◌, ◌||◌, nat_le, nat_lt, Bool, if◌then◌else◌, List, []}
 use Rattle.std.specs.Prelude.{◌∷◌, codes, option_map, take, Option, Some, None, Result, Ok, Err}
@@ -13,7 +13,7 @@ use Rattle.command_explain.specs.declared.images.ImageLine.TheVariants as image
 use Rattle.command_explain.specs.declared.lines.TraceLine.{TraceLine}
 use Rattle.command_explain.specs.declared.lines.TraceLine.TheVariants as kind
 
--- where a trace ends: behind its last line, at a read that failed, or at the first line that breaks
+-- where a trace ends: after its last line, at a read that failed, or at the first line that breaks
 -- a rule
 pub data Stop : Type 0 where
   Whole : Stop
@@ -30,7 +30,7 @@ is_trace text = bytes_eq text (codes "trace")
 abbrev pub is_image : List ℕ → Bool
 is_image text = bytes_eq (take 6 text) (codes "image ")
 
--- at most this many lines of images stand before it
+-- at most this many lines of images come before it
 abbrev pub most_images : ℕ
 most_images = 32
 
@@ -84,7 +84,7 @@ abbrev pub judged_line : ℕ → Option TraceLine → Result TraceLine ℕ
 judged_line number None = Err 2
 judged_line number (Some l) = if nat_lt most_lines number then Err 5 else Ok l
 
--- the rule that a line breaks where none may stand
+-- the rule that a line breaks where none may come
 abbrev pub rule_behind : Option TraceLine → ℕ
 rule_behind None = 2
 rule_behind (Some l) = 4
@@ -135,7 +135,7 @@ abbrev pub image_lines : Limit
 image_lines [] = longest_passed
 image_lines (text ∷ lines) = if is_trace text then trace_lines lines else image_lines lines
 
--- those of a deployment, and those behind it
+-- those of a deployment, and those after it
 abbrev pub explain_lines : Limit
 explain_lines [] = longest
 explain_lines (text ∷ lines) = if is_mark text then image_lines lines else explain_lines lines

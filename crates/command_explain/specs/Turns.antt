@@ -62,7 +62,7 @@ ComesNext tells to_tell m0 m1 kept left old new into (Ok answer) =
 ComesNext tells to_tell m0 m1 kept left old new into (Err failed) =
     WritesPrefix to_tell m0.sink m1.sink kept × (m1.source ≡ m0.source)
 
--- What was said of an item is kept behind what was kept before, and nothing was written; or the
+-- What was said of an item is kept after what was kept before, and nothing was written; or the
 -- command ended.
 abbrev pub TellsItem : Bool → SinkAt → SinkAt → List ℕ → List ℕ → ℕ → Judged → Turned → Type 0
 TellsItem to_tell k0 k1 kept left number said On =
@@ -90,7 +90,7 @@ TraceWants item tells s1 s2 old new = ((s2 ≡ s1) × (new ≡ old))
     ⊎ ((lines : List Answer) × GivenSince trace_lines trace_lines tells s1 s2 old new lines
     × WantsLast trace_lines (trace_may item) tells s1 s2 old lines)
 
--- behind a head: at once, or behind a deployment at a line that may want it
+-- after a head: at once, or after a deployment at a line that may want it
 abbrev pub ReadWants : Meanings → List ℕ → Bool → SourceAt → SourceAt → Ahead → Ahead → Type 0
 ReadWants means text tells s1 s2 old new = (s2 ≡ s1) ⊎ ((d : Deployed) × IsRead text (Ok d)
     × RanOutSince image_lines trace_lines (explain_may means d) tells s1 s2 old new)

@@ -1,4 +1,4 @@
--- At which line behind the head memory may run out.
+-- At which line after the head memory may run out.
 use Rattle.std.specs.Prelude.{◌≡◌, ℕ, ◌+◌, true, List, length, Option, Result, Ok, Err}
 use Rattle.sx_io.specs.Reading.{Answer}
 use Rattle.sx_trace.specs.declared.items.Item.{Item}
@@ -10,13 +10,13 @@ use Rattle.command_explain.specs.Meant.{Meanings}
 use Rattle.command_explain.specs.Trace.{Start, Behind, Missing, is_trace, judged_line, line_of}
 use Rattle.command_explain.specs.Trace.{start, trace}
 
--- a line of a trace may want memory for its item, behind these
+-- a line of a trace may want memory for its item, after these
 abbrev pub line_may : List Item → Result TraceLine ℕ → Type 0
 line_may items (Ok (kind.Item item)) = item_may items item
 line_may items (Ok kind.Last) = ⊥
 line_may items (Err rule) = ⊥
 
--- the same of its text, behind these lines of the trace, each of which has an item
+-- the same of its text, after these lines of the trace, each of which has an item
 abbrev pub trace_may : (List ℕ → Option Item) → List Answer → List ℕ → Type 0
 trace_may item earlier text = let items = (trace item 1 earlier).items in
     (length items ≡ length earlier)
@@ -27,6 +27,6 @@ abbrev pub start_may : (List ℕ → Option Item) → Start → List ℕ → Typ
 start_may item (Behind lines) text = trace_may item lines text
 start_may item (Missing stop) text = is_trace text ≡ true
 
--- at this line behind the head of a deployment, behind these
+-- at this line after the head of a deployment, after these
 abbrev pub explain_may : Meanings → Deployed → List Answer → List ℕ → Type 0
 explain_may means d earlier text = start_may (means.item d.names) (start 1 earlier) text

@@ -32,10 +32,10 @@ pub enum ImageLine {
     Other,
 }
 
-/// At most this many lines of images stand before a trace.
+/// At most this many lines of images come before a trace.
 const MOST_IMAGES: u32 = 32;
 
-/// The rule that the line `trace` stands behind at most 32 lines of images.
+/// The rule that the line `trace` comes after at most 32 lines of images.
 pub const NO_TRACE: u8 = 1;
 
 /// What the line of this number is, by its first bytes and how many it has.
@@ -53,7 +53,7 @@ pub fn front_line(number: u32, front: &[u8; 8], count: u32) -> ImageLine
     }
 }
 
-/// Passes the lines of images, and judges the trace behind them.
+/// Passes the lines of images, and judges the trace after them.
 pub(crate) fn explain_images<S: Source, K: Sink>(
     alloc: Global,
     lines: &mut Lines,

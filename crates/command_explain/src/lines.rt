@@ -24,7 +24,7 @@ const MOST_LINES: u32 = 4_000_000;
 /// The rule that a line of a trace is `end`, the line of a fault, or an item's.
 pub const NO_ITEM: u8 = 2;
 
-/// The rule that no line stands behind the last one.
+/// The rule that no line comes after the last one.
 const BEHIND: u8 = 4;
 
 /// The rule that there are at most 4,000,000 lines.
@@ -85,7 +85,7 @@ pub fn judge_line(names: &Names, text: &[u8], number: u32) -> Result<TraceLine, 
     kept(line_of(names, text), number)
 }
 
-/// The rule that a line breaks behind the last one.
+/// The rule that a line breaks after the last one.
 fn broken_by(line: Option<TraceLine>) -> u8
     ensures { result ≡ rule_behind line }
 {
@@ -95,7 +95,7 @@ fn broken_by(line: Option<TraceLine>) -> u8
     }
 }
 
-/// The rule that this text breaks as a line behind the last one.
+/// The rule that this text breaks as a line after the last one.
 pub fn rule_behind(names: &Names, text: &[u8]) -> u8
     requires { IsTrue (are_valid names.now) }
     ensures { (means : Meanings) → AreMeanings means

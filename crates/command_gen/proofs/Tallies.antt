@@ -1,4 +1,4 @@
--- How the run of the workload stands between two of its lines.
+-- The state of the workload's run between two of its lines.
 use Rattle.std.proofs.Common.{◌≡◌, ◌∙◌, ℕ, suc, ◌+◌, ◌-◌, ◌*◌, ◌<◌, ◌≤◌, Bool, List, [], ◌∷◌, ◌++◌, length, take, refl, sym, ap, subst, arith, append_assoc, length-append, Result, Ok, Err}
 use Rattle.std.specs.Prelude.{cond, IfErr}
 use Rattle.std.specs.List.{count_by}

@@ -1,4 +1,4 @@
--- The lines that a command was given behind the head of its input, one after another.
+-- The lines that a command was given after the head of its input, one after another.
 use Rattle.std.proofs.Common.{◌≡◌, ◌⊎◌, ◌∙◌, inl, inr, ◌∷◌, ◌++◌, ℕ, [], Bool, List, ap, append_assoc, refl, sym, take, Ok}
 use Rattle.std.proofs.lemmas.List.{append-nil}
 use Rattle.sx_io.specs.Streams.{SourceAt}
@@ -72,7 +72,7 @@ line_unended {limit} {left} {tells} {s0} {s1} {s2} {old} {new} {f} {due} {into} 
       )
     ]
 
--- behind some lines one was given that may want memory, and nothing behind it
+-- after some lines one was given that may want memory, and nothing after it
 pub wants_last : {before left : Limit} {tells : Bool} {s1 s2 s3 : SourceAt} {old now new : Ahead} (May : List Answer → List ℕ → Type 0) (lines : List Answer) (into : List ℕ) (n : ℕ)
     → GivenSince before left tells s1 s2 old now lines → Next (left []) tells s2 s3 now new into (read.Text n) → May lines (take n into)
     → WantsLast before May tells s1 s3 old (lines ++ Line (take n into) ∷ [])
@@ -81,7 +81,7 @@ wants_last {before} {left} {tells} {s1} {s2} {s3} {old} {now} {new} May lines in
   λ limit s0 f due b. line_unended (given limit s0 f due b).1 next,
 )
 
--- ---- behind a head
+-- ---- after a head
 
 of_deployment : (text : List ℕ) (lines : List Answer) (tells : Bool) (s0 s1 s2 : SourceAt) (limit before : Limit) (old : Ahead) (May : Deployed → List Answer → List ℕ → Type 0) (d : Deployed)
     → IsRead text (Ok d) → Got tells limit before s0 s1 old head (λ more. Found text more) Unread anything → (lines ≡ []) ⊎ WantsLast before (May d) tells s1 s2 old lines
@@ -89,7 +89,7 @@ of_deployment : (text : List ℕ) (lines : List Answer) (tells : Bool) (s0 s1 s2
 of_deployment text lines tells s0 s1 s2 limit before old May d read got (inl none) = inl none
 of_deployment text lines tells s0 s1 s2 limit before old May d read got (inr last) = inr (d, read, last.0, last.1 limit s0 (λ more. Found text more) Unread got)
 
--- memory ran out behind the head of a deployment
+-- memory ran out after the head of a deployment
 pub ran_out_at : {limit before behind : Limit} {tells : Bool} {m0 m1 : CommandAt} {begun : SourceAt} {old new : Ahead} (May : Deployed → List Answer → List ℕ → Type 0) (text : List ℕ) (d : Deployed)
     → IsRead text (Ok d) → Got tells limit before m0.source begun old head (λ more. Found text more) Unread anything
     → RanOutSince before behind (May d) tells begun m1.source old new → RanOutAt limit May tells m0 m1

@@ -1,11 +1,11 @@
--- How a command that deploys begins: by the head of its input, and where memory runs out behind it.
+-- How a command that deploys begins: by the head of its input, and where memory runs out after it.
 use Rattle.std.specs.Prelude.{ℕ, ◌≡◌, Bool, List, Option, Some, None, Ok}
 use Rattle.command_promise.specs.Reads.{Reads}
 use Rattle.command_promise.specs.Told.{CommandAt, out_of_memory}
 use Rattle.command_promise.specs.Head.{Head, Found, Unread, head, head_lines}
 use Rattle.sx_deploy.specs.Deployment.{Deployed, IsRead}
 
--- this head stands in the input, or none
+-- this head is in the input, or none
 abbrev pub HasHead : Option (List ℕ) → Head → Type 0
 HasHead None (Found text more) = ⊥
 HasHead None _ = Unit {0}

@@ -19,7 +19,7 @@ GivenSince before behind tells s1 s2 old new lines =
     → (owed : Head)
     × Got tells limit behind s0 s2 new head (λ more. f (lines ++ more)) owed anything
 
--- and no end of the input behind them
+-- and no end of the input after them
 abbrev pub EndsNowhere : Limit → Bool → SourceAt → SourceAt → Ahead → Type 0
 EndsNowhere before tells s1 s2 old =
     (limit : Limit) (s0 : SourceAt) (f : List Answer → Head) (due : Head)

@@ -1,6 +1,6 @@
 -- Begin with Meanings: what a deployment's text means. Found and Begun are of the head; Ends,
 -- Headless and Refused of a command that ends without a deployment; Given and Wanting of the lines
--- behind the head, and of those at which memory may run out.
+-- after the head, and of those at which memory may run out.
 pub mod Found
 pub mod Begun
 pub mod Ends

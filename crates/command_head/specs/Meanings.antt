@@ -15,6 +15,6 @@ Meaning = List ℕ → Result Deployed DeployFault
 abbrev pub IsMeaning : Meaning → Type 0
 IsMeaning meaning = (text : List ℕ) → IsRead text (meaning text)
 
--- the answers of all lines of the input, as it stood at the start
+-- the answers of all lines of the input, as it was at the start
 abbrev pub input_of : CommandAt → List Answer
 input_of m0 = scan head_lines Ended [] m0.source.rest

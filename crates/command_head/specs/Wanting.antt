@@ -1,4 +1,4 @@
--- At which line behind the head of its input a command may run out of memory.
+-- At which line after the head of its input a command may run out of memory.
 use Rattle.std.specs.Prelude.{ℕ, ◌<◌, ◌≡◌, ◌⊎◌, Bool, List, [], ◌∷◌, ◌++◌, IsTrue, length, Ok}
 use Rattle.sx_io.specs.Reading.{Answer, IsPlain, Limit, Line}
 use Rattle.sx_io.specs.Next.{Ahead}
@@ -9,7 +9,7 @@ use Rattle.command_promise.specs.Told.{CommandAt}
 use Rattle.command_promise.specs.Head.{Head, Found, head}
 use Rattle.sx_deploy.specs.Deployment.{Deployed, IsRead}
 
--- the last of these lines may want memory, behind those before it
+-- the last of these lines may want memory, after those before it
 abbrev pub LastMay : (List Answer → List ℕ → Type 0) → List Answer → Type 0
 LastMay May lines = (earlier : List Answer) × (text : List ℕ)
     × (lines ≡ earlier ++ Line text ∷ []) × May earlier text
@@ -23,8 +23,8 @@ IsOpenEnded bytes =
 abbrev pub FoundNoEnd : Bool → SourceAt → SourceAt → Type 0
 FoundNoEnd tells s0 s1 = IsTrue tells → NoEnd s0 s1 ⊎ IsOpenEnded s0.rest
 
--- Memory ran out behind the head of this text, and these are the lines behind it that were given:
--- none, or the text is a deployment, and the last line may want memory; nothing came behind it, not
+-- Memory ran out after the head of this text, and these are the lines after it that were given:
+-- none, or the text is a deployment, and the last line may want memory; nothing came after it, not
 -- even the end of the input.
 pub record RanOutAt (limit : Limit) (May : Deployed → List Answer → List ℕ → Type 0) (tells : Bool)
     (m0 m1 : CommandAt) : Type 0 where

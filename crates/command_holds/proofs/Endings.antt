@@ -95,7 +95,7 @@ fault_read n app text r x f is fault given =
 pub starved_ends : (to_tell : Bool) (k : SinkAt) (d : Deployed) (text : List ℕ) → EndsOf to_tell k k out_of_memory d text
 starved_ends to_tell k d text = (Unknown [], λ means is. (starved to_tell k _, λ zero. absurd (omega (arith, zero))))
 
--- ---- the property behind a deployment
+-- ---- the property after a deployment
 
 -- the texts of both heads, where they are there
 abbrev pair_of : List ℕ → Head → List (List ℕ)
@@ -237,7 +237,7 @@ rest_starved {to_tell = to_tell} now k d read = (
       second_found means (Unknown []) d text r.0 e r.1 (starved to_tell k _) (λ zero. absurd (omega (arith, zero))),
 )
 
--- ---- behind the head
+-- ---- after the head
 
 -- the text breaks a rule of deployments
 refused_behind : {tells to_tell : Bool} {s0 s1 : SourceAt} {k0 k1 : SinkAt} {now : Ahead} {status : ℕ} (means : Meanings) (text : List ℕ) (f : DeployFault)
@@ -248,7 +248,7 @@ refused_behind means text f e w six b =
     told-stop (begun-got (holds_head means (Unknown [])) refl (got-also (SaysOf means _) (λ answers more q. quiet_says means _ answers six (ends_zero w (λ x. omega (arith, x)))) b))
     (λ more. ends-same _ _ _ _ _ _ (ap (λ (r : Result Deployed DeployFault). holds_found means (Unknown []) r more) e) w)
 
--- there was no memory behind the head
+-- there was no memory after the head
 starved_behind : {tells : Bool} {s0 s1 : SourceAt} {now : Ahead} (to_tell : Bool) (k : SinkAt) (means : Meanings) (text : List ℕ)
     → Got tells head_lines head_lines s0 s1 now head (λ more. Found text more) Unread anything
     → Told tells to_tell head_lines (command_at s0 k) (command_at s1 k) out_of_memory (holds_all means (Unknown [])) (SaysOf means out_of_memory)

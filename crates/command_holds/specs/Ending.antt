@@ -38,14 +38,14 @@ EndsBehind tells to_tell s1 s2 now k0 k1 status text means decision = (s0 : Sour
     → Told tells to_tell head_lines (command_at s0 k0) (command_at s2 k1) status
     (holds_all means decision) (SaysOf means status)
 
--- behind a text that is this deployment
+-- after a text that is this deployment
 abbrev pub DeployedEnds : Bool → Bool → SourceAt → SourceAt → Ahead → SinkAt → SinkAt → ℕ → Deployed
     → Type 0
 DeployedEnds tells to_tell s1 s2 now k0 k1 status d = (decision : Decision)
     × ((means : Meanings) → AreMeanings means → (text : List ℕ) → means.deployment text ≡ Ok d
     → EndsBehind tells to_tell s1 s2 now k0 k1 status text means decision)
 
--- behind any text
+-- after any text
 abbrev pub TextEnds : Bool → Bool → SourceAt → SourceAt → Ahead → SinkAt → SinkAt → ℕ → List ℕ
     → Type 0
 TextEnds tells to_tell s1 s2 now k0 k1 status text = (decision : Decision)

@@ -48,7 +48,7 @@ abbrev pub holds_property : Decision → Result PropertyTree PropertyFault → O
 holds_property decision (Ok p) = decided_output decision
 holds_property decision (Err f) = refused_output (fault_words f)
 
--- behind a deployment: the property's text is a head, too
+-- after a deployment: the property's text is a head, too
 abbrev pub holds_second : Meanings → Decision → Deployed → Head → Output
 holds_second means decision d (Found text more) =
     holds_property decision (means.property d.names d.app text)

@@ -19,7 +19,7 @@ abbrev pub NeverProperty : Deployed → Result PropertyTree PropertyFault → Ty
 NeverProperty d (Ok p) = IsNeverBroken d.app p
 NeverProperty d (Err f) = ⊥
 
--- behind a deployment
+-- after a deployment
 abbrev pub NeverSecond : Meanings → Deployed → Head → Type 0
 NeverSecond means d (Found text more) = NeverProperty d (means.property d.names d.app text)
 NeverSecond means d _ = ⊥

@@ -78,7 +78,7 @@ fn judge_text<K: Sink>(alloc: Global, deployment: &Deployment, text: &[u8], outp
     }
 }
 
-/// Reads the property behind a deployment, and writes what is said of it.
+/// Reads the property after a deployment, and writes what is said of it.
 fn judge_rest<S: Source, K: Sink>(
     alloc: Global,
     deployment: &Deployment,
@@ -99,7 +99,7 @@ fn judge_rest<S: Source, K: Sink>(
     }
 }
 
-/// Writes what is said behind a text by what reading it gave.
+/// Writes what is said after a text by what reading it gave.
 fn judge_read<S: Source, K: Sink>(
     alloc: Global,
     read: Result<Deployment, DeployError>,
@@ -121,7 +121,7 @@ fn judge_read<S: Source, K: Sink>(
     }
 }
 
-/// Writes what is said behind the text of a deployment.
+/// Writes what is said after the text of a deployment.
 fn judge_head<S: Source, K: Sink>(
     alloc: Global,
     text: &[u8],

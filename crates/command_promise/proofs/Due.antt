@@ -13,7 +13,7 @@ abbrev pub lines_then : List (List ℕ) → List Answer → List Answer
 lines_then [] more = more
 lines_then (l ∷ ls) more = Line l ∷ lines_then ls more
 
--- the answers of whole lines, with the limits behind them, or of those before one that is too long
+-- the answers of whole lines, with the limits after them, or of those before one that is too long
 abbrev Whole : Limit → List ℕ → List ℕ → Type 0
 Whole limit begun bytes =
     ((ls : List (List ℕ)) × (next : Limit) × ((e : Ending) (more : List ℕ) → scan limit e begun (bytes ++ more) ≡ lines_then ls (scan next e [] more)))

@@ -13,7 +13,7 @@ use Rattle.sx_io.proofs.Scans.{scan-ended, scan-rest, scan-fault, scan-too-long,
 use Rattle.command_promise.specs.Reads.{Left, AtEnd, AtFault, Enough, Decides, IsOneLine, Asked, Reach, Reads, anything}
 use Rattle.command_promise.specs.Got.{Follows, HoldsBehind, Got}
 
--- ---- where the reader stands
+-- ---- where the reader is
 
 -- a reader that gives something else than the end is open
 open-for : {A : Type 0} (limit limit' : Limit) (lines : List ℕ) (F f : List Answer → A) (s : ReaderState) (answer : LineRead)
@@ -291,7 +291,7 @@ got-line {A} {tells} {limit} {limit'} {s0} {s1} {s2} {old} {new} {F} {due} {also
 
 -- ---- a call ends
 
--- what is taken where the reader stands between two lines
+-- what is taken where the reader is between two lines
 between : {A : Type 0} {tells : Bool} {limit limit' : Limit} {s0 s1 : SourceAt} {now : Ahead} {F f : List Answer → A} {due : A} {also : List Answer → Type 0} (P : List Answer → Type 0) (left : Left)
     → (b : Got tells limit limit' s0 s1 now F f due also) → Decides left tells limit s0 s1 ((b.before ++ b.line) ++ now.held) P → Reads tells limit s0 s1 F due P
 between {A} {tells} {limit} {limit'} {s0} {s1} {now} {F} {f} {due} {also} P left b d = record {

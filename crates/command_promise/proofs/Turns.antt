@@ -1,4 +1,4 @@
--- How the head comes, line by line, and any text behind it.
+-- How the head comes, line by line, and any text after it.
 use Rattle.std.proofs.Common.{◌≡◌, ◌∙◌, ℕ, ◌+◌, Bool, true, false, List, [], ◌∷◌, ◌++◌, length, take, refl, sym, ap, subst, nat_lt}
 use Rattle.sx_io.specs.Streams.{SourceAt}
 use Rattle.sx_io.specs.Reading.{Answer, Line, Limit, longest, newline}

@@ -3,13 +3,13 @@ use Rattle.std.specs.Prelude.{ℕ, ◌+◌, ◌≤◌, ◌≡◌, Bool, List, []
 use Rattle.sx_io.specs.Reading.{Answer, Broken, Limit, longest, newline, scan}
 use Rattle.command_promise.specs.Told.{CommandAt, Output, behind, unread_output}
 
--- a newline stands at the end
+-- a newline is at the end
 abbrev pub HasEnd : List ℕ → Type 0
 HasEnd [] = ⊥
 HasEnd (b ∷ []) = b ≡ newline
 HasEnd (b ∷ c ∷ more) = HasEnd (c ∷ more)
 
--- Where these whole lines stand in the input, and what is due of them wasn't all written, at most
+-- Where these whole lines are in the input, and what is due of them wasn't all written, at most
 -- 4,096 bytes were taken past them. What is due of lines is what is defined where a read fails
 -- after them, without its last line.
 abbrev pub Streams : Bool → Bool → Limit → CommandAt → CommandAt → (List Answer → Output) → Type 0

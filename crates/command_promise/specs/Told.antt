@@ -22,7 +22,7 @@ pub record CommandAt : Type 0 where
   pub source : SourceAt
   pub sink : SinkAt
 
--- a moment of a command: where its source and its sink stand
+-- a moment of a command: where its source and its sink are
 abbrev pub command_at : SourceAt → SinkAt → CommandAt
 command_at source sink = record { source = source; sink = sink }
 

@@ -12,7 +12,7 @@ use sx_io::{LineRead, Lines, ReaderState, Source};
 /// Why an input has no head.
 #[derive(Clone, Copy, Debug, PartialEq, Eq)]
 pub enum HeadFault {
-    /// More than 262,144 bytes stand before the mark, each line counted with one newline; or a line
+    /// More than 262,144 bytes come before the mark, each line counted with one newline; or a line
     /// there has more than 4,096.
     TooLong,
     /// There is no line `%%`.

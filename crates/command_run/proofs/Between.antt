@@ -1,4 +1,4 @@
--- How a run stands between two lines.
+-- The state of a run between two lines.
 use Rattle.std.proofs.Common.{ℕ, Bool, List}
 use Rattle.sx_asm.specs.Assembled.{assembled}
 use Rattle.sx_io.specs.Reading.{Answer, Limit}

@@ -1,4 +1,4 @@
--- What `run` owes behind the head of a deployment.
+-- What `run` owes after the head of a deployment.
 use Rattle.std.proofs.Common.{◌≡◌, ℕ, ◌+◌, List, [], ◌∷◌, refl, arith, Result, Ok, Err, inl, inr, ◌++◌}
 use Rattle.sx_asm.specs.Assembled.{assembled}
 use Rattle.sx_io.specs.Reading.{Answer, Line, Long}

@@ -1,4 +1,4 @@
--- What the command `run` writes behind the head of a deployment, and its exit status: a function
+-- What the command `run` writes after the head of a deployment, and its exit status: a function
 -- of the assembler, of the texts of the modules' images, and of the answers that the lines of its
 -- input give.
 use Rattle.std.specs.Prelude.{ℕ, List, ◌++◌}

@@ -58,12 +58,12 @@ pub record RunsWith (assemble : Assembler) (mac : Mac) (deployment : Option (Lis
       → HasMoved (setting_of mac d texts)
   pub guarded : (d : Deployed) (lines : List Line) → GuardedRun (setting_of mac d texts) lines
 
--- memory may run out at this line of the schedule, behind these
+-- memory may run out at this line of the schedule, after these
 abbrev pub run_may : Assembler → Deployed → List Answer → List ℕ → Type 0
 run_may assemble d earlier text =
     MayRunOut (judged_line assemble d.names (length earlier + 1) text)
 
--- what is `run`'s own behind the head; it is cut short only where memory runs out
+-- what is `run`'s own after the head; it is cut short only where memory runs out
 abbrev pub run_part : Assembler → Mac → OwnPart
 run_part assemble mac = record {
   output = run_deployed assemble mac;

@@ -16,7 +16,7 @@ use Rattle.sx_world.specs.Standing.{Stands}
 use Rattle.command_world.specs.Items.{items_text}
 use Rattle.command_run.specs.Run.{run_from}
 
--- Where memory ran out, the items that were made before stand written, all of them: as many as the
+-- Where memory ran out, the items that were made before are written, all of them: as many as the
 -- line's act made, if the line was performed.
 abbrev pub TellsMade : Bool → SinkAt → SinkAt → NameLists → Held → Held → List Item → Turned
     → Type 0

@@ -1,4 +1,4 @@
-//! The command `run`: behind the head it runs a schedule while it reads it.
+//! The command `run`: after the head it runs a schedule while it reads it.
 
 ghost use Rattle.sx_asm.specs.Assembled.{assembled};
 ghost use Rattle.command_promise.specs.Told.{command_at};

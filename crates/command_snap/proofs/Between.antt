@@ -1,4 +1,4 @@
--- How a command stands between two lines.
+-- The state of a command between two lines.
 use Rattle.std.proofs.Common.{ℕ, Bool, List}
 use Rattle.sx_io.specs.Reading.{Answer, Limit}
 use Rattle.sx_io.specs.Next.{Ahead}

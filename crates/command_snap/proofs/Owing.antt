@@ -1,4 +1,4 @@
--- What `snap` owes behind the head of a deployment.
+-- What `snap` owes after the head of a deployment.
 use Rattle.std.proofs.Common.{◌≡◌, ℕ, ◌+◌, List, [], ◌∷◌, ◌++◌, length, refl, arith, Result, Ok, Err, inl, inr, Bool, true, false}
 use Rattle.sx_asm.specs.Assembled.{assembled}
 use Rattle.sx_io.specs.Reading.{Answer, End, Long, Fault}

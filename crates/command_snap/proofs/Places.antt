@@ -1,4 +1,4 @@
--- Where the lines behind the head stand: in the schedule, or behind its mark.
+-- Where the lines after the head are: in the schedule, or after its mark.
 use Rattle.std.specs.Prelude.{if◌then◌else◌}
 use Rattle.std.proofs.lemmas.List.{append-nil}
 use Rattle.std.proofs.Common.{◌≡◌, ◌∙◌, ◌+◌, ◌∷◌, ◌++◌, inr, ℕ, [], true, false, Bool, List, length, length-append, append_assoc, ap, refl, sym, subst, take}
@@ -21,7 +21,7 @@ use Rattle.command_snap.specs.Wants.{BehindMark, Place, may_at, place_behind, sn
 abbrev pub AreSchedule : List Answer → Type 0
 AreSchedule lines = (more : List Answer) → place_behind 0 (lines ++ more) ≡ place_behind (length lines) more
 
--- the place behind a line that is the mark or isn't
+-- the place after a line that is the mark or isn't
 place_by : (before : ℕ) (text : List ℕ) (more : List Answer) (b : Bool) → is_mark text ≡ b
     → place_behind before (Line text ∷ more) ≡ (if b then BehindMark before (length more) else place_behind (before + 1) more)
 place_by before text more b e = ap (λ (b : Bool). if b then BehindMark before (length more) else place_behind (before + 1) more) e
@@ -49,7 +49,7 @@ unfolding gave_line
 schedule_more {tells} {s1} {s2} {s3} {old} {now} {new} {number} into n st next other =
     record { gave = gave_line into n st.gave next; schedule = schedule_line st.gave.lines (take n into) st.schedule other }
 
--- a line of the schedule that may want memory, behind those
+-- a line of the schedule that may want memory, after those
 pub line_may : (d : Deployed) (lines : List Answer) (text : List ℕ) → AreSchedule lines → is_mark text ≡ false → MayRunOut (judged_line assembled d.names (length lines + 1) text)
     → snap_may d lines text
 line_may d lines text are other may =
@@ -57,7 +57,7 @@ line_may d lines text are other may =
     let Q : List Answer → Type 0 = λ all. P (place_behind 0 all) in
     subst Q (append-nil lines) (subst P (sym (are [])) (other, may))
 
--- a query that may, behind the mark
+-- a query that may, after the mark
 pub query_wants : (d : Deployed) (lines queries : List Answer) (mark text : List ℕ) (last : ℕ) → AreSchedule lines → is_mark mark ≡ true → last ≡ length lines → query_may d.names last queries text
     → snap_may d ((lines ++ Line mark ∷ []) ++ queries) text
 query_wants d lines queries mark text last are marked same may =
@@ -67,7 +67,7 @@ query_wants d lines queries mark text last are marked same may =
     (ap (λ (all : List Answer). place_behind 0 all) (append_assoc lines (Line mark ∷ []) queries) ∙ are (Line mark ∷ queries) ∙ place_by (length lines) mark queries true marked) in
     subst P (sym place) (subst Q same may)
 
--- memory ran out behind the mark
+-- memory ran out after the mark
 pub queries_ran_out : {tells : Bool} {s1 s2 s3 s4 : SourceAt} {old now next new : Ahead} {number : ℕ} (d : Deployed) (into : List ℕ) (n last : ℕ) (g : Gave tells s1 s2 old now number)
     → Next longest tells s2 s3 now next into (read.Text n) → AreSchedule g.lines → is_mark (take n into) ≡ true → last ≡ length g.lines
     → QueriesWant d.names last tells s3 s4 next new → RanOutSince head_lines head_lines (snap_may d) tells s1 s4 old new

@@ -18,7 +18,7 @@ pub record KeepsLine (names : NameLists) (text : List ℕ) (before after : List 
   pub judged : judged_line assembled names (length before + 1) text ≡ Ok line
   pub kept : after ≡ before ++ line ∷ []
 
--- a query about a schedule of so many lines may want memory, behind these
+-- a query about a schedule of so many lines may want memory, after these
 abbrev pub query_may : NameLists → ℕ → List Answer → List ℕ → Type 0
 query_may names last earlier text = IsOk (judged_query names last (length earlier + 1) text)
 

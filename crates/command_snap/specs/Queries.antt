@@ -9,7 +9,7 @@ use Rattle.sx_sched.specs.Reading.{at_least, is_comment}
 use Rattle.command_snap.specs.declared.queries.Query.{Query}
 use Rattle.command_snap.specs.declared.queries.Query.TheVariants.{Blank, Registers, Bytes, Items}
 
--- rule 2: 64 lines stand before it
+-- rule 2: 64 lines come before it
 abbrev pub too_many : ℕ
 too_many = 2
 

@@ -1,4 +1,4 @@
--- From the answers that the lines of an input give to a schedule and to what stands after its mark.
+-- From the answers that the lines of an input give to a schedule and to what comes after its mark.
 use Rattle.std.specs.Prelude.{ℕ, ◌+◌, if◌then◌else◌, List, [], ◌∷◌, ◌++◌, length, Result, Ok, Err}
 use Rattle.sx_asm.specs.Assembled.{assembled}
 use Rattle.sx_io.specs.Reading.{Answer, End, Long, Fault}
@@ -21,7 +21,7 @@ on_line before (Err rule) rest = Breaks rule (length before + 1)
 on_line before (Ok line) rest = rest (before ++ line ∷ [])
 
 -- The schedule from the line on that follows these. Where the input ends without the mark, no query
--- stands after it.
+-- comes after it.
 abbrev pub asking : NameLists → List Line → List Answer → Asking
 asking names before [] = Asks before (End ∷ [])
 asking names before (End ∷ more) = Asks before (End ∷ [])

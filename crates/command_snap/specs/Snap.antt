@@ -1,4 +1,4 @@
--- What the command `snap` writes behind the head of a deployment, and its exit status: a function
+-- What the command `snap` writes after the head of a deployment, and its exit status: a function
 -- of the texts of the modules' images, and of the answers that the lines of its input give.
 use Rattle.std.specs.Prelude.{ℕ, ◌+◌, List, [], ◌∷◌, length, codes, Result, Ok, Err}
 use Rattle.sx_io.specs.Reading.{Answer, End, Long, Fault}
@@ -56,7 +56,7 @@ unfoldable pub snap_from : NameLists → Setting → List ℕ → List Line → 
 snap_from names set images before answers =
     asked_output names set images (asking names before answers)
 
--- what is written behind the head of a deployment
+-- what is written after the head of a deployment
 abbrev pub snap_deployed : Mac → Deployed → List (List ℕ) → List Answer → Output
 snap_deployed mac d texts more =
     snap_from d.names (setting_of mac d texts) (images_text d.names.modules texts) [] more

@@ -29,6 +29,6 @@ asking_status names (Asks lines more) = queries_status names (length lines) 1 mo
 asking_status names (Breaks rule number) = 3
 asking_status names Unread = read_failed
 
--- the exit status behind the head of a deployment
+-- the exit status after the head of a deployment
 abbrev pub snap_status : Deployed → List Answer → ℕ
 snap_status d more = asking_status d.names (asking d.names [] more)

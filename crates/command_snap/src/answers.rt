@@ -83,7 +83,7 @@ fn bytes_of<B: Copied, T: Tag>(
     Ok(bytes)
 }
 
-/// Where bytes stand that are asked for: a node of this number, from an address on.
+/// Where bytes are that are asked for: a node of this number, from an address on.
 #[derive(Clone, Copy)]
 pub(crate) struct Range {
     pub(crate) number: u8,

@@ -15,7 +15,7 @@ use sx_trace::names::Names;
 /// A line has more than 4,096 bytes.
 pub(crate) const TOO_LONG: u8 = 1;
 
-/// 64 lines stand before it.
+/// 64 lines come before it.
 const TOO_MANY: u8 = 2;
 
 /// The first word is none of the kinds of query.

@@ -1,4 +1,4 @@
-//! The queries behind the mark. Each is judged and answered before the next is read.
+//! The queries after the mark. Each is judged and answered before the next is read.
 
 ghost use Rattle.std.specs.Prelude.{◌≡◌, ◌≢◌, ◌+◌, ◌<◌, ◌≤◌, ◌∷◌, IfOk, IsOk, IsTrue, List};
 ghost use Rattle.std.specs.Prelude.{length};

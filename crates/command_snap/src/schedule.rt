@@ -78,7 +78,7 @@ fn answer_none<K: Sink>(output: &mut K, images: &[u8]) -> u8
     }
 }
 
-/// The images, and the answers to the queries behind the mark.
+/// The images, and the answers to the queries after the mark.
 fn answer_all<S: Source, K: Sink, B: Copied, T: Tag + Copy>(
     alloc: Global,
     lines: &mut Lines,
@@ -109,7 +109,7 @@ fn answer_all<S: Source, K: Sink, B: Copied, T: Tag + Copy>(
     }
 }
 
-/// Reads the schedule to its end, and answers the queries behind its mark. These are the lines of
+/// Reads the schedule to its end, and answers the queries after its mark. These are the lines of
 /// the images.
 fn snap_lines<S: Source, K: Sink, B: Copied, T: Tag + Copy>(
     alloc: Global,
@@ -158,7 +158,7 @@ fn snap_lines<S: Source, K: Sink, B: Copied, T: Tag + Copy>(
 }
 
 /// Makes the lines of the images before it reads the schedule, so that no memory is wanted for them
-/// behind it.
+/// after it.
 pub(crate) fn snap_built<S: Source, K: Sink, B: Copied, T: Tag + Copy>(
     alloc: Global,
     lines: &mut Lines,

@@ -1,4 +1,4 @@
-//! The command `snap`: behind the head it keeps a schedule, and answers queries about where its run
+//! The command `snap`: after the head it keeps a schedule, and answers queries about where its run
 //! stands after any line.
 
 ghost use Rattle.std.specs.Prelude.{◌≡◌, IfOk, [], length};
@@ -21,7 +21,7 @@ use sx_paged::PagedBus;
 use sx_snap::Timeline;
 use sx_tag::Tag;
 
-/// A checkpoint stands after each so many lines, so a query performs fewer lines than this.
+/// A checkpoint comes after each so many lines, so a query performs fewer lines than this.
 const EVERY: u32 = 8192;
 
 /// The timeline of a deployment with these images of its modules, without a line.

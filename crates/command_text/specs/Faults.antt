@@ -5,7 +5,7 @@ use Rattle.sx_io.specs.Counts.{next_count, Rose}
 use Rattle.sx_io.specs.Streams.{OneReadFault}
 use Rattle.command_promise.specs.Told.{CommandAt, read_failed, write_failed}
 
--- no read and no write failed: neither count rose, nor stands at its last value
+-- no read and no write failed: neither count rose, nor is at its last value
 abbrev pub IsFaultless : CommandAt → CommandAt → Type 0
 IsFaultless m0 m1 =
     (Rose m0.source.faults m1.source.faults → ⊥) × (Rose m0.sink.faults m1.sink.faults → ⊥)

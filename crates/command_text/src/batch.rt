@@ -10,7 +10,7 @@ use sx_io::{Failed, Sink, put_all};
 /// batch of its own, so this is no more than most of them need.
 const MOST: usize = 512;
 
-/// The most bytes of a line, with what stands before it and its newline.
+/// The most bytes of a line, with what comes before it and its newline.
 const LONGEST_LINE: usize = 131;
 
 /// Lines that are written together.

@@ -1,4 +1,4 @@
--- How the command stands between two lines of a trace.
+-- The state of the command between two lines of a trace.
 use Rattle.std.proofs.Common.{◌≡◌, ◌≤◌, ℕ, ◌+◌, Bool, List, [], length}
 use Rattle.sx_io.specs.Reading.{Answer, Limit}
 use Rattle.sx_io.specs.Next.{Ahead}
@@ -13,7 +13,7 @@ use Rattle.command_watch.specs.declared.following.Following.{Following}
 use Rattle.command_watch.specs.Following.{Stands}
 use Rattle.command_watch.specs.Watch.{watch_from}
 
--- The property that stood before the trace stands behind these items, and what is left is what is said from the line after them on.
+-- The property was followed through these items, and what is left is what is said from the line after them on.
 pub record Between (tells to_tell : Bool) (m1 m2 : CommandAt) (old new : Ahead) (names : NameLists) (first now : Following) (number : ℕ) : Type 0 where
   pub few : number ≤ 4000001
   pub items : List Item

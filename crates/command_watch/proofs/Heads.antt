@@ -83,7 +83,7 @@ got_first w got = got_longer watch_lines (behind_mark image_lines) head (λ more
     (λ lines h. found_longer (behind_mark image_lines) w [] [] lines (λ e more. ap seen (h e more))) (λ lines h. end_longer (behind_mark image_lines) w [] [] lines (ap seen h))
     (λ lines h. none_longer (behind_mark image_lines) Unread tt Broken [] [] lines (ap seen h)) (λ lines e h. tt) (one_bound (behind_mark image_lines)) long_enough got
 
--- ---- the second head, behind this text
+-- ---- the second head, after this text
 
 module _ (w : List ℕ) where
   -- what is seen of the second head
@@ -256,7 +256,7 @@ told_headless {tells} {to_tell} {s0} {s1} {k0} {k1} {status} now means none.OutO
         (told-stop (begun_first means text got)
         (λ more. ends-out-of-memory to_tell k0 k0 (watch_found means (means.trace.deployment text) more) (λ t. prefix-none k0.written k0.written _ refl) refl))
 
--- ---- behind a property
+-- ---- after a property
 
 pub told_refused : {tells to_tell : Bool} {now : Ahead} {s : SourceAt} {k0 k1 : SinkAt} {status : ℕ} (names : NameLists) (app : AppTree) (text : List ℕ) (item : List ℕ → Option Item) (e : PropertyError)
     → GivesOne (Err e) (IsProperty names app text) → RefusesText to_tell k0 k1 status e → (r : Result PropertyTree PropertyFault) → IsProperty names app text r
@@ -266,7 +266,7 @@ told_refused names app text item (property.Fault f) gives w r is = λ limit m0 d
 told_refused {tells} {to_tell} {now} {s} {k0} {k1} {status} names app text item property.OutOfMemory gives w r is =
     rw (w.0, w.1) (λ limit m0 defined aside noted b. told-stop b (λ more. ends-out-of-memory to_tell k0 k0 (watch_judged item r more) (λ t. prefix-none k0.written k0.written _ refl) refl))
 
--- ---- behind a head
+-- ---- after a head
 
 pub watch_behind : {tells to_tell : Bool} {now : Ahead} {s1 s2 : SourceAt} {k0 k1 : SinkAt} {status : ℕ} (text : List ℕ) (r : Result Deployment DeployError) → GivesDeployed deployed_as r (IsRead text)
     → IfOk r (λ d. (means : Meanings) (text : List ℕ) → AreMeanings means → means.trace.deployment text ≡ Ok (deployed_as d) → ReadsOn means text tells to_tell s1 now k0 (command_at s2 k1) status)

@@ -1,5 +1,5 @@
 -- Read Written first: what is said of a trace, line by line. Standing is of the property that
--- follows it, Between of how the command stands between two lines, Owing of what is due of some
+-- follows it, Between of the command between two lines, Owing of what is due of some
 -- lines, Statuses of the exit status. Limits, Longer and Heads lead to the trace, and Promised has
 -- what follows for the whole command.
 pub mod Between

@@ -1,4 +1,4 @@
--- A head is the same where the lines behind it may be longer. From what a call says that read with the limits of heads, to what a command says of all that it reads.
+-- A head is the same where the lines after it may be longer. From what a call says that read with the limits of heads, to what a command says of all that it reads.
 use Rattle.std.proofs.Common.{◌≡◌, ◌∙◌, ◌≤◌, ℕ, ◌+◌, Bool, true, false, if◌then◌else◌, List, [], ◌∷◌, ◌++◌, length, nat_lt, refl, sym, ap, arith}
 use Rattle.std.specs.Prelude.{◌==◌}
 use Rattle.std.proofs.lemmas.List.{append-nil}
@@ -27,7 +27,7 @@ ends_now (Line text ∷ more) = 0
 ends_now (Long ∷ more) = 0
 ends_now (Fault ∷ more) = 0
 
--- its text, and whether the input ends behind it
+-- its text, and whether the input ends after it
 abbrev pub seen : Head → Noted
 seen (Found text more) = seen_as text (ends_now more)
 seen TooLong = seen_as [] 2
@@ -57,7 +57,7 @@ only_end begun (b ∷ bytes) h = at (b == newline) (length begun == longest) h (
     at false true h rest = absurd (omega (arith, h))
     at false false h rest = absurd (push_some begun b (rest h).0)
 
--- ---- longer lines behind a mark
+-- ---- longer lines after a mark
 
 -- where the input ends, or a read fails
 whole_end : {X Y : Type 0} (rest : Limit) (S : Head → X) (T : Head → Y) (x : X) (y : Y) (e : Ending) → ((h : Head) → IsNone h → S h ≡ x → T h ≡ y)
@@ -72,9 +72,9 @@ whole_end {X} {Y} rest S T x y Ended none marked text (b ∷ bs) h = at (is_mark
     at false false h = none NoMark tt h
 whole_end {X} {Y} rest S T x y Broken none marked text begun h = none Unread tt h
 
--- What is known of a head, S, is to say what T of it is: S is seen with the limits of heads, T with longer lines behind the mark.
+-- What is known of a head, S, is to say what T of it is: S is seen with the limits of heads, T with longer lines after the mark.
 module _ {X Y : Type 0} (rest left : Limit) (S : Head → X) (T : Head → Y) where
-  -- the limits behind a line, by whether it is the mark
+  -- the limits after a line, by whether it is the mark
   abbrev lines_by : Bool → Limit
   lines_by m lines = if m then rest lines else behind_mark rest lines
 

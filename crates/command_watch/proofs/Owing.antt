@@ -64,7 +64,7 @@ head_ends means TooLong e = absurd (omega (arith, e))
 head_ends means NoMark e = absurd (omega (arith, e))
 head_ends means heads.Unread e = ([], refl)
 
--- ---- behind `trace`
+-- ---- after `trace`
 
 due_end : (item : List ℕ → Option Item) (items : List Item) (number : ℕ) (ls : List (List ℕ)) → Due (λ more. stop_output items (stop_behind item number (lines_then ls more)))
 due_end item items number [] =
@@ -147,7 +147,7 @@ due_judged item (Err f) ls = inl (refused_output (fault_words f), λ x. omega (a
 
 -- ---- heads
 
--- What is said of a head: where it is none that is settled, and behind a text what is due of the lines behind it is due.
+-- What is said of a head: where it is none that is settled, and after a text what is due of the lines after it is due.
 module _ (say : Head → Output) (unread : say heads.Unread ≡ unread_output) (ends : (h : Head) → EndsUnread (say h))
     (long : (say TooLong).status ≡ 4 → ⊥) (found : (text : List ℕ) (ls : List (List ℕ)) → Due (λ more. say (Found text (lines_then ls more)))) where
   due_mark : (text l : List ℕ) (ls : List (List ℕ)) (p q : Bool) → is_mark l ≡ p → nat_lt most_bytes (length text + length l + 1) ≡ q

@@ -24,14 +24,14 @@ use Rattle.command_watch.specs.declared.following.Following.{Following}
 use Rattle.command_watch.specs.Meant.{Meanings}
 use Rattle.command_watch.specs.Watch.{watch_all, watch_from, watch_lines}
 
--- None of these items breaks the property before the first that is forged, and it stands behind
+-- None of these items breaks the property before the first that is forged, and f has seen
 -- those before that.
 pub record Stands (p : PropertyTree) (items : List Item) (f : Following) : Type 0 where
   pub forged : f.forged ≡ first_forged items
   pub unbroken : broken_at p (before items) ≡ None
   pub follows : f.forged ≡ None → Follows p items f.watcher
 
--- An item came behind them: it is the first that breaks the property, or none does yet.
+-- An item came after them: it is the first that breaks the property, or none does yet.
 abbrev pub Heeded : PropertyTree → List Item → Item → Following → Bool → Type 0
 Heeded p items item new true =
     (more : List Item) → broken_at p (before (items ++ item ∷ more)) ≡ Some (length items + 1)
@@ -58,7 +58,7 @@ RefusesText to_tell k0 k1 status (Fault f) =
     CommandEnds to_tell k0 k1 status (refused_output (fault_words f))
 RefusesText to_tell k0 k1 status OutOfMemory = (status ≡ out_of_memory) × (k1 ≡ k0)
 
--- behind this head of the input, of which nothing was written, the command does the rest
+-- after this head of the input, of which nothing was written, the command does the rest
 abbrev pub ReadsOn : Meanings → List ℕ → Bool → Bool → SourceAt → Ahead → SinkAt → CommandAt → ℕ
     → Type 0
 ReadsOn means text tells to_tell s1 now k1 m2 status = (s0 : SourceAt)

@@ -27,7 +27,7 @@ use Rattle.command_watch.specs.Meant.{Meanings}
 abbrev pub broken_line : ℕ → Output
 broken_line n = record { text = line (codes "broken " ++ decimal n); status = 12 }
 
--- none of these does: how many stand before the first that is forged, and which that is
+-- none of these does: how many come before the first that is forged, and which that is
 abbrev pub kept_text : List Item → List ℕ
 kept_text items = line (codes "kept " ++ decimal (length (before items)))
     ++ forged_line (first_forged items) ++ end_line
@@ -52,7 +52,7 @@ watch_from p item front answers =
     let t = trace item (length front + 1) answers in
     unless_broken (broken_at p (before (front ++ t.items))) (stop_output (front ++ t.items) t.stop)
 
--- what is said behind a property
+-- what is said after a property
 abbrev pub watch_start : PropertyTree → (List ℕ → Option Item) → Start → Output
 watch_start p item (Behind more) = watch_from p item [] more
 watch_start p item (Missing stop) = stop_output [] stop
@@ -62,7 +62,7 @@ abbrev pub watch_judged : (List ℕ → Option Item) → Result PropertyTree Pro
 watch_judged item (Ok p) more = watch_start p item (start 1 more)
 watch_judged item (Err f) more = refused_output (fault_words f)
 
--- behind a deployment: the property's text is a head, too
+-- after a deployment: the property's text is a head, too
 abbrev pub watch_property : Meanings → Deployed → Head → Output
 watch_property means d (Found text more) =
     watch_judged (means.trace.item d.names) (means.property d.names d.app text) more
@@ -86,7 +86,7 @@ watch_head means heads.Unread = unread_output
 abbrev pub watch_all : Meanings → List Answer → Output
 watch_all means answers = watch_head means (head answers)
 
--- how long lines may be: those of a head, and these behind it
+-- how long lines may be: those of a head, and these after it
 abbrev pub behind_mark : Limit → Limit
 behind_mark rest [] = longest
 behind_mark rest (text ∷ lines) = if is_mark text then rest lines else behind_mark rest lines

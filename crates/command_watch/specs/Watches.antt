@@ -28,7 +28,7 @@ abbrev pub IsBrokenTrace : ℕ → PropertyTree → (List ℕ → Option Item) �
 IsBrokenTrace n p item (Behind more) = broken_at p (before (trace item 1 more).items) ≡ Some n
 IsBrokenTrace n p item (Missing stop) = ⊥
 
--- the same of an input, behind its deployment and its property, which keep their rules
+-- the same of an input, after its deployment and its property, which keep their rules
 abbrev pub OfProperty : (PropertyTree → (List ℕ → Option Item) → Start → Type 0)
     → (List ℕ → Option Item) → Result PropertyTree PropertyFault → List Answer → Type 0
 OfProperty Is item (Ok p) more = Is p item (start 1 more)
@@ -50,7 +50,7 @@ abbrev pub OfInput : Meanings → (PropertyTree → (List ℕ → Option Item) �
 OfInput means Is (Found text more) = OfDeployment means Is (means.trace.deployment text) more
 OfInput means Is _ = ⊥
 
--- the answers of all lines of the input, as it stood at the start
+-- the answers of all lines of the input, as it was at the start
 abbrev pub input_of : CommandAt → List Answer
 input_of m0 = scan watch_lines Ended [] m0.source.rest
 

@@ -17,7 +17,7 @@ use sx_io::{Lines, PassRead, Sink, Source};
 use sx_trace::names::Names;
 use sx_watch::property::Property;
 
-/// Passes the lines of images, and follows the trace behind them.
+/// Passes the lines of images, and follows the trace after them.
 pub(crate) fn watch_images<S: Source, K: Sink>(
     alloc: Global,
     lines: &mut Lines,

@@ -3,7 +3,7 @@
 //!
 //! What it promises is `WatchSays` of specs/Watches.antt: what is written, and the exit status, are
 //! `watch_all` (specs/Watch.antt) of the input: of its head (command_promise) and of the deployment in it
-//! (sx_deploy), of the text behind that and of the property in it (sx_watch), and of the items of
+//! (sx_deploy), of the text after that and of the property in it (sx_watch), and of the items of
 //! its trace (command_explain).
 //!
 //! Nothing is written before the end. The program that wrote the trace isn't believed: the lines of

@@ -36,7 +36,7 @@ pub(crate) fn finish_broken<K: Sink>(output: &mut K, number: u32) -> u8
     finish(output, broken_text(number).as_slice(), BROKEN)
 }
 
-/// How many of so many items stand before the first that is forged.
+/// How many of so many items come before the first that is forged.
 fn count_before(forged: Option<u64>, count: u32) -> u64
     ensures { (p : PropertyTree) (items : List Listed) (f : Following) → Stands p items f
         → f.forged ≡ forged → count ≡ length items → result ≡ length (before items) }

@@ -124,7 +124,7 @@ get_part [] p part h = absurd (cc h)
 get_part (x ∷ parts) zero part h = ap as_tree h
 get_part (x ∷ parts) (suc p) part h = get_part parts p part h
 
--- what stands at an index
+-- what is at an index
 pub held_at : {X : Type 0} → (xs : List X) (i : ℕ) (x : X) → i < length xs → x ≡ slice_index_or xs i x → slice_get xs i ≡ Some x
 held_at [] i x lt h = absurd (omega (arith, lt))
 held_at (y ∷ xs) zero x lt h = ap Some (sym h)

@@ -16,7 +16,7 @@ places_powered : (xs : List (ℕ × Kind)) → places_of (powered_on xs) ≡ map
 places_powered [] = refl
 places_powered (x ∷ xs) = ap (λ (ps : List ℕ). x.0 ∷ ps) (places_powered xs)
 
--- the devices of a node stand where devices may
+-- the devices of a node are where devices may be
 pub stand_apart : (d : Deployed) (n : ℕ) (xs : List (ℕ × Kind)) → IsSoundDeployment d → xs ≡ windows_at n d.app.devices d.places → ArePlaces (map (λ (x : ℕ × Kind). x.0) xs)
 stand_apart d n xs sound e =
     let P : List (ℕ × Kind) → Type 0 = λ ws. ArePlaces (places_of (powered_on ws)) in

@@ -13,6 +13,6 @@ stop_status AtEnd = 0
 stop_status sched.Unread = read_failed
 stop_status (Breaks rule number) = 3
 
--- the exit status behind the head of a deployment
+-- the exit status after the head of a deployment
 abbrev pub schedule_status : Assembler → Deployed → List Answer → ℕ
 schedule_status assemble d more = stop_status (schedule assemble d.names 1 more).stop

@@ -45,7 +45,7 @@ use Rattle.law_calls.proofs.Registering.{node_twice}
 use Rattle.law_calls.proofs.Runner.{runs_as}
 use Rattle.law_calls.proofs.Middle.{Middle, next_middle}
 
--- where a stretch stands: at its end, before one more step, or before a violation
+-- where a stretch is: at its end, before one more step, or before a violation
 pub data Case (setup : Setup) (result : Invoked) (before : State) (bound : ℕ) (w : Watched) : Type 0 where
   IsOut : Exited setup result before w → Case setup result before bound w
   IsOn : (k : ℕ) (t : Watched) → Underway setup result before w → watch setup.mac w ≡ Goes t → 1 + k ≤ bound

@@ -91,7 +91,7 @@ ended set w c marks after steps last =
     }
 
 -- The node t after a call that returned with this status. The private section represents the
--- invocation's new state, the pieces stand in the out-window, the registers are those of the exit,
+-- invocation's new state, the pieces are in the out-window, the registers are those of the exit,
 -- and a sensor that was read isn't fresh. The number of resets, the key, the table of sections, all
 -- texts, the other modules' private sections and the bytes outside, but where pieces go, stay.
 pub record IsReturned (set : Setting) (c : Callee) (asks : Call) (status : ℕ) (p : Progress)

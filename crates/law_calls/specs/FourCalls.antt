@@ -1,5 +1,5 @@
 -- What a call at one of the four entries does in a world, with its windows in low memory. Each law
--- stands as the contract of a function in src/laws.rt.
+-- is the contract of a function in src/laws.rt.
 use Rattle.std.specs.Prelude.{◌≡◌, ℕ, ◌+◌, ◌*◌, ◌<◌, ◌≤◌, true, false, List, [], ◌∷◌, ◌++◌, length}
 use Rattle.std.specs.Prelude.{map, Some}
 use Rattle.sx_lang.specs.declared.sides.Side.{Side}

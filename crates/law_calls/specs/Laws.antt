@@ -1,4 +1,4 @@
--- What holds of every call. Each law stands as the contract of a function in src/laws.rt.
+-- What holds of every call. Each law is the contract of a function in src/laws.rt.
 use Rattle.std.specs.Prelude.{◌≡◌, ℕ, ◌<◌, false, List}
 use Rattle.std.specs.List.{list_any}
 use Rattle.sx_mean.specs.Application.{AppTree}

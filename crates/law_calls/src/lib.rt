@@ -7,7 +7,7 @@
 //!
 //! Read `specs/Calls.antt` first. `specs/Shown.antt` says what marks show, `specs/Laws.antt` has
 //! what holds of every call, and `specs/FourCalls.antt` the four entries with their windows in low
-//! memory. The crate speaks of the definitions of `spec_run`; no code stands here.
+//! memory. The crate speaks of the definitions of `spec_run`; there is no code here.
 //!
 //! `proofs/Running.antt` is the core: one induction over the steps from a module's entry to its
 //! end.

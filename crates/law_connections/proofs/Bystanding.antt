@@ -148,7 +148,7 @@ module _ (mac nac : Mac) (kind : Kind) (s : State) (n key : List ℕ) (u : Secti
           ifs_same mac nac hides s.sections.live s.mem (in_order s.sections.live s.cur (pc_of s)) (in_order u.live s.cur (pc_of s)) (instruction mac s) (instruction nac twin) bad.Order
           (in_order_like blank_mac blank_mac s.sections.live u.live s.cur (pc_of s) Blank) (λ t. absurd (true≢false (sym t ∙ e)))
 
-  -- What stands afterwards.
+  -- What is there afterwards.
 
   -- what a section's text is, where it stood before and stands now
   text_kept : (after : State) → Framed s.sections.live (own_of s) s.mem after.mem ⊎ (after ≡ reset s) → (z : Section) → Lives s.sections.live z → Lives after.sections.live z
@@ -308,7 +308,7 @@ outsiders_see mac nac sites n s t placed words foreign guess h =
         (not_deployed sites n s (section_of s.sections.live (own_of s)) none) (guess none)
     either (inr stopped) = stopped_same mac nac (sites_on sites n) s t.mem t.key t.sections t.exchange placed h.sections h.next h.mem stopped
 
--- after an instruction that isn't let run no section stands
+-- after an instruction that isn't let run there is no section
 stopped_none : (mac : Mac) (s : State) → is_let_run s ≡ false → (x : Section) → Lives (step mac s).state.sections.live x → ⊥
 stopped_none mac s stopped x l = outer (word_outside s.sections.live (pc_of s)) (device_at s.devices (pc_of s)) stopped l
   where

@@ -23,7 +23,7 @@ use Rattle.spec_run.specs.Setting.{Setting, Site}
 use Rattle.spec_run.specs.Law.{image_at}
 use Rattle.law_connections.specs.Compiles.{CompiledAlways, IsCompiledAt}
 
--- a list as it stands in memory, wherever that is
+-- a list as it is in memory, wherever that is
 abbrev in_memory : {X : Type 0} (xs : List X) → length xs < 65536 → Vec X Global
 in_memory xs few =
     let below : length xs < 9223372036854775808 = omega (arith, few) in

@@ -39,7 +39,7 @@ use Rattle.law_connections.proofs.Alike.{texts_same}
 use Rattle.law_connections.proofs.Twice.{key_in, SameProgress, SameInvoked, invoke_same}
 use Rattle.law_connections.proofs.Linking.{second, Linked, Opens, SameNode, linked_tags, opens_linked}
 
--- what stands in the second table for a live section
+-- what is in the second table for a live section
 pub mate_lives : (mac nac : Mac) (hides : Section → Bool) (xs ys : List Section) (x : Section) → SameSections mac nac hides xs ys → Lives xs x
     → (k : List ℕ) × Lives ys (record x { key = k })
 mate_lives mac nac hides [] ys x h l = absurd l

@@ -46,7 +46,7 @@ use Rattle.law_connections.proofs.Blind.{AreZero, Grown, grown_self, Same, Alike
 
 -- Where a new section is wiped.
 
--- one range of bytes stands before the other
+-- one range of bytes is before the other
 abbrev Apart : Layout → Type 0
 Apart l = (l.pub_to ≤ l.priv_from) ⊎ (l.priv_to ≤ l.pub_from)
 

@@ -67,7 +67,7 @@ wanted s = record {
   key = [];
 }
 
--- the identity of a section with the bytes that stand there
+-- the identity of a section with the bytes that are there
 abbrev pub identity_in : List ℕ → Section → List ℕ
 identity_in mem x = let l = x.layout in
     identity (public_bytes l mem) l.pub_from l.pub_to l.priv_from l.priv_to

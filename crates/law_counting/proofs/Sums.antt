@@ -110,7 +110,7 @@ sum_swap (suc n) w m f =
     (λ u lt. sum_swap n w m (λ vs. f (u ∷ vs)))
     ∙ total_swap w m (λ u v. sum_all n w (λ vs. f (u ∷ vs) v))
 
--- each table stands on a line of w tables, which differ at one entry
+-- each table is on a line of w tables, which differ at one entry
 pub sum_lines : (n w e : ℕ) (f : List ℕ → ℕ) → e < n → sum_all n w (λ t. total w (λ v. f (put t e v))) ≡ w * sum_all n w f
 sum_lines zero w e f lt = absurd (omega (arith, lt))
 sum_lines (suc n) w zero f lt =

@@ -123,7 +123,7 @@ module _ (set : Setting) (sound : IsLawfulSetting set) (room : HasRoom set) (c :
     pub senders : (x : Waiting) → Among x ys → sender_of set.app x.link ≡ m
     pub apart : (p : ℕ) → (m ≡ p → ⊥) → module_as set c p ≡ module_as set c1 p
 
-  -- What an event of the m-th module leads to: its node is u, the packets and entries of the values that it sends stand behind all others,
+  -- What an event of the m-th module leads to: its node is u, the packets and entries of the values that it sends are after all others,
   -- and no other module's state is another one.
   pub record Passes (m : ℕ) (q : PartTree) (site : Site) (sec : Section) (s u : State) (c1 : Course) (v : World) (rest ys : List Waiting) : Type 0 where
     pub part : slice_get set.app.parts m ≡ Some q

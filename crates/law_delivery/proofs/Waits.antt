@@ -1,4 +1,4 @@
--- The packets of values that wait: they stand and were made, also after an event, and those that it makes stand behind them.
+-- The packets of values that wait: they are there and were made, also after an event, and those that it makes are after them.
 use Rattle.std.proofs.Common.{◌≡◌, ℕ, suc, ◌+◌, ◌⊎◌, inl, inr, ◌||◌, Bool, true, false, List, [], ◌∷◌, ◌++◌, length, Some, slice_get, refl, sym, ◌∙◌, ap, subst, arith}
 use Rattle.std.proofs.lemmas.List.{append-nil}
 use Rattle.sx_ledger.specs.declared.entry.Maker.TheVariants as maker

@@ -212,7 +212,7 @@ module _ (set : Setting) (lines : List Line) (k : ℕ) (w : World) (n : ℕ) (s 
       | inr v ↦ ap (sender_of set.app) v.7 ∙ sent_sender set.app m v.3 v.4 v.5 v.6
     ]
 
-    -- where the tag of a packet of this size stood
+    -- where the tag of a packet of this size was
     stood : (packet : List ℕ) (at : ℕ) → at + 16 ≤ in_window_size → is_bad_window su (call_at before).input in_window_size ≡ false
         → read_bytes su (progress_at su before).devices (progress_at su before).mem (call_at before).input (at + 16) ≡ Ok packet → Presented set lines k (drop at packet)
     stood packet at le window e =

@@ -1,6 +1,6 @@
 -- Two developments. That keys are unseen: Tables to Scripts, lowest first, Naming and Tabling; begin
 -- with Scripts, where two worlds that differ in keys go side by side. What a first `forged` is: begin
--- with Unmade, whose record Holds has what stands at each moment before it.
+-- with Unmade, whose record Holds has what is so at each moment before it.
 pub mod Tables
 pub mod Plans
 pub mod Instructions

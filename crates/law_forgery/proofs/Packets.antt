@@ -1,4 +1,4 @@
--- The bytes of a packet that is read, and where they stood.
+-- The bytes of a packet that is read, and where they were.
 use Rattle.std.proofs.Common.{◌≡◌, ℕ, zero, suc, ◌+◌, ◌-◌, ◌<◌, ◌≤◌, ◌==◌, ◌⊎◌, inl, inr, Bool, true, false, ◌&&◌, ◌||◌, not, if◌then◌else◌, List, [], ◌∷◌}
 use Rattle.std.proofs.Common.{length, drop, slice_index, Option, Some, Result, Ok, Err, refl, sym, ◌∙◌, ap, ap₂, subst, arith}
 use Rattle.std.specs.Prelude.{nat_lt}
@@ -25,7 +25,7 @@ use Rattle.spec_invocation.specs.Setup.{Setup}
 use Rattle.spec_invocation.specs.Windows.{read_byte, read_bytes, unless_device, then_}
 use Rattle.spec_run.proofs.steps.Story.{bound_bytes}
 
--- The bytes that were read stood in memory.
+-- The bytes that were read were in memory.
 
 -- n bytes from an address on, the first one first
 abbrev front : List ℕ → ℕ → ℕ → List ℕ
@@ -85,7 +85,7 @@ front_long mem (suc n) at = ap suc (front_long mem n (at + 1))
 pub read_long : (s : Setup) (devices : List Window) (mem : List ℕ) (n at : ℕ) (bs : List ℕ) → read_bytes s devices mem at n ≡ Ok bs → length bs ≡ n
 read_long s devices mem n at bs e = ap length (read_front s devices mem n at bs e) ∙ front_long mem n at
 
--- What is read stands outside all private sections but the module's own, and the window outside this.
+-- What is read is outside all private sections but the module's own, and the window outside this.
 
 allowed_one : (s : Setup) (devices : List Window) (mem : List ℕ) (at b : ℕ) → read_byte s devices mem at ≡ Ok b → may s.live s.section.id Read at ≡ true
 unfolding read_byte

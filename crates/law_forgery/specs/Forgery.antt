@@ -62,13 +62,13 @@ pub data CallsFor (set : Setting) (w : World) : Option ℕ → List ℕ → KeyN
       → option_flatten (slice_get w.deployer.open_asks m) ≡ Some ask
       → CallsFor set w None ask (OfModule m boot)
 
--- the tag stands in the memory of a node, outside all private sections, or it is a packet
+-- the tag is in the memory of a node, outside all private sections, or it is a packet
 pub data StandsIn (w : World) (tag : List ℕ) : Type 0 where
   InMemory : (n at : ℕ) (s : State) → slice_get w.nodes n ≡ Some s
       → meets_private s.sections.live at 16 ≡ false → bytes_from s.mem at 16 ≡ tag → StandsIn w tag
   AsPacket : (k : ℕ) → slice_get w.packets k ≡ Some tag → StandsIn w tag
 
--- it stood so at a moment of the run, at the latest at the k-th
+-- it was so at a moment of the run, at the latest at the k-th
 pub record Presented (set : Setting) (lines : List Line) (k : ℕ) (tag : List ℕ) : Type 0 where
   pub j : ℕ
   pub past : Moment

@@ -22,7 +22,7 @@ pub fn players_see_the_same()
 {}
 
 /// No tag tells a setting from the one whose nodes hold names in place of keys, and whose tags
-/// under modules' names stand in a table that has the tags of the first.
+/// under modules' names are in a table that has the tags of the first.
 pub fn names_agree()
     ensures { NamesAgree }
 {}

@@ -29,7 +29,7 @@ pub record Begins (xs ys : List Line) : Type 0 where
 abbrev pub Alike : List Line → List Line → ℕ → Type 0
 Alike xs ys from = (xs ≡ ys) ⊎ ((b : Begins xs ys) × (65536 < length b.front + from))
 
--- behind the same lines
+-- after the same lines
 alike_behind : (ls xs ys : List Line) (a b : ℕ) → length ls + a ≡ b → Alike xs ys b → Alike (ls ++ xs) (ls ++ ys) a
 alike_behind ls xs ys a b long alike = elim alike [
   | inl same ↦ inl (ap (λ (zs : List Line). ls ++ zs) same)

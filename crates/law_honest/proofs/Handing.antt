@@ -61,7 +61,7 @@ hands_fares set e x k h whole =
       shown = second.holds.shown ∙ ap (λ (v : World). (next set v call).items) first.world;
     }) (says_fares set call g first.whole))
 
--- One packet is taken, and waits behind the others.
+-- One packet is taken, and waits after the others.
 take_fares : (set : Setting) (n i number : ℕ) (h : Honest) → IsWhole h → (next set h.world (Take n (0x80 + 24 * i) 24)).items ≡ item.Packet number 24 ∷ []
     → Fares set h.world (takes_one set n i h) (Take n (0x80 + 24 * i) 24 ∷ []) (Waits (h.waiting ++ number ∷ []))
 take_fares set n i number h whole shown =

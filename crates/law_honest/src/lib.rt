@@ -4,7 +4,7 @@
 //! of the honest schedule are a function of the application and the readings (`law_delivery`). They
 //! are the same lines, as far as a schedule has room. Where none is left out, their items are those
 //! that the source alone predicts: so each value that is sent is taken once, and nothing is forged
-//! (`specs/Laws.antt`). No code stands here.
+//! (`specs/Laws.antt`). There is no code here.
 #![tactic(auto)]
 
 pub mod laws;

@@ -11,7 +11,7 @@ take_first n xs ys e = ap (λ k. take k (xs ++ ys)) (sym e) ∙ take-append_seam
 pub drop_first : (n : ℕ) (xs ys : List ℕ) → length xs ≡ n → drop n (xs ++ ys) ≡ ys
 drop_first n xs ys e = ap (λ k. drop k (xs ++ ys)) (sym e) ∙ drop-append_seam xs ys
 
--- a body of n bytes that was wrapped is unwrapped from the cipher's bytes and those behind
+-- a body of n bytes that was wrapped is unwrapped from the cipher's bytes and those after
 pub unwraps : (mac : Mac) (key ad body : List ℕ) (n : ℕ) → IsTag mac → length body ≡ n → n ≤ 32
     → let w = wrapped mac key ad body in
     unwrapped mac key ad (take n (w.cipher ++ w.tag)) (drop n (w.cipher ++ w.tag)) ≡ Some (padded body)

@@ -1,4 +1,4 @@
--- What it means that an invocation gives something: it returns with all done. The windows stand in
+-- What it means that an invocation gives something: it returns with all done. The windows are in
 -- low memory, where nothing refuses them.
 use Rattle.std.specs.Prelude.{◌≡◌, ℕ, ◌<◌, ◌≤◌, List, [], Option, Some, None}
 use Rattle.sx_rules.specs.declared.section.Section.{Section}
@@ -17,11 +17,11 @@ use Rattle.spec_invocation.specs.Invocation.{invoke}
 abbrev pub asked : ℕ → ℕ → ℕ → Call
 asked e input output = record { entry = e; input = input; output = output; back = 0 }
 
--- where the in-window stands
+-- where the in-window is
 abbrev pub low_input : ℕ
 low_input = 0x40
 
--- where the out-window stands
+-- where the out-window is
 abbrev pub low_output : ℕ
 low_output = 0x80
 

@@ -1,5 +1,5 @@
 -- What the four entries give, each where its packet or its sensor is as it has to be. Each law
--- stands as the contract of a function in src/laws.rt.
+-- is the contract of a function in src/laws.rt.
 use Rattle.std.specs.Prelude.{◌≡◌, ℕ, ◌+◌, ◌*◌, ◌<◌, ◌≤◌, true, false, List, [], ◌∷◌, ◌++◌, length}
 use Rattle.std.specs.Prelude.{slice_get, Some}
 use Rattle.sx_lang.specs.declared.sides.Side.{Side}

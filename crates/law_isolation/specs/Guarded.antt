@@ -13,7 +13,7 @@ use Rattle.law_isolation.specs.Happening.{Happening, Step, done}
 use Rattle.law_isolation.specs.Script.{Script, End, Do, looks, performed, after}
 
 -- Two worlds are the same but for their n-th nodes: these differ at most in the private bytes of s,
--- which stands there, or not at all.
+-- which is there, or not at all.
 pub record SameBut (n : ℕ) (s : Section) (w v : World) : Type 0 where
   pub node : State
   pub twin : State

@@ -26,7 +26,7 @@ abbrev pub where_node : Option Look → (Look → Script) → Script → Script
 where_node None some none = none
 where_node (Some a) some none = some a
 
--- at most this many steps of a node, and then what stands in `last`; they end after a reset, or
+-- at most this many steps of a node, and then what is in `last`; they end after a reset, or
 -- where `stops` says so
 abbrev pub steps : (Look → Bool) → List Happening → ℕ → ℕ → (List Look → Script) → List Look
     → Script

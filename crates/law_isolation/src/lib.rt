@@ -8,7 +8,7 @@
 //! is reset; and worlds that differ in these bytes alone show the same items, and differ in them
 //! alone afterwards (`specs/Guarded.antt`).
 //!
-//! It speaks of the definitions of `spec_run`; no code stands here. The laws are those of
+//! It speaks of the definitions of `spec_run`; there is no code here. The laws are those of
 //! `specs/Laws.antt`. `specs/Lines.antt` is the script of a schedule, which nobody has to believe:
 //! the clause `GuardedRun` says that there is one.
 #![tactic(auto)]

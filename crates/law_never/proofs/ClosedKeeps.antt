@@ -48,11 +48,11 @@ abbrev Has : Row → Model → Type 0
 Has r s = HasPlaces r s.modules × HasReadings r s.devices × HasWords r s.sent
 
 module _ (reacts' : Reactions) (app : AppTree) (o : PropertyTree) (t : Table) (few : length app.links ≤ 256) (sound : AreSound reacts' app o) (closed : IsClosed reacts' app o t) where
-  -- a row shows where the source and the property stand
+  -- a row shows where the source and the property are
   abbrev Inv : Model → List ℕ → Type 0
   Inv s cells = OneOf (λ r. Shows r s cells) t.rows
 
-  -- the property emits nothing at the item, and a row shows where both stand then
+  -- the property emits nothing at the item, and a row shows where both are then
   abbrev Fine : List ℕ → Item → Model → Type 0
   Fine cells item s = AreQuiet (watched o cells item).acts × Inv s (watched o cells item).cells
 
@@ -90,7 +90,7 @@ module _ (reacts' : Reactions) (app : AppTree) (o : PropertyTree) (t : Table) (f
         )
 
   module _ (s : Model) (cells : List ℕ) (inv : Inv s cells) where
-    -- with the row that shows where they stand, and what it leads to
+    -- with the row that shows where they are, and what it leads to
     from : (P : Type 0) → ((r : Row) → IsClosedAt reacts' app o t r → Shows r s cells → P) → P
     from P f = let w = one_with (IsClosedAt reacts' app o t) (λ r. Shows r s cells) t.rows closed.rows inv in f w.0 w.1 w.2
 

@@ -1,6 +1,6 @@
 -- Begin with Never: what it means that no run breaks a property. Nothing else here need be
 -- believed.
--- Tables says where an application may stand in a row, Closed when no item leads out of a table,
+-- Tables says where an application may be in a row, Closed when no item leads out of a table,
 -- Laws
 -- what that shows; Check and Demands are the check of the proofs, and Same has that the code's is
 -- it.

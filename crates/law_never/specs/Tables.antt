@@ -1,4 +1,4 @@
--- Tables: where the source may stand, for the places at which the property may be.
+-- Tables: where the source may be, for the places at which the property may be.
 use Rattle.std.specs.Prelude.{◌≡◌, ℕ, ◌%◌, ◌⊎◌, Bool, true, false, List, [], Option, Some, None}
 use Rattle.std.specs.Prelude.{slice_get, unwrap_or}
 use Rattle.sx_trace.specs.declared.items.Item.{Item}
@@ -14,7 +14,7 @@ pub record Place : Type 0 where
   pub cells : List Interval
   pub owed : List Interval
 
--- where the source may stand while the property's cells are in the box: which modules may be
+-- where the source may be while the property's cells are in the box: which modules may be
 -- absent,
 -- the places of each module if it is present, the values of each sensor that are fresh, and the
 -- words that were ever sent over
@@ -82,7 +82,7 @@ abbrev pub HasWords : Row → List (List ℕ) → Type 0
 HasWords r wss = (field : ℕ) (words : List ℕ) → slice_get wss field ≡ Some words
     → Each (λ v. HasWord r (field % 256) v) words
 
--- the row shows where the source and the property stand
+-- the row shows where the source and the property are
 pub record Shows (r : Row) (s : Model) (cells : List ℕ) : Type 0 where
   pub watch : AreInside r.watch cells
   pub places : HasPlaces r s.modules

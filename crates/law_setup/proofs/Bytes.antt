@@ -14,7 +14,7 @@ put_split (suc j) (b ∷ bs) m a =
     let next : a + suc j ≡ a + 1 + j = omega arith in
     ap (λ k. put_bytes (put_bytes (slice_set m a (b % 256)) (a + 1) (take j bs)) k (drop j bs)) next ∙ put_split j bs (slice_set m a (b % 256)) (a + 1)
 
--- bytes that were written stand there
+-- bytes that were written are there
 pub bytes_put : (bs m : List ℕ) (a : ℕ) → All (λ b. b < 256) bs → a + length bs ≤ length m → bytes_from (put_bytes m a bs) a (length bs) ≡ bs
 bytes_put [] m a h le = bytes_none m a
 bytes_put (b ∷ bs) m a h le =

@@ -68,7 +68,7 @@ found_from (x ∷ before) es e k d =
     ap (λ (b : Bool). if b then placed k x else end_found e.link e.side (k + 1) (before ++ e ∷ es)) other
     ∙ found_from before es e (k + 1) d.1 ∙ ap (λ (j : ℕ). placed j e) next
 
--- Packets that stand go on standing.
+-- Packets that are there stay.
 
 keys_same : (set : Setting) (w v : World) (m : ℕ) (site : Site) (number : ℕ) (es : List End) → v.packets ≡ w.packets → v.ledger ≡ w.ledger
     → HaveKeys set w m site number es → HaveKeys set v m site number es

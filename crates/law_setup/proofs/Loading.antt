@@ -129,7 +129,7 @@ module _ (site : Site) (regs : List ℕ) (size : length regs ≡ 16) where
       ∙ ap (λ x. record { pub_from = site.layout.pub_from; pub_to = site.layout.pub_to; priv_from = x; priv_to = slice_index g 13 }) g12
       ∙ ap (λ x. record { pub_from = site.layout.pub_from; pub_to = site.layout.pub_to; priv_from = site.layout.priv_from; priv_to = x }) g13
 
--- What stands below_from 0x0200.
+-- What is below_from 0x0200.
 
 no_holder : (live : List Section) (at : ℕ) → ((x : Section) → Lives live x → at < x.layout.pub_from) → holder live at ≡ 0
 no_holder [] at h = refl
@@ -142,7 +142,7 @@ zero_or : (b : Bool) (own : ℕ) → own ≡ 0 → (if b then own else 0) ≡ 0
 zero_or true own h = h
 zero_or false own h = refl
 
--- The instruction, on a node that stands ready for it.
+-- The instruction, on a node that is ready for it.
 pub record IsReadyToProtect (set : Setting) (m : ℕ) (q : PartTree) (site : Site) (s : State) : Type 0 where
   pub part : slice_get set.app.parts m ≡ Some q
   pub sited : slice_get set.sites m ≡ Some site

@@ -154,7 +154,7 @@ pub stale_windows : (xs : List (ℕ × Kind)) → All (λ (d : Window). d.fresh 
 stale_windows [] = All-nil (λ (d : Window). d.fresh ≡ false)
 stale_windows (x ∷ xs) = All-cons (λ (d : Window). d.fresh ≡ false) _ (powered_on xs) refl (stale_windows xs)
 
--- no device's word meets a public section in which no device stands
+-- no device's word meets a public section with no device
 pub no_word : (from to : ℕ) (ws : List Window) (i : ℕ) → from % 2 ≡ 0 → All (λ p. p % 2 ≡ 0) (places_of ws) → ((at : ℕ) → from ≤ at → at < to → position_from (on_word at) i ws ≡ None)
     → list_all (λ place. apart from to place (place + 2)) (places_of ws) ≡ true
 no_word from to [] i even evens h = refl

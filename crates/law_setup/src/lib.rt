@@ -2,11 +2,11 @@
 //! of its connections.
 //!
 //! Its lines are a function of the application alone (`specs/Schedule.antt`). For every setting in
-//! which the modules are deployed soundly and nothing stands below 0x0200, the run of these lines
+//! which the modules are deployed soundly and nothing is below 0x0200, the run of these lines
 //! shows exactly the items that the source predicts (`specs/Laws.antt`): no ask, answer or key goes
 //! wrong, whatever the tag function, the images and the places are.
 //!
-//! No code stands here. In `proofs/` read `forms/Settled.antt` first: the world after the set-up
+//! There is no code here. In `proofs/` read `forms/Settled.antt` first: the world after the set-up
 //! stands as the course of the honest run says.
 #![tactic(auto)]
 

@@ -9,7 +9,7 @@ use Rattle.law_uses.specs.Uses.{key_held, Use, Gives, Tries, Sizes, uses}
 use Rattle.law_uses.specs.UsesAlone.{SameMoments}
 
 -- two tag functions differ at one entry alone, which is a key and a message over `T`, and not in
--- how many bytes stand there
+-- how many bytes are there
 pub record DifferAt (mac nac : Mac) (key rest : List ℕ) : Type 0 where
   pub others : (k m : List ℕ) → (k ≡ key → m ≡ 0x54 ∷ rest → ⊥) → mac k m ≡ nac k m
   pub size : length (mac key (0x54 ∷ rest)) ≡ length (nac key (0x54 ∷ rest))
@@ -28,7 +28,7 @@ abbrev pub AllSpare : Setting → Mac → (key rest : List ℕ) → List Use →
 AllSpare set nac key rest [] = Unit {0}
 AllSpare set nac key rest (u ∷ us) = Spares set nac key rest u × AllSpare set nac key rest us
 
--- So until it is given or hit nothing depends on what stands at the entry: the run with another
+-- So until it is given or hit nothing depends on what is at the entry: the run with another
 -- value there is the same.
 abbrev pub UnaskedIsUnseen : Type 0
 UnaskedIsUnseen = (set : Setting) (nac : Mac) (key rest : List ℕ) (script : Script) (k : ℕ)

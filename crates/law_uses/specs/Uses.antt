@@ -150,7 +150,7 @@ instruction_uses set n s code (Some own) =
     else if code == 5 then unwrap_uses set n s own
     else []
 
--- a step of the n-th node, where PC is let run and stands at a module instruction
+-- a step of the n-th node, where PC is let run and is at a module instruction
 abbrev pub step_uses : Setting → ℕ → Option State → List Use
 step_uses set n None = []
 step_uses set n (Some s) =
