@@ -176,7 +176,7 @@ class Answers(Room):
             ("on out lampp(v) { fail; }\n", "P3 1 8", "did you mean `lamp`?"),
             ("on out eye(v) { fail; }\n", "P3 1 8", "`eye` drives no actuator"),
             ("on raw light(v) { fail; }\n", "P3 1 8", "`light` is a sensor"),
-            ("on reset b { }\non reset b { }\n", "P4 2 10", "a second handler"),
+            ("on reset b { }\non reset b { }\n", "P4 2 10", "these items have two handlers"),
             ("on out lamp(v) { if w { fail; } }\n", "P5 2", "`w` isn't declared"),
             ("//" + 5000 * "x" + "\n", "P1 -", "more than 4,096"),
         )
