@@ -63,6 +63,10 @@ class Runner:
             raise NoProgram(f"{command[0]} can't be started: {os.strerror(error.errno or 0)}") from None
         if self.processor_seconds:
             limit(process, self.processor_seconds)
+        return self.ended(process)
+
+    def ended(self, process: int) -> int:
+        """How a process ended, which is waited for."""
         _, status = os.waitpid(process, 0)
         return os.waitstatus_to_exitcode(status)
 

@@ -2,18 +2,19 @@
 
 from __future__ import annotations
 
-import subprocess
+import os
+import select
 from contextlib import contextmanager
 from dataclasses import dataclass, field
+from signal import SIGKILL
 from threading import Timer
 from typing import Any, Dict, Iterator, List, Optional
 
 from sancus.app import App
-from sancus.errors import NoProgram, Refused
+from sancus.errors import Refused
 from sancus.lsp.documents import Document
 from sancus.lsp.text import Range
 from sancus.model import warnings
-from sancus.model.asking import Answer
 from sancus.model.deployment import Plan
 from sancus.model.faults import Teller
 from sancus.model.inspection import are_readings
@@ -38,18 +39,25 @@ class TooLong(Exception):
 
 @dataclass(frozen=True)
 class Limited(Runner):
-    """The program, which is ended if somebody waits too long for it, on a busy machine too."""
+    """The program, which is ended if somebody waits too long for it, on a busy machine too. (Only on Linux a process can
+    be waited for so.)"""
 
     patience: float = PATIENCE
 
-    def answer(self, words: List[str], text: bytes) -> Answer:
-        try:
-            ran = subprocess.run(self.command(words), input=text, stdout=subprocess.PIPE, timeout=self.patience)
-        except subprocess.TimeoutExpired:
-            raise TooLong from None
-        except OSError as error:
-            raise NoProgram(f"{self.words[0]} can't be started: {error.strerror}") from None
-        return Answer(ran.returncode, ran.stdout)
+    def ended(self, process: int) -> int:
+        if hasattr(os, "pidfd_open") and not is_ended_within(process, self.patience):
+            os.kill(process, SIGKILL)
+            super().ended(process)
+            raise TooLong
+        return super().ended(process)
+
+
+def is_ended_within(process: int, seconds: float) -> bool:
+    watched = os.pidfd_open(process)
+    try:
+        return bool(select.select([watched], [], [], seconds)[0])
+    finally:
+        os.close(watched)
 
 
 @dataclass(frozen=True)
