@@ -6,7 +6,7 @@ from dataclasses import dataclass
 from pathlib import Path
 from typing import TYPE_CHECKING, Dict, Iterable, List, Optional, Tuple, Union
 
-from sancus.errors import Fault
+from sancus.errors import Fault, NoProgram
 from sancus.model import warnings
 from sancus.model.asking import Program
 from sancus.model.deployment import Plan, plan_of
@@ -109,6 +109,8 @@ class App:
         end = b"" if text.endswith(b"\n") else b"\n"
         data = self.input(text + end + MARK + b"\n" + trace)
         first = text_of(self.program.answer([command], data).output.partition(b"\n")[0])
+        if not first:
+            raise NoProgram(f"the program was ended before it answered `{command}`")
         if first.startswith("fault "):
             raise Fault(first, Teller(kept_of(data, self.name), command, self.program.ask).told(first))
         return first

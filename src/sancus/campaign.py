@@ -19,7 +19,7 @@ from functools import lru_cache, partial
 from pathlib import Path
 from random import Random
 from types import ModuleType
-from typing import Any, Callable, Deque, Dict, Iterable, Iterator, List, NamedTuple, Optional, Tuple, Union, get_args
+from typing import Any, Callable, Deque, Dict, Iterable, Iterator, List, NamedTuple, Tuple, Union, get_args
 
 from sancus import __version__
 from sancus.app import App, bytes_of
@@ -96,7 +96,7 @@ def code_of(named: str) -> Code:
     if not path or not function.isidentifier():
         raise NoCampaign(f"{named} isn't FILE:FUNCTION")
     try:
-        return Code(path, function, Path(path).read_text())
+        return Code(path, function, Path(path).read_text("utf-8"))
     except (OSError, ValueError) as error:
         raise NoCampaign(f"{path} can't be read: {error.strerror if isinstance(error, OSError) else error}") from None
 

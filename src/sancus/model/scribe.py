@@ -8,6 +8,7 @@ from __future__ import annotations
 
 from collections import deque
 from dataclasses import dataclass, field
+from functools import lru_cache
 from typing import Deque, Dict, Iterable, List, NamedTuple, Optional, Set, Tuple
 
 from sancus.model.campaign_acts import Act, Carry, Change, Fate, Hold, Reading, Replay, Reset, Sample, said
@@ -23,6 +24,8 @@ from sancus.model.tables import Range, taken_on
 IN_SIZE, OUT_SIZE, LOWEST_WINDOW = 40, 384, 0x300
 # An application may never rest: so many events follow one reading.
 MOST_CARRIED = 64
+# So many reactions of modules are kept.
+MOST_KNOWN = 1 << 16
 
 
 class Keys(NamedTuple):
@@ -100,19 +103,19 @@ class Layout:
         self.outside = {module: outside for module, _, outside in places}
         self.trees = {it: plan.tree(it) for it in self.modules}
         self.firsts = {name: frozen(first_cells(tree)) if tree else () for name, tree in self.trees.items()}
-        self.known: Dict[Tuple[str, Optional[str], int, Cells], Tuple[Cells, List[Reacted]]] = {}
+        # (schedules of one deployment have many reactions in common)
+        self.reaction = lru_cache(maxsize=MOST_KNOWN)(self.reacted)
         self.deployed = Scribe(self)
         self.deployed.deploy(self.modules)
 
-    def reaction(self, module: str, event: Optional[str], value: int, cells: Cells) -> Tuple[Cells, List[Reacted]]:
+    def reacted(self, module: str, event: Optional[str], value: int, cells: Cells) -> Tuple[Cells, List[Reacted]]:
         """What a module's handler does at an event, or at a sample."""
-        key = (module, event, value, cells)
         tree = self.trees[module]
-        if key not in self.known and tree:
-            now = thawed(tree, cells)
-            acts = react(tree, event, value, now)
-            self.known[key] = (frozen(now), acts)
-        return self.known.get(key, (cells, []))
+        if not tree:
+            return cells, []
+        now = thawed(tree, cells)
+        acts = react(tree, event, value, now)
+        return frozen(now), acts
 
     def reached(self, module: str) -> List[str]:
         """The connections that lead on from a module, the nearest first."""
