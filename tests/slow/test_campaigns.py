@@ -67,8 +67,9 @@ class Campaigns(Room):
     def test_what_the_document_has_of_hypothesis(self):
         from hypothesis import settings
 
-        settings.register_profile("without files", database=None)
-        settings.load_profile("without files")
+        # (on a busy machine runs take their time)
+        settings.register_profile("patient", database=None, deadline=None)
+        settings.load_profile("patient")
         text = (TOP / "docs" / "API.md").read_text()
         example = next(it for it in re.findall(r"(?ms)^```python\n(.*?)^```", text) if "strategies.network" in it)
         with patch.dict(sys.modules), self.assertRaises(AssertionError) as raised:
