@@ -9,9 +9,12 @@ import subprocess
 import time
 import unittest
 from contextlib import closing
+from unittest.mock import patch
 
 from support import EXAMPLES, PROGRAM, SANCUS, Room, needs_program, program, sancus
 
+from sancus import load
+from sancus.campaign import Layout, Reading
 from sancus.cli.progress import line
 
 PUMP = EXAMPLES / "campaign" / "pump.toml"
@@ -104,6 +107,19 @@ class Campaigns(Room):
             return [it[0] for it in rows_of(self.rows)]
         except sqlite3.OperationalError:
             return []
+
+    def test_readings_whose_events_are_delivered_are_an_honest_run(self):
+        with patch.dict(os.environ, SANCUS_PROGRAM=PROGRAM):
+            app = load(EXAMPLES / "parking" / "parking.toml")
+        words = [it.split() for it in (EXAMPLES / "parking" / "day.readings").read_text().splitlines()]
+        readings = [(it[0], int(it[1])) for it in words if it[0] not in ("%%", "#")]
+        layout = Layout(app.plan)
+        drivers = {device: module for module, device in layout.sensors.items()}
+        ran = app.run(layout.lines(Reading(drivers[device], value) for device, value in readings))
+        honest = app.drive(readings)
+        for kind in ("sense", "read", "take", "out"):
+            self.assertEqual(ran.of(kind), honest.of(kind))
+        self.assertGreater(len(honest.of("take")), len(readings))
 
     def test_parts_are_merged(self):
         self.campaign("--seeds", "0..90", "--to", "whole.sqlite")
