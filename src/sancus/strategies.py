@@ -11,24 +11,17 @@ from hypothesis.strategies import SearchStrategy
 
 from sancus.app import App
 from sancus.campaign import Act, Carry, Change, Fate, Hold, Layout, Reading, Replay, Reset, Sample
-from sancus.model.generators import values_of
+from sancus.model.generators import MOST_HELD, values_of
 from sancus.model.schedule import EVENT
 
-# An event is given again by its number among those of its connection that were taken.
-MOST_HELD = 8
 
-
-def network(
-    app: App, values: Optional[SearchStrategy[int]] = None, max_size: int = 8
-) -> SearchStrategy[List[Act]]:
+def network(app: App, values: Optional[SearchStrategy[int]] = None, max_size: int = 8) -> SearchStrategy[List[Act]]:
     """Readings with fates of the events that follow, and resets: the faults of a network and of nodes."""
     layout = Layout(app.plan)
     return st.lists(st.one_of(*readings(layout, values), resets(layout)), max_size=max_size)
 
 
-def acts(
-    app: App, values: Optional[SearchStrategy[int]] = None, max_size: int = 20
-) -> SearchStrategy[List[Act]]:
+def acts(app: App, values: Optional[SearchStrategy[int]] = None, max_size: int = 20) -> SearchStrategy[List[Act]]:
     """The same, and single events that are carried, held back, given again or changed: an attacker's acts."""
     layout = Layout(app.plan)
     kinds: List[SearchStrategy[Act]] = [*readings(layout, values), resets(layout), *samples(layout, values)]

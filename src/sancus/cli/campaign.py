@@ -28,9 +28,10 @@ from sancus.status import BAD_TEXT, INTERRUPTED, NO_ANSWER, WRITE_FAILED, Ended
 
 SEEDS, SECONDS, FILE = "0..1000", 10, "campaign.sqlite"
 WRONG = 1
-# Which options say the same thing in different ways.
+# Of these options one excludes the others.
 ALTERNATIVES = (("network", "hostile", "generate"), ("check", "holds"), ("show", "shrink", "merge"), ("jobs", "dask"))
-GOES_ON = "the rows that it has stay, and the same call goes on"
+KEPT = "the rows that it has stay"
+GOES_ON = f"{KEPT}, and the same call goes on"
 
 
 def answer(context: Context, given: Given) -> int:
@@ -133,9 +134,7 @@ def engine_of(given: Given) -> ContextManager[Engine]:
 # --- Running ---
 
 
-def run(
-    context: Context, engine: ContextManager[Engine], plan: Plan, store: Store, first: int, end: int
-) -> None:
+def run(context: Context, engine: ContextManager[Engine], plan: Plan, store: Store, first: int, end: int) -> None:
     """Runs the seeds of a range that have no row yet."""
     missing = list(store.missing(first, end))
     if not missing:
@@ -149,7 +148,7 @@ def run(
             words = words or chunk.words
     progress.close()
     if words:
-        raise NoCampaign(*words, GOES_ON)
+        raise NoCampaign(*words, KEPT)
 
 
 def rows_of(path: str, head: bytes) -> Store:
