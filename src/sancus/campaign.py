@@ -126,16 +126,17 @@ class Plan:
     check: Union[Code, Property, None]
     # how many seconds of a processor each run may take
     seconds: int
+    # the sum of what draws and writes schedules here
+    version: str
 
     def parts(self) -> Dict[str, str]:
         """A sum of each part of which rows depend."""
-        own = [Path(str(it.__file__)).read_bytes() for it in (campaign_acts, generators, scribe)]
         made = {
             "generator": self.generate.key if isinstance(self.generate, Code) else self.generate,
             "check": self.check.key if self.check else "",
             "limit of time": str(self.seconds),
             "program": self.program,
-            "version of sancus": repr([__version__, *own]),
+            "version of sancus": self.version,
         }
         sums = {name: sum_of(it.encode(errors="surrogateescape")) for name, it in made.items()}
         return {**deployment_part(self.head), **sums}
@@ -146,7 +147,14 @@ def plan_of(
 ) -> Plan:
     """The plan of a campaign of an application."""
     command = tuple(app.program.command([]))
-    return Plan(app.head, command, sum_of_program(command), generate, check, seconds)
+    return Plan(app.head, command, sum_of_program(command), generate, check, seconds, version())
+
+
+@lru_cache(maxsize=1)
+def version() -> str:
+    """The sum of what rows depend on in this package."""
+    own = [Path(str(it.__file__)).read_bytes() for it in (campaign_acts, generators, scribe)]
+    return sum_of(b"\0".join([__version__.encode(), *own]))
 
 
 def deployment_part(head: bytes) -> Dict[str, str]:
@@ -191,6 +199,8 @@ class Worker:
     """Runs seeds of a plan."""
 
     def __init__(self, plan: Plan) -> None:
+        if plan.version != version():
+            raise NoCampaign(f"the package sancus on {platform.node()} isn't the one of the campaign")
         self.plan = plan
         self.app = App(plan.head, program=program_of(plan))
         self.layout = Layout(self.app.plan)
