@@ -118,7 +118,7 @@ def answer_as_child(
         os.environ["SANCUS_PROGRAM"] = program
         if cwd:
             os.chdir(cwd)
-        status = run(words, TOP)
+        status = run(words, str(TOP))
     except BaseException:
         traceback.print_exc()
         status = 99

@@ -7,13 +7,13 @@ run.
 import os
 import shutil
 import subprocess
+import time
 import unittest
-from pathlib import Path
 from unittest.mock import patch
 
 from support import EXAMPLES, LIGHTING, PROGRAM, SANCUS, TOP, Room, needs_program
 
-from sancus import builds
+from sancus import builds, kept
 from sancus.builds import Sources, sum_of
 from sancus.status import Ended
 
@@ -154,7 +154,7 @@ class Hosted(Room):
 
     def note(self):
         native, wasm = (sum_of((self.top / "release" / it).read_bytes()) for it in ("sancus_run", "sancus.wasm"))
-        lines = ["needs glibc 9.9", f"sources {Sources(self.top).sum()}", f"sha256 {native}", f"wasm-of {native}"]
+        lines = ["needs glibc 9.9", f"sources {Sources(str(self.top)).sum()}", f"sha256 {native}", f"wasm-of {native}"]
         text = "".join(f"{it}\n" for it in [*lines, f"wasm-sha256 {wasm}"])
         (self.top / "release" / "RELEASE").write_text(f"{text}note {sum_of(text.encode())}\n")
 
@@ -241,6 +241,76 @@ class UnderNode(Room):
             self.assertEqual((ran.returncode, ran.stdout, ran.stderr), (status, out, b""))
 
 
+class KeptChoices(Room):
+    """A choice is kept until something that it depends on looks otherwise."""
+
+    def setUp(self):
+        super().setUp()
+        self.top, self.kept = self.room / "checkout", self.room / "kept"
+        self.program = self.top / "program"
+        for name in ("crates/a/src/main.rt", "crates.txt", "HANDLES", "program"):
+            (self.top / name).parent.mkdir(parents=True, exist_ok=True)
+            (self.top / name).write_text("some")
+        self.program.chmod(0o755)
+        self.source = self.top / "crates/a/src/main.rt"
+
+    def keep(self, waited=kept.TICK):
+        """Keeps a choice as if so long had gone by since the files were written."""
+        places = [os.fsencode(it) for it in (self.program, *Sources(str(self.top)).places())]
+        choosing = kept.Choosing(str(self.top), places)
+        choosing.begun = time.time_ns() + waited
+        choosing.keep(str(self.kept), kept.Build([str(self.program), "word"], "released", ["a note"]))
+
+    def found(self, top=None):
+        return kept.kept_choice(str(top or self.top), str(self.kept))
+
+    def test_it_is_found_again(self):
+        self.keep()
+        self.assertEqual(self.found(), kept.Build([str(self.program), "word"], "released", ["a note"]))
+
+    def test_whatever_changes(self):
+        def write_and_set_time_back():
+            seen = self.source.stat()
+            self.source.write_text("more")
+            os.utime(self.source, ns=(seen.st_atime_ns, seen.st_mtime_ns))
+
+        def replace():
+            (self.room / "new").write_text("some")
+            (self.room / "new").replace(self.source)
+
+        changes = (
+            write_and_set_time_back,
+            replace,
+            lambda: self.source.unlink(),
+            lambda: (self.top / "crates/a/src/new.rt").write_text(""),
+            lambda: (self.top / "crates/b").mkdir(),
+            lambda: self.source.rename(self.source.with_name("other.rt")),
+            lambda: self.program.chmod(0o644),
+            lambda: (self.top / "HANDLES").write_text("more"),
+        )
+        for change in changes:
+            with self.subTest(change):
+                self.setUp()
+                self.keep()
+                time.sleep(0.02)
+                change()
+                self.assertIsNone(self.found())
+
+    def test_what_changed_a_moment_ago_is_not_kept(self):
+        self.keep(0)
+        self.assertFalse(self.kept.exists())
+
+    def test_of_another_checkout(self):
+        self.keep()
+        self.assertIsNone(self.found(self.room / "copy"))
+
+    def test_damaged(self):
+        self.keep()
+        for text in (b"", b"\n\n\n\n", self.kept.read_bytes()[:-20]):
+            self.kept.write_bytes(text)
+            self.assertIsNone(self.found())
+
+
 class Sums(Room):
     def test_the_sum_is_that_of_release_sh(self):
         """By the definition of tools/release.sh: sums and names, in the order of the names' bytes."""
@@ -255,14 +325,11 @@ class Sums(Room):
             "crates/b/x.txt",
         ):
             (self.room / name).write_text(name)
-        sources = Sources(self.room)
+        sources = Sources(str(self.room))
         names = ["crates.txt", "HANDLES", "crates/a.rt", "crates/b/B.antt", "crates/b/x.rt"]
         self.assertEqual(sources.names(), names)
         lines = "".join(f"{sum_of(name.encode())}  {name}\n" for name in names)
         self.assertEqual(sources.sum(), sum_of(lines.encode()))
-        kept = Path(self.room, "out", "sources.kept").read_text()
-        self.assertEqual(sources.sum(), sum_of(lines.encode()))
-        self.assertEqual(Path(self.room, "out", "sources.kept").read_text(), kept)
         (self.room / "crates" / "a.rt").write_text("other")
         self.assertNotEqual(sources.sum(), sum_of(lines.encode()))
 
@@ -271,7 +338,7 @@ class Sums(Room):
         if not script.is_file():
             self.skipTest("there is no tools/release.sh")
         ran = subprocess.run([script, "sources"], capture_output=True, text=True)
-        self.assertEqual(ran.stdout.strip(), Sources(TOP).sum())
+        self.assertEqual(ran.stdout.strip(), Sources(str(TOP)).sum())
 
 
 if __name__ == "__main__":

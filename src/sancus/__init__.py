@@ -12,9 +12,10 @@ docs/API.md has all of it. `sancus.cli` is the command line, and `sancus.model` 
 
 from __future__ import annotations
 
-from typing import TYPE_CHECKING, Any
-
+TYPE_CHECKING = False
 if TYPE_CHECKING:
+    from typing import Any
+
     from sancus import items
     from sancus.app import App, load, loads
     from sancus.errors import Fault, NoCampaign, NoProgram, Refused

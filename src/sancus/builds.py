@@ -8,96 +8,103 @@ set back.
 4. `rt try`: a build without its proof, made anew at each call.
 
 An installed package has no sources: it starts the released build that it holds, or that one's WebAssembly.
-tools/release.sh writes stamp and note, and defines the sum of the sources.
+tools/release.sh writes stamp and note, and defines the sum of the sources. What was chosen is kept (`kept`).
 """
 
 from __future__ import annotations
 
-import hashlib
 import os
-import subprocess
-from array import array
-from dataclasses import dataclass, field
-from pathlib import Path
-from typing import Dict, Iterator, List, Optional, Tuple
 
+from sancus.kept import Build, Choosing, kept_choice
+from sancus.records import dataclass
 from sancus.status import NO_ANSWER, Ended
+
+TYPE_CHECKING = False
+if TYPE_CHECKING:
+    from collections.abc import Iterator
 
 SOURCES = (".rt", ".antt")
 FIRST = ("crates.txt", "HANDLES")
 # What runs sancus.wasm, each with the script that comes before that file.
 HOSTS = (("node", "run.mjs"), ("wasmtime", ""))
 # The package, and the folder in it that holds the program where it is installed.
-PACKAGE = Path(__file__).resolve().parent
-INSTALLED = PACKAGE / "_program"
+PACKAGE = os.path.dirname(os.path.realpath(__file__))
+INSTALLED = os.path.join(PACKAGE, "_program")
 
 
-def machine() -> Tuple[str, str]:
+def machine() -> tuple[str, str]:
     """The system and the processor."""
     seen = os.uname()
     return seen.sysname, seen.machine
 
 
-def found(command: str) -> Optional[str]:
-    """A command's path. (Imported here, as most calls need none.)"""
+def found(command: str) -> str | None:
+    """A command's path."""
+    if os.path.isabs(command) and os.path.isfile(command) and os.access(command, os.X_OK):
+        return command
+    # (imported here, as hardly any call needs it; so below)
     from shutil import which
 
     return which(command)
 
 
-def home() -> Path:
+def home() -> str:
     """The checkout of which this package is, or the folder in it that holds the program."""
-    return INSTALLED if INSTALLED.is_dir() else PACKAGE.parent.parent
+    return INSTALLED if os.path.isdir(INSTALLED) else os.path.dirname(os.path.dirname(PACKAGE))
 
 
 def sum_of(data: bytes) -> str:
-    return hashlib.sha256(data).hexdigest()
+    from hashlib import sha256
+
+    return sha256(data).hexdigest()
 
 
-def sum_of_file(path: Path) -> str:
+def sum_of_file(path: str) -> str:
     try:
-        return sum_of(path.read_bytes())
+        with open(path, "rb") as file:
+            return sum_of(file.read())
     except OSError:
         return ""
 
 
-def text_of_file(path: Path) -> str:
+def text_of_file(path: str) -> str:
     try:
-        return path.read_text(errors="replace")
+        with open(path, encoding="utf-8", errors="surrogateescape") as file:
+            return file.read()
     except OSError:
         return ""
 
 
-@dataclass
-class Build:
-    """A build as it is started: its command, what kind it is, and what is to be said of it."""
+def answers(command: list[str]) -> bool:
+    """Whether a build answers here."""
+    import subprocess
 
-    command: List[str]
-    kind: str
-    notes: List[str] = field(default_factory=list)
-
-    @property
-    def is_fast(self) -> bool:
-        return self.kind != "tried"
+    try:
+        ran = subprocess.run([*command, "check"], input=b"%%\n", stdout=subprocess.PIPE, stderr=subprocess.DEVNULL)
+    except OSError:
+        return False
+    return ran.stdout == b"end\n"
 
 
-def take(numbers: "array[int]", seen: os.stat_result) -> None:
-    """What tells a file that is as it was. (A text of it would be half of what a call takes.)"""
-    numbers.extend((seen.st_size, seen.st_ino, seen.st_ctime_ns))
+def that_exists(path: str) -> str:
+    """The path, or the first folder above it that exists: it looks otherwise as soon as what is missing comes."""
+    while not os.path.exists(path):
+        path = os.path.dirname(path)
+    return path
 
 
 @dataclass
 class Sources:
-    """The sources below a folder, and their sum. A sum that was worked out before is kept, by places, sizes and times
-    of change."""
+    """The sources below a folder, and their sum."""
 
-    top: Path
+    top: str
 
-    def entries(self) -> Iterator[os.DirEntry[str]]:
-        folders = [os.path.join(self.top, "crates")]
-        while folders:
+    def entries(self, folders: list[str]) -> Iterator[os.DirEntry[str]]:
+        """The sources. The folders grow by all that are gone through."""
+        folders.append(os.path.join(self.top, "crates"))
+        for folder in folders:
             try:
-                with os.scandir(folders.pop()) as found:
+                with os.scandir(folder) as found:
                     for it in found:
                         if it.name.endswith(SOURCES) and it.is_file(follow_symlinks=False):
                             yield it
@@ -106,96 +113,86 @@ class Sources:
             except OSError:
                 continue
 
-    def names(self) -> List[str]:
+    def names(self) -> list[str]:
         """The sources by name, in the order of the sum."""
-        cut = len(str(self.top)) + 1
-        return [*FIRST, *sorted((it.path[cut:] for it in self.entries()), key=os.fsencode)]
+        cut = len(self.top) + 1
+        return [*FIRST, *sorted((it.path[cut:] for it in self.entries([])), key=os.fsencode)]
 
-    def lines(self) -> List[str]:
+    def lines(self) -> list[str]:
         """A line for each source, its sum and its name, of which the sum of the sources is made."""
-        return [f"{sum_of_file(self.top / name)}  {name}" for name in self.names()]
-
-    def look(self) -> str:
-        """What a sum is kept by. (The time of change can't be set back.)"""
-        paths, numbers = [], array("Q")
-        try:
-            for name in FIRST:
-                take(numbers, os.stat(self.top / name))
-        except OSError:
-            return ""
-        for it in self.entries():
-            paths.append(it.path)
-            take(numbers, it.stat(follow_symlinks=False))
-        return sum_of("\n".join(paths).encode(errors="surrogateescape") + numbers.tobytes())
+        return [f"{sum_of_file(os.path.join(self.top, name))}  {name}" for name in self.names()]
 
     def sum(self) -> str:
-        kept, look = self.top / "out" / "sources.kept", self.look()
-        seen = text_of_file(kept).split("\n")
-        if look and seen[0] == look and len(seen) > 1 and seen[1]:
-            return seen[1]
-        made = sum_of("".join(f"{it}\n" for it in self.lines()).encode(errors="surrogateescape"))
-        keep(kept, f"{look}\n{made}\n")
-        return made
+        return sum_of("".join(f"{it}\n" for it in self.lines()).encode(errors="surrogateescape"))
+
+    def places(self) -> list[str]:
+        """All that their sum depends on: the sources, and the folders in which there may be others."""
+        folders: list[str] = []
+        files = [it.path for it in self.entries(folders)]
+        return [*(os.path.join(self.top, it) for it in FIRST), *folders, *files]
 
 
-def keep(path: Path, text: str) -> None:
-    """Keeps an answer for later calls, if that is possible."""
-    try:
-        path.parent.mkdir(parents=True, exist_ok=True)
-        new = path.with_name(f"{path.name}.{os.getpid()}")
-        new.write_text(text)
-        new.replace(path)
-    except OSError:
-        pass
-
-
-def cache() -> Path:
+def cache() -> str:
     """Where an installed package keeps what it found out."""
-    return Path(os.environ.get("XDG_CACHE_HOME") or os.path.expanduser("~/.cache")) / "sancus"
+    return os.path.join(os.environ.get("XDG_CACHE_HOME") or os.path.expanduser("~/.cache"), "sancus")
 
 
 @dataclass
 class Builds:
     """The builds of one checkout, or of an installed package."""
 
-    top: Path
-    program: Optional[str] = None
+    top: str
+    program: str | None = None
 
     def __post_init__(self) -> None:
-        self.crate = self.top / "crates" / "sancus_run"
-        self.built = self.crate / "out" / "sancus_run"
-        self.stamp = self.crate / "out" / "sancus_run.proved"
+        self.top = os.fspath(self.top)
+        self.crate = os.path.join(self.top, "crates", "sancus_run")
+        self.built, self.stamp = (os.path.join(self.crate, "out", it) for it in ("sancus_run", "sancus_run.proved"))
         self.is_installed = self.top == INSTALLED
-        release = self.top if self.is_installed else self.top / "release"
-        self.released, self.wasm, self.note = (release / it for it in ("sancus_run", "sancus.wasm", "RELEASE"))
-        self.scripts = self.top if self.is_installed else self.top / "tools" / "wasm"
-        self.kept = cache() if self.is_installed else self.top / "out"
+        release = self.top if self.is_installed else os.path.join(self.top, "release")
+        self.released, self.wasm, self.note = (os.path.join(release, it) for it in ("sancus_run", "sancus.wasm", "RELEASE"))
+        self.scripts = self.top if self.is_installed else os.path.join(self.top, "tools", "wasm")
+        self.kept = os.path.join(cache() if self.is_installed else os.path.join(self.top, "out"), "choice.kept")
         self.sources = Sources(self.top)
 
     def choose(self) -> Build:
         """The build that is started."""
         if self.program:
             return Build(self.named_command(self.program), "named")
+        return kept_choice(self.top, self.kept) or self.chosen()
+
+    def chosen(self) -> Build:
+        """The build that is started, by sums."""
+        choosing = Choosing(self.top, self.places())
         reasons = []
         for choice in (self.installed,) if self.is_installed else (self.proved, self.by_release):
             build, why = choice()
             if build:
+                choosing.keep(self.kept, build)
                 return build
             reasons += why
         if self.is_installed:
             raise Ended(NO_ANSWER, *reasons)
         return self.tried(reasons)
 
-    def named_command(self, program: str) -> List[str]:
-        from shlex import split
+    def places(self) -> list[bytes]:
+        """All that the choice depends on."""
+        builds = [self.released, self.wasm, self.note, *([] if self.is_installed else [self.built, self.stamp])]
+        sources = [] if self.is_installed else self.sources.places()
+        return [os.fsencode(that_exists(it)) for it in (*builds, *sources)]
 
-        words = [program] if os.path.exists(program) else split(program)
+    def named_command(self, program: str) -> list[str]:
+        words = [program]
+        if not os.path.exists(program):
+            from shlex import split
+
+            words = split(program)
         path = found(words[0]) if words else None
         if not path:
             raise Ended(NO_ANSWER, f"{program} is no program that can be started")
         return [os.path.abspath(path), *words[1:]]
 
-    def proved(self) -> Tuple[Optional[Build], List[str]]:
+    def proved(self) -> tuple[Build | None, list[str]]:
         if not os.access(self.built, os.X_OK):
             return None, []
         lines = text_of_file(self.stamp).split("\n")
@@ -203,37 +200,38 @@ class Builds:
             return None, ["crates/sancus_run/out has a build, and no stamp says of which sources it is"]
         of = "\n".join(lines[1:])
         if sum_of(of.encode(errors="surrogateescape")) == self.sources.sum():
-            return Build([str(self.built)], "proved"), []
+            return Build([self.built], "proved"), []
         first = self.first_that_differs(lines[1:])
         return None, [f"the proved build is of other sources: {first} differs"]
 
-    def first_that_differs(self, lines: List[str]) -> str:
+    def first_that_differs(self, lines: list[str]) -> str:
         """The first source that isn't as in these lines of sums and names."""
         then, now = ({it[66:]: it[:64] for it in rows if it} for rows in (lines, self.sources.lines()))
         return next((it for it in sorted({*then, *now}) if then.get(it) != now.get(it)), "their order")
 
-    def notes_of_release(self) -> Dict[str, str]:
+    def notes_of_release(self) -> dict[str, str]:
         """The words of the release's note; none if it isn't as it was written, which its last line tells."""
         text = text_of_file(self.note)
         body, _, last = text.rstrip("\n").rpartition("\n")
-        if not body or last != f"note {sum_of((body + chr(10)).encode())}":
+        sum_ = sum_of((body + "\n").encode(errors="surrogateescape"))
+        if not body or last != f"note {sum_}":
             return {}
         return dict(it.split(" ", 1) for it in body.split("\n") if " " in it)
 
-    def installed(self) -> Tuple[Optional[Build], List[str]]:
+    def installed(self) -> tuple[Build | None, list[str]]:
         """The released build that an installed package holds, or its WebAssembly alone."""
         noted = self.notes_of_release()
         if not noted:
             return None, ["the installed package is damaged: its note isn't as it was written"]
-        if not self.released.is_file():
+        if not os.path.isfile(self.released):
             return self.by_host(noted, "this package holds the program as WebAssembly")
         if noted["sha256"] != sum_of_file(self.released):
             return None, ["the installed package is damaged: its program isn't the one that its note names"]
         why = self.why_not_native(noted)
-        return self.by_host(noted, why) if why else (Build([str(self.released)], "released"), [])
+        return self.by_host(noted, why) if why else (Build([self.released], "released"), [])
 
-    def by_release(self) -> Tuple[Optional[Build], List[str]]:
-        if not self.note.is_file() or not self.released.is_file():
+    def by_release(self) -> tuple[Build | None, list[str]]:
+        if not os.path.isfile(self.note) or not os.path.isfile(self.released):
             return None, []
         noted = self.notes_of_release()
         if noted.get("sha256") != sum_of_file(self.released):
@@ -244,9 +242,9 @@ class Builds:
             first = self.changed_since_release()
             return None, ["the released build is of other sources" + (f": {first} differs" if first else "")]
         why = self.why_not_native(noted)
-        return self.by_host(noted, why) if why else (Build([str(self.released)], "released"), [])
+        return self.by_host(noted, why) if why else (Build([self.released], "released"), [])
 
-    def why_not_native(self, noted: Dict[str, str]) -> str:
+    def why_not_native(self, noted: dict[str, str]) -> str:
         """Why the released build can't run here; nothing if it can."""
         system, processor = machine()
         if (system, processor) != ("Linux", "x86_64"):
@@ -254,26 +252,26 @@ class Builds:
         if not os.access(self.released, os.X_OK):
             name = self.shown(self.released)
             return f"{name} has no right to be executed (`chmod +x {name}` gives it)"
-        if not self.answers([str(self.released)], noted["sha256"]):
+        if not answers([self.released]):
             return f"the released build doesn't start here: it needs {noted.get('needs', 'another system')}"
         return ""
 
-    def by_host(self, noted: Dict[str, str], why: str) -> Tuple[Optional[Build], List[str]]:
+    def by_host(self, noted: dict[str, str], why: str) -> tuple[Build | None, list[str]]:
         """The released build as WebAssembly, by the first host that runs it."""
         if noted.get("wasm-of") != noted["sha256"] or noted.get("wasm-sha256") != sum_of_file(self.wasm):
             return None, [why, f"and {self.shown(self.wasm)} isn't the one that is made from it"]
         for name, script in HOSTS:
             path = found(name)
-            command = [path or name, *([str(self.scripts / script)] if script else []), str(self.wasm)]
-            if path and self.answers(command, noted["wasm-sha256"]):
+            command = [path or name, *([os.path.join(self.scripts, script)] if script else []), self.wasm]
+            if path and answers(command):
                 told = f"{why}; {name} runs {self.shown(self.wasm)}, which is made from it, and isn't proved itself"
                 return Build(command, "hosted", [told]), []
         hosts = "node (18 or newer) or wasmtime"
         return None, [why, f"{self.shown(self.wasm)} would run in its place with {hosts} on the path"]
 
-    def shown(self, path: Path) -> str:
+    def shown(self, path: str) -> str:
         """A file as people know it: in a checkout by its path from there."""
-        return path.name if self.is_installed else str(path.relative_to(self.top))
+        return os.path.basename(path) if self.is_installed else os.path.relpath(path, self.top)
 
     def changed_since_release(self) -> str:
         """The first source that isn't as it was when the note was committed, as far as git tells."""
@@ -286,29 +284,15 @@ class Builds:
         return next((it for it in changed if it), "")
 
     def git(self, *words: str) -> str:
+        import subprocess
+
         try:
-            ran = subprocess.run(["git", "-C", str(self.top), *words], capture_output=True, text=True)
+            ran = subprocess.run(["git", "-C", self.top, *words], capture_output=True, text=True)
         except OSError:
             return ""
         return ran.stdout.strip() if ran.returncode == 0 else ""
 
-    def answers(self, command: List[str], sum_: str) -> bool:
-        """Whether a build answers here. That it did is kept."""
-        kept, text = self.kept / "starts.kept", f"{sum_} {command[0]}\n"
-        if text_of_file(kept) == text:
-            return True
-        try:
-            ran = subprocess.run(
-                [*command, "check"], input=b"%%\n", stdout=subprocess.PIPE, stderr=subprocess.DEVNULL
-            )
-        except OSError:
-            return False
-        if ran.stdout != b"end\n":
-            return False
-        keep(kept, text)
-        return True
-
-    def tried(self, reasons: List[str]) -> Build:
+    def tried(self, reasons: list[str]) -> Build:
         """A build without its proof."""
         if not found("rt"):
             told = reasons or ["there is no build of the program here"]

@@ -164,7 +164,7 @@ def deployment_part(head: bytes) -> Dict[str, str]:
 
 def sum_of_program(command: Iterable[str]) -> str:
     """The sum of the file that a command starts, or has a host start."""
-    return sum_of_file(Path([*command][-1]))
+    return sum_of_file([*command][-1])
 
 
 class Row(NamedTuple):

@@ -6,7 +6,6 @@ after the items of the lines before it.
 
 from __future__ import annotations
 
-from dataclasses import dataclass, field
 from typing import Iterator, List
 
 from sancus.cli.context import Context
@@ -18,6 +17,7 @@ from sancus.model.schedule import Writer
 from sancus.model.session import Stopped
 from sancus.model.shown import text_of
 from sancus.model.texts import MARK, Kept, Origin, kept_of, without_return
+from sancus.records import dataclass, field
 from sancus.status import BAD_TEXT, Ended
 
 

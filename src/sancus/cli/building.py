@@ -6,13 +6,13 @@ import os
 import shutil
 import subprocess
 import time
-from dataclasses import dataclass
 from pathlib import Path
 from typing import Dict, List, Tuple
 
 from sancus.builds import Builds, sum_of_file
 from sancus.cli.say import Voice
 from sancus.model.numbers import number, within
+from sancus.records import dataclass
 from sancus.status import NO_ANSWER, Ended
 
 # How often it is looked how far the build is, and how often that is said at least, in seconds.
@@ -31,7 +31,7 @@ def below(crates: str, name: str) -> List[str]:
     left = uses.get(name, [])
     while left:
         it, left = left[0], left[1:]
-        if it.startswith("sx_") and it in uses and it not in found:
+        if it in uses and it not in found:
             found.append(it)
             left = left + uses[it]
     return found
@@ -99,7 +99,7 @@ def waited(command: List[str], folder: Path, text: bytes, progress: Progress) ->
 def write_stamp(builds: Builds) -> None:
     """Writes beside the program what it is and of which sources, in the form of tools/release.sh."""
     lines = [f"sha256 {sum_of_file(builds.built)}", *builds.sources.lines()]
-    builds.stamp.write_text("".join(f"{it}\n" for it in lines), errors="surrogateescape")
+    Path(builds.stamp).write_text("".join(f"{it}\n" for it in lines), errors="surrogateescape")
 
 
 def build(builds: Builds, voice: Voice, jobs_word: str) -> int:
@@ -114,14 +114,14 @@ def build(builds: Builds, voice: Voice, jobs_word: str) -> int:
         "proving the crates of the program and building it: from nothing up to an hour on four processors,",
         f"less if earlier proofs are kept; {jobs} at a time",
     )
-    crates = (builds.top / "crates.txt").read_text()
-    progress = Progress(builds.top, below(crates, "sancus_run"), voice, begun)
+    crates = Path(builds.top, "crates.txt").read_text()
+    progress = Progress(Path(builds.top), below(crates, "sancus_run"), voice, begun)
     status = 0
     if jobs > 1:
-        status = waited(["rt", "all", "check", "--jobs", str(jobs)], builds.top / "crates", b"", progress)
+        status = waited(["rt", "all", "check", "--jobs", str(jobs)], Path(builds.top, "crates"), b"", progress)
     if status == 0:
         # The program is run once, on an empty schedule.
-        status = waited(["rt", "run", "--", "run"], builds.crate, b"%%\n", progress)
+        status = waited(["rt", "run", "--", "run"], Path(builds.crate), b"%%\n", progress)
     took = f"{time.monotonic() - begun:.0f} seconds"
     if status or not os.access(builds.built, os.X_OK):
         raise Ended(NO_ANSWER, f"not built, after {took}; the messages are above")

@@ -4,9 +4,9 @@ from __future__ import annotations
 
 import argparse
 import re
-from dataclasses import dataclass, field
 from typing import Dict, List, NoReturn, Optional, Sequence, Tuple
 
+from sancus.records import dataclass, field
 from sancus.status import USAGE
 
 ONE, MAYBE, MANY = None, "?", "*"

@@ -2,19 +2,17 @@
 
 from __future__ import annotations
 
-from dataclasses import dataclass
-from pathlib import Path
-
 from sancus.builds import Builds
 from sancus.cli.program import Program
 from sancus.cli.say import Voice
+from sancus.records import dataclass
 
 
 @dataclass
 class Context:
     """One call of the front end."""
 
-    top: Path
+    top: str
     voice: Voice
     builds: Builds
     program: Program

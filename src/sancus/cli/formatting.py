@@ -7,7 +7,6 @@ from __future__ import annotations
 import os
 import stat
 import tempfile
-from dataclasses import dataclass
 from difflib import unified_diff
 from typing import List
 
@@ -18,6 +17,7 @@ from sancus.cli.reading import read_all
 from sancus.model.formatting import formatted
 from sancus.model.layout import CantLayOut
 from sancus.model.shown import text_of
+from sancus.records import dataclass
 from sancus.status import BAD_TEXT, NO_FILE, Ended
 
 WOULD_CHANGE = 1

@@ -3,7 +3,6 @@
 from __future__ import annotations
 
 import re
-from dataclasses import dataclass, field
 from pathlib import Path
 from typing import List, Optional
 
@@ -19,6 +18,7 @@ from sancus.model.judging import Watched, heading_of
 from sancus.model.numbers import counted, number
 from sancus.model.shown import text_of
 from sancus.model.texts import is_act
+from sancus.records import dataclass, field
 from sancus.status import BAD_TEXT, NOT_REACHED, USAGE, Ended
 
 FOLDER = "examples/goals"
@@ -190,7 +190,7 @@ def missing(goal: Goal, made: Played) -> str:
 
 
 def listed(context: Context) -> int:
-    goals = all_goals(context.top)
+    goals = all_goals(Path(context.top))
     if not goals:
         raise Ended(BAD_TEXT, f"there are no goals here: {FOLDER} of the repository has them")
     width = max(len(it.name) for it in goals)
@@ -244,7 +244,7 @@ def answer(context: Context, given: Given) -> int:
     name, files = given.text("NAME"), given.texts("LINES")
     if not name:
         return listed(context)
-    goal = goal_named(context.top, name)
+    goal = goal_named(Path(context.top), name)
     if plan_of(Path(goal.deployment).read_bytes()) is None:
         raise Ended(BAD_TEXT, f"{goal.deployment} can't be read")
     if given.has("never"):

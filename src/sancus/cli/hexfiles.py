@@ -5,7 +5,6 @@ from __future__ import annotations
 import os
 import re
 import struct
-from dataclasses import dataclass, field
 from pathlib import Path
 from typing import Callable, Dict, Iterator, List, Optional, Tuple
 
@@ -17,6 +16,7 @@ from sancus.cli.writing import must_be_free, write_file
 from sancus.model.deployment import Plan, plan_of
 from sancus.model.shown import plain
 from sancus.model.texts import Input
+from sancus.records import dataclass, field
 from sancus.status import BAD_TEXT, NO_FILE, Ended
 
 # How many bytes one `put` takes.

@@ -5,7 +5,6 @@ from __future__ import annotations
 import json
 import os
 import time
-from dataclasses import dataclass, field
 from typing import Any, Dict, List, Optional
 
 from sancus.cli.commands import Given, Usage
@@ -21,6 +20,7 @@ from sancus.model.deployment import Plan
 from sancus.model.numbers import number
 from sancus.model.property import Property
 from sancus.model.search import Found, Search
+from sancus.records import dataclass, field
 from sancus.status import NO_FILE, Ended
 
 SECONDS, SCHEDULE = 20, "counterexample.txt"

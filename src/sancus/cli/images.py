@@ -6,13 +6,13 @@ from __future__ import annotations
 
 import os
 import re
-from dataclasses import dataclass
 from typing import List, Optional
 
 from sancus.cli.joining import Begun
 from sancus.cli.output import write
 from sancus.cli.program import Program
 from sancus.cli.reading import Part, can_be_read, file_part, is_regular, open_file
+from sancus.records import dataclass
 
 IMAGE = re.compile(rb"image [a-z][a-z0-9_]* ([0-9a-f]+)\r?\n?")
 HEX = re.compile(rb"[0-9A-Fa-f]*\r?\n?")

@@ -4,12 +4,12 @@ from __future__ import annotations
 
 import os
 from array import array
-from dataclasses import dataclass, field
 from typing import Callable, List, Optional
 
 from sancus.cli.reading import PIECE, Part, file_part, text_part
 from sancus.cli.say import Voice
 from sancus.model.texts import MARK, MOST_HEAD, find_mark
+from sancus.records import dataclass, field
 
 # The first line of a longer text isn't looked for further than this.
 MOST_LOOK = MOST_HEAD + PIECE

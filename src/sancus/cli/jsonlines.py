@@ -3,12 +3,12 @@
 from __future__ import annotations
 
 import json
-from dataclasses import dataclass
 from typing import Any, Dict, List, Optional
 
 from sancus.cli.sinks import Lines
 from sancus.model.deployment import Plan
 from sancus.model.items import ITEMS, Item, node_of
+from sancus.records import dataclass
 
 
 def line_of(made: Dict[str, Any]) -> bytes:

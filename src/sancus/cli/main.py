@@ -3,19 +3,17 @@
 from __future__ import annotations
 
 import os
-import subprocess
-import sys
-from pathlib import Path
-from typing import Callable, Dict, List, NoReturn, Optional, Sequence, Tuple
+from typing import Callable, Dict, List, Optional, Sequence, Tuple
 
 from sancus import __version__
-from sancus.builds import Build, Builds, home
+from sancus.builds import Builds
 from sancus.cli import commands
 from sancus.cli.commands import BY_NAME, COMMANDS, EVERYWHERE, Command, Given, Usage
 from sancus.cli.context import Context
 from sancus.cli.output import print_lines, write
 from sancus.cli.program import Program
 from sancus.cli.say import Voice
+from sancus.kept import Build
 from sancus.status import INTERRUPTED, NO_ANSWER, USAGE, Ended
 
 OUT_OF_MEMORY = 6
@@ -175,6 +173,8 @@ KINDS = {
 
 def said_by(*command: str) -> str:
     """The first line that a command prints, or nothing."""
+    import subprocess
+
     try:
         ran = subprocess.run(command, capture_output=True, text=True, errors="replace")
     except OSError:
@@ -182,8 +182,8 @@ def said_by(*command: str) -> str:
     return ran.stdout.strip().partition("\n")[0] if ran.returncode == 0 else ""
 
 
-def commit_of(top: Path) -> str:
-    return said_by("git", "-C", str(top), "describe", "--always", "--dirty", "--abbrev=12") or "unknown"
+def commit_of(top: str) -> str:
+    return said_by("git", "-C", top, "describe", "--always", "--dirty", "--abbrev=12") or "unknown"
 
 
 def kit_of(context: Context, chosen: Optional[Build]) -> str:
@@ -291,16 +291,6 @@ def tell_usage(error: Usage, voice: Voice) -> int:
     return USAGE
 
 
-def keep_streams_open() -> None:
-    """Puts something in place of a standard stream that is closed, on which reads and writes fail as before: no file
-    that is opened becomes it."""
-    for fd, mode in ((0, os.O_WRONLY), (1, os.O_RDONLY), (2, os.O_RDONLY)):
-        try:
-            os.fstat(fd)
-        except OSError:
-            os.open(os.devnull, mode)
-
-
 def waiting(given: Given) -> List[str]:
     """What is to be typed, if the command reads a terminal, which would else be silent."""
     files = [it for it in given.command.arguments if it.is_file]
@@ -313,7 +303,7 @@ def waiting(given: Given) -> List[str]:
     return [f"type {typed}; Ctrl-D ends it, and Ctrl-C leaves"]
 
 
-def answer(call: Sequence[str], top: Path, voice: Voice) -> int:
+def answer(call: Sequence[str], top: str, voice: Voice) -> int:
     given = taken_apart(call)
     voice.is_quiet = given.has("quiet")
     if given.has("help"):
@@ -325,14 +315,8 @@ def answer(call: Sequence[str], top: Path, voice: Voice) -> int:
     return ANSWERS.get(given.command.name, program_command)(context, given)
 
 
-def main() -> NoReturn:
-    """The command `sancus`. (What was printed went straight out, so nothing is left to be written.)"""
-    os._exit(run(sys.argv[1:], home()))
-
-
-def run(call: Sequence[str], top: Path) -> int:
+def run(call: Sequence[str], top: str) -> int:
     """Answers a call, and returns the status to end with. Whatever happens, it is said in a line."""
-    keep_streams_open()
     voice = Voice()
     try:
         try:

@@ -3,7 +3,6 @@
 from __future__ import annotations
 
 import os
-from dataclasses import dataclass, field
 from itertools import accumulate
 from typing import List, Optional, Tuple, Type, TypeVar
 
@@ -23,6 +22,7 @@ from sancus.model.schedule import Mistake, Writer
 from sancus.model.session import Stopped, start
 from sancus.model.shown import plain, short, text_of
 from sancus.model.texts import MARK, Input, Kept, kept_of, split_lines
+from sancus.records import dataclass, field
 from sancus.status import BAD_TEXT, Ended
 
 W = TypeVar("W", bound=Writer)

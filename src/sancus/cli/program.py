@@ -8,15 +8,16 @@ import os
 import select
 import signal
 import subprocess
-from dataclasses import dataclass, field
 from typing import IO, Any, List, Optional
 
-from sancus.builds import Build, Builds
+from sancus.builds import Builds
 from sancus.cli import output
 from sancus.cli.reading import Part, is_regular
 from sancus.cli.say import Voice
+from sancus.kept import Build
 from sancus.model.asking import Answer
 from sancus.model.texts import Kept, Origin
+from sancus.records import dataclass, field
 from sancus.status import INTERRUPTED, NO_ANSWER, Ended
 
 # How long a build that isn't proved may run, in seconds.
@@ -193,7 +194,7 @@ class Program:
         sink: Sink,
         messages: Optional[IO[Any]],
     ) -> Ran:
-        folder = None if self.is_fast else str(self.builds.crate)
+        folder = None if self.is_fast else self.builds.crate
         try:
             process = subprocess.Popen(
                 command,

@@ -4,10 +4,10 @@ from __future__ import annotations
 
 import os
 import time
-from dataclasses import dataclass, field
 
 from sancus.cli.say import Voice
 from sancus.model.numbers import counted
+from sancus.records import dataclass, field
 
 BAR, BAR_EVERY, LINE_EVERY = 24, 0.1, 30.0
 TO_THE_END = "\x1b[K"

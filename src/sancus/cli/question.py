@@ -3,7 +3,6 @@
 from __future__ import annotations
 
 import re
-from dataclasses import dataclass
 from typing import List, Optional
 
 from sancus.cli.context import Context
@@ -19,6 +18,7 @@ from sancus.model.faults import Teller
 from sancus.model.property import Property, watched_of
 from sancus.model.shown import text_of
 from sancus.model.texts import MARK, Input, Kept
+from sancus.records import dataclass
 from sancus.status import NO_ANSWER, USAGE, Ended
 
 HELD, BROKEN, UNKNOWN, UNCONFIRMED = 0, 12, 13, 14

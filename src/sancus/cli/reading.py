@@ -5,9 +5,9 @@ from __future__ import annotations
 import os
 import select
 import stat
-from dataclasses import dataclass
 from typing import Callable, Dict, List, Optional
 
+from sancus.records import dataclass
 from sancus.status import NO_FILE, Ended
 
 PIECE = 4096

@@ -3,9 +3,9 @@
 from __future__ import annotations
 
 import os
-from dataclasses import dataclass
 
 from sancus.model.shown import plain
+from sancus.records import dataclass
 
 # A longer line is cut: it may come from an input.
 LONGEST = 2000

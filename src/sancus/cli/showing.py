@@ -2,12 +2,12 @@
 
 from __future__ import annotations
 
-from dataclasses import dataclass
 from typing import List, Optional, Tuple
 
 from sancus.cli.question import Question, item
 from sancus.model.counterexample import Line, Unwritten, lines_of, numbered, text_of
 from sancus.model.search import Found
+from sancus.records import dataclass
 
 # A handler's cost is at most 262,144 steps.
 MOST_STEPS = 1 << 19

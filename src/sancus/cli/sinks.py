@@ -2,10 +2,10 @@
 
 from __future__ import annotations
 
-from dataclasses import dataclass, field
 from typing import List
 
 from sancus.cli.program import Sink
+from sancus.records import dataclass, field
 
 # So many digits of an image are shown in short.
 FIRST_DIGITS = 32

@@ -13,7 +13,7 @@ from sancus.cli.output import print_lines
 from sancus.cli.writing import write_file
 from sancus.status import NO_FILE, Ended
 
-TEMPLATES = PACKAGE / "templates"
+TEMPLATES = Path(PACKAGE, "templates")
 FILES = ("app.toml", "day.schedule", "test_app.sancus")
 
 

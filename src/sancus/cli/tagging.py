@@ -7,7 +7,6 @@ from __future__ import annotations
 import hashlib
 import hmac
 import re
-from dataclasses import dataclass
 from typing import Callable, Dict, List, Tuple
 
 from sancus.cli.commands import Given, Usage
@@ -18,6 +17,7 @@ from sancus.model.deployment import Entry, Plan, plan_of
 from sancus.model.numbers import number
 from sancus.model.rules import near
 from sancus.model.texts import Input
+from sancus.records import dataclass
 from sancus.status import BAD_TEXT, Ended
 
 TAG = 16

@@ -3,11 +3,11 @@
 from __future__ import annotations
 
 import re
-from dataclasses import dataclass
 from typing import Dict, List, Optional
 
 from sancus.model.deployment import Plan
 from sancus.model.numbers import number
+from sancus.records import dataclass
 
 REGISTERS = ["pc", "sp", "sr", "r0", "r1", "r2", *(f"r{it}" for it in range(4, 16))]
 

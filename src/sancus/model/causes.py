@@ -2,7 +2,6 @@
 
 from __future__ import annotations
 
-from dataclasses import dataclass, field
 from typing import Dict, Iterator, List, Optional
 
 from sancus.model import forged, refusals
@@ -15,6 +14,7 @@ from sancus.model.legality import reason
 from sancus.model.numbers import number
 from sancus.model.shown import text_of
 from sancus.model.texts import Input, Kept
+from sancus.records import dataclass, field
 from sancus.status import BAD_TEXT, Ended
 
 # How many items of a module are shown before an illegal one.

@@ -2,8 +2,10 @@
 
 from __future__ import annotations
 
-from dataclasses import dataclass, field
 from typing import Dict, List, Optional, Tuple
+
+from sancus.records import dataclass, field
+
 
 # A bit is twice a gate's number, and one more if it is inverted.
 Bit = int

@@ -4,7 +4,6 @@ out."""
 from __future__ import annotations
 
 import os
-from dataclasses import dataclass, field
 from typing import Dict, Iterator, List, Optional, Set, Tuple, Union
 
 from sancus.model.deployment import End, Plan
@@ -12,6 +11,7 @@ from sancus.model.language import VALUED
 from sancus.model.meaning import first_cells, react
 from sancus.model.moves import Move
 from sancus.model.search import Found
+from sancus.records import dataclass, field
 
 IN, OUT, CODE = "0x300", "0x400", "0x600"
 EVENT, ANSWER = 24, 16

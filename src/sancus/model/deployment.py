@@ -4,10 +4,10 @@ rules.
 
 from __future__ import annotations
 
-from dataclasses import dataclass
 from typing import Any, Dict, List, Optional
 
 from sancus.model import language, toml
+from sancus.records import dataclass
 
 Entry = Dict[str, Any]
 NODE_BY_DEFAULT: Entry = {"name": "n", "key": "00" * 16}

@@ -6,7 +6,6 @@ It says less if it finds less. The program alone judges; docs/FORMATS.md has the
 from __future__ import annotations
 
 import re
-from dataclasses import dataclass
 from typing import Callable, Dict, List, Optional, Tuple
 
 from sancus.model import acts, assembly, guesses, language, rules, tables, toml
@@ -16,6 +15,7 @@ from sancus.model.people import PEOPLE
 from sancus.model.shown import MOST_SHOWN, short, text_of
 from sancus.model.table import words as table_words
 from sancus.model.texts import Kept, find_mark, kept_of, split_lines
+from sancus.records import dataclass
 
 Lines = List[str]
 Ask = Callable[[List[str], bytes], bytes]

@@ -2,12 +2,12 @@
 
 from __future__ import annotations
 
-from dataclasses import dataclass, field
 from typing import Callable, Dict, List, NamedTuple, Optional, Tuple
 
 from sancus.model.circuits import TRUE, Bit, Circuit, Word, constant
 from sancus.model.language import Applied, Constant, Element, Emit, Expression, If, Let, Module, Repeat, Send
 from sancus.model.language import Statement, Store, Variable
+from sancus.records import dataclass, field
 
 Cells = Dict[str, List[Word]]
 

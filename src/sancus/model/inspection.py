@@ -4,7 +4,6 @@ from __future__ import annotations
 
 import os
 import re
-from dataclasses import dataclass, field
 from typing import List, Optional, Tuple
 
 from sancus.model.asking import Program
@@ -15,6 +14,7 @@ from sancus.model.rules import near
 from sancus.model.schedule import spelled
 from sancus.model.shown import plain, text_of
 from sancus.model.texts import Input, Kept, is_act, kept_of
+from sancus.records import dataclass, field
 from sancus.status import BAD_TEXT, Ended
 
 

@@ -2,11 +2,11 @@
 
 from __future__ import annotations
 
-from dataclasses import dataclass
 from typing import Any, Callable, Dict, List, Optional, Tuple
 
 from sancus.model.deployment import Plan
 from sancus.model.table import words as table_words
+from sancus.records import dataclass
 
 EPOCH = 65536
 ITEMS: Dict[str, Tuple[str, ...]] = {

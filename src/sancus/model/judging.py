@@ -3,11 +3,11 @@
 from __future__ import annotations
 
 import re
-from dataclasses import dataclass
 from typing import Dict, List, Optional, Tuple
 
 from sancus.model import language
 from sancus.model.meaning import first_cells, react
+from sancus.records import dataclass
 
 VALUED = ("sense", "raw", "read", "out", "take")
 COMMENT = re.compile(r"//[^\n]*")

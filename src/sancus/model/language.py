@@ -7,8 +7,10 @@ The program alone judges a source. This finds words for its answer.
 from __future__ import annotations
 
 import re
-from dataclasses import dataclass, field
 from typing import FrozenSet, List, Optional, Set, Tuple, Union
+
+from sancus.records import dataclass, field
+
 
 WORDS = frozenset("sensor actuator input output var array on sample let if else repeat send emit".split())
 # A property has these words too. Its handlers stand at items: of these kinds, each with what its name is of.

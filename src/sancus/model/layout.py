@@ -4,12 +4,12 @@ else. A block that stands on one line stays there if it has room.
 
 from __future__ import annotations
 
-from dataclasses import dataclass, replace
 from typing import FrozenSet, List, Optional, Tuple
 
 from sancus.model import language, toml
 from sancus.model.deployment import Plan, plan_of, source_start
 from sancus.model.language import END, NAMED, NUMBER, PROPERTY_WORDS, UNARY, WORDS, next_token
+from sancus.records import dataclass, replace
 
 WIDTH, INDENT = 100, "    "
 COMMENT = "//"

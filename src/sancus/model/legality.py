@@ -6,13 +6,13 @@ The program judges; this only finds the condition that fails at the item that th
 
 from __future__ import annotations
 
-from dataclasses import dataclass, field
 from typing import Any, Callable, Dict, List, Optional, Tuple
 
 from sancus.model.deployment import Plan, port_of
 from sancus.model.items import Item
 from sancus.model.meaning import first_cells, react
 from sancus.model.numbers import counted
+from sancus.records import dataclass, field
 
 MOST_SENT, LAST_EPOCH = 65535, 255
 

@@ -9,12 +9,12 @@ after further lines.
 
 from __future__ import annotations
 
-from dataclasses import dataclass, field
 from typing import Dict, Iterator, List, Optional, Tuple
 
 from sancus.model.asking import Program
 from sancus.model.deployment import Plan, plan_of
 from sancus.model.texts import Input, first_word, is_act
+from sancus.records import dataclass, field
 
 MOST_LINES = 65536
 NO_PACKET = "4294967295"

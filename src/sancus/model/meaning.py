@@ -4,11 +4,11 @@ judgement.
 
 from __future__ import annotations
 
-from dataclasses import dataclass, field
 from typing import Callable, Dict, List, Optional, Tuple
 
 from sancus.model.language import Applied, Assign, Constant, Element, Emit, Expression, If, Let, Module, Repeat, Send
 from sancus.model.language import Statement, Store, Variable
+from sancus.records import dataclass, field
 
 WORD = 0xFFFF
 COMBINED: Dict[str, Callable[[int, int], int]] = {

@@ -6,12 +6,12 @@ words so, and a reset only tells which of them are lost for good.
 
 from __future__ import annotations
 
-from dataclasses import dataclass, field
 from typing import Callable, Dict, List, NamedTuple, Optional, Set, Tuple
 
 from sancus.model.deployment import Plan, module_of, port_of
 from sancus.model.meaning import Act, first_cells, react
 from sancus.model.property import Cells, Property, Watched, frozen, thawed
+from sancus.records import dataclass, field
 
 
 class Move(NamedTuple):

@@ -2,8 +2,6 @@
 
 from __future__ import annotations
 
-from typing import List
-
 from sancus.model.shown import text_of
 from sancus.model.texts import Input, is_act
 
@@ -18,5 +16,5 @@ def are_for_people(data: Input) -> bool:
     return any(is_for_people([text_of(word) for word in it.split()]) for it in data.schedule if is_act(it))
 
 
-def is_for_people(words: List[str]) -> bool:
+def is_for_people(words: list[str]) -> bool:
     return words[0] in PEOPLE or words[0] in NAMING and words[-2:-1] == ["as"]

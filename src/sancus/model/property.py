@@ -6,12 +6,12 @@ It means what a plain module does: each heading is an input, `fail` is an `emit`
 
 from __future__ import annotations
 
-from dataclasses import dataclass, field, replace
 from typing import Dict, Iterable, List, NamedTuple, Optional, Tuple
 
 from sancus.model import language
 from sancus.model.language import Applied, Assume, Constant, Declared, Emit, Fail, If, Module, Repeat, Statement
 from sancus.model.meaning import first_cells, react
+from sancus.records import dataclass, field, replace
 
 # Cells that can't be changed, as a search keeps them: the values of each variable and array, in order.
 Cells = Tuple[Tuple[int, ...], ...]

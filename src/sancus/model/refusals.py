@@ -6,7 +6,6 @@ The program is asked what `steps` asks: by which instruction, with which registe
 from __future__ import annotations
 
 import re
-from dataclasses import dataclass
 from typing import Callable, Dict, Iterator, List, Optional, Set, Tuple
 
 from sancus.model import stepping
@@ -17,6 +16,7 @@ from sancus.model.items import Item
 from sancus.model.legality import LAST_EPOCH, Fails, Model
 from sancus.model.numbers import number
 from sancus.model.session import Stopped, snapped
+from sancus.records import dataclass
 
 IN_WINDOW, OUT_WINDOW, TOP = 40, 384, 0x10000
 # Packets by their first word; the entries 0, 1 and 2 take them in this order.

@@ -4,12 +4,12 @@ place.
 
 from __future__ import annotations
 
-from dataclasses import dataclass
 from typing import Iterator, List, Set
 
 from sancus.model import language
 from sancus.model.language import Element, Emit, Expression, Handler, Let, Module, Repeat, Send, Statement, Store
 from sancus.model.language import Variable
+from sancus.records import dataclass
 
 
 @dataclass(frozen=True)

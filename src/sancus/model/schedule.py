@@ -7,7 +7,6 @@ from __future__ import annotations
 import os
 import re
 from collections import deque
-from dataclasses import dataclass, field
 from typing import Callable, Deque, Dict, List, Optional, Tuple
 
 from sancus.model.asking import Program
@@ -18,6 +17,7 @@ from sancus.model.rules import near
 from sancus.model.session import Session, snapped
 from sancus.model.shown import plain
 from sancus.model.table import words as table_words
+from sancus.records import dataclass, field
 
 EVENT, ANSWER = 24, 16
 SET_KEY, ATTEST, EVENT_IN, SAMPLE = 0, 1, 2, 3

@@ -7,7 +7,6 @@ what it shows is the program's all the same.
 from __future__ import annotations
 
 from collections import deque
-from dataclasses import dataclass, field
 from functools import lru_cache
 from typing import Deque, Dict, Iterable, List, NamedTuple, Optional, Set, Tuple
 
@@ -19,6 +18,7 @@ from sancus.model.people import NAMING
 from sancus.model.property import Cells, frozen, thawed
 from sancus.model.schedule import ANSWER, ATTEST, EVENT, EVENT_IN, SAMPLE, SET_KEY
 from sancus.model.tables import Range, taken_on
+from sancus.records import dataclass, field
 
 # The bytes of an in-window and of an out-window, and the lowest place of one.
 IN_SIZE, OUT_SIZE, LOWEST_WINDOW = 40, 384, 0x300

@@ -5,13 +5,13 @@ from __future__ import annotations
 
 import time
 from collections import deque
-from dataclasses import dataclass, field, replace
 from typing import Callable, Deque, Dict, Iterator, List, Optional, Tuple
 
 from sancus.model.deployment import Plan
 from sancus.model.moves import Link, Move, Moves, State, Step
 from sancus.model.property import Property
 from sancus.model.values import Values, of_actuator
+from sancus.records import dataclass, field, replace
 
 # What is done at once: moves that a search takes as one.
 Stride = Tuple[Move, ...]

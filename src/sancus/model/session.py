@@ -3,7 +3,6 @@
 from __future__ import annotations
 
 import subprocess
-from dataclasses import dataclass, field
 from threading import Thread
 from typing import List, Optional, Sequence, Tuple
 
@@ -11,6 +10,7 @@ from sancus.model.asking import Program
 from sancus.model.deployment import Plan
 from sancus.model.marks import MOST_LINES, Marker, marker_of
 from sancus.model.texts import is_act
+from sancus.records import dataclass, field
 from sancus.status import NO_ANSWER, Ended
 
 # `snap` keeps a copy of the run after so many lines, and performs the lines after it again for each query.

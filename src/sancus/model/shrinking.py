@@ -2,8 +2,9 @@
 
 from __future__ import annotations
 
-from dataclasses import dataclass, field
 from typing import Callable, Dict, Generic, Iterable, List, TypeVar
+
+from sancus.records import dataclass, field
 
 Element = TypeVar("Element")
 

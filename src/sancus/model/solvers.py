@@ -12,7 +12,6 @@ import shutil
 import subprocess
 import tempfile
 import time
-from dataclasses import dataclass
 from pathlib import Path
 from typing import Dict, Iterator, List, Optional, Tuple
 
@@ -23,6 +22,7 @@ from sancus.model.property import Property
 from sancus.model.search import Found, Shortening
 from sancus.model.system import System
 from sancus.model.values import Values
+from sancus.records import dataclass
 
 ABC, CADICAL = "berkeley-abc", "cadical"
 INSTALL = "`apt-get install berkeley-abc cadical` adds engines that may know more"

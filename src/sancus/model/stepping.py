@@ -6,7 +6,6 @@ The line is taken apart into steps (`run NODE 1`), which the program runs and `s
 
 from __future__ import annotations
 
-from dataclasses import dataclass, field
 from typing import Dict, Iterator, List, Optional
 
 from sancus.model.acts import ACTS, suits
@@ -15,6 +14,7 @@ from sancus.model.numbers import number
 from sancus.model.session import Stopped, snapped, start
 from sancus.model.shown import plain
 from sancus.model.texts import is_act
+from sancus.records import dataclass, field
 from sancus.status import BAD_TEXT, Ended
 
 # More steps than this aren't shown: a schedule has room for 65,536 lines.

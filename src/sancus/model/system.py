@@ -6,7 +6,6 @@ Its moves are those of src/sancus/model/moves.py, with connections of few words 
 from __future__ import annotations
 
 import random
-from dataclasses import dataclass, field
 from typing import Dict, Iterator, List, NamedTuple, Optional, Tuple, Union
 
 from sancus.model.circuits import FALSE, TRUE, WIDTH, Bit, Circuit, Word, constant
@@ -14,6 +13,7 @@ from sancus.model.handling import Cells, most_acts, reacted
 from sancus.model.language import Emit, Module, Send
 from sancus.model.meaning import first_cells
 from sancus.model.moves import Link, Moves
+from sancus.records import dataclass, field
 
 Key = Tuple[object, ...]
 Values = Dict[Key, Union[Bit, Word]]

@@ -5,11 +5,11 @@ D9, D10).
 from __future__ import annotations
 
 import re
-from dataclasses import dataclass
 from typing import Any, Dict, List, Optional
 
 from sancus.model.deployment import KINDS, Entry, Plan, module_of, port_of
 from sancus.model.rules import near
+from sancus.records import dataclass
 
 LOWEST, HIGHEST = 0x0200, 0xFFE0
 # Below this place are the windows to which lines for people have packets written.

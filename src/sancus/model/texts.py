@@ -6,8 +6,12 @@ line of a fault.
 
 from __future__ import annotations
 
-from dataclasses import dataclass, field
-from typing import Callable, List, Optional, Tuple
+from sancus.records import dataclass, field
+
+
+TYPE_CHECKING = False
+if TYPE_CHECKING:
+    from collections.abc import Callable
 
 # The most bytes of a deployment, and one more: there the program stops reading (rule D1).
 MOST_HEAD = 262_145
@@ -20,7 +24,7 @@ def without_return(line: bytes) -> bytes:
     return line[:-1] if line.endswith(b"\r") else line
 
 
-def split_lines(data: bytes) -> List[bytes]:
+def split_lines(data: bytes) -> list[bytes]:
     """The lines of a text, each without its newline and one carriage return before it."""
     lines = data.split(b"\n")
     if lines[-1] == b"":
@@ -28,7 +32,7 @@ def split_lines(data: bytes) -> List[bytes]:
     return [without_return(it) for it in lines]
 
 
-def find_mark(data: bytes) -> Optional[Tuple[int, int]]:
+def find_mark(data: bytes) -> tuple[int, int] | None:
     """Where the first line `%%` of a text begins, and where the line after it does."""
     at = 0
     while True:
@@ -58,10 +62,10 @@ class Origin:
 
     first: int
     name: str
-    line: Optional[int]
-    line_of: Optional[Callable[[int], int]] = None
+    line: int | None
+    line_of: Callable[[int], int] | None = None
 
-    def place(self, number: int) -> Tuple[str, Optional[int]]:
+    def place(self, number: int) -> tuple[str, int | None]:
         if self.line is None:
             return self.name, None
         if self.line_of:
@@ -78,9 +82,9 @@ class Kept:
     # how many lines, and bytes, come before `last`
     lines_before: int = 0
     bytes_before: int = 0
-    origins: List[Origin] = field(default_factory=list)
+    origins: list[Origin] = field(default_factory=list)
     # the lines of both, as they were split last, and of how much that was
-    split: Tuple[int, List[bytes], List[bytes]] = (-1, [], [])
+    split: tuple[int, list[bytes], list[bytes]] = (-1, [], [])
 
     def add(self, piece: bytes) -> None:
         room = MOST_HEAD + WINDOW - len(self.first)
@@ -100,13 +104,13 @@ class Kept:
     def lines_so_far(self) -> int:
         return self.lines_before + self.last.count(b"\n")
 
-    def both(self) -> Tuple[List[bytes], List[bytes]]:
+    def both(self) -> tuple[list[bytes], list[bytes]]:
         size = self.bytes_before + len(self.last)
         if self.split[0] != size:
             self.split = (size, bytes(self.first).split(b"\n"), bytes(self.last).split(b"\n"))
         return self.split[1], self.split[2]
 
-    def line(self, number: int) -> Optional[bytes]:
+    def line(self, number: int) -> bytes | None:
         """A line of the input by its number from 1, or None if it isn't kept."""
         first, last = self.both()
         # (the last of the first ones may be cut, or nothing)
@@ -116,7 +120,7 @@ class Kept:
         # (the first of the last ones may be cut)
         return without_return(last[at]) if (1 if self.bytes_before else 0) <= at < len(last) else None
 
-    def place(self, number: int) -> Tuple[str, Optional[int]]:
+    def place(self, number: int) -> tuple[str, int | None]:
         """The file of a line, and its number there."""
         found = [it for it in self.origins if it.first <= number]
         return found[-1].place(number) if found else ("-", number)
@@ -143,5 +147,5 @@ class Input:
         self.has_mark = found is not None
 
     @property
-    def schedule(self) -> List[bytes]:
+    def schedule(self) -> list[bytes]:
         return split_lines(self.rest)

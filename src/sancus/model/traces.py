@@ -2,11 +2,11 @@
 
 from __future__ import annotations
 
-from dataclasses import dataclass
 from typing import Dict, List, Tuple
 
 from sancus.model.asking import Answer
 from sancus.model.shown import text_of
+from sancus.records import dataclass
 
 
 @dataclass(frozen=True)

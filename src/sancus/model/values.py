@@ -2,7 +2,6 @@
 
 from __future__ import annotations
 
-from dataclasses import dataclass, field
 from typing import Dict, Iterator, List, Optional, Set, Tuple
 
 from sancus.model import language
@@ -10,6 +9,7 @@ from sancus.model.language import COMPARED, Combined, Constant, Element, Express
 from sancus.model.meaning import Reaction, first_cells
 from sancus.model.moves import Moves
 from sancus.model.rules import subexpressions, walk
+from sancus.records import dataclass, field
 
 # The greatest reading of a sensor.
 GREATEST = 32767

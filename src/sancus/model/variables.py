@@ -6,7 +6,6 @@ docs/PROTOCOL.md has the section's form: from 512 on a slot for each end, then t
 
 from __future__ import annotations
 
-from dataclasses import dataclass, field
 from typing import Dict, Iterator, List, Optional, Tuple, Union
 
 from sancus.model.deployment import Bounds
@@ -14,6 +13,7 @@ from sancus.model.inspection import Inspected, Line, broken
 from sancus.model.marks import CannotMark, marked_run
 from sancus.model.session import Stopped, snapped
 from sancus.model.texts import Input
+from sancus.records import dataclass, field
 
 SLOTS, SLOT = 512, 24
 MOST_BYTES = 64

@@ -2,7 +2,6 @@
 
 from __future__ import annotations
 
-from dataclasses import dataclass
 from typing import Dict, Iterator, List, Tuple
 
 from sancus.model import language
@@ -10,6 +9,7 @@ from sancus.model.deployment import Plan, module_of, port_of
 from sancus.model.faults import Teller
 from sancus.model.language import Applied, Combined, Constant, Element, Expression, Module, Statement, Store
 from sancus.model.rules import subexpressions, walk
+from sancus.records import dataclass
 
 WORD = 65536
 # More places of one module aren't told.

@@ -3,7 +3,6 @@
 from __future__ import annotations
 
 import base64
-from dataclasses import dataclass
 from typing import Dict
 
 from sancus.model.asking import Answer, Program
@@ -11,6 +10,7 @@ from sancus.model.marks import CannotMark, marked_lines, marked_run
 from sancus.model.shown import text_of
 from sancus.model.texts import Input
 from sancus.model.traces import of_drive
+from sancus.records import dataclass
 from sancus.viewer.join import joined
 
 SLOT = '<script type="text/plain" id="data">'
