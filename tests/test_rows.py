@@ -28,12 +28,14 @@ In an output, which may be worked out but in part:
 """
 
 import re
+import resource
+import subprocess
 import unittest
 from dataclasses import dataclass
 from pathlib import Path
-from typing import Iterator, List, NamedTuple, Optional, Union
+from typing import Callable, Iterator, List, NamedTuple, Optional, Union
 
-from support import needs_program, program
+from support import PROGRAM, needs_program, program
 
 ROWS = Path(__file__).resolve().parent / "rows"
 ROW = re.compile(r"^==(.*)\n((?:.*\n)*?)=> ([0-9]+)\n((?:.+\n)*)", re.MULTILINE)
@@ -160,15 +162,36 @@ def difference(wanted: List[Union[bytes, Open]], out: bytes) -> Optional[str]:
     return None if at == len(written) else f"line {at + 1} is {written[at]!r}, and none is wanted"
 
 
+def bounded(mebibytes: int) -> Callable[[], None]:
+    """Leaves a process that begins so much memory, its program and its stack among it."""
+    return lambda: resource.setrlimit(resource.RLIMIT_AS, (mebibytes << 20, mebibytes << 20))
+
+
 @needs_program
 class Rows(unittest.TestCase):
+    def is_answered(self, row: Row, status: int, out: bytes) -> None:
+        self.assertEqual((status, difference(row.wanted, out)), (row.status, None))
+
     def test_each_row(self):
         files = sorted(ROWS.glob("*.rows"))
         self.assertTrue(files)
         for row in (row for file in files for row in rows_of(file)):
             with self.subTest(row.place):
                 ran = program(*row.words, text=row.given)
-                self.assertEqual((ran.status, difference(row.wanted, ran.out)), (row.status, None))
+                self.is_answered(row, ran.status, ran.out)
+
+    def test_the_memory_of_the_rows_of_limits(self):
+        """They do with little more than they took when they were written, so that a leak or a large stack shows."""
+        for row in rows_of(ROWS / "limits.rows"):
+            with self.subTest(row.place):
+                room = bounded({"snap": 9, "explain": 9, "drive": 24}.get(row.words[0], 6))
+                ran = subprocess.run([PROGRAM, *row.words], input=row.given, capture_output=True, preexec_fn=room)
+                self.is_answered(row, ran.returncode, ran.stdout)
+
+    def test_a_command_that_is_no_text(self):
+        for words in ([b"\xff"], [b"run\xff"], ["asm", b"\xff"]):
+            ran = subprocess.run([PROGRAM, *words], stdin=subprocess.DEVNULL, capture_output=True)
+            self.assertEqual((ran.returncode, ran.stdout), (2, b"fault usage\n"), words)
 
     def test_gen_writes_the_images_that_run_writes(self):
         ran, made = program("run", text=given_by(["@lighting"])), program("gen", "1")
