@@ -33,7 +33,7 @@ class Repository(Room):
         self.write("HANDLES", "Handles allowed: none.\n")
         self.write("tests/test_nothing.py", NOTHING)
         # (of what else runs after the gate, nothing stands here)
-        for name in ("try_wrong_bodies", "try_wrong_systems", "crate_lists", "contracts"):
+        for name in ("try_wrong_bodies", "try_wrong_systems", "crate_lists", "contracts", "recursion"):
             self.write(f"tools/{name}.py", "")
         for name in ("sancus", "tools/release.sh", "tools/after_gate.sh"):
             shutil.copy(TOP / name, self.top / name)
