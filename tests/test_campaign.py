@@ -6,6 +6,7 @@ import resource
 import signal
 import sqlite3
 import subprocess
+import sys
 import time
 import unittest
 from contextlib import closing
@@ -171,7 +172,8 @@ class Campaigns(Room):
         self.assertEqual(self.seeds(), kept)
 
     def test_a_full_disk(self):
-        whole = [SANCUS, "campaign", PUMP, "--seeds", "0..900", "--to", self.rows]
+        # (-B, as Python keeps a module of which it could write but a part)
+        whole = [sys.executable, "-I", "-S", "-B", SANCUS, "campaign", PUMP, "--seeds", "0..900", "--to", self.rows]
         full = lambda: resource.setrlimit(resource.RLIMIT_FSIZE, (1 << 15, 1 << 15))  # noqa: E731
         env = {**os.environ, "SANCUS_PROGRAM": PROGRAM}
         ran = subprocess.run(whole, env=env, capture_output=True, text=True, preexec_fn=full)
