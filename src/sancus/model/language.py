@@ -7,7 +7,7 @@ The program alone judges a source. This finds words for its answer.
 from __future__ import annotations
 
 import re
-from typing import FrozenSet, List, Optional, Set, Tuple, Union
+from typing import FrozenSet, Iterator, List, Optional, Set, Tuple, Union
 
 from sancus.records import dataclass, field
 
@@ -489,6 +489,15 @@ def parts_of(it: Expression) -> List[Expression]:
     return [it.left, it.right] if isinstance(it, Combined) else []
 
 
+def subexpressions(it: Expression) -> Iterator[Expression]:
+    """An expression and all in it, from the left. (One of operators alone may be higher than calls may be nested; so below.)"""
+    left = [it]
+    while left:
+        it = left.pop()
+        yield it
+        left += reversed(parts_of(it))
+
+
 def expressions_of(it: Statement) -> List[Expression]:
     if isinstance(it, (If, Assume)):
         return [it.test]
@@ -504,11 +513,15 @@ def blocks_of(it: Statement) -> List[List[Statement]]:
 
 
 def size(it: Expression) -> int:
-    return 1 + sum(size(part) for part in parts_of(it))
+    return sum(1 for _ in subexpressions(it))
 
 
 def height(it: Expression) -> int:
-    return 1 + max((height(part) for part in parts_of(it)), default=0)
+    level, count = [it], 0
+    while level:
+        level = [part for over in level for part in parts_of(over)]
+        count += 1
+    return count
 
 
 def block_size(block: List[Statement]) -> int:
@@ -523,11 +536,14 @@ def cells(module: Module) -> int:
     return sum(it.value if it.kind == "array" else 1 for it in module.cells())
 
 
-def cost(it: Expression) -> int:
-    own = 64 if isinstance(it, Element) else 32
+def own_cost(it: Expression) -> int:
     if isinstance(it, Combined) and it.sign == "*":
-        own = 512
-    return own + sum(cost(part) for part in parts_of(it))
+        return 512
+    return 64 if isinstance(it, Element) else 32
+
+
+def cost(it: Expression) -> int:
+    return sum(map(own_cost, subexpressions(it)))
 
 
 def statement_cost(it: Statement) -> int:

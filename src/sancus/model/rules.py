@@ -32,12 +32,6 @@ def walk(block: List[Statement]) -> Iterator[Statement]:
             yield from walk(inner)
 
 
-def subexpressions(it: Expression) -> Iterator[Expression]:
-    yield it
-    for part in language.parts_of(it):
-        yield from subexpressions(part)
-
-
 def handler_name(it: Handler) -> str:
     return f"`on {it.input}`" if it.input is not None else "`sample`"
 
@@ -95,7 +89,7 @@ def uses(handler: Handler) -> Iterator[Use]:
 
 
 def expression_uses(it: Expression, seen: Set[str]) -> Iterator[Use]:
-    for part in subexpressions(it):
+    for part in language.subexpressions(it):
         if isinstance(part, Variable):
             yield Use(part.name, "var", part.name in seen, part.at)
         elif isinstance(part, Element):

@@ -5,10 +5,10 @@ from __future__ import annotations
 from typing import Dict, Iterator, List, Optional, Set, Tuple
 
 from sancus.model import language
-from sancus.model.language import COMPARED, Combined, Constant, Element, Expression, If, Module, Statement
+from sancus.model.language import COMPARED, Combined, Constant, Element, Expression, If, Module, Statement, subexpressions
 from sancus.model.meaning import Reaction, first_cells
 from sancus.model.moves import Moves
-from sancus.model.rules import subexpressions, walk
+from sancus.model.rules import walk
 from sancus.records import dataclass, field
 
 # The greatest reading of a sensor.

@@ -7,8 +7,8 @@ from typing import Dict, Iterator, List, Tuple
 from sancus.model import language
 from sancus.model.deployment import Plan, module_of, port_of
 from sancus.model.faults import Teller
-from sancus.model.language import Applied, Combined, Constant, Element, Expression, Module, Statement, Store
-from sancus.model.rules import subexpressions, walk
+from sancus.model.language import Applied, Combined, Constant, Element, Expression, Module, Statement, Store, subexpressions
+from sancus.model.rules import walk
 from sancus.records import dataclass
 
 WORD = 65536

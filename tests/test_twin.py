@@ -1,0 +1,205 @@
+"""What the front end knows of the language and of legal traces is what the program does: both judge the sources and traces of the rows, and others that are
+changed at random. SANCUS_SEED repeats the changes of an earlier run, which a failure names.
+"""
+
+import os
+import random
+import re
+import unittest
+from itertools import takewhile
+from typing import Iterator, List, Tuple
+
+from support import EXAMPLES, PROGRAM, needs_program
+from test_rows import ROWS, rows_of
+
+from sancus.model import language, legality, rules
+from sancus.model.deployment import Plan, plan_of
+from sancus.model.items import Item
+from sancus.model.texts import MOST_HEAD, Input
+from sancus.runner import Runner
+
+SEED = int(os.environ.get("SANCUS_SEED") or random.SystemRandom().randrange(10**6))
+SOURCES, TRACES = 4000, 3000
+MODULE = '[[module]]\nname = "m"\nnode = "n"\nprovider = 7\ntext = 0x4000\ndata = 0x2000\nsource = """\n{}"""\n'
+TOKEN = re.compile(r"\s+|0x[0-9a-fA-F]+|\d+|[a-z_]\w*|==|!=|<=|>=|//[^\n]*|.", re.S)
+POOL = (
+    "sensor actuator input output var array on sample let if else repeat send emit ( ) { } [ ] ; = == != < <= > >= + - | ^ * & ~ ! 0 1 17 65535 "
+    "65536 0xFFFF a b v x limit level bright // # %"
+).split()
+RUNNER = Runner([PROGRAM])
+
+
+def given_in_rows(*commands: str) -> List[Input]:
+    """The inputs of the rows of some commands that aren't long."""
+    rows = [it for file in sorted(ROWS.glob("*.rows")) for it in rows_of(file)]
+    return [Input(it.given) for it in rows if it.words[:1] and it.words[0] in commands and len(it.given) < 400_000]
+
+
+# --- Deployments --------------------------------------------------------------------------------------------------------
+
+
+def in_deployment(head: bytes) -> Iterator[str]:
+    """What the front end and `check` say differently of a deployment."""
+    answer, plan = RUNNER.answer(["check"], head + b"%%\n"), plan_of(head)
+    if not plan:
+        return
+    lines = [it.decode(errors="replace").split() for it in answer.lines]
+    if answer.status == 0:
+        yield from in_accepted(plan, [it for it in lines if it[0] == "module"])
+    elif lines[-1][2] == "D7":
+        yield from in_grammar(plan, *map(int, lines[-1][4:]))
+    elif lines[-1][2] == "D8":
+        yield from in_rules(plan, int(lines[-1][4]), lines[-1][5])
+
+
+def in_accepted(plan: Plan, modules: List[List[str]]) -> Iterator[str]:
+    bounds_of = {it[1]: [it[3], it[4], it[6], it[7]] for it in modules}
+    for module in plan.modules:
+        tree = plan.tree(str(module["name"]))
+        if not tree:
+            yield "an accepted source isn't parsed"
+            continue
+        yield from (f"an accepted source breaks rule {it}" for it in rules.RULES if rules.places(tree, it))
+        found = plan.bounds(module)
+        bounds = [found.text, found.text_end, found.data, found.data_end] if found else []
+        if [f"0x{it:04x}" for it in bounds] != bounds_of[str(module["name"])]:
+            yield f"{module['name']} has other bounds: {found}"
+
+
+def in_grammar(plan: Plan, index: int, line: int, column: int) -> Iterator[str]:
+    source = plan.modules[index]["source"]
+    try:
+        language.parse(source)
+        yield "a source that isn't in the grammar is parsed"
+    except language.NotInGrammar as error:
+        if language.place_of(source, error.token.at) != (line, column):
+            yield f"the grammar is left at {language.place_of(source, error.token.at)}, not {(line, column)}"
+
+
+def in_rules(plan: Plan, index: int, rule: str) -> Iterator[str]:
+    tree = plan.tree(str(plan.modules[index]["name"]))
+    if not tree:
+        yield "a source in the grammar isn't parsed"
+        return
+    broken = [it for it in rules.RULES if rules.places(tree, it)]
+    if broken[:1] != [rule]:
+        yield f"it breaks rule {rule} first, and not {broken[:1]}"
+
+
+def changed(source: str, chance: random.Random) -> str:
+    """A source with a few tokens left out, put in, replaced or exchanged."""
+    tokens = TOKEN.findall(source)
+    for _ in range(chance.choice([1, 1, 1, 2, 3])):
+        at, other = (chance.randrange(len(tokens)) for _ in range(2))
+        new = f" {chance.choice(POOL)} "
+        how = chance.random()
+        if how < 0.3:
+            tokens[at : at + 1] = []
+        elif how < 0.6:
+            tokens[at:at] = [new]
+        elif how < 0.8:
+            tokens[at] = new
+        else:
+            tokens[at], tokens[other] = tokens[other], tokens[at]
+        tokens = tokens or [";"]
+    return "".join(tokens)
+
+
+# --- Traces -------------------------------------------------------------------------------------------------------------
+
+
+def in_trace(head: bytes, trace: bytes) -> Iterator[str]:
+    """What the front end and `explain` say differently of a trace."""
+    answer, plan = RUNNER.answer(["explain"], head + b"%%\n" + trace), plan_of(head)
+    if not plan or answer.status not in (0, 8):
+        return
+    lines = trace.decode(errors="replace").split("\n")
+    after = lines[lines.index("trace") + 1 :]
+    texts = takewhile(lambda it: it not in ("end", "") and not it.startswith("fault "), after)
+    items = [Item(number, text) for number, text in enumerate(texts, 1)]
+    said = [it.decode().split() for it in answer.lines]
+    if answer.status == 8:
+        number = int(said[-1][1])
+        if not legality.reason(plan, items, number):
+            yield f"no reason is found why item {number}, {items[number - 1].text}, is illegal"
+        return
+    legal = next(int(it[1]) for it in said if it[0] == "legal")
+    model = legality.Model(plan)
+    for it in items[:legal]:
+        try:
+            model.step(it)
+        except legality.Fails as error:
+            yield f"item {it.number}, {it.text}, is legal, and refused: {error}"
+            return
+
+
+def trace_of(data: Input) -> bytes:
+    """The trace of a run that ends well, or nothing."""
+    answer = RUNNER.answer(["run"], data.data)
+    begin = answer.output.find(b"trace\n")
+    return answer.output[begin:] if answer.status == 0 and begin >= 0 and len(answer.output) < 300_000 else b""
+
+
+def changed_items(items: List[str], chance: random.Random) -> List[str]:
+    """Items of which some are left out, repeated, exchanged or of other numbers."""
+    items = [*items]
+    for _ in range(chance.choice([1, 1, 2])):
+        at, other = (chance.randrange(len(items)) for _ in range(2))
+        how = chance.random()
+        if how < 0.3:
+            items[at : at + 1] = []
+        elif how < 0.5:
+            items.insert(at, items[other])
+        elif how < 0.7:
+            items[at], items[other] = items[other], items[at]
+        else:
+            words = items[at].split(" ")
+            numbers = [it for it, word in enumerate(words) if it and word.isdigit()] or [0]
+            place, by = chance.choice(numbers), chance.choice([-1, 1, 2, 65536])
+            words[place] = str(max(0, int(words[place]) + by)) if place else words[place]
+            items[at] = " ".join(words)
+        items = items or ["skip n"]
+    return items
+
+
+@needs_program
+class Twin(unittest.TestCase):
+    def setUp(self) -> None:
+        self.chance = random.Random(SEED)
+
+    def agree(self, found: Iterator[Tuple[str, str]]) -> None:
+        """There are no differences; of the first ones each is shown with what it is about."""
+        shown = [f"{what}\n{about}" for _, (what, about) in zip(range(3), found)]
+        self.assertFalse(shown, f"SANCUS_SEED={SEED}: " + "\n\n".join(shown))
+
+    def test_deployments(self) -> None:
+        heads = {it.head: None for it in given_in_rows("check", "run", "drive", "explain", "snap") if len(it.head) < MOST_HEAD}
+        self.assertGreater(len(heads), 100)
+        self.agree((it, head[-400:].decode(errors="replace")) for head in heads for it in in_deployment(head))
+
+    def test_changed_sources(self) -> None:
+        plans = filter(None, (plan_of(it.head) for it in given_in_rows("check", "run", "drive") if len(it.head) < 60_000))
+        found = sorted({str(it.get("source")) for plan in plans for it in plan.modules})
+        sources = [it for it in found if 5 < len(it) < 1500]
+        made = (changed(self.chance.choice(sources), self.chance) for _ in range(SOURCES))
+        plain = [it for it in made if '"""' not in it and "\\" not in it and not it.endswith('"')]
+        self.assertGreater(len(plain), SOURCES // 2)
+        self.agree((it, source) for source in plain for it in in_deployment(MODULE.format(source).encode()))
+
+    def test_traces(self) -> None:
+        explained = [(it.head, it.rest) for it in given_in_rows("explain") if b"\ntrace\n" in b"\n" + it.rest]
+        run = [(it.head, trace_of(it)) for it in given_in_rows("run") if it.has_mark]
+        self.agree((it, trace[-400:].decode(errors="replace")) for head, trace in [*explained, *run] if trace for it in in_trace(head, trace))
+
+    def test_changed_traces(self) -> None:
+        inputs = [*given_in_rows("run"), *(Input(it.read_bytes()) for it in sorted(EXAMPLES.rglob("*.txt")))]
+        runs = [(it.head, trace_of(it)) for it in inputs if it.has_mark and len(it.data) < 100_000]
+        plain = [(head, trace.decode().split("\n")[1:-2]) for head, trace in runs if 10 < len(trace) < 20_000]
+        self.assertGreater(len(plain), 50)
+        chosen = [self.chance.choice(plain) for _ in range(TRACES)]
+        made = ((head, "\n".join(["trace", *changed_items(items, self.chance), "end", ""])) for head, items in chosen if items)
+        self.agree((it, trace[-400:]) for head, trace in made for it in in_trace(head, trace.encode()))
+
+
+if __name__ == "__main__":
+    unittest.main()
