@@ -10,6 +10,7 @@ from signal import SIGKILL
 from threading import Timer
 from typing import Any, Dict, Iterator, List, Optional
 
+from sancus import records
 from sancus.app import App
 from sancus.errors import Refused
 from sancus.lsp.documents import Document
@@ -69,11 +70,11 @@ class Place:
     length: int = 1
 
 
-@dataclass
+@records.dataclass
 class Placed(Teller):
     """Finds words for a fault, and keeps the places that these are about in place of showing them."""
 
-    places: List[Place] = field(default_factory=list)
+    places: List[Place] = records.field(default_factory=list)
 
     def with_caret(self, line: int, column: Optional[int], length: int) -> List[str]:
         self.places.append(Place(line, column, length))
