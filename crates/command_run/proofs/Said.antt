@@ -1,4 +1,4 @@
--- What follows for `run` from what it wrote and read.
+-- What follows for `run` and `lines` from what they wrote and read.
 use Rattle.std.proofs.Common.{◌≡◌, ℕ, Bool, List, Option, Some, None}
 use Rattle.sx_asm.specs.Assembled.{assembled}
 use Rattle.sx_io.specs.Reading.{Answer}
@@ -18,8 +18,10 @@ use Rattle.spec_run.specs.Accepted.{AreImages, setting_of}
 use Rattle.command_head.specs.Begun.{Deploys}
 use Rattle.command_deploy.specs.Afterwards.{DeployTold}
 use Rattle.command_deploy.proofs.Said.{deploy_not_two, deploy_says}
+use Rattle.command_run.specs.Lines.{lines_deployed}
 use Rattle.command_run.specs.Run.{run_deployed}
 use Rattle.command_run.specs.Runs.{RunSays, RunsWith, run_may, run_part}
+use Rattle.command_run.specs.Tells.{LinesSay, lines_part}
 use Rattle.law_isolation.proofs.Performing.{runs_guarded}
 use Rattle.law_forgery.specs.Forgery.{ForgedIsForgery}
 use Rattle.law_connections.specs.LinksUnseen.{LinksAreUnseen}
@@ -28,7 +30,7 @@ use Rattle.command_world.specs.Compiled.{compiled_texts}
 use Rattle.command_world.specs.Schedule.{schedule}
 use Rattle.command_run.proofs.Legality.{holds_by, items_forged, links_unseen}
 use Rattle.command_run.proofs.Moving.{deployed_hides, deployed_moved}
-use Rattle.command_run.proofs.Owing.{run_owes}
+use Rattle.command_run.proofs.Owing.{lines_owe, run_owes}
 
 forged_by : (mac : Mac) (deployment : Option (List ℕ)) (texts : List (List ℕ)) (d : Deployed) → IsTag mac → Deploys deployment d → AreImages mac d texts
     → (answers : List Answer) → ForgedIsForgery (setting_of mac d texts) (schedule assembled d.names 1 answers).lines
@@ -46,7 +48,7 @@ moved_by mac None texts d tag deploys images made = absurd deploys
 moved_by mac (Some text) texts d tag deploys images made = deployed_moved mac text d texts tag deploys images made
 
 -- what holds of images that realize their modules
-runs_with : (mac : Mac) → IsTag mac → (deployment : Option (List ℕ)) (texts : List (List ℕ)) → ((d : Deployed) → Deploys deployment d → AreImages mac d texts) → RunsWith assembled mac deployment texts
+pub runs_with : (mac : Mac) → IsTag mac → (deployment : Option (List ℕ)) (texts : List (List ℕ)) → ((d : Deployed) → Deploys deployment d → AreImages mac d texts) → RunsWith assembled mac deployment texts
 runs_with mac tag deployment texts realize = record {
   legal = λ d deploys schedule. holds_by Legal runs_legal mac deployment texts d tag deploys (realize d deploys) schedule;
   order = λ d deploys schedule. holds_by LegalInOrder runs_in_order mac deployment texts d tag deploys (realize d deploys) schedule;
@@ -66,3 +68,12 @@ run_says {tells} {to_tell} {m0} {m1} {status} mac tag told =
 
 pub says_not_two : {tells to_tell : Bool} {m0 m1 : CommandAt} {status : ℕ} (mac : Mac) → RunSays assembled mac tells to_tell m0 m1 status → status ≡ 2 → ⊥
 says_not_two mac run two = deploy_not_two mac (run_part assembled mac) (run_owes mac) run two
+
+pub lines_say : {tells to_tell : Bool} {m0 m1 : CommandAt} {status : ℕ} (mac : Mac) → IsTag mac → DeployTold mac (lines_deployed assembled mac) (run_may assembled) tells to_tell m0 m1 status
+    → LinesSay assembled mac tells to_tell m0 m1 status
+lines_say {tells} {to_tell} {m0} {m1} {status} mac tag told =
+    deploy_says {tells = tells} {to_tell = to_tell} {m0 = m0} {m1 = m1} {status = status} mac (lines_part assembled mac) (lines_owe mac)
+    (λ deployment texts bytes realize. runs_with mac tag deployment texts realize) told
+
+pub lines_not_two : {tells to_tell : Bool} {m0 m1 : CommandAt} {status : ℕ} (mac : Mac) → LinesSay assembled mac tells to_tell m0 m1 status → status ≡ 2 → ⊥
+lines_not_two mac says two = deploy_not_two mac (lines_part assembled mac) (lines_owe mac) says two

@@ -1,5 +1,6 @@
-//! That inputs which keep the rules are those of status 0, and that runs of the same input are the
-//! same. Each law is a function that does nothing: its contract is the law.
+//! That inputs which keep the rules are those of status 0, that runs of the same input are the
+//! same, and that `lines` shows the run of `run`. Each law is a function that does nothing: its
+//! contract is the law.
 
 ghost use Rattle.std.specs.Prelude.{◌≡◌, List};
 ghost use Rattle.sx_io.specs.Reading.{Answer};
@@ -9,7 +10,7 @@ ghost use Rattle.command_head.specs.Meanings.{Meaning};
 ghost use Rattle.command_world.specs.WellFormed.{IsGoodInput};
 ghost use Rattle.command_world.specs.Statuses.{schedule_status};
 ghost use Rattle.command_deploy.specs.Deploy.{deploy_status};
-ghost use Rattle.command_run.specs.Laws.{RunsAreSame};
+ghost use Rattle.command_run.specs.Laws.{EachGivesItsItems, LinesGiveItems, RunsAreSame};
 
 /// A deployment that keeps the rules, the line `%%` and a schedule that does have status 0. So
 /// `complete` of `RunSays` says of these that they are run to their end.
@@ -23,4 +24,14 @@ pub fn good_input_has_status_0()
 /// the same trace: the images too follow from the input.
 pub fn runs_are_same()
     ensures { RunsAreSame }
+{}
+
+/// The items that `lines` writes, put together, are those that `run` writes of the same schedule.
+pub fn lines_give_items()
+    ensures { LinesGiveItems }
+{}
+
+/// The k-th line is shown with what it gave in the world after the lines before it.
+pub fn each_gives_its_items()
+    ensures { EachGivesItsItems }
 {}

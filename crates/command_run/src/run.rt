@@ -5,6 +5,7 @@ ghost use Rattle.command_promise.specs.Told.{command_at};
 ghost use Rattle.command_run.specs.Runs.{RunTold};
 
 use crate::schedule::run_lines;
+use crate::trace::Shown;
 use command_deploy::{Deploys, deploy_over};
 use command_promise::{OUT_OF_MEMORY, Turned};
 use command_world::images::begin_trace;
@@ -41,7 +42,15 @@ impl Deploys for RunCommand {
     ) -> u8 {
         match new_world(alloc, tag, deployment, images) {
             Ok(mut world) => match begin_trace(alloc, &deployment.names, images, output) {
-                Turned::On => run_lines(alloc, lines, input, output, deployment, &mut world),
+                Turned::On => run_lines(
+                    alloc,
+                    Shown::Items,
+                    lines,
+                    input,
+                    output,
+                    deployment,
+                    &mut world,
+                ),
                 Turned::Stop(status) => status,
             },
             Err(_) => OUT_OF_MEMORY,

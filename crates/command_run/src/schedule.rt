@@ -1,5 +1,5 @@
-//! The lines of a schedule. Each is judged and performed, and its items are written, before the
-//! next is read.
+//! The lines of a schedule. Each is judged and performed, and what is shown of it is written,
+//! before the next is read.
 
 ghost use Rattle.std.specs.Prelude.{◌≡◌, ◌+◌, ◌≤◌, IsTrue};
 ghost use Rattle.sx_asm.specs.Assembled.{assembled};
@@ -14,13 +14,12 @@ ghost use Rattle.spec_run.specs.Law.{IsSoundSetting};
 ghost use Rattle.sx_world.specs.Standing.{IsGoing, Stands};
 ghost use Rattle.spec_run.specs.State.{switched_on};
 ghost use Rattle.command_head.specs.Given.{RanOutSince};
-ghost use Rattle.command_run.specs.Run.{run_at_start};
 ghost use Rattle.command_run.specs.Runs.{run_may};
 ghost use Rattle.command_world.specs.Schedule.{judged_line};
-ghost use Rattle.command_run.specs.Turns.{TellsMade, TurnsFrom};
+ghost use Rattle.command_run.specs.Turns.{TellsMade, TurnsFrom, shown_from};
 ghost use Rattle.command_world.specs.Turning.{MayRunOut};
 
-use crate::trace::put_items;
+use crate::trace::{Shown, put_line};
 use command_promise::{OUT_OF_MEMORY, READ_FAILED, Turned, finish};
 use command_world::judging::{TOO_LONG, break_off, judge_line};
 use std::alloc::Global;
@@ -32,10 +31,12 @@ use sx_tag::Tag;
 use sx_trace::items::Item;
 use sx_world::world::World;
 
-/// Does what a line says, and writes its items; where memory runs out, those that were made before.
+/// Does what a line says, and writes what is shown of it; where memory runs out, with the items
+/// that were made before.
 /// `items` is the loop's, so that lines use its memory one after the other.
 fn turn<K: Sink, B: Copied, T: Tag>(
     alloc: Global,
+    shown: Shown,
     output: &mut K,
     world: &mut World<B, T>,
     deployment: &Deployment,
@@ -48,13 +49,13 @@ fn turn<K: Sink, B: Copied, T: Tag>(
     requires going { IsGoing (world_setting T.mac deployment.now world.old) world.old }
     requires names { IsTrue (are_valid (deployed_as deployment.now).names) }
     requires counted { world.old.performed + 1 ≡ number }
-    ensures turns { TurnsFrom K.tells (K.at output.old) (K.at output.new)
+    ensures turns { TurnsFrom shown K.tells (K.at output.old) (K.at output.new)
         (deployed_as deployment.now).names (world_setting T.mac deployment.now world.old) world.old
         world.new number said.now result }
     ensures memory { result ≡ Turned.Stop out_of_memory
         → MayRunOut (judged_line assembled (deployed_as deployment.now).names number said.now) }
-    ensures made { TellsMade K.tells (K.at output.old) (K.at output.new)
-        (deployed_as deployment.now).names world.old world.new items.new.items result }
+    ensures made { TellsMade shown K.tells (K.at output.old) (K.at output.new)
+        (deployed_as deployment.now).names world.old world.new said.now items.new.items result }
     ensures few { result ≡ Turned.On → number ≤ 65536 }
     ensures sites { world.new.sites ≡ world.old.sites }
     ensures counts { result ≡ Turned.On → world.new.performed ≡ number }
@@ -62,8 +63,8 @@ fn turn<K: Sink, B: Copied, T: Tag>(
     items.clear();
     match judge_line(alloc, &deployment.names, said, number) {
         Ok(line) => match world.act(deployment, &line, items) {
-            Ok(()) => put_items(output, &deployment.names, items),
-            Err(_) => match put_items(output, &deployment.names, items) {
+            Ok(()) => put_line(output, &deployment.names, shown, said, items),
+            Err(_) => match put_line(output, &deployment.names, shown, said, items) {
                 Turned::On => Turned::Stop(OUT_OF_MEMORY),
                 Turned::Stop(status) => Turned::Stop(status),
             },
@@ -76,6 +77,7 @@ fn turn<K: Sink, B: Copied, T: Tag>(
 /// Runs the lines of a schedule in a world where all was just switched on.
 pub(crate) fn run_lines<S: Source, K: Sink, B: Copied, T: Tag>(
     alloc: Global,
+    shown: Shown,
     lines: &mut Lines,
     input: &mut S,
     output: &mut K,
@@ -91,8 +93,9 @@ pub(crate) fn run_lines<S: Source, K: Sink, B: Copied, T: Tag>(
     ensures rest { Rest S.tells K.tells head_lines lines.old
         (command_at (S.at input.old) (K.at output.old))
         (command_at (S.at input.new) (K.at output.new)) result
-        (run_at_start assembled (deployed_as deployment.now).names
-        (world_setting T.mac deployment.now world.old)) }
+        (shown_from shown (deployed_as deployment.now).names
+        (world_setting T.mac deployment.now world.old)
+        (switched_on (world_setting T.mac deployment.now world.old)) 1) }
     ensures wanted { result ≡ out_of_memory → RanOutSince head_lines head_lines
         (run_may assembled (deployed_as deployment.now)) S.tells (S.at input.old) (S.at input.new)
         lines.old lines.new }
@@ -107,6 +110,7 @@ pub(crate) fn run_lines<S: Source, K: Sink, B: Copied, T: Tag>(
             LineRead::Failed => return finish(output, b"fault read\n", READ_FAILED),
             LineRead::Text(n) => match turn(
                 alloc,
+                shown,
                 output,
                 world,
                 deployment,

@@ -1,11 +1,11 @@
-//! The lines of a run's items.
+//! What is written of a line that was performed.
 
 ghost use Rattle.std.specs.Prelude.{◌≡◌, ◌≢◌, [], ◌++◌, IsTrue, List};
 ghost use Rattle.sx_io.specs.Reading.{Answer};
 ghost use Rattle.command_promise.specs.Told.{Output, behind, out_of_memory};
 ghost use Rattle.command_promise.specs.Parts.{DoesPart};
 ghost use Rattle.command_text.specs.Batch.{Writes};
-ghost use Rattle.command_world.specs.Items.{items_text};
+ghost use Rattle.command_run.specs.Turns.{front, shown_text};
 
 use command_promise::{Turned, WRITE_FAILED};
 use command_text::batch::Batch;
@@ -14,26 +14,85 @@ use sx_io::{Failed, Sink, put_all};
 use sx_trace::items::Item;
 use sx_trace::names::Names;
 
-/// Writes the lines of items, those of a batch together.
-fn put_lines<K: Sink>(output: &mut K, names: &Names, items: &[Item]) -> Result<(), Failed>
-    ensures { Writes K.tells (K.at output.old) (K.at output.new) (items_text names.now items.now)
-        [] result }
+/// What is written of a line that was performed.
+#[derive(Clone, Copy)]
+pub enum Shown {
+    /// Its items.
+    Items,
+    /// Its text after `> `, and its items.
+    Lines,
+}
+
+/// Appends a text of any length to a batch, which may be written before, and the text after it.
+fn add_text<K: Sink>(output: &mut K, batch: &mut Batch, text: &[u8]) -> Result<(), Failed>
+    ensures { Writes K.tells (K.at output.old) (K.at output.new) (batch.old.items ++ text.now)
+        batch.new.items result }
+{
+    match batch.try_extend_from_slice(text) {
+        Ok(()) => Ok(()),
+        Err(_) => {
+            put_all(output, batch.as_slice())?;
+            batch.clear();
+            put_all(output, text)
+        }
+    }
+}
+
+/// Appends what comes before a line's items.
+fn add_front<K: Sink>(
+    output: &mut K,
+    batch: &mut Batch,
+    shown: Shown,
+    said: &[u8],
+) -> Result<(), Failed>
+    ensures { Writes K.tells (K.at output.old) (K.at output.new)
+        (batch.old.items ++ front shown said.now) batch.new.items result }
+{
+    match shown {
+        Shown::Items => Ok(()),
+        Shown::Lines => {
+            add_text(output, batch, b"> ")?;
+            add_text(output, batch, said)?;
+            add_text(output, batch, b"\n")
+        }
+    }
+}
+
+/// Writes what is shown of a line, as one batch where it has room.
+fn put_batch<K: Sink>(
+    output: &mut K,
+    names: &Names,
+    shown: Shown,
+    said: &[u8],
+    items: &[Item],
+) -> Result<(), Failed>
+    ensures { Writes K.tells (K.at output.old) (K.at output.new) (shown_text shown names.now
+        (record { text = said.now; items = items.now })) [] result }
 {
     let mut batch = Batch::new();
+    add_front(output, &mut batch, shown, said)?;
     add_items(output, &mut batch, names, items)?;
     put_all(output, batch.as_slice())
 }
 
-/// Writes the lines of items, or stops with `WRITE_FAILED`. It takes no memory.
-pub(crate) fn put_items<K: Sink>(output: &mut K, names: &Names, items: &[Item]) -> Turned
+/// Writes what is shown of a line with this text and these items, or stops with `WRITE_FAILED`. It
+/// takes no memory.
+pub fn put_line<K: Sink>(
+    output: &mut K,
+    names: &Names,
+    shown: Shown,
+    said: &[u8],
+    items: &[Item],
+) -> Turned
     ensures does { (left : List Answer → Output) → DoesPart K.tells (K.at output.old)
-        (K.at output.new) (λ more. behind (items_text names.now items.now) (left more)) result
-        left }
+        (K.at output.new) (λ more. behind (shown_text shown names.now
+        (record { text = said.now; items = items.now })) (left more)) result left }
     ensures whole { result ≡ Turned.On → IsTrue K.tells → (K.at output.new).written
-        ≡ (K.at output.old).written ++ items_text names.now items.now }
+        ≡ (K.at output.old).written
+        ++ shown_text shown names.now (record { text = said.now; items = items.now }) }
     ensures memory { result ≢ Turned.Stop out_of_memory }
 {
-    match put_lines(output, names, items) {
+    match put_batch(output, names, shown, said, items) {
         Ok(()) => Turned::On,
         Err(_) => Turned::Stop(WRITE_FAILED),
     }

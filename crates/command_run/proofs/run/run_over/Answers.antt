@@ -1,4 +1,4 @@
-use Rattle.std.proofs.Common.{ℕ, ◌≤◌, length, arith}
+use Rattle.std.proofs.Common.{arith}
 use Rattle.sx_model.proofs.Telling.{tells}
 use Rattle.sx_explain.proofs.Caused.{legal_has_causes}
 use Rattle.sx_explain.proofs.Finishes.{in_order_finishes}

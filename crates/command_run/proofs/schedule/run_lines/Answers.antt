@@ -14,10 +14,9 @@ use Rattle.command_text.specs.Output.{end_line}
 use Rattle.command_deploy.proofs.Given.{gave_last, gave_line, gave_none}
 use Rattle.command_world.specs.Schedule.{judged_line}
 use Rattle.command_world.specs.Turning.{MayRunOut}
-use Rattle.command_run.specs.Run.{run_from}
 use Rattle.command_run.specs.Runs.{run_may}
-use Rattle.command_run.specs.Turns.{TurnsLine}
-use Rattle.command_run.proofs.Written.{run_ended, run_too_long, run_unread}
+use Rattle.command_run.specs.Turns.{TurnsLine, shown_from}
+use Rattle.command_run.proofs.Written.{shown_ended, shown_too_long, shown_unread}
 use Rattle.command_run.proofs.schedule.run_lines.Goals as goal
 
 pub lines-init : goal.lines-init
@@ -35,16 +34,16 @@ returns-in-End-clause-rest g c = λ limit m0 defined aside noted b.
     let d = deployed_as c.args.deployment.now in
     let set = setting g.T.Tag.mac d c.args.world.now.sites in
     let st = c.lines.invariant.between in
-    told-end {f = run_from assembled d.names set st.world c.lines.number} (run_unread d.names set st.world c.lines.number) (st.begun limit m0 defined aside noted b) c.in-End.ensures.next
-    (ends-same _ _ _ _ _ _ (run_ended d.names set st.world c.lines.number) c.finish.ensures.ends)
+    told-end {f = shown_from c.args.shown d.names set st.world c.lines.number} (shown_unread c.args.shown d.names set st.world c.lines.number) (st.begun limit m0 defined aside noted b) c.in-End.ensures.next
+    (ends-same _ _ _ _ _ _ (shown_ended c.args.shown d.names set st.world c.lines.number) c.finish.ensures.ends)
 
 pub returns-in-TooLong-clause-rest : goal.returns-in-TooLong-clause-rest
 returns-in-TooLong-clause-rest g c = λ limit m0 defined aside noted b.
     let d = deployed_as c.args.deployment.now in
     let set = setting g.T.Tag.mac d c.args.world.now.sites in
     let st = c.lines.invariant.between in
-    told-too-long {f = run_from assembled d.names set st.world c.lines.number} (run_unread d.names set st.world c.lines.number) (st.begun limit m0 defined aside noted b)
-    c.in-TooLong.ensures.next (ends-same _ _ _ _ _ _ (run_too_long d.names set st.world c.lines.number) c.break_off.ensures.ends)
+    told-too-long {f = shown_from c.args.shown d.names set st.world c.lines.number} (shown_unread c.args.shown d.names set st.world c.lines.number) (st.begun limit m0 defined aside noted b)
+    c.in-TooLong.ensures.next (ends-same _ _ _ _ _ _ (shown_too_long c.args.shown d.names set st.world c.lines.number) c.break_off.ensures.ends)
 
 pub returns-in-Failed-clause-rest : goal.returns-in-Failed-clause-rest
 unfolding read_line
@@ -52,8 +51,8 @@ returns-in-Failed-clause-rest g c = λ limit m0 defined aside noted b.
     let d = deployed_as c.args.deployment.now in
     let set = setting g.T.Tag.mac d c.args.world.now.sites in
     let st = c.lines.invariant.between in
-    told-failed {f = run_from assembled d.names set st.world c.lines.number} (run_unread d.names set st.world c.lines.number) (st.begun limit m0 defined aside noted b)
-    c.in-Failed.ensures.next (ends-same _ _ _ _ _ _ (run_unread d.names set st.world c.lines.number) c.finish-in-Failed.ensures.ends)
+    told-failed {f = shown_from c.args.shown d.names set st.world c.lines.number} (shown_unread c.args.shown d.names set st.world c.lines.number) (st.begun limit m0 defined aside noted b)
+    c.in-Failed.ensures.next (ends-same _ _ _ _ _ _ (shown_unread c.args.shown d.names set st.world c.lines.number) c.finish-in-Failed.ensures.ends)
 
 pub turn-requires-clause-images : goal.turn-requires-clause-images
 turn-requires-clause-images g c =
@@ -73,9 +72,9 @@ returns-in-Stop-clause-rest g c = λ limit m0 defined aside noted b.
     let st = c.lines.invariant.between in
     let text = take c.in-Text.n c.next.new.into in
     let P : List Site → Type 0 = λ sites. (w : World) → Stands (setting g.T.Tag.mac d sites) c.lines.world w
-    → TurnsLine g.K.Sink.tells (g.K.Sink.at c.lines.output) (g.K.Sink.at c.turn.new.output) d.names (setting g.T.Tag.mac d sites)
+    → TurnsLine c.args.shown g.K.Sink.tells (g.K.Sink.at c.lines.output) (g.K.Sink.at c.turn.new.output) d.names (setting g.T.Tag.mac d sites)
     c.turn.new.world c.lines.number text (Stop c.in-Stop.status) w in
-    told-stop (begun-line (run_from assembled d.names set st.world c.lines.number) (run_unread d.names set st.world c.lines.number) (st.begun limit m0 defined aside noted b) c.in-Text.ensures.next)
+    told-stop (begun-line (shown_from c.args.shown d.names set st.world c.lines.number) (shown_unread c.args.shown d.names set st.world c.lines.number) (st.begun limit m0 defined aside noted b) c.in-Text.ensures.next)
     (subst P c.lines.invariant.sites c.in-Stop.ensures.turns st.world st.stands).does
 
 pub returns-in-End-clause-wanted : goal.returns-in-End-clause-wanted
@@ -101,7 +100,7 @@ lines-preserved g c =
     let st = c.lines.invariant.between in
     let text = take c.in-Text.n c.next.new.into in
     let P : List Site → Type 0 = λ sites. (w : World) → Stands (setting g.T.Tag.mac d sites) c.lines.world w
-    → TurnsLine g.K.Sink.tells (g.K.Sink.at c.lines.output) (g.K.Sink.at c.turn.new.output) d.names (setting g.T.Tag.mac d sites)
+    → TurnsLine c.args.shown g.K.Sink.tells (g.K.Sink.at c.lines.output) (g.K.Sink.at c.turn.new.output) d.names (setting g.T.Tag.mac d sites)
     c.turn.new.world c.lines.number text On w in
     let t = subst P c.lines.invariant.sites c.in-On.ensures.turns st.world st.stands in record {
       few = omega (arith, c.in-On.ensures.few refl);
@@ -111,8 +110,8 @@ lines-preserved g c =
         world = t.next;
         stands = t.stands refl;
         begun = λ limit m0 defined aside noted b.
-            begun-put (λ more. run_from assembled d.names set st.world c.lines.number (Line text ∷ more)) (run_from assembled d.names set t.next (c.lines.number + 1))
-            (begun-line (run_from assembled d.names set st.world c.lines.number) (run_unread d.names set st.world c.lines.number) (st.begun limit m0 defined aside noted b) c.in-Text.ensures.next)
+            begun-put (λ more. shown_from c.args.shown d.names set st.world c.lines.number (Line text ∷ more)) (shown_from c.args.shown d.names set t.next (c.lines.number + 1))
+            (begun-line (shown_from c.args.shown d.names set st.world c.lines.number) (shown_unread c.args.shown d.names set st.world c.lines.number) (st.begun limit m0 defined aside noted b) c.in-Text.ensures.next)
             t.does;
         gave = gave_line c.next.new.into c.in-Text.n st.gave c.in-Text.ensures.next;
       };

@@ -13,7 +13,7 @@ invariant-lines g l =
       few : l.number ≤ 65537;
       counted : l.world.performed + 1 ≡ l.number;
       sites : l.world.sites ≡ l.fn.world.sites;
-      between : Between g.S.Source.tells g.K.Sink.tells (command_at (g.S.Source.at l.fn.input) (g.K.Sink.at l.fn.output)) (command_at (g.S.Source.at l.input) (g.K.Sink.at l.output))
+      between : Between l.fn.shown g.S.Source.tells g.K.Sink.tells (command_at (g.S.Source.at l.fn.input) (g.K.Sink.at l.fn.output)) (command_at (g.S.Source.at l.input) (g.K.Sink.at l.output))
           l.fn.lines l.lines d.names set l.world l.number;
     }
 

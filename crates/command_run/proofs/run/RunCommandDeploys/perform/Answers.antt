@@ -1,4 +1,4 @@
-use Rattle.std.proofs.Common.{List, [], inl, map, ap, refl, subst, sym}
+use Rattle.std.proofs.Common.{◌∙◌, List, [], inl, map, ap, refl, subst, sym}
 use Rattle.sx_asm.specs.Assembled.{assembled}
 use Rattle.command_promise.proofs.Laws.{begun-put, begun-same, told-stop, ends-out-of-memory, prefix-none}
 use Rattle.sx_deploy.specs.SeenDeployment.{deployed_as}
@@ -9,7 +9,10 @@ use Rattle.sx_world.specs.Standing.{Stands}
 use Rattle.spec_run.specs.State.{switched_on}
 use Rattle.spec_run.proofs.accepted.Settled.{settled}
 use Rattle.command_head.proofs.Given.{given_none}
-use Rattle.command_run.specs.Run.{run_at_start, run_from, run_deployed}
+use Rattle.command_run.specs.declared.trace.Shown.TheVariants.{Items}
+use Rattle.command_run.specs.Run.{run_at_start, run_deployed}
+use Rattle.command_run.specs.Turns.{shown_from}
+use Rattle.command_run.proofs.Listed.{run_shown}
 use Rattle.command_run.proofs.run.RunCommandDeploys.perform.Goals as goal
 
 pub run_lines-requires-clause-images : goal.run_lines-requires-clause-images
@@ -38,8 +41,9 @@ returns-in-On-clause-rest g c = λ limit m0 defined aside noted b.
     let set = setting mac d c.in-Ok.world.sites in
     let left = run_at_start assembled d.names (setting_of mac d texts) in
     c.run_lines.ensures.rest limit m0 defined aside noted
-    (begun-same (run_from assembled d.names set (switched_on set) 1)
-    (λ more. ap (λ (sites : List Site). run_from assembled d.names (setting mac d sites) (switched_on (setting mac d sites)) 1 more) (sym c.in-Ok.ensures.sites))
+    (begun-same (shown_from Items d.names set (switched_on set) 1)
+    (λ more. sym (run_shown d.names (setting_of mac d texts) (switched_on (setting_of mac d texts)) 1 more)
+    ∙ ap (λ (sites : List Site). shown_from Items d.names (setting mac d sites) (switched_on (setting mac d sites)) 1 more) (sym c.in-Ok.ensures.sites))
     (begun-put (run_deployed assembled mac d texts) left b (c.in-On.ensures left)))
 
 pub returns-clause-rest : goal.returns-clause-rest

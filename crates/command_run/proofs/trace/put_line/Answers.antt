@@ -1,6 +1,6 @@
 use Rattle.command_promise.proofs.Laws.{ends-write-failed, prefix-more}
 use Rattle.command_text.proofs.Batches.{does_whole, whole_text}
-use Rattle.command_run.proofs.trace.put_items.Goals as goal
+use Rattle.command_run.proofs.trace.put_line.Goals as goal
 
 pub returns-in-Ok-clause-does : goal.returns-in-Ok-clause-does
 returns-in-Ok-clause-does g c = λ left. does_whole c.in-Ok.ensures left
