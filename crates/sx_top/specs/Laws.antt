@@ -13,16 +13,18 @@ use Rattle.command_world.specs.Items.{items_text}
 use Rattle.command_deploy.specs.Same.{RunsIn}
 use Rattle.command_run.specs.Run.{run_deployed}
 use Rattle.command_run.specs.Runs.{run_part}
+use Rattle.command_run.specs.Tells.{lines_part}
 use Rattle.command_drive.specs.Drive.{driven_of}
 use Rattle.command_drive.specs.Drives.{DrivesWith, drive_part, items_said, lines_in, written}
 use Rattle.command_snap.specs.Snaps.{snap_part}
 
--- Each deployment has one setting: `run`, `drive` and `snap` run it in this, in each call.
+-- Each deployment has one setting: `run`, `drive`, `snap` and `lines` run it in this, in each call.
 abbrev pub OneSetting : Type 0
 OneSetting = (mac : Mac) (d : Deployed) → (set : Setting)
     × RunsIn mac (run_part assembled mac) d set
     × RunsIn mac (drive_part mac) d set
     × RunsIn mac (snap_part mac) d set
+    × RunsIn mac (lines_part assembled mac) d set
 
 -- With the same deployment and the same images, `run` writes of the lines that `drive` says exactly
 -- the items that `drive` says, and reads to the end.

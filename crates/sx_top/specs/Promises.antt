@@ -6,12 +6,13 @@ use Rattle.sx_asm.specs.Assembled.{assembled}
 use Rattle.sx_tag.specs.Mac.{Mac}
 use Rattle.sx_top.specs.declared.words.Command.{Command}
 use Rattle.sx_top.specs.declared.words.Command.TheVariants.{Run, Check, Explain, Snap, Gen, Asm}
-use Rattle.sx_top.specs.declared.words.Command.TheVariants.{Dis, Drive, Holds, Watch}
+use Rattle.sx_top.specs.declared.words.Command.TheVariants.{Dis, Drive, Holds, Lines, Watch}
 use Rattle.command_asm.specs.Assembling.{AsmTold}
 use Rattle.sx_top.specs.Commands.{command_of}
 use Rattle.command_asm.specs.Disassembling.{DisTold}
 use Rattle.command_text.specs.Refusals.{misuse_output}
 use Rattle.command_run.specs.Runs.{RunTold}
+use Rattle.command_run.specs.Tells.{LinesTold}
 use Rattle.command_gen.specs.Workload.{GenTold}
 use Rattle.command_check.specs.Promise.{CheckTold}
 use Rattle.command_explain.specs.Explains.{ExplainSays}
@@ -46,6 +47,8 @@ CommandTold mac (Some Holds) tells to_tell m0 m1 status = HoldsTold tells to_tel
 CommandTold mac (Some (Gen n)) tells to_tell m0 m1 status = GenSays mac n to_tell m0 m1 status
 CommandTold mac (Some (Asm at)) tells to_tell m0 m1 status = AsmTold at tells to_tell m0 m1 status
 CommandTold mac (Some (Dis at)) tells to_tell m0 m1 status = DisTold at tells to_tell m0 m1 status
+CommandTold mac (Some Lines) tells to_tell m0 m1 status =
+    LinesTold assembled mac tells to_tell m0 m1 status
 
 -- The program: it does the command that the words name. Status 2 comes for other words alone.
 pub record ProgramTold (mac : Mac) (words : List (List ℕ)) (tells to_tell : Bool)

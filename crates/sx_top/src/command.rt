@@ -15,7 +15,7 @@ use command_explain::explain_over;
 use command_gen::gen_over;
 use command_holds::holds_over;
 use command_promise::finish;
-use command_run::run_over;
+use command_run::{lines_over, run_over};
 use command_snap::snap_over;
 use command_watch::watch_over;
 use std::alloc::Global;
@@ -29,8 +29,8 @@ const MISUSED: u8 = 2;
 /// after the program's name.
 ///
 /// The commands are `run`, `check`, `explain`, `watch`, `drive`, `snap`, `holds`, `gen N` for 1 to
-/// 8,000 samples, and `asm A` and `dis A` with an address A. `run`, `check`, `explain`, `watch`,
-/// `drive`, `snap` and `holds` read a deployment and the line `%%` after it. `check` writes where
+/// 8,000 samples, `asm A` and `dis A` with an address A, and `lines`. All but `gen`, `asm`
+/// and `dis` read a deployment and the line `%%` after it. `check` writes where
 /// each module stands, and `end`. `run` writes each module's image, `trace`, the items of the
 /// schedule that follows, one a line, and `end`; a line's items are written before the next line is
 /// read. `explain` reads such an output behind the deployment, and writes which item caused which,
@@ -45,7 +45,9 @@ const MISUSED: u8 = 2;
 /// forged item, and else where it gave up. `gen` reads nothing: it writes the images of a stated
 /// deployment and what it counted in the run of a stated schedule that carries this many samples,
 /// and `end`. `asm` reads a text of assembly, and `dis` bytes in hexadecimal; both write the
-/// listing of the code at the address, and `end`.
+/// listing of the code at the address, and `end`. `lines` reads what `run` reads, and writes each
+/// line of the schedule after `> ` and the items that the line gave, before the next is read, and
+/// `end`.
 ///
 /// | Status | Last line | When |
 /// |---|---|---|
@@ -89,6 +91,7 @@ pub fn top<S: Source, K: Sink>(alloc: Global, words: &[String], input: &mut S, o
         Some(Command::Gen(samples)) => gen_over(alloc, Hmac, samples, output),
         Some(Command::Asm(at)) => asm_over(alloc, at, input, output),
         Some(Command::Dis(at)) => dis_over(at, input, output),
+        Some(Command::Lines) => lines_over(alloc, Hmac, input, output),
         None => finish(output, b"fault usage\n", MISUSED),
     }
 }

@@ -1,11 +1,11 @@
 //! The program: it does the command that the words name, `run`, `check`, `explain`, `watch`,
-//! `drive`, `snap`, `holds`, `gen`, `asm` or `dis`.
+//! `drive`, `snap`, `holds`, `gen`, `asm`, `dis` or `lines`.
 //!
 //! `top` does all that the program does. What it promises is one record, `ProgramTold` of
 //! specs/Promises.antt, which hands on what its command promises: `AsmTold` and `DisTold`
 //! (command_asm), `CheckTold` (command_check), `DriveSays` (command_drive), `ExplainSays`
-//! (command_explain), `GenTold` (command_gen), `HoldsTold` (command_holds), `RunTold`
-//! (command_run), `SnapSays` (command_snap), `WatchSays` (command_watch).
+//! (command_explain), `GenTold` (command_gen), `HoldsTold` (command_holds), `LinesTold` and
+//! `RunTold` (command_run), `SnapSays` (command_snap), `WatchSays` (command_watch).
 #![tactic(auto)]
 
 mod command;
@@ -20,6 +20,6 @@ pub use command_drive::drive_over;
 pub use command_explain::explain_over;
 pub use command_gen::gen_over;
 pub use command_holds::holds_over;
-pub use command_run::run_over;
+pub use command_run::{lines_over, run_over};
 pub use command_snap::snap_over;
 pub use command_watch::watch_over;

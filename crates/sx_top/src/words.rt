@@ -22,6 +22,8 @@ pub(crate) enum Command {
     Snap,
     /// Whether a property is broken in no run.
     Holds,
+    /// A run, with each line of its schedule before the items that it gave.
+    Lines,
     /// The run of the workload that carries this many samples.
     Gen(u32),
     /// The listing of a text's code for this address.
@@ -49,6 +51,8 @@ fn plain_command(word: &[u8]) -> Option<Command>
         Some(Command::Snap)
     } else if word == b"holds".as_slice() {
         Some(Command::Holds)
+    } else if word == b"lines".as_slice() {
+        Some(Command::Lines)
     } else {
         None
     }

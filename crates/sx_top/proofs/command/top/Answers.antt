@@ -2,10 +2,10 @@ use Rattle.std.proofs.Common.{◌∙◌, arith, map, refl, sym, subst, ap, Optio
 use Rattle.std.specs.Prelude.{string_bytes}
 use Rattle.sx_tag.specs.Mac.{hmac_sha256}
 use Rattle.sx_top.specs.declared.words.Command.{Command}
-use Rattle.sx_top.specs.declared.words.Command.TheVariants.{Run, Check, Explain, Drive, Snap, Gen, Asm, Dis, Holds, Watch}
+use Rattle.sx_top.specs.declared.words.Command.TheVariants.{Run, Check, Explain, Drive, Snap, Gen, Asm, Dis, Holds, Watch, Lines}
 use Rattle.sx_top.specs.Chosen.{CarriesFew}
 use Rattle.command_text.specs.Refusals.{usage_line}
-use Rattle.command_run.proofs.Said.{says_not_two}
+use Rattle.command_run.proofs.Said.{lines_not_two, says_not_two}
 use Rattle.command_check.proofs.Promised.{check_not_two}
 use Rattle.command_explain.proofs.Promised.{explain_not_two}
 use Rattle.command_watch.proofs.Promised.{watch_not_two}
@@ -82,6 +82,12 @@ returns-in-Some-Dis-clause-told g c =
     program hmac_sha256 (map string_bytes c.args.words.now) (Some (Dis c.in-Some-Dis.at))
     (sym c.command_of.ensures.command ∙ c.in-Some-Dis.is ∙ ap Some c.in-Some-Dis.field-0-is) c.dis_over.ensures
     (λ two. absurd (dis_not_two c.in-Some-Dis.at c.dis_over.ensures two))
+
+pub returns-in-Some-Lines-clause-told : goal.returns-in-Some-Lines-clause-told
+returns-in-Some-Lines-clause-told g c =
+    program hmac_sha256 (map string_bytes c.args.words.now) (Some Lines)
+    (sym c.command_of.ensures.command ∙ c.in-Some-Lines.is ∙ ap Some c.in-Some-Lines.field-0-is) c.lines_over.ensures
+    (λ two. absurd (lines_not_two hmac_sha256 c.lines_over.ensures.says two))
 
 pub returns-in-None-clause-told : goal.returns-in-None-clause-told
 unfolding usage_line
