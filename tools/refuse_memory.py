@@ -72,6 +72,7 @@ CASES = [
     (["drive"], LIGHTING.partition(b"%%\n")[0] + b"%%\nlight 120\n"),
     (["check"], LIGHTING),
     (["snap"], LIGHTING.partition(b"%%\n")[0] + b"%%\n" + QUERIES),
+    (["lines"], LIGHTING),
     (["gen", "4"], b""),
     (["asm", "0x4000"], LISTED),
     (["dis", "0x4000"], b"26453040000000a0\n"),
