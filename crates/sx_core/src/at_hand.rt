@@ -11,6 +11,7 @@ ghost use Rattle.sx_isa.specs.declared.instruction.Op2.TheVariants.{Mov};
 ghost use Rattle.sx_isa.specs.declared.instruction.Op1.TheVariants.{Push, Call};
 ghost use Rattle.sx_isa.specs.declared.instruction.Operand.TheVariants.{Reg, Increment, Absolute};
 ghost use Rattle.sx_isa.specs.declared.instruction.Operand.TheVariants.{Immediate, Indexed, Const};
+ghost use Rattle.sx_isa.specs.declared.instruction.Operand.TheVariants.{Indirect};
 ghost use Rattle.sx_alu.specs.Table.{limit};
 ghost use Rattle.sx_alu.specs.Widths.{has_width};
 ghost use Rattle.spec_machine.specs.Plan.{Done, Store};
@@ -31,7 +32,7 @@ use sx_rules::Violation;
 
 /// The word at a place, or in byte form the byte, if the place is at hand.
 #[inline(always)]
-fn load_at_hand<B: Bus>(executor: &Executor<B>, wide: bool, at: u16) -> Option<u16>
+pub fn load_at_hand<B: Bus>(executor: &Executor<B>, wide: bool, at: u16) -> Option<u16>
     ensures run { IfSome result (λ v. Loads wide at executor.now (Ok v) executor.now) }
     ensures below { IfSome result (λ v. v < limit wide) }
 {
@@ -70,7 +71,7 @@ fn store_near<B: Bus>(
 
 /// An instruction with two operands, one of which isn't at hand.
 #[inline(never)]
-fn two_near<B: Bus>(
+pub fn two_near<B: Bus>(
     executor: &mut Executor<B>,
     op: Op2,
     wide: bool,
@@ -96,7 +97,7 @@ fn into_any<B: Bus>(executor: &mut Executor<B>, r: u8, value: (u16, StatusBits))
 
 /// An operation on words onto a register.
 #[inline(always)]
-fn onto_any<B: Bus>(executor: &mut Executor<B>, op: Op2, src: u16, r: u8)
+pub fn onto_any<B: Bus>(executor: &mut Executor<B>, op: Op2, src: u16, r: u8)
     requires { src < limit true }
     ensures { RunsQuietly (onto op true (Reg r) src executor.old.regs) executor.old executor.new }
 {
@@ -410,6 +411,42 @@ pub fn indexed_onto_register<B: Bus>(
     executor.set_pc(after);
     let at = executor.register(base).wrapping_add(x);
     word_onto_register(executor, op, at, dst, next)
+}
+
+/// The same from memory at a register.
+#[inline(always)]
+pub fn indirect_onto_register<B: Bus>(
+    executor: &mut Executor<B>,
+    op: Op2,
+    src: u8,
+    dst: u8,
+    next: u16,
+) -> Stepped
+    ensures { EndsStep (two op true (Indirect src) (Reg dst) (at_pc executor.old.regs next) next)
+        executor.old result executor.new }
+{
+    executor.set_pc(next);
+    let at = executor.register(src);
+    word_onto_register(executor, op, at, dst, next)
+}
+
+/// An operation on words from a register onto a register.
+#[inline(always)]
+pub fn register_onto_register<B: Bus>(
+    executor: &mut Executor<B>,
+    op: Op2,
+    src: u8,
+    dst: u8,
+    next: u16,
+) -> Stepped
+    ensures { EndsStep (two op true (Reg src) (Reg dst) (at_pc executor.old.regs next) next)
+        executor.old result executor.new }
+{
+    executor.set_pc(next);
+    let value = executor.operand(true, src);
+    executor.set_pc(next);
+    onto_any(executor, op, value, dst);
+    Stepped::Quiet
 }
 
 /// An operation on words from a register onto memory at an address.

@@ -4,7 +4,7 @@
 //! the rows of the instructions, as those of the long way do.
 
 ghost use Rattle.std.specs.Prelude.{true, false};
-ghost use Rattle.sx_isa.specs.declared.instruction.Operand.TheVariants.{Reg, Increment};
+ghost use Rattle.sx_isa.specs.declared.instruction.Operand.TheVariants.{Increment};
 ghost use Rattle.sx_isa.specs.declared.instruction.Operand.TheVariants.{Indexed};
 ghost use Rattle.sx_isa.specs.Extending.{extended};
 ghost use Rattle.spec_machine.specs.Registers.{at_pc};
@@ -15,8 +15,8 @@ ghost use Rattle.sx_core.specs.Quickly.{EndsStep};
 
 use crate::at_hand::{
     absolute_onto_register, immediate_onto_register, increment_onto_absolute,
-    increment_onto_indexed, indexed_onto_register, push_indexed, register_onto_absolute,
-    register_onto_indexed,
+    increment_onto_indexed, indexed_onto_register, indirect_onto_register, push_indexed,
+    register_onto_absolute, register_onto_indexed, register_onto_register,
 };
 use crate::one_operand::one;
 use crate::quick::Stepped;
@@ -26,25 +26,8 @@ use sx_executor::{Double, Executor, Single};
 use sx_isa::{Op1, Op2, Operand};
 use sx_rules::Violation;
 
-/// An operation on words onto a register. PC goes to `after`, the address after the first word,
-/// before its operands are read; `next` is the address after the whole.
-#[inline(always)]
-fn onto_register<B: Bus>(
-    executor: &mut Executor<B>,
-    op: Op2,
-    src: Operand,
-    dst: u8,
-    after: u16,
-    next: u16,
-) -> Result<(), Violation>
-    ensures { RunsPlan (two op true src (Reg dst) (at_pc executor.old.regs after) next)
-        executor.old result executor.new }
-{
-    executor.set_pc(after);
-    two(executor, op, true, src, Operand::Reg(dst), next)
-}
-
-/// The same from memory at a register, which goes on.
+/// An operation on words from memory at a register, which goes on. PC goes to `after`, the address
+/// after the first word, before its operands are read; `next` is the address after the whole.
 #[inline(always)]
 fn from_increment<B: Bus>(
     executor: &mut Executor<B>,
@@ -113,7 +96,34 @@ fn on_indexed<B: Bus>(
     }
 }
 
-/// An instruction without an extension word; `next` is the address after it.
+/// An instruction without an extension word; `next` is the address after it. What compiled code
+/// does is done at once where its places are at hand.
+#[inline(always)]
+fn single_at_hand<B: Bus>(executor: &mut Executor<B>, form: Single, next: u16) -> Stepped
+    ensures { EndsStep (row (single_of form) (at_pc executor.old.regs next) next) executor.old
+        result executor.new }
+{
+    match form {
+        Single::OntoSpecial { op, src, dst } => {
+            register_onto_register(executor, op, src, dst, next)
+        }
+        Single::FromIncrement { op, src, dst } => {
+            let to = Operand::Reg(dst);
+            Stepped::Answered(from_increment(executor, op, src, to, next, next))
+        }
+        Single::FromIndirect { op, src, dst } => {
+            indirect_onto_register(executor, op, src, dst, next)
+        }
+        Single::OnRegister { op, arg } => {
+            Stepped::Answered(on_operand(executor, op, Operand::Reg(arg), next, next))
+        }
+        Single::OnConstant { op, value } => {
+            Stepped::Answered(on_operand(executor, op, Operand::Const(value), next, next))
+        }
+    }
+}
+
+/// The same as a call. Its answer says nothing of devices, so that it needs no place in memory.
 #[inline(never)]
 pub fn step_single<B: Bus>(
     executor: &mut Executor<B>,
@@ -123,17 +133,9 @@ pub fn step_single<B: Bus>(
     ensures { RunsPlan (row (single_of form) (at_pc executor.old.regs next) next) executor.old
         result executor.new }
 {
-    match form {
-        Single::FromIncrement { op, src, dst } => {
-            from_increment(executor, op, src, Operand::Reg(dst), next, next)
-        }
-        Single::FromIndirect { op, src, dst } => {
-            onto_register(executor, op, Operand::Indirect(src), dst, next, next)
-        }
-        Single::OnRegister { op, arg } => on_operand(executor, op, Operand::Reg(arg), next, next),
-        Single::OnConstant { op, value } => {
-            on_operand(executor, op, Operand::Const(value), next, next)
-        }
+    match single_at_hand(executor, form, next) {
+        Stepped::Quiet => Ok(()),
+        Stepped::Answered(answer) => answer,
     }
 }
 

@@ -11,6 +11,8 @@ pub use quick::{Stepped, step_quick};
 pub use step::{interrupt, step_long, step_plain};
 
 mod at_hand;
+mod bytes;
+mod called;
 mod forms;
 mod jump;
 mod one_operand;

@@ -26,6 +26,7 @@ use crate::at_hand::{
     move_byte, move_immediate, on_register, pop, push_absolute, push_constant, push_immediate,
     store_absolute, store_indexed,
 };
+use crate::called::step_called;
 use crate::forms::{step_double, step_single};
 use crate::jump::jump_quietly;
 use crate::step::step_long;
@@ -206,7 +207,7 @@ fn on_word_near<B: Bus>(
 /// Fetches the extension word of the instruction of two words at `pc`.
 #[inline(always)]
 #[tactic(auto, unfolding(sx_isa::specs::Reading::length_of))]
-fn fetch_second<B: Bus>(
+pub fn fetch_second<B: Bus>(
     executor: &Executor<B>,
     shortcut: &Shortcut,
     pc: u16,
@@ -405,6 +406,10 @@ pub fn step_quick<B: Bus, const CALLER: u8>(executor: &mut Executor<B>, first: u
         Form::Triple(_) => {
             let shortcut = *shortcut;
             Stepped::Answered(step_triple(executor, shortcut))
+        }
+        _ => {
+            let shortcut = *shortcut;
+            Stepped::Answered(step_called(executor, shortcut))
         }
     }
 }

@@ -114,8 +114,9 @@ fn step_anew<B: Bus>(executor: &mut Executor<B>, first: u16) -> Result<(), Viola
     step_decoded(executor, decoded)
 }
 
-/// Executes the instruction at PC with this first word, where no shortcut of it is kept for PC. Its
-/// code stays out of the way of what most steps do, and the compiler takes those for likely.
+/// Executes the instruction at PC with this first word, where no shortcut of it is kept for PC;
+/// from then on one is, if the word has one. Its code stays out of the way of what most steps do,
+/// and the compiler takes those for likely.
 #[cold]
 #[inline(never)]
 pub fn step_long<B: Bus>(executor: &mut Executor<B>, first: u16) -> Result<(), Violation>
@@ -126,6 +127,7 @@ pub fn step_long<B: Bus>(executor: &mut Executor<B>, first: u16) -> Result<(), V
         return step_anew(executor, first);
     };
     let decoded = *decoded;
+    executor.learn_shortcut(pc, &decoded);
     step_decoded(executor, decoded)
 }
 

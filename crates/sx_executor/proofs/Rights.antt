@@ -1,6 +1,6 @@
 -- What a test of PC, of an extension word, of a range or of a layout says of the access table.
-use Rattle.std.proofs.Common.{◌≡◌, ℕ, ◌+◌, ◌-◌, ◌<◌, Bool, true, false, not, ◌&&◌, ◌||◌, ◌==◌, leb, ltb, List, [], ◌∷◌, None, refl, sym, ◌∙◌, inl, inr, arith}
-use Rattle.std.proofs.lemmas.Bool.{and_parts, or_cases, not-true, leb-true, ltb-true, lt-ltb, true≢false, false_from_ne_true, and_from, or_parts, not_from_false}
+use Rattle.std.proofs.Common.{◌≡◌, ◌⊎◌, ℕ, ◌+◌, ◌-◌, ◌%◌, ◌<◌, Bool, true, false, not, ◌&&◌, ◌||◌, ◌==◌, leb, ltb, List, [], ◌∷◌, None, refl, sym, subst, ◌∙◌, inl, inr, arith}
+use Rattle.std.proofs.lemmas.Bool.{and_parts, or_cases, cases_eq, not-true, leb-true, ltb-true, lt-ltb, true≢false, false_from_ne_true, and_from, or_parts, not_from_false}
 use Rattle.std.specs.List.{list_all, list_any}
 use Rattle.sx_rules.specs.declared.access.Access.TheVariants.{Read, Write}
 use Rattle.sx_rules.specs.declared.section.Section.{Section}
@@ -50,6 +50,22 @@ outside_word live own at h =
     let parts = and_parts (outside_private live (even at)) (outside_private live (even at + 1)) h in
     and_from (may live own Read (even at)) (may live own Read (even at + 1))
     (outside_readable live own (even at) parts.0) (outside_readable live own (even at + 1) parts.1)
+
+even_or_odd : (at : ℕ) → (even at ≡ at) ⊎ (even at + 1 ≡ at)
+even_or_odd at = elim (cases_eq (at % 2) 0) [
+  | inl same ↦ inl (first_of (omega (arith, same), grind (arith, same)))
+  | inr odd ↦ inr (first_of (omega (arith, odd), grind (arith, odd)))
+]
+
+-- the same of such a word or of its byte at the address
+pub outside_any : (live : List Section) (own at : ℕ) → word_outside live at ≡ true → (wide : Bool) → may_at wide live own Read at ≡ true
+outside_any live own at h true = outside_word live own at h
+outside_any live own at h false =
+    let parts = and_parts (outside_private live (even at)) (outside_private live (even at + 1)) h in
+    elim (even_or_odd at) [
+      | inl e ↦ subst (λ (k : ℕ). may live own Read k ≡ true) e (outside_readable live own (even at) parts.0)
+      | inr e ↦ subst (λ (k : ℕ). may live own Read k ≡ true) e (outside_readable live own (even at + 1) parts.1)
+    ]
 
 -- a word where an extension word may stand
 pub extends_readable : (live : List Section) (own at : ℕ) → (extends live own (even at) && extends live own (even at + 1)) ≡ true

@@ -1,8 +1,10 @@
 -- Instructions that have a shortcut, by their form.
 --     instruction_of, words_of      the instruction of a form with extension words of 0, and how many
 --         words it has
---     single_of, double_of, triple_of      the instructions of the forms with no extension word,
---         with one and with two
+--     single_of, double_of, triple_of      the instructions of the forms on words with no extension
+--         word, with one and with two
+--     byte_single_of, byte_double_of      those of the forms on bytes with no extension word and with
+--         one
 --     is_general      its register is no one of PC, SP, SR and R3
 --     is_fit      the register that a form writes is general
 --     IsForm      a form is that of an instruction of so many words
@@ -18,6 +20,9 @@ use Rattle.sx_executor.specs.declared.shortcut.Form.TheVariants.{JumpLess, JumpA
 use Rattle.sx_executor.specs.declared.shortcut.Form.TheVariants.{Registers, Constant}
 use Rattle.sx_executor.specs.declared.shortcut.Form.TheVariants.{OntoIndexed, OntoSymbolic}
 use Rattle.sx_executor.specs.declared.shortcut.Form.TheVariants.{OntoAbsolute}
+use Rattle.sx_executor.specs.declared.shortcut.Form.TheVariants.{ConstantOntoSpecial}
+use Rattle.sx_executor.specs.declared.shortcut.Form.TheVariants.{ByteConstant, ByteOntoIndexed}
+use Rattle.sx_executor.specs.declared.shortcut.Form.TheVariants.{ByteOntoAbsolute}
 use Rattle.sx_executor.specs.declared.shortcut.Form.TheVariants as form
 use Rattle.sx_executor.specs.declared.shortcut.Single.{Single}
 use Rattle.sx_executor.specs.declared.shortcut.Single.TheVariants as single
@@ -25,9 +30,15 @@ use Rattle.sx_executor.specs.declared.shortcut.Double.{Double}
 use Rattle.sx_executor.specs.declared.shortcut.Double.TheVariants as double
 use Rattle.sx_executor.specs.declared.shortcut.Triple.{Triple}
 use Rattle.sx_executor.specs.declared.shortcut.Triple.TheVariants as triple
+use Rattle.sx_executor.specs.declared.shortcut.ByteSingle.{ByteSingle}
+use Rattle.sx_executor.specs.declared.shortcut.ByteSingle.TheVariants as byte_single
+use Rattle.sx_executor.specs.declared.shortcut.ByteDouble.{ByteDouble}
+use Rattle.sx_executor.specs.declared.shortcut.ByteDouble.TheVariants as byte_double
 
--- the instruction of a form with no extension word
+-- the instruction of a form on words with no extension word
 abbrev pub single_of : Single → Instr
+single_of (single.OntoSpecial op src dst) =
+    instr.Two op false (operand.Reg src) (operand.Reg dst)
 single_of (single.FromIncrement op src dst) =
     instr.Two op false (operand.Increment src) (operand.Reg dst)
 single_of (single.FromIndirect op src dst) =
@@ -35,7 +46,7 @@ single_of (single.FromIndirect op src dst) =
 single_of (single.OnRegister op arg) = instr.One op false (operand.Reg arg)
 single_of (single.OnConstant op value) = instr.One op false (operand.Const value)
 
--- the instruction of a form with one extension word, which is 0
+-- the instruction of a form with one extension word, which is 0, on words if it doesn't say bytes
 abbrev pub double_of : Double → Instr
 double_of (double.FromImmediate op dst) =
     instr.Two op false (operand.Immediate 0) (operand.Reg dst)
@@ -69,6 +80,29 @@ triple_of (triple.AbsoluteOntoIndexed op base) =
 triple_of (triple.IndexedOntoAbsolute op base) =
     instr.Two op false (operand.Indexed base 0) (operand.Absolute 0)
 
+-- the instruction of a form on bytes with no extension word
+abbrev pub byte_single_of : ByteSingle → Instr
+byte_single_of (byte_single.Registers op src dst) =
+    instr.Two op true (operand.Reg src) (operand.Reg dst)
+byte_single_of (byte_single.FromIncrement op src dst) =
+    instr.Two op true (operand.Increment src) (operand.Reg dst)
+byte_single_of (byte_single.FromIndirect op src dst) =
+    instr.Two op true (operand.Indirect src) (operand.Reg dst)
+byte_single_of (byte_single.OnRegister op arg) = instr.One op true (operand.Reg arg)
+
+-- the instruction of a form on bytes with one extension word, which is 0
+abbrev pub byte_double_of : ByteDouble → Instr
+byte_double_of (byte_double.FromImmediate op dst) =
+    instr.Two op true (operand.Immediate 0) (operand.Reg dst)
+byte_double_of (byte_double.FromAbsolute op dst) =
+    instr.Two op true (operand.Absolute 0) (operand.Reg dst)
+byte_double_of (byte_double.FromIndexed op base dst) =
+    instr.Two op true (operand.Indexed base 0) (operand.Reg dst)
+byte_double_of (byte_double.OntoAbsolute op src) =
+    instr.Two op true (operand.Reg src) (operand.Absolute 0)
+byte_double_of (byte_double.OntoIndexed op src base) =
+    instr.Two op true (operand.Reg src) (operand.Indexed base 0)
+
 -- the instruction of a form, with extension words of 0
 abbrev pub instruction_of : Form → Instr
 instruction_of (JumpNotEqual offset) = instr.Jump 0 offset
@@ -90,6 +124,16 @@ instruction_of (OntoAbsolute op value) =
 instruction_of (form.Single f) = single_of f
 instruction_of (form.Double f) = double_of f
 instruction_of (form.Triple f) = triple_of f
+instruction_of (ConstantOntoSpecial op value dst) =
+    instr.Two op false (operand.Const value) (operand.Reg dst)
+instruction_of (ByteConstant op value dst) =
+    instr.Two op true (operand.Const value) (operand.Reg dst)
+instruction_of (ByteOntoIndexed op value base) =
+    instr.Two op true (operand.Const value) (operand.Indexed base 0)
+instruction_of (ByteOntoAbsolute op value) =
+    instr.Two op true (operand.Const value) (operand.Absolute 0)
+instruction_of (form.ByteSingle f) = byte_single_of f
+instruction_of (form.ByteDouble f) = byte_double_of f
 
 -- how many words it has
 abbrev pub words_of : Form → ℕ
@@ -109,6 +153,12 @@ words_of (OntoAbsolute op value) = 2
 words_of (form.Single f) = 1
 words_of (form.Double f) = 2
 words_of (form.Triple f) = 3
+words_of (ConstantOntoSpecial op value dst) = 1
+words_of (ByteConstant op value dst) = 1
+words_of (ByteOntoIndexed op value base) = 2
+words_of (ByteOntoAbsolute op value) = 2
+words_of (form.ByteSingle f) = 1
+words_of (form.ByteDouble f) = 2
 
 -- a register that keeps all of what is written to it
 abbrev pub is_general : ℕ → Bool
@@ -132,6 +182,12 @@ is_fit (OntoAbsolute op value) = true
 is_fit (form.Single f) = true
 is_fit (form.Double f) = true
 is_fit (form.Triple f) = true
+is_fit (ConstantOntoSpecial op value dst) = true
+is_fit (ByteConstant op value dst) = true
+is_fit (ByteOntoIndexed op value base) = true
+is_fit (ByteOntoAbsolute op value) = true
+is_fit (form.ByteSingle f) = true
+is_fit (form.ByteDouble f) = true
 
 -- a form is that of an instruction with extension words of 0, which has so many words
 abbrev pub IsForm : Form → Instr → ℕ → Type 0

@@ -68,13 +68,13 @@ impl<B: Bus> Executor<B> {
         self.is_free(at) && self.windows().at(at).is_none()
     }
 
-    /// Whether one look says that the running code may read the word at a place: it is in the
-    /// public part of the home, and no device is there. Then a read asks no more.
+    /// Whether one look says that the running code may read the word at a place, and each byte of
+    /// it: it is in the public part of the home, and no device is there. Then a read asks no more.
     #[inline(always)]
-    #[tactic(auto, using(crate::proofs::Rights::outside_word))]
+    #[tactic(auto, using(crate::proofs::Rights::outside_any))]
     pub fn is_own_text(&self, at: u16) -> bool
         ensures read { IsTrue result
-            → may_at true self.now.sections.live self.now.own Read at ≡ true }
+            → (wide : Bool) → may_at wide self.now.sections.live self.now.own Read at ≡ true }
         ensures memory { IsTrue result → device_of self.now.devices at ≡ None }
     {
         self.protection().has_code(self.own(), at) && self.windows().at(at).is_none()
@@ -156,13 +156,17 @@ impl<B: Bus> Executor<B> {
         self.load_near(wide, at)
     }
 
-    /// The same where a section may meet the page, or a device be there. Where it lies in a gap,
-    /// the gap is known from then on. Its code stays out of the way of what most accesses do.
+    /// The same where a section may meet the page, or a device be there. What a module reads of its
+    /// own text needs no look at the sections. Where the place lies in a gap, the gap is known from
+    /// then on. This code stays out of the way of what most accesses do.
     #[inline(never)]
     fn load_near(&mut self, wide: bool, at: u16) -> Result<u16, Violation>
         ensures run { Loads wide at self.old result self.new }
         ensures below { IfOk result (λ v. v < limit wide) }
     {
+        if self.is_own_text(at) {
+            return Ok(self.read(wide, at));
+        }
         self.learn_gap(at);
         if !self.may(wide, Access::Read, at) {
             return Err(Violation::Read);

@@ -6,15 +6,17 @@ ghost use Rattle.sx_isa.specs.Reading.{instruction_at, length_of};
 ghost use Rattle.sx_isa.specs.Extending.{extended};
 ghost use Rattle.sx_executor.specs.Reads.{IsDecoded};
 
+use crate::shortcut::Shortcut;
 use sx_isa::{Instr, decode};
 
-/// A first word that was decoded: its instruction with extension words of 0, and how many words
-/// that has.
+/// A first word that was decoded: its instruction with extension words of 0, how many words that
+/// has, and the shortcut of the word, if it has one.
 #[derive(Clone, Copy)]
 pub struct Decoded {
     pub first: u16,
     pub instruction: Instr,
     pub words: u8,
+    pub shortcut: Option<Shortcut>,
     pub ghost read: { IsDecoded first instruction words } by { Prim.hlevel props },
 }
 
@@ -25,10 +27,12 @@ impl Decoded {
         ensures { MatchOption result (length_of first ≡ None) (λ decoded. decoded.first ≡ first) }
     {
         let (instruction, words) = decode(first, 0, 0)?;
+        let shortcut = Shortcut::new(first, instruction, words);
         Some(Decoded {
             first,
             instruction,
             words,
+            shortcut,
         })
     }
 
@@ -41,6 +45,7 @@ impl Decoded {
                 offset: -1,
             },
             words: 1,
+            shortcut: None,
         }
     }
 

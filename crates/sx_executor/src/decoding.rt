@@ -100,9 +100,17 @@ impl<B: Bus> Executor<B> {
     {
         let decoded = Decoded::new(first)?;
         keep(&mut self.decoded, at, decoded);
-        if let Some(shortcut) = Shortcut::new(&decoded) {
+        self.learn_shortcut(at, &decoded);
+        Some(decoded)
+    }
+
+    /// Keeps the shortcut of a decoded word for an address, if it has one. What was decoded at
+    /// another address with the same place is kept for this one too, so its shortcut isn't there.
+    pub fn learn_shortcut(&mut self, at: u16, decoded: &Decoded)
+        ensures { self.new ≡ self.old }
+    {
+        if let Some(shortcut) = decoded.shortcut {
             keep_shortcut(&mut self.shortcuts, at, shortcut);
         }
-        Some(decoded)
     }
 }

@@ -1,9 +1,9 @@
 //! Shortcuts: what is kept of an instruction that code runs often, in eight bytes.
 //!
 //! Jumps have one, and so have the operations that compiled code is made of: from registers,
-//! constants and places in memory onto registers and such places, pushes, calls and returns. An
-//! instruction is of its form, and is no module instruction, by facts that the shortcut carries, so
-//! nothing else has to be believed of what is kept.
+//! constants and places in memory onto registers and such places, on words and on bytes, pushes,
+//! calls and returns. An instruction is of its form, and is no module instruction, by facts that the
+//! shortcut carries, so nothing else has to be believed of what is kept.
 
 ghost use Rattle.std.specs.Prelude.{◌≡◌, ℕ, true, false, Some, IfSome};
 ghost use Rattle.std.proofs.Props.{props};
@@ -16,9 +16,8 @@ ghost use Rattle.sx_isa.specs.Extending.{extended};
 ghost use Rattle.spec_machine.specs.Step.{is_module_word};
 ghost use Rattle.sx_executor.specs.Reads.{IsDecoded};
 ghost use Rattle.sx_executor.specs.Shortcuts.{instruction_of, words_of, is_fit, IsForm};
-ghost use Rattle.sx_executor.specs.Shortcuts.{double_of, triple_of};
+ghost use Rattle.sx_executor.specs.Shortcuts.{double_of, triple_of, byte_double_of};
 
-use crate::decoded::Decoded;
 use sx_isa::{Instr, Op1, Op2, Operand};
 
 /// A form of instruction: what it does, without its extension words. The jumps are told apart here,
@@ -49,11 +48,25 @@ pub enum Form {
     Double(Double),
     /// One with two extension words.
     Triple(Triple),
+    /// From a constant onto PC, SP, SR or R3.
+    ConstantOntoSpecial { op: Op2, value: u16, dst: u8 },
+    /// From a constant onto a register, on bytes.
+    ByteConstant { op: Op2, value: u16, dst: u8 },
+    /// From a constant onto memory at a register plus the extension word, on bytes.
+    ByteOntoIndexed { op: Op2, value: u16, base: u8 },
+    /// From a constant onto memory at the extension word, on bytes.
+    ByteOntoAbsolute { op: Op2, value: u16 },
+    /// Another one on bytes without an extension word.
+    ByteSingle(ByteSingle),
+    /// Another one on bytes with one extension word.
+    ByteDouble(ByteDouble),
 }
 
 /// A form of instruction without an extension word, on words.
 #[derive(Clone, Copy)]
 pub enum Single {
+    /// From a register onto PC, SP, SR or R3.
+    OntoSpecial { op: Op2, src: u8, dst: u8 },
     /// From memory at a register, which goes on, onto a register.
     FromIncrement { op: Op2, src: u8, dst: u8 },
     /// From memory at a register onto a register.
@@ -106,6 +119,34 @@ pub enum Triple {
     IndexedOntoAbsolute { op: Op2, base: u8 },
 }
 
+/// A form of instruction without an extension word, on bytes.
+#[derive(Clone, Copy)]
+pub enum ByteSingle {
+    /// From a register onto a register.
+    Registers { op: Op2, src: u8, dst: u8 },
+    /// From memory at a register, which goes on, onto a register.
+    FromIncrement { op: Op2, src: u8, dst: u8 },
+    /// From memory at a register onto a register.
+    FromIndirect { op: Op2, src: u8, dst: u8 },
+    /// One operand, which is a register.
+    OnRegister { op: Op1, arg: u8 },
+}
+
+/// A form of instruction with one extension word, `x`, on bytes.
+#[derive(Clone, Copy)]
+pub enum ByteDouble {
+    /// From the value `x` onto a register.
+    FromImmediate { op: Op2, dst: u8 },
+    /// From memory at `x` onto a register.
+    FromAbsolute { op: Op2, dst: u8 },
+    /// From memory at a register plus `x` onto a register.
+    FromIndexed { op: Op2, base: u8, dst: u8 },
+    /// From a register onto memory at `x`.
+    OntoAbsolute { op: Op2, src: u8 },
+    /// From a register onto memory at a register plus `x`.
+    OntoIndexed { op: Op2, src: u8, base: u8 },
+}
+
 /// From here up to the first jump are the words of the module instructions and those that no
 /// instruction has.
 const FIRST_MODULE_WORD: u16 = 0x1380;
@@ -139,12 +180,23 @@ fn jump_form(cond: u8, offset: i16) -> Option<Form>
     }
 }
 
-/// The form of an operation from a register or a constant onto a general register.
+/// The form of an operation from a register or a constant onto any register.
+fn special_form(op: Op2, src: Operand, dst: u8) -> Option<Form>
+    ensures { IfSome result (λ form. IsForm form (Two op false src (Reg dst)) 1) }
+{
+    match src {
+        Operand::Reg(src) => Some(Form::Single(Single::OntoSpecial { op, src, dst })),
+        Operand::Const(value) => Some(Form::ConstantOntoSpecial { op, value, dst }),
+        _ => None,
+    }
+}
+
+/// The form of an operation from a register or a constant onto a register.
 fn general_form(op: Op2, src: Operand, dst: u8) -> Option<Form>
     ensures { IfSome result (λ form. IsForm form (Two op false src (Reg dst)) 1) }
 {
     if dst < 4 || dst >= 16 {
-        return None;
+        return special_form(op, src, dst);
     }
     match src {
         Operand::Reg(src) => Some(Form::Registers { op, src, dst }),
@@ -161,6 +213,31 @@ fn register_form(op: Op2, src: Operand, dst: u8) -> Option<Form>
         Operand::Increment(src) => Some(Form::Single(Single::FromIncrement { op, src, dst })),
         Operand::Indirect(src) => Some(Form::Single(Single::FromIndirect { op, src, dst })),
         _ => general_form(op, src, dst),
+    }
+}
+
+/// The form of an operation on bytes of one word: onto a register.
+fn byte_register_form(op: Op2, src: Operand, dst: u8) -> Option<Form>
+    ensures { IfSome result (λ form. IsForm form (Two op true src (Reg dst)) 1) }
+{
+    match src {
+        Operand::Reg(src) => Some(Form::ByteSingle(ByteSingle::Registers { op, src, dst })),
+        Operand::Const(value) => Some(Form::ByteConstant { op, value, dst }),
+        Operand::Increment(src) => {
+            Some(Form::ByteSingle(ByteSingle::FromIncrement { op, src, dst }))
+        }
+        Operand::Indirect(src) => Some(Form::ByteSingle(ByteSingle::FromIndirect { op, src, dst })),
+        _ => None,
+    }
+}
+
+/// The form of an operation on bytes with one operand of one word: a register.
+fn byte_operand_form(op: Op1, arg: Operand) -> Option<Form>
+    ensures { IfSome result (λ form. IsForm form (One op true arg) 1) }
+{
+    match arg {
+        Operand::Reg(arg) => Some(Form::ByteSingle(ByteSingle::OnRegister { op, arg })),
+        _ => None,
     }
 }
 
@@ -183,6 +260,17 @@ fn memory_form(op: Op2, value: u16, dst: Operand) -> Option<Form>
         Operand::Indexed(base, 0) => Some(Form::OntoIndexed { op, value, base }),
         Operand::Symbolic(0) => Some(Form::OntoSymbolic { op, value }),
         Operand::Absolute(0) => Some(Form::OntoAbsolute { op, value }),
+        _ => None,
+    }
+}
+
+/// The same on bytes.
+fn byte_memory_form(op: Op2, value: u16, dst: Operand) -> Option<Form>
+    ensures { IfSome result (λ form. IsForm form (Two op true (Const value) dst) 2) }
+{
+    match dst {
+        Operand::Indexed(base, 0) => Some(Form::ByteOntoIndexed { op, value, base }),
+        Operand::Absolute(0) => Some(Form::ByteOntoAbsolute { op, value }),
         _ => None,
     }
 }
@@ -233,6 +321,56 @@ fn double_form(op: Op2, src: Operand, dst: Operand) -> Option<Double>
     }
 }
 
+/// The form of an operation on bytes of two words whose source has the extension word.
+fn byte_source_form(op: Op2, src: Operand, dst: u8) -> Option<ByteDouble>
+    ensures { IfSome result (λ form. byte_double_of form ≡ Two op true src (Reg dst)) }
+{
+    match src {
+        Operand::Immediate(0) => Some(ByteDouble::FromImmediate { op, dst }),
+        Operand::Absolute(0) => Some(ByteDouble::FromAbsolute { op, dst }),
+        Operand::Indexed(base, 0) => Some(ByteDouble::FromIndexed { op, base, dst }),
+        _ => None,
+    }
+}
+
+/// The form of an operation on bytes from a register onto memory.
+fn byte_stored_form(op: Op2, src: u8, dst: Operand) -> Option<ByteDouble>
+    ensures { IfSome result (λ form. byte_double_of form ≡ Two op true (Reg src) dst) }
+{
+    match dst {
+        Operand::Absolute(0) => Some(ByteDouble::OntoAbsolute { op, src }),
+        Operand::Indexed(base, 0) => Some(ByteDouble::OntoIndexed { op, src, base }),
+        _ => None,
+    }
+}
+
+/// The form of an operation on bytes of two words, not from a constant.
+fn byte_double_form(op: Op2, src: Operand, dst: Operand) -> Option<ByteDouble>
+    ensures { IfSome result (λ form. byte_double_of form ≡ Two op true src dst) }
+{
+    match (src, dst) {
+        (Operand::Reg(src), dst) => byte_stored_form(op, src, dst),
+        (src, Operand::Reg(dst)) => byte_source_form(op, src, dst),
+        _ => None,
+    }
+}
+
+/// The form of an operation on bytes of two words.
+fn byte_extended_form(op: Op2, src: Operand, dst: Operand) -> Option<Form>
+    ensures { IfSome result (λ form. IsForm form (Two op true src dst) 2) }
+{
+    match (src, dst) {
+        (Operand::Const(value), dst) => byte_memory_form(op, value, dst),
+        (Operand::Increment(src), Operand::Indexed(base, 0)) => {
+            Some(Form::Double(Double::BytesOntoIndexed { op, src, base }))
+        }
+        (src, dst) => {
+            let double = byte_double_form(op, src, dst)?;
+            Some(Form::ByteDouble(double))
+        }
+    }
+}
+
 /// The form of an operation with one operand of two words.
 fn extended_form(op: Op1, arg: Operand) -> Option<Double>
     ensures { IfSome result (λ form. double_of form ≡ One op false arg) }
@@ -257,16 +395,27 @@ fn form_of_one(instruction: Instr) -> Option<Form>
             src,
             dst: Operand::Reg(dst),
         } => register_form(op, src, dst),
+        Instr::Two {
+            op,
+            byte: true,
+            src,
+            dst: Operand::Reg(dst),
+        } => byte_register_form(op, src, dst),
         Instr::One {
             op,
             byte: false,
             arg,
         } => operand_form(op, arg),
+        Instr::One {
+            op,
+            byte: true,
+            arg,
+        } => byte_operand_form(op, arg),
         _ => None,
     }
 }
 
-/// The form of an instruction of two words that isn't from a constant, if it has one.
+/// The form of an instruction on words of two words that isn't from a constant, if it has one.
 fn double_of(instruction: Instr) -> Option<Double>
     ensures { IfSome result (λ form. double_of form ≡ instruction) }
 {
@@ -277,12 +426,6 @@ fn double_of(instruction: Instr) -> Option<Double>
             src,
             dst,
         } => double_form(op, src, dst),
-        Instr::Two {
-            op,
-            byte: true,
-            src: Operand::Increment(src),
-            dst: Operand::Indexed(base, 0),
-        } => Some(Double::BytesOntoIndexed { op, src, base }),
         Instr::One {
             op,
             byte: false,
@@ -296,17 +439,24 @@ fn double_of(instruction: Instr) -> Option<Double>
 fn form_of_two(instruction: Instr) -> Option<Form>
     ensures { IfSome result (λ form. IsForm form instruction 2) }
 {
-    if let Instr::Two {
-        op,
-        byte: false,
-        src: Operand::Const(value),
-        dst,
-    } = instruction
-    {
-        return memory_form(op, value, dst);
+    match instruction {
+        Instr::Two {
+            op,
+            byte: false,
+            src: Operand::Const(value),
+            dst,
+        } => memory_form(op, value, dst),
+        Instr::Two {
+            op,
+            byte: true,
+            src,
+            dst,
+        } => byte_extended_form(op, src, dst),
+        _ => {
+            let double = double_of(instruction)?;
+            Some(Form::Double(double))
+        }
     }
-    let double = double_of(instruction)?;
-    Some(Form::Double(double))
 }
 
 /// The form of an operation on words from a value onto memory.
@@ -383,15 +533,15 @@ fn form_of(instruction: Instr, words: u8) -> Option<Form>
 }
 
 impl Shortcut {
-    /// The shortcut of a first word that was decoded, if it has one.
-    pub(crate) fn new(decoded: &Decoded) -> Option<Shortcut>
-        ensures { IfSome result (λ shortcut. shortcut.first ≡ decoded.now.first) }
+    /// The shortcut of a first word that was decoded as this instruction of so many words, if it
+    /// has one.
+    pub(crate) fn new(first: u16, instruction: Instr, words: u8) -> Option<Shortcut>
+        requires { IsDecoded first instruction words }
     {
-        let first = decoded.first;
         if first >= FIRST_MODULE_WORD && first < FIRST_JUMP {
             return None;
         }
-        let form = form_of(decoded.instruction, decoded.words)?;
+        let form = form_of(instruction, words)?;
         Some(Shortcut { first, form })
     }
 
