@@ -1,7 +1,7 @@
 //! Reads and writes of whole buffers: the access table is asked for each byte before the first is
-//! touched.
+//! touched, unless the buffer as a whole stands apart from all that it guards.
 
-ghost use Rattle.std.specs.Prelude.{◌≡◌, ◌+◌, ◌≤◌, true, false, length, IfErr, OnOk};
+ghost use Rattle.std.specs.Prelude.{◌≡◌, ◌+◌, ◌≤◌, true, false, length, IfErr, IsTrue, OnOk};
 ghost use Rattle.sx_rules.specs.declared.access.Access.TheVariants.{Read, Write};
 ghost use Rattle.sx_rules.specs.declared.access.Violation.TheVariants as bad;
 ghost use Rattle.spec_machine.specs.Memory.{bytes_from};
@@ -9,10 +9,19 @@ ghost use Rattle.sx_executor.specs.Machine.{reaches, with_bytes, IsClear};
 
 use crate::buffer::Buffer;
 use crate::executor::Executor;
+use crate::range::Range;
 use sx_bus::Bus;
 use sx_rules::{Access, Violation};
 
 impl<B: Bus> Executor<B> {
+    /// Whether the buffer meets no private section. Then any code may read it.
+    #[tactic(auto, using(crate::proofs::Rights::apart_readable))]
+    fn is_public(&self, buffer: Buffer) -> bool
+        ensures { IsTrue result → reaches self.now Read buffer.at buffer.count ≡ true }
+    {
+        !Range::of_buffer(buffer).meets_private(self.table().live())
+    }
+
     /// Whether the running code may reach each byte of the buffer.
     #[tactic(auto, using(crate::proofs::Reach::one_closed))]
     fn may_range(&self, access: Access, buffer: Buffer) -> bool
@@ -32,10 +41,10 @@ impl<B: Bus> Executor<B> {
             × (reaches self.now Read buffer.at buffer.count ≡ false)) }
         ensures open { OnOk result (reaches self.now Read buffer.at buffer.count ≡ true) }
     {
-        if !self.may_range(Access::Read, buffer) {
-            return Err(Violation::Read);
+        if self.is_public(buffer) || self.may_range(Access::Read, buffer) {
+            return Ok(());
         }
-        Ok(())
+        Err(Violation::Read)
     }
 
     /// The violation `Write` where the running code may not write each byte of the buffer.
