@@ -29,8 +29,8 @@ CORE = SOURCE + [
     "sx_tag.Mac.hmac_sha256",
 ]
 # The record of the command `run` with the moments that it is about, and what the whole program promises.
-HEADLINE = ["*.Runs.RunSays", "command_promise.Told.command_at"]
-PROGRAM = ["*.Promises.ProgramTold"]
+HEADLINE = ["*.Promise.RunDeployPromise", "command_promise.Told.command_at"]
+PROGRAM = ["*.Promise.ProgramPromise"]
 # What the first `forged` of a run says, and what keys show.
 FORGED = [f"law_forgery.{law}" for law in (
     "Forgery.ForgedUnmade", "Forgery.ForgedShown", "Logged.LedgerTells",
@@ -65,19 +65,19 @@ USES = [
 PROMISES = {
     "what `guarded` says": ["law_isolation.Guarded.GuardedRun", "law_isolation.Laws.*"],
     "what one `call` line does": ["law_calls.Laws.*", "law_calls.FourCalls.*"],
-    "what an honest run delivers": ["command_drive.Drives.DriveSays"],
+    "what an honest run delivers": ["command_drive.Promise.DrivePromise"],
     "what `forged` says": FORGED,
     "what the keys of connections show": LINKS,
     "how seldom a `forged` comes": ODDS,
     "what a run asks of tags": USES,
     "what runs show in order": ["spec_run.AcceptedLaw.*"],
-    "what no run does": ["command_holds.Promise.HoldsTold"],
-    "what `legal` says": ["command_explain.Explains.ExplainSays"],
-    "a trace under a property": ["command_watch.Watches.WatchSays"],
-    "`snap`": ["command_snap.Snaps.SnapSays"],
-    "`gen`": ["sx_top.Promises.GenSays"],
-    "`check`": ["command_check.Promise.CheckTold"],
-    "`asm` and `dis`": ["command_asm.Assembling.AsmTold", "command_asm.Disassembling.DisTold"],
+    "what no run does": ["command_holds.Promise.HoldsPromise"],
+    "what `legal` says": ["command_explain.Promise.ExplainPromise"],
+    "a trace under a property": ["command_watch.Promise.WatchPromise"],
+    "`snap`": ["command_snap.Promise.SnapPromise"],
+    "`gen`": ["sx_top.Promise.GenReadsNothing"],
+    "`check`": ["command_check.Promise.CheckPromise"],
+    "`asm` and `dis`": ["command_asm.Assembling.AsmPromise", "command_asm.Disassembling.DisPromise"],
     "the node": ["spec_machine.Laws.*", "spec_machine.NodeLaws.*"],
     "compiled modules": ["sx_image.Realizes.Realizes"],
     "memory in pages": ["sx_pages.Pages.*", "sx_paged.Memory.*"],

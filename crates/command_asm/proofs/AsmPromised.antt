@@ -9,7 +9,7 @@ use Rattle.command_promise.proofs.Laws.{told-all, told-quiet}
 use Rattle.command_promise.proofs.Endings.{pick, Faultless, Unfinished, faultless, unfinished}
 use Rattle.sx_asm.specs.declared.error.AsmError.{AsmError}
 use Rattle.sx_asm.specs.declared.error.AsmError.TheVariants as error
-use Rattle.command_asm.specs.Assembling.{Gathered, Whole, broken_at, with_line, asm_lines, most_bytes, gather, judged, code_at, asm_fault_output, told_code, asm_input, asm_all, AsmTold}
+use Rattle.command_asm.specs.Assembling.{Gathered, Whole, broken_at, with_line, asm_lines, most_bytes, gather, judged, code_at, asm_fault_output, told_code, asm_input, asm_all, AsmPromise}
 use Rattle.sx_asm.specs.Assembled.{assembled}
 use Rattle.command_text.proofs.Ends.{came, faults_of}
 
@@ -77,7 +77,7 @@ exactly to_tell m0 m1 status o (inl six) = inl six
 exactly to_tell m0 m1 status o (inr all) = inr all.0
 
 pub asm_promise : {tells to_tell : Bool} {m0 m1 : CommandAt} {status : ℕ} (at : ℕ)
-    → Told tells to_tell asm_lines m0 m1 status (asm_all at) anything → AsmTold at tells to_tell m0 m1 status
+    → Told tells to_tell asm_lines m0 m1 status (asm_all at) anything → AsmPromise at tells to_tell m0 m1 status
 asm_promise {tells} {to_tell} {m0} {m1} {status} at told =
     let o = asm_all at (scan asm_lines Ended [] m0.source.rest) in record {
       told = told;

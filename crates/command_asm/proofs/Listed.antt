@@ -7,7 +7,7 @@ use Rattle.command_promise.specs.Reads.{anything}
 use Rattle.command_promise.specs.Told.{CommandEnds, CommandAt, Output, Told, command_at, out_of_memory}
 use Rattle.command_promise.proofs.Laws.{told-all, told-quiet, told-reads}
 use Rattle.command_promise.proofs.Endings.{pick, Faultless, Unfinished, faultless, unfinished}
-use Rattle.command_asm.specs.Disassembling.{HexInput, Bytes, BadLine, Unread, in_front, on_line, hex_input, line_bytes, is_listed, unlisted, dis_lines, dis_bytes, dis_given, dis_all, DisTold}
+use Rattle.command_asm.specs.Disassembling.{HexInput, Bytes, BadLine, Unread, in_front, on_line, hex_input, line_bytes, is_listed, unlisted, dis_lines, dis_bytes, dis_given, dis_all, DisPromise}
 use Rattle.command_asm.specs.Kept.{ReadsGiven}
 use Rattle.command_text.proofs.Ends.{faults_of}
 
@@ -106,7 +106,7 @@ ended to_tell m0 m1 status o never (inr all) = all
 
 pub dis_promise : {tells to_tell : Bool} {m0 m1 : CommandAt} {status : ℕ} (at : ℕ)
     → Told tells to_tell dis_lines m0 m1 status (dis_all at) anything → (status ≡ out_of_memory → ⊥)
-    → DisTold at tells to_tell m0 m1 status
+    → DisPromise at tells to_tell m0 m1 status
 dis_promise {tells} {to_tell} {m0} {m1} {status} at told never = record {
   told = told;
   memory = never;

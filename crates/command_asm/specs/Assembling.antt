@@ -115,7 +115,7 @@ asm_of at m0 = asm_all at (scan asm_lines Ended [] m0.source.rest)
 
 -- What the command promises, of its streams at its start (m0) and at its end (m1). Status 0 says
 -- that the input was read to its end.
-pub record AsmTold (at : ℕ) (tells to_tell : Bool) (m0 m1 : CommandAt) (status : ℕ) : Type 0 where
+pub record AsmPromise (at : ℕ) (tells to_tell : Bool) (m0 m1 : CommandAt) (status : ℕ) : Type 0 where
   pub told : Told tells to_tell asm_lines m0 m1 status (asm_all at) anything
   pub faults : TellsFaults m0 m1 status
   pub read_all : status ≡ 0 → IsTrue tells → m1.source.rest ≡ []

@@ -103,7 +103,7 @@ dis_input at input = dis_all at (scan dis_lines Ended [] input)
 -- What the command `dis` says of its streams at its start (m0) and at its end (m1). It takes no
 -- memory. Status 0 says that the input was read to its end. Where no read and no write failed, an
 -- input that is to be listed is listed, and the status of any input is the defined one.
-pub record DisTold (at : ℕ) (tells to_tell : Bool) (m0 m1 : CommandAt) (status : ℕ) : Type 0 where
+pub record DisPromise (at : ℕ) (tells to_tell : Bool) (m0 m1 : CommandAt) (status : ℕ) : Type 0 where
   pub told : Told tells to_tell dis_lines m0 m1 status (dis_all at) anything
   pub memory : status ≡ out_of_memory → ⊥
   pub faults : TellsFaults m0 m1 status

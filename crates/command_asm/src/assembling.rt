@@ -5,7 +5,7 @@ ghost use Rattle.std.specs.Prelude.{OnOk};
 ghost use Rattle.command_promise.specs.Told.{CommandEnds, Told, command_at};
 ghost use Rattle.command_promise.specs.Reads.{anything};
 ghost use Rattle.sx_asm.specs.Answers.{AnswersMeant};
-ghost use Rattle.command_asm.specs.Assembling.{AsmTold, asm_all, asm_lines, broken_at, code_at};
+ghost use Rattle.command_asm.specs.Assembling.{AsmPromise, asm_all, asm_lines, broken_at, code_at};
 ghost use Rattle.command_asm.specs.Assembling.{most_bytes, told_code, with_line};
 ghost use Rattle.command_asm.specs.Gathering.{Gathers, gathered_bytes};
 
@@ -178,7 +178,7 @@ fn asm_told<S: Source, K: Sink>(alloc: Global, at: u16, input: &mut S, output: &
 /// status. The input is read to its end before it is judged, or to a line or a byte that passes a
 /// limit.
 pub fn asm_over<S: Source, K: Sink>(alloc: Global, at: u16, input: &mut S, output: &mut K) -> u8
-    ensures { AsmTold at S.tells K.tells
+    ensures { AsmPromise at S.tells K.tells
         (command_at (S.at input.old) (K.at output.old))
         (command_at (S.at input.new) (K.at output.new))
         result }

@@ -5,7 +5,7 @@ ghost use Rattle.std.specs.Prelude.{false, IsTrue, MatchOption};
 ghost use Rattle.hex.specs.Hex.{decode_of};
 ghost use Rattle.command_promise.specs.Told.{CommandEnds, command_at, out_of_memory};
 ghost use Rattle.command_asm.specs.Disassembling.{decoded, line_bytes, is_listed, dis_bytes};
-ghost use Rattle.command_asm.specs.Disassembling.{DisTold};
+ghost use Rattle.command_asm.specs.Disassembling.{DisPromise};
 ghost use Rattle.command_asm.specs.Kept.{KeepsBytes, KeepsMore, CodeRead};
 
 use crate::listing::list;
@@ -162,7 +162,7 @@ fn tell<K: Sink>(at: u16, code: &Code, output: &mut K) -> u8
 /// all their bytes from the address on, and `end`; or one line, which names the first rule that the
 /// input breaks. Gives the exit status. It takes no memory.
 pub fn dis_over<S: Source, K: Sink>(at: u16, input: &mut S, output: &mut K) -> u8
-    ensures { DisTold at S.tells K.tells
+    ensures { DisPromise at S.tells K.tells
         (command_at (S.at input.old) (K.at output.old))
         (command_at (S.at input.new) (K.at output.new))
         result }

@@ -1,7 +1,7 @@
 //! The commands `asm` and `dis`: from a text to the listing of its code, and from code in
 //! hexadecimal to its listing.
 //!
-//! What they promise is `AsmTold` of specs/Assembling.antt and `DisTold` of
+//! What they promise is `AsmPromise` of specs/Assembling.antt and `DisPromise` of
 //! specs/Disassembling.antt: what is written, and the exit status, are a function of the address
 //! and of the lines of the input.
 #![tactic(auto)]

@@ -14,7 +14,7 @@ use Rattle.sx_deploy.specs.SeenDeployment.{deployed_as}
 use Rattle.sx_deploy.specs.declared.deployment.Deployment.{Deployment}
 use Rattle.sx_deploy.proofs.Meanings.{one_meaning}
 use Rattle.command_head.specs.Meanings.{Meaning, IsMeaning}
-use Rattle.command_check.specs.Check.{check_output, check_head, check_all}
+use Rattle.command_check.specs.Output.{check_output, check_head, check_all}
 use Rattle.command_head.specs.Refused.{fault_output}
 use Rattle.command_head.specs.Ends.{EndsRefused}
 use Rattle.sx_io.specs.Reading.{Answer}

@@ -2,7 +2,7 @@
 use Rattle.std.proofs.Common.{◌≡◌, ◌∙◌, ℕ, ◌≤◌, List, [], ◌∷◌, length, drop, refl, ap}
 use Rattle.std.proofs.lemmas.List.{drop_all}
 use Rattle.sx_rules.specs.declared.section.Layout.{Layout}
-use Rattle.command_check.specs.Check.{module_lines}
+use Rattle.command_check.specs.Output.{module_lines}
 
 -- no module is left
 pub no_names : (names : List (List ℕ)) (layouts : List Layout) (i : ℕ) → length names ≤ i → module_lines (drop i names) (drop i layouts) ≡ []

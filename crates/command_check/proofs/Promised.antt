@@ -8,14 +8,14 @@ use Rattle.command_promise.proofs.Endings.{faultless}
 use Rattle.command_promise.proofs.Further.{no-further}
 use Rattle.command_promise.specs.Head.{Head, head, head_lines}
 use Rattle.command_head.specs.Meanings.{Meaning, IsMeaning}
-use Rattle.command_check.specs.Check.{check_head, check_all}
+use Rattle.command_check.specs.Output.{check_head, check_all}
 use Rattle.command_head.specs.Found.{RunsOutBehindHead}
-use Rattle.command_check.specs.Promise.{CheckTold, IsHead}
+use Rattle.command_check.specs.Promise.{CheckPromise, IsHead}
 use Rattle.command_head.proofs.Known.{known, is_known}
 use Rattle.command_text.proofs.Ends.{came, faults_of}
 use Rattle.command_check.proofs.Statuses.{head_zero, head_not_two, check_not_four, checked_not}
 
-pub check_not_two : {tells to_tell : Bool} {m0 m1 : CommandAt} {status : ℕ} → CheckTold tells to_tell m0 m1 status → status ≡ 2 → ⊥
+pub check_not_two : {tells to_tell : Bool} {m0 m1 : CommandAt} {status : ℕ} → CheckPromise tells to_tell m0 m1 status → status ≡ 2 → ⊥
 check_not_two check two =
     let w = told-some (check.told known is_known) in
     head_not_two known (head w.0) (sym (w.1.0.whole (λ five. omega (arith, two, five)) (λ six. omega (arith, two, six))).0 ∙ two)
@@ -27,7 +27,7 @@ check_no_further bytes rest text told t e h =
     (λ y d. checked_not 4 (known text) (λ x. omega (arith, x)) (λ x. omega (arith, x)) (ap (λ (x : Head). (check_head known x).status) (sym (h.1 Broken y)) ∙ ap (λ (o : Output). o.status) d))
 
 pub check_promise : {tells to_tell : Bool} {m0 m1 : CommandAt} {status : ℕ}
-    → ((meaning : Meaning) → IsMeaning meaning → Told tells to_tell head_lines m0 m1 status (check_all meaning) (RunsOutBehindHead status)) → CheckTold tells to_tell m0 m1 status
+    → ((meaning : Meaning) → IsMeaning meaning → Told tells to_tell head_lines m0 m1 status (check_all meaning) (RunsOutBehindHead status)) → CheckPromise tells to_tell m0 m1 status
 check_promise {tells} {to_tell} {m0} {m1} {status} told = record {
   told = told;
   no_further = λ bytes rest text t e h. check_no_further bytes rest text (told known is_known) t e h;

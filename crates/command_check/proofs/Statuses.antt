@@ -6,7 +6,7 @@ use Rattle.command_promise.specs.Head.{Head, Found, TooLong, NoMark, Unread, hea
 use Rattle.sx_deploy.specs.Deployment.{Deployed}
 use Rattle.sx_entries.specs.declared.fault.DeployFault.{DeployFault}
 use Rattle.command_head.specs.Meanings.{Meaning}
-use Rattle.command_check.specs.Check.{check_output, check_head, check_all}
+use Rattle.command_check.specs.Output.{check_output, check_head, check_all}
 use Rattle.command_check.specs.Promise.{IsAcceptedDeployment, IsGoodHead}
 
 accepted_zero : (r : Result Deployed DeployFault) → IsAcceptedDeployment r → (check_output r).status ≡ 0

@@ -1,3 +1,3 @@
--- Begin with Promise: what the command promises. Check has what it writes.
-pub mod Check
+-- Begin with Promise: what the command promises. Output has what it writes.
+pub mod Output
 pub mod Promise

@@ -9,7 +9,7 @@ use Rattle.command_head.specs.Meanings.{Meaning, IsMeaning, input_of}
 use Rattle.sx_io.specs.Reading.{Ending, longest, scan}
 use Rattle.command_promise.specs.Told.{CommandAt, Told}
 use Rattle.command_promise.specs.Further.{HasEnd}
-use Rattle.command_check.specs.Check.{check_all}
+use Rattle.command_check.specs.Output.{check_all}
 use Rattle.command_text.specs.Faults.{IsFaultless, TellsFaults}
 use Rattle.command_text.specs.Ended.{CameToItsEnd}
 
@@ -34,7 +34,7 @@ IsHead bytes text =
 
 -- The command `check`, whatever a deployment's text is said to mean. At most 4,096 bytes after the
 -- line `%%` are taken.
-pub record CheckTold (tells to_tell : Bool) (m0 m1 : CommandAt) (status : ℕ) : Type 0 where
+pub record CheckPromise (tells to_tell : Bool) (m0 m1 : CommandAt) (status : ℕ) : Type 0 where
   pub told : (meaning : Meaning) → IsMeaning meaning
       → Told tells to_tell head_lines m0 m1 status (check_all meaning) (RunsOutBehindHead status)
   pub no_further : (bytes rest text : List ℕ) → IsTrue tells → m0.source.rest ≡ bytes ++ rest

@@ -7,10 +7,10 @@ ghost use Rattle.command_promise.specs.Head.{head_lines};
 ghost use Rattle.sx_deploy.specs.SeenDeployment.{deployed_as};
 ghost use Rattle.command_text.specs.Output.{end_line};
 ghost use Rattle.command_head.specs.Meanings.{Meaning, IsMeaning};
-ghost use Rattle.command_check.specs.Check.{module_line, module_lines, check_output};
-ghost use Rattle.command_check.specs.Check.{check_all};
+ghost use Rattle.command_check.specs.Output.{module_line, module_lines, check_output};
+ghost use Rattle.command_check.specs.Output.{check_all};
 ghost use Rattle.command_head.specs.Found.{RunsOutBehindHead};
-ghost use Rattle.command_check.specs.Promise.{CheckTold};
+ghost use Rattle.command_check.specs.Promise.{CheckPromise};
 ghost use Rattle.command_head.specs.Ends.{EndsRefused};
 
 use command_head::refusing::{refuse, refuse_head};
@@ -24,7 +24,7 @@ use sx_lang::names::Name;
 use sx_rules::Layout;
 
 /// Appends a module's line.
-#[tactic(auto, unfolding(crate::specs::Check::module_line))]
+#[tactic(auto, unfolding(crate::specs::Output::module_line))]
 fn push_module(text: &mut Vec<u8>, name: &Name, layout: &Layout) -> Result<(), AllocError>
     ensures { OnOk result (text.new.items ≡ text.old.items ++ module_line name.now layout.now) }
 {
@@ -118,7 +118,7 @@ fn check_told<S: Source, K: Sink>(alloc: Global, input: &mut S, output: &mut K) 
 /// The command `check`: a deployment, and the line `%%`. Gives the exit status, as `top` does for
 /// this command. What follows that line isn't judged, and at most 4,096 bytes of it are read.
 pub fn check_over<S: Source, K: Sink>(alloc: Global, input: &mut S, output: &mut K) -> u8
-    ensures { CheckTold S.tells K.tells (command_at (S.at input.old) (K.at output.old))
+    ensures { CheckPromise S.tells K.tells (command_at (S.at input.old) (K.at output.old))
         (command_at (S.at input.new) (K.at output.new)) result }
 {
     check_told(alloc, input, output)

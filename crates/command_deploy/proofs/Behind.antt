@@ -33,7 +33,7 @@ use Rattle.command_head.specs.Refused.{fault_output}
 use Rattle.command_head.specs.Ends.{EndsRefused}
 use Rattle.command_head.proofs.Given.{ran_out_at, ran_out_behind}
 use Rattle.command_deploy.specs.Afterwards.{DeployTold, DeploysBehind, DeploysOrRanOut, found_output, head_output}
-use Rattle.command_deploy.specs.Deploy.{Behind, Wants, deploy_output}
+use Rattle.command_deploy.specs.Output.{Behind, Wants, deploy_output}
 
 no_bytes : AreByteTexts []
 no_bytes m t e = absurd (cc e)

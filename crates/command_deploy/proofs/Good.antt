@@ -8,10 +8,10 @@ use Rattle.command_promise.specs.Head.{Head, Found, TooLong, NoMark, Unread}
 use Rattle.sx_deploy.specs.Deployment.{Deployed}
 use Rattle.command_head.specs.Meanings.{Meaning}
 use Rattle.command_world.specs.WellFormed.{IsGoodInput, IsGoodRun}
-use Rattle.command_world.specs.Statuses.{schedule_status}
+use Rattle.command_world.specs.Status.{schedule_status}
 use Rattle.command_world.proofs.Stops.{good_zero, not_two}
 use Rattle.command_deploy.specs.Afterwards.{head_status}
-use Rattle.command_deploy.specs.Deploy.{found_status}
+use Rattle.command_deploy.specs.Output.{found_status}
 
 pub found_zero : (assemble : Assembler) (r : Result Deployed DeployFault) (more : List Answer) → IsGoodRun assemble r more → found_status (schedule_status assemble) r more ≡ 0
 found_zero assemble (Ok d) more good = good_zero assemble d more good

@@ -12,8 +12,8 @@ use Rattle.sx_deploy.specs.Deployment.{Deployed, IsRead}
 use Rattle.command_head.specs.Meanings.{Meaning, IsMeaning}
 use Rattle.command_head.specs.Refused.{fault_output}
 use Rattle.command_deploy.specs.Afterwards.{found_output, head_output, head_status}
-use Rattle.command_deploy.specs.Deploy.{deploy_output, deploy_status, found_status}
-use Rattle.command_deploy.specs.Deploys.{OwnPart}
+use Rattle.command_deploy.specs.Output.{deploy_output, deploy_status, found_status}
+use Rattle.command_deploy.specs.Promise.{OwnPart}
 
 -- the status of the input, or the command was cut short
 abbrev pub CutOr : OwnPart → ℕ → ℕ → Type 0

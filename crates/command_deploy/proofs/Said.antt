@@ -13,13 +13,13 @@ use Rattle.sx_deploy.specs.Deployment.{Deployed}
 use Rattle.spec_run.specs.Accepted.{AreByteTexts, AreImages}
 use Rattle.command_text.specs.Faults.{TellsFaults}
 use Rattle.command_text.proofs.Ends.{faults_of}
-use Rattle.command_head.specs.Begun.{Deploys, Starved}
+use Rattle.command_head.specs.Begun.{ReadsAs, Starved}
 use Rattle.command_head.specs.Meanings.{Meaning}
 use Rattle.command_head.specs.Wanting.{RanOutAt}
 use Rattle.command_head.proofs.Known.{known, is_known}
 use Rattle.command_deploy.specs.Afterwards.{DeployTold, ToldWith}
-use Rattle.command_deploy.specs.Deploy.{deploy_output, deploy_status}
-use Rattle.command_deploy.specs.Deploys.{DeploySays, OwnPart}
+use Rattle.command_deploy.specs.Output.{deploy_output, deploy_status}
+use Rattle.command_deploy.specs.Promise.{DeployPromise, OwnPart}
 use Rattle.command_deploy.proofs.Owing.{CutOr, Owes, due_all, not_four, not_two, not_zero, output_not, output_status}
 
 -- what is said of a whole input, where no read and no write failed
@@ -56,7 +56,7 @@ with_all {tells} {to_tell} {m0} {m1} {status} {also} part owes meaning texts tol
 
 -- images that realize their modules, with what the own part keeps of them, and what was told of the command with them
 says_with : {tells to_tell : Bool} {m0 m1 : CommandAt} {status : ℕ} (mac : Mac) (part : OwnPart) → Owes part → (w : ToldWith mac part.output tells to_tell m0 m1 status)
-    → part.With w.deployment w.texts → (status ≡ out_of_memory → RanOutAt head_lines part.MayWant tells m0 m1) → DeploySays mac part tells to_tell m0 m1 status
+    → part.With w.deployment w.texts → (status ≡ out_of_memory → RanOutAt head_lines part.MayWant tells m0 m1) → DeployPromise mac part tells to_tell m0 m1 status
 says_with {tells} {to_tell} {m0} {m1} {status} mac part owes w own memory = record {
   says = inr (record {
     deployment = w.deployment;
@@ -82,7 +82,7 @@ says_with {tells} {to_tell} {m0} {m1} {status} mac part owes w own memory = reco
 }
 
 says_starved : {tells : Bool} {m0 m1 : CommandAt} {status : ℕ} (mac : Mac) (part : OwnPart) → Owes part → (to_tell : Bool) → Starved tells m0 m1 status
-    → (status ≡ out_of_memory → RanOutAt head_lines part.MayWant tells m0 m1) → DeploySays mac part tells to_tell m0 m1 status
+    → (status ≡ out_of_memory → RanOutAt head_lines part.MayWant tells m0 m1) → DeployPromise mac part tells to_tell m0 m1 status
 says_starved {tells} {m0} {m1} {status} mac part owes to_tell s memory = record {
   says = inl s;
   faults = record {
@@ -97,8 +97,8 @@ says_starved {tells} {m0} {m1} {status} mac part owes to_tell s memory = record 
 
 -- What the own part keeps of any images that realize their modules, it keeps of those that were made.
 pub deploy_says : {tells to_tell : Bool} {m0 m1 : CommandAt} {status : ℕ} (mac : Mac) (part : OwnPart) → Owes part
-    → ((deployment : Option (List ℕ)) (texts : List (List ℕ)) → AreByteTexts texts → ((d : Deployed) → Deploys deployment d → AreImages mac d texts) → part.With deployment texts)
-    → DeployTold mac part.output part.MayWant tells to_tell m0 m1 status → DeploySays mac part tells to_tell m0 m1 status
+    → ((deployment : Option (List ℕ)) (texts : List (List ℕ)) → AreByteTexts texts → ((d : Deployed) → ReadsAs deployment d → AreImages mac d texts) → part.With deployment texts)
+    → DeployTold mac part.output part.MayWant tells to_tell m0 m1 status → DeployPromise mac part tells to_tell m0 m1 status
 deploy_says {tells} {to_tell} {m0} {m1} {status} mac part owes keeps told =
     elim told.says [
       | inl s ↦ says_starved mac part owes to_tell s told.memory
@@ -113,7 +113,7 @@ with_not_two part owes meaning texts told two =
     output_not part owes 2 (omega arith) meaning texts w.0 (not_two part owes meaning (head w.0))
     (sym (w.1.0.whole (λ five. omega (arith, two, five)) (λ six. omega (arith, two, six))).0 ∙ two)
 
-pub deploy_not_two : {tells to_tell : Bool} {m0 m1 : CommandAt} {status : ℕ} (mac : Mac) (part : OwnPart) → Owes part → DeploySays mac part tells to_tell m0 m1 status → status ≡ 2 → ⊥
+pub deploy_not_two : {tells to_tell : Bool} {m0 m1 : CommandAt} {status : ℕ} (mac : Mac) (part : OwnPart) → Owes part → DeployPromise mac part tells to_tell m0 m1 status → status ≡ 2 → ⊥
 deploy_not_two mac part owes says two =
     elim says.says [
       | inl starved ↦ omega (arith, starved.six, two)

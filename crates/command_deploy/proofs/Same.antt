@@ -14,12 +14,12 @@ use Rattle.command_promise.specs.Head.{Head, Found, TooLong, NoMark, Unread, hea
 use Rattle.sx_deploy.specs.Deployment.{Deployed, IsRead}
 use Rattle.spec_run.specs.Accepted.{setting_of}
 use Rattle.command_text.specs.Faults.{IsFaultless}
-use Rattle.command_head.specs.Begun.{Deploys, HasHead}
+use Rattle.command_head.specs.Begun.{ReadsAs, HasHead}
 use Rattle.command_head.specs.Meanings.{input_of}
 use Rattle.command_head.proofs.Known.{known, is_known}
 use Rattle.command_deploy.specs.Afterwards.{found_output, head_output}
-use Rattle.command_deploy.specs.Deploy.{Behind, deploy_output}
-use Rattle.command_deploy.specs.Deploys.{DeploySays, DeploysWith, OwnPart}
+use Rattle.command_deploy.specs.Output.{Behind, deploy_output}
+use Rattle.command_deploy.specs.Promise.{DeployPromise, DeploysWith, OwnPart}
 use Rattle.command_deploy.specs.Same.{IsUnhindered, RunsIn, WriteTheSame}
 use Rattle.command_world.specs.Compiled.{compiled_texts}
 
@@ -54,7 +54,7 @@ one_head (Some text) (Some other) NoMark x y = absurd x
 one_head (Some text) (Some other) Unread x y = absurd x
 
 -- what is written depends on the images of the deployment that was read alone
-agrees : (own : Behind) (deployment : Option (List ℕ)) (texts others : List (List ℕ)) (h : Head) → HasHead deployment h → ((d : Deployed) → Deploys deployment d → texts ≡ others)
+agrees : (own : Behind) (deployment : Option (List ℕ)) (texts others : List (List ℕ)) (h : Head) → HasHead deployment h → ((d : Deployed) → ReadsAs deployment d → texts ≡ others)
     → head_output own known texts h ≡ head_output own known others h
 agrees own None texts others (Found found more) has same = absurd has
 agrees own (Some text) texts others (Found found more) has same = by_meaning (known found) refl
@@ -78,8 +78,8 @@ module _ (mac : Mac) (part : OwnPart) (m0 m1 : CommandAt) (s : ℕ) (k0 k1 : Com
       let here = has_input (a.told known is_known) quiet.0 in
       let there = subst (λ (answers : List Answer). HasHead b.deployment (head answers)) (sym input) (has_input (b.told known is_known) still.0) in
       let one = one_head a.deployment b.deployment (head (input_of m0)) here there in
-      let texts : (d : Deployed) → Deploys a.deployment d → a.texts ≡ b.texts =
-      (λ d deploys. a.made d deploys ∙ sym (b.made d (subst (λ (o : Option (List ℕ)). Deploys o d) one deploys))) in
+      let texts : (d : Deployed) → ReadsAs a.deployment d → a.texts ≡ b.texts =
+      (λ d deploys. a.made d deploys ∙ sym (b.made d (subst (λ (o : Option (List ℕ)). ReadsAs o d) one deploys))) in
       let same : deploy_output part.output known a.texts (input_of m0) ≡ deploy_output part.output known b.texts (input_of k0) =
       (agrees part.output a.deployment a.texts b.texts (head (input_of m0)) here texts
       ∙ ap (λ (answers : List Answer). deploy_output part.output known b.texts answers) input) in
@@ -97,7 +97,7 @@ module _ (mac : Mac) (part : OwnPart) (m0 m1 : CommandAt) (s : ℕ) (k0 k1 : Com
         second = y.1 refl ∙ ap (λ (o : Output). k0.sink.written ++ o.text) (sym e);
       }
 
-  pub says_same : DeploySays mac part true true m0 m1 s → DeploySays mac part true true k0 k1 t → WriteTheSame m0 m1 s k0 k1 t
+  pub says_same : DeployPromise mac part true true m0 m1 s → DeployPromise mac part true true k0 k1 t → WriteTheSame m0 m1 s k0 k1 t
   says_same a b =
       elim a.says [
         | inl starved ↦ absurd (quiet.1 starved.six)

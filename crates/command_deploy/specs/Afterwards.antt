@@ -11,14 +11,14 @@ use Rattle.sx_tag.specs.Mac.{Mac}
 use Rattle.command_promise.specs.Head.{Head, head, head_lines}
 use Rattle.sx_deploy.specs.Deployment.{Deployed, IsRead}
 use Rattle.spec_run.specs.Accepted.{AreByteTexts, AreImages}
-use Rattle.command_head.specs.Begun.{Deploys, HasHead, Starved}
+use Rattle.command_head.specs.Begun.{ReadsAs, HasHead, Starved}
 use Rattle.command_head.specs.Ends.{RanOut}
 use Rattle.command_head.specs.Given.{RanOutSince}
 use Rattle.command_head.specs.Meanings.{Meaning, IsMeaning}
 use Rattle.command_head.specs.Refused.{fault_output}
 use Rattle.command_head.specs.Wanting.{RanOutAt}
 use Rattle.command_world.specs.Compiled.{compiled_texts}
-use Rattle.command_deploy.specs.Deploy.{Behind, Wants, by_deployment, by_head, deploy_output}
+use Rattle.command_deploy.specs.Output.{Behind, Wants, by_deployment, by_head, deploy_output}
 
 -- what is written of a deployment that was read, or the rule that it breaks
 abbrev pub found_output : Behind → List (List ℕ) → Result Deployed DeployFault → List Answer
@@ -64,8 +64,8 @@ pub record ToldWith (mac : Mac) (own : Behind) (tells to_tell : Bool) (m0 m1 : C
   pub texts : List (List ℕ)
   pub bytes : AreByteTexts texts
   pub headed : deployment ≡ None → status ≡ out_of_memory → ⊥
-  pub realize : (d : Deployed) → Deploys deployment d → AreImages mac d texts
-  pub made : (d : Deployed) → Deploys deployment d → texts ≡ compiled_texts d
+  pub realize : (d : Deployed) → ReadsAs deployment d → AreImages mac d texts
+  pub made : (d : Deployed) → ReadsAs deployment d → texts ≡ compiled_texts d
   pub told : (meaning : Meaning) → IsMeaning meaning
       → Told tells to_tell head_lines m0 m1 status (deploy_output own meaning texts)
       (λ answers. HasHead deployment (head answers))

@@ -7,8 +7,8 @@ use Rattle.sx_deploy.specs.Deployment.{Deployed}
 use Rattle.spec_run.specs.Setting.{Setting}
 use Rattle.spec_run.specs.Accepted.{setting_of}
 use Rattle.command_text.specs.Faults.{IsFaultless}
-use Rattle.command_head.specs.Begun.{Deploys}
-use Rattle.command_deploy.specs.Deploys.{DeploysWith, OwnPart}
+use Rattle.command_head.specs.Begun.{ReadsAs}
+use Rattle.command_deploy.specs.Promise.{DeploysWith, OwnPart}
 
 -- no read and no write of a call failed, and memory sufficed
 abbrev pub IsUnhindered : CommandAt → CommandAt → ℕ → Type 0
@@ -26,5 +26,5 @@ pub record WriteTheSame (m0 m1 : CommandAt) (status : ℕ) (k0 k1 : CommandAt) (
 abbrev pub RunsIn : Mac → OwnPart → Deployed → Setting → Type 0
 RunsIn mac part d set =
     (tells to_tell : Bool) (m0 m1 : CommandAt) (status : ℕ)
-    (w : DeploysWith mac part tells to_tell m0 m1 status) → Deploys w.deployment d
+    (w : DeploysWith mac part tells to_tell m0 m1 status) → ReadsAs w.deployment d
     → setting_of mac d w.texts ≡ set

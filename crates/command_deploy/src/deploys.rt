@@ -11,7 +11,7 @@ ghost use Rattle.sx_deploy.specs.SeenDeployment.{deployed_as};
 ghost use Rattle.spec_run.specs.Accepted.{AreImages};
 ghost use Rattle.sx_image.specs.InMemory.{texts_of};
 ghost use Rattle.command_head.specs.Given.{RanOutSince};
-ghost use Rattle.command_deploy.specs.Deploy.{Behind, Wants};
+ghost use Rattle.command_deploy.specs.Output.{Behind, Wants};
 
 use std::alloc::Global;
 use sx_deploy::deployment::Deployment;

@@ -17,10 +17,10 @@ use Rattle.command_world.specs.Images.{images_text}
 use Rattle.command_world.specs.Schedule.{Stop, AtEnd, Unread, Breaks}
 use Rattle.command_drive.specs.declared.readings.ReadingLine.{ReadingLine}
 use Rattle.command_drive.specs.declared.readings.ReadingLine.TheVariants as says
-use Rattle.command_drive.specs.Drive.{drive_deployed, drive_readings, ended_output, long_output, reading_fault, said_text, stop_output, told_run}
+use Rattle.command_drive.specs.Output.{drive_deployed, drive_readings, ended_output, long_output, reading_fault, said_text, stop_output, told_run}
 use Rattle.command_drive.specs.Parts.{drive_from, part_output}
-use Rattle.command_drive.specs.Drives.{drive_part, left_out}
-use Rattle.command_drive.specs.Readings.{judged_reading, readings_from}
+use Rattle.command_drive.specs.Promise.{drive_part, left_out}
+use Rattle.command_drive.specs.Input.{judged_reading, readings_from}
 use Rattle.command_drive.proofs.Named.{are_there}
 use Rattle.command_drive.proofs.Playing.{follows_long, follows_short}
 use Rattle.command_drive.proofs.Statuses.{deployed_same, not_zero, not_four, not_two}

@@ -17,7 +17,7 @@ use Rattle.sx_drive.specs.declared.said.Drove.{Drove}
 use Rattle.sx_drive.specs.declared.said.Drove.TheVariants.{Done, Long}
 use Rattle.sx_drive.specs.Honest.{Driven, Honest, Said}
 use Rattle.sx_drive.specs.Driving.{Does, Follows, GoesOn, Kept, LosesNothing, drove_of, all_said}
-use Rattle.command_drive.specs.Drive.{long_output, said_text}
+use Rattle.command_drive.specs.Output.{long_output, said_text}
 use Rattle.command_drive.specs.Parts.{EndsPart, SaysAll, TellsPart, part_output}
 use Rattle.command_drive.proofs.Telling.{prefix_said, said_front}
 

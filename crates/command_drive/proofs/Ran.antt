@@ -15,7 +15,7 @@ use Rattle.law_setup.proofs.Runs.{run_append}
 use Rattle.sx_world.specs.Whole.{next}
 use Rattle.sx_drive.specs.Honest.{Driven, Honest, MOST_LINES, Reading, Said, SaidItem, SaidLine, each, honest_run, left_out, performed, reads, setup, start}
 use Rattle.law_honest.specs.Samplings.{items_of, told}
-use Rattle.command_drive.specs.Drives.{IsTheRun, lines_in}
+use Rattle.command_drive.specs.Promise.{IsTheRun, lines_in}
 use Rattle.command_drive.proofs.Quiet.{AreReadings, readings_by}
 use Rattle.command_drive.proofs.Ways.{AreThere, Ways, setup_by}
 

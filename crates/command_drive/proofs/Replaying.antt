@@ -21,7 +21,7 @@ use Rattle.law_honest.specs.Laws.{IsDriveable}
 use Rattle.law_honest.specs.Samplings.{samplings_of, told}
 use Rattle.law_honest.proofs.Driven.{schedule_is_said}
 use Rattle.command_world.specs.Schedule.{Schedule, AtEnd, judged_line, on_line, or_rule, schedule}
-use Rattle.command_drive.specs.Drives.{AreRead, lines_in, written}
+use Rattle.command_drive.specs.Promise.{AreRead, lines_in, written}
 use Rattle.command_drive.specs.Parts.{AreNamed, IsNamed}
 use Rattle.command_drive.proofs.Named.{named_run}
 use Rattle.command_drive.proofs.Numbers.{AreNumbered, HasNumbers, numbered_first, numbered_more, schedule_numbered}

@@ -17,14 +17,14 @@ use Rattle.law_honest.specs.Laws.{IsDriveable, IsReading as IsReadingOf}
 use Rattle.law_honest.specs.Samplings.{samplings_of}
 use Rattle.law_honest.proofs.Accepted.{accepted_is_driveable, accepted_is_driven, driven_is_reading}
 use Rattle.law_honest.proofs.Driven.{are_samplings, honest_is_driven}
-use Rattle.command_head.specs.Begun.{Deploys}
+use Rattle.command_head.specs.Begun.{ReadsAs}
 use Rattle.command_deploy.specs.Afterwards.{DeployTold}
 use Rattle.command_deploy.proofs.Said.{deploy_not_two, deploy_says}
 use Rattle.command_world.specs.Schedule.{Stop}
-use Rattle.command_drive.specs.Drive.{drive_deployed, drive_readings, driven_of, long_output, stop_output}
-use Rattle.command_drive.specs.Drives.{AreRead, DriveSays, DrivesWith, IsPredicted, IsTheRun, drive_may, drive_part, left_out, lines_in}
-use Rattle.command_drive.specs.Readings.{readings_from}
-use Rattle.command_drive.specs.Statuses.{drive_status}
+use Rattle.command_drive.specs.Output.{drive_deployed, drive_readings, driven_of, long_output, stop_output}
+use Rattle.command_drive.specs.Promise.{AreRead, DrivePromise, DrivesWith, IsPredicted, IsTheRun, drive_may, drive_part, left_out, lines_in}
+use Rattle.command_drive.specs.Input.{readings_from}
+use Rattle.command_drive.specs.Status.{drive_status}
 use Rattle.command_drive.proofs.Named.{are_there}
 use Rattle.command_drive.proofs.Owing.{drive_owes}
 use Rattle.command_drive.proofs.Quiet.{AreReadings}
@@ -95,7 +95,7 @@ status_by mac d texts readings =
     let h = (honest_run (setting_of mac d texts) x.readings).honest in ended_status h x.stop (drive_status d readings) h.long (stop_same h.world.steps x.stop)
 
 -- what holds of images that realize their modules
-drives_with : (mac : Mac) → IsTag mac → (deployment : Option (List ℕ)) (texts : List (List ℕ)) → AreByteTexts texts → ((d : Deployed) → Deploys deployment d → AreImages mac d texts)
+drives_with : (mac : Mac) → IsTag mac → (deployment : Option (List ℕ)) (texts : List (List ℕ)) → AreByteTexts texts → ((d : Deployed) → ReadsAs deployment d → AreImages mac d texts)
     → DrivesWith mac deployment texts
 drives_with mac tag None texts bytes realize = record {
   ran = λ d deploys readings. absurd deploys;
@@ -113,10 +113,10 @@ drives_with mac tag (Some text) texts bytes realize = record {
 }
 
 pub drive_says : {tells to_tell : Bool} {m0 m1 : CommandAt} {status : ℕ} (mac : Mac) → IsTag mac
-    → DeployTold mac (drive_deployed mac) drive_may tells to_tell m0 m1 status → DriveSays mac tells to_tell m0 m1 status
+    → DeployTold mac (drive_deployed mac) drive_may tells to_tell m0 m1 status → DrivePromise mac tells to_tell m0 m1 status
 drive_says {tells} {to_tell} {m0} {m1} {status} mac tag told =
     deploy_says {tells = tells} {to_tell = to_tell} {m0 = m0} {m1 = m1} {status = status} mac (drive_part mac) (drive_owes mac)
     (λ deployment texts bytes realize. drives_with mac tag deployment texts bytes realize) told
 
-pub says_not_two : {tells to_tell : Bool} {m0 m1 : CommandAt} {status : ℕ} (mac : Mac) → DriveSays mac tells to_tell m0 m1 status → status ≡ 2 → ⊥
+pub says_not_two : {tells to_tell : Bool} {m0 m1 : CommandAt} {status : ℕ} (mac : Mac) → DrivePromise mac tells to_tell m0 m1 status → status ≡ 2 → ⊥
 says_not_two mac says two = deploy_not_two mac (drive_part mac) (drive_owes mac) says two

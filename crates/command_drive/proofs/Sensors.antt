@@ -26,7 +26,7 @@ use Rattle.sx_drive.specs.Driving.{IsDrivenSensor}
 use Rattle.command_drive.specs.declared.readings.ReadingLine.{ReadingLine}
 use Rattle.command_drive.specs.declared.readings.ReadingLine.TheVariants as says
 use Rattle.command_drive.specs.Parts.{IsGiven, drives, is_driven}
-use Rattle.command_drive.specs.Readings.{◌>>=◌, Readings, if_driven, judged_reading, no_sensor, no_value, on_line, reading_in, readings_from, said_in, sensor_in, value_in, wrong_count}
+use Rattle.command_drive.specs.Input.{◌>>=◌, Readings, if_driven, judged_reading, no_sensor, no_value, on_line, reading_in, readings_from, said_in, sensor_in, value_in, wrong_count}
 use Rattle.command_drive.proofs.Quiet.{AreReadings}
 
 -- ---- words

@@ -9,15 +9,15 @@ use Rattle.sx_deploy.specs.Deployment.{Deployed}
 use Rattle.spec_run.specs.Accepted.{setting_of}
 use Rattle.sx_drive.specs.Honest.{Honest, honest_run}
 use Rattle.command_world.specs.Schedule.{Stop, AtEnd, Unread, Breaks}
-use Rattle.command_world.specs.Statuses.{stop_status}
+use Rattle.command_world.specs.Status.{stop_status}
 use Rattle.command_world.proofs.Stops.{stop_not_two}
 use Rattle.command_deploy.proofs.Owing.{CutOr}
 use Rattle.command_drive.specs.declared.readings.ReadingLine.{ReadingLine}
 use Rattle.command_drive.specs.declared.readings.ReadingLine.TheVariants as says
-use Rattle.command_drive.specs.Drive.{drive_deployed, drive_readings, long_output, stop_output}
-use Rattle.command_drive.specs.Drives.{drive_part}
-use Rattle.command_drive.specs.Readings.{Readings, judged_reading, on_line, readings_from}
-use Rattle.command_drive.specs.Statuses.{drive_status}
+use Rattle.command_drive.specs.Output.{drive_deployed, drive_readings, long_output, stop_output}
+use Rattle.command_drive.specs.Promise.{drive_part}
+use Rattle.command_drive.specs.Input.{Readings, judged_reading, on_line, readings_from}
+use Rattle.command_drive.specs.Status.{drive_status}
 
 pub stop_same : (steps : ℕ) (x : Stop) → (stop_output steps x).status ≡ stop_status x
 stop_same steps AtEnd = refl

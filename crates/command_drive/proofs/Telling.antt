@@ -15,7 +15,7 @@ use Rattle.sx_drive.specs.Driving.{all_said, said_of}
 use Rattle.command_text.specs.Batch.{Writes, WritesPrefix, WritesUpTo}
 use Rattle.command_world.specs.Items.{item_line, items_text}
 use Rattle.command_text.proofs.Batches.{prefix_more, prefix_then, up_to_then, writes_more, writes_then}
-use Rattle.command_drive.specs.Drive.{said_line, said_text}
+use Rattle.command_drive.specs.Output.{said_line, said_text}
 
 pub said_append : (names : NameLists) (xs ys : List Said) → said_text names (xs ++ ys) ≡ said_text names xs ++ said_text names ys
 said_append names [] ys = refl

@@ -12,9 +12,9 @@ use Rattle.sx_drive.specs.Driving.{reading}
 use Rattle.command_world.specs.Schedule.{Stop, AtEnd, Unread, Breaks}
 use Rattle.command_drive.specs.declared.readings.ReadingLine.{ReadingLine}
 use Rattle.command_drive.specs.declared.readings.ReadingLine.TheVariants as says
-use Rattle.command_drive.specs.Drive.{drive_readings, ended_output, long_output, reading_fault, said_text, steps_text, stop_output, told_run}
+use Rattle.command_drive.specs.Output.{drive_readings, ended_output, long_output, reading_fault, said_text, steps_text, stop_output, told_run}
 use Rattle.command_drive.specs.Parts.{drive_from, readings_output, part_output}
-use Rattle.command_drive.specs.Readings.{Readings, judged_reading, on_line, readings_from}
+use Rattle.command_drive.specs.Input.{Readings, judged_reading, on_line, readings_from}
 use Rattle.command_drive.proofs.Quiet.{AreReadings, Quiet, quiet_readings}
 use Rattle.command_drive.proofs.Sensors.{readings_given}
 use Rattle.command_drive.proofs.Telling.{said_append}

@@ -1,7 +1,7 @@
--- Begin with Drives: what the command promises. Drive has what it writes, Readings what its lines
+-- Begin with Promise: what the command promises. Output has what it writes, Input what its lines
 -- say.
-pub mod Drive
-pub mod Drives
+pub mod Output
+pub mod Promise
 pub mod Parts
-pub mod Readings
-pub mod Statuses
+pub mod Input
+pub mod Status

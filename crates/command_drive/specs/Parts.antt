@@ -24,9 +24,9 @@ use Rattle.sx_drive.specs.Honest.{Driven, Honest, Said, SaidItem, SaidLine, each
 use Rattle.sx_drive.specs.Driving.{Follows, IsDrivenSensor, Kept, drove_of}
 use Rattle.command_drive.specs.declared.readings.ReadingLine.{ReadingLine}
 use Rattle.command_drive.specs.declared.readings.ReadingLine.TheVariants as says
-use Rattle.command_drive.specs.Drive.{long_output, said_text, told_run}
+use Rattle.command_drive.specs.Output.{long_output, said_text, told_run}
 use Rattle.command_text.specs.Output.{line}
-use Rattle.command_drive.specs.Readings.{Readings, readings_from}
+use Rattle.command_drive.specs.Input.{Readings, readings_from}
 
 -- what is written of these readings, from where a run came
 abbrev pub readings_output : NameLists → Setting → Honest → Readings → Output

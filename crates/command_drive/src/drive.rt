@@ -12,8 +12,8 @@ ghost use Rattle.sx_image.specs.InMemory.{texts_of};
 ghost use Rattle.sx_drive.specs.Driving.{Follows, GoesOn};
 ghost use Rattle.sx_drive.specs.Honest.{start};
 ghost use Rattle.command_head.specs.Given.{RanOutSince};
-ghost use Rattle.command_drive.specs.Drive.{drive_deployed};
-ghost use Rattle.command_drive.specs.Drives.{DriveSays, drive_may};
+ghost use Rattle.command_drive.specs.Output.{drive_deployed};
+ghost use Rattle.command_drive.specs.Promise.{DrivePromise, drive_may};
 
 use crate::lines::drive_run;
 use command_deploy::{Deploys, deploy_over};
@@ -83,8 +83,8 @@ fn drive_built<S: Source, K: Sink, B: Copied, T: Tag>(
 struct DriveCommand;
 
 impl Deploys for DriveCommand {
-    ghost use Rattle.command_drive.specs.Drive.{drive_deployed};
-    ghost use Rattle.command_drive.specs.Drives.{drive_may};
+    ghost use Rattle.command_drive.specs.Output.{drive_deployed};
+    ghost use Rattle.command_drive.specs.Promise.{drive_may};
 
     ghost behind = { drive_deployed };
 
@@ -125,7 +125,7 @@ pub fn drive_over<S: Source, K: Sink, T: Tag + Copy>(
     input: &mut S,
     output: &mut K,
 ) -> u8
-    ensures { DriveSays T.mac S.tells K.tells (command_at (S.at input.old) (K.at output.old))
+    ensures { DrivePromise T.mac S.tells K.tells (command_at (S.at input.old) (K.at output.old))
         (command_at (S.at input.new) (K.at output.new)) result }
 {
     deploy_over::<DriveCommand, S, K, T>(alloc, tag, input, output)

@@ -12,10 +12,10 @@ ghost use Rattle.spec_run.specs.Setting.{Setting};
 ghost use Rattle.sx_drive.specs.Driving.{Follows, GoesOn, LosesNothing, all_said};
 ghost use Rattle.sx_drive.specs.Honest.{Honest as Driving, start};
 ghost use Rattle.command_head.specs.Given.{RanOutSince};
-ghost use Rattle.command_drive.specs.Drive.{drive_readings, reading_fault, steps_text};
-ghost use Rattle.command_drive.specs.Drives.{drive_may};
+ghost use Rattle.command_drive.specs.Output.{drive_readings, reading_fault, steps_text};
+ghost use Rattle.command_drive.specs.Promise.{drive_may};
 ghost use Rattle.command_drive.specs.Parts.{drive_from, TellsSaid, TurnsFrom};
-ghost use Rattle.command_drive.specs.Readings.{MayRunOut, judged_reading};
+ghost use Rattle.command_drive.specs.Input.{MayRunOut, judged_reading};
 
 use crate::parts::{read, set_up};
 use crate::readings::{ReadingLine, TOO_LONG, judge_reading};
@@ -44,7 +44,7 @@ fn break_reading<K: Sink>(output: &mut K, rule: u8, number: u32) -> u8
 }
 
 /// The last two lines: how many steps of nodes there were, and `end`.
-#[tactic(auto, unfolding(crate::specs::Drive::steps_text, command_text::specs::Output::end_line))]
+#[tactic(auto, unfolding(crate::specs::Output::steps_text, command_text::specs::Output::end_line))]
 fn steps_text(steps: u64) -> Text
     ensures { result.items ≡ steps_text steps }
 {

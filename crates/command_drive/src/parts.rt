@@ -26,7 +26,7 @@ const LEFT_OUT: u8 = 9;
 
 /// Goes on after a part of the run that was written; stops where a line of it was left out, or
 /// memory ran out.
-#[tactic(auto, unfolding(crate::specs::Drive::long_line))]
+#[tactic(auto, unfolding(crate::specs::Output::long_line))]
 fn end_part<K: Sink>(output: &mut K, drove: Result<Drove, AllocError>) -> Turned
     ensures ends { EndsPart K.tells (K.at output.old) (K.at output.new) drove result }
     ensures memory { result ≡ Turned.Stop out_of_memory → IsErr drove }

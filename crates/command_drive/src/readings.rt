@@ -7,7 +7,7 @@ ghost use Rattle.sx_deploy.specs.Law.{IsSoundDeployment};
 ghost use Rattle.sx_deploy.specs.SeenDeployment.{deployed_as};
 ghost use Rattle.sx_drive.specs.Driving.{IsDrivenSensor};
 ghost use Rattle.command_drive.specs.Parts.{IsGiven, drives, is_driven};
-ghost use Rattle.command_drive.specs.Readings.{judged_reading, reading_in, sensor_in, value_in};
+ghost use Rattle.command_drive.specs.Input.{judged_reading, reading_in, sensor_in, value_in};
 
 use sx_deploy::deployment::Deployment;
 use sx_io::number;
@@ -102,7 +102,7 @@ fn reading_in(deployment: &Deployment, first: &[u8], words: &[u8]) -> Result<Rea
 }
 
 /// What the line with this number, counted from 1, says; or the first rule that it breaks.
-#[tactic(auto, unfolding(crate::specs::Readings::judged_reading))]
+#[tactic(auto, unfolding(crate::specs::Input::judged_reading))]
 pub(crate) fn judge_reading(
     deployment: &Deployment,
     number: u32,

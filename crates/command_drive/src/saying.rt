@@ -10,7 +10,7 @@ ghost use Rattle.sx_sched.specs.Seen.{line_of};
 ghost use Rattle.sx_drive.specs.Driving.{all_said, said_of};
 ghost use Rattle.sx_drive.specs.Honest.{SaidLine};
 ghost use Rattle.command_text.specs.Batch.{Writes};
-ghost use Rattle.command_drive.specs.Drive.{said_line, said_text};
+ghost use Rattle.command_drive.specs.Output.{said_line, said_text};
 ghost use Rattle.command_drive.specs.Parts.{AreNamed, IsNamed};
 
 use command_promise::{Turned, WRITE_FAILED};
@@ -53,7 +53,7 @@ fn can_be_written(names: &Names, line: &Line)
 }
 
 /// Appends a line of the schedule, which there is room for.
-#[tactic(auto, unfolding(crate::specs::Drive::said_line))]
+#[tactic(auto, unfolding(crate::specs::Output::said_line))]
 fn push_line(batch: &mut Batch, names: &Names, line: &Line)
     requires names { IsTrue (are_valid names.now) }
     requires named { IsNamed names.now (line_of line.now) }

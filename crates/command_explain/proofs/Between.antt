@@ -8,7 +8,7 @@ use Rattle.sx_trace.specs.declared.items.Item.{Item}
 use Rattle.sx_trace.specs.Names.{NameLists}
 use Rattle.sx_mean.specs.Application.{AppTree}
 use Rattle.sx_explain.specs.Followed.{Follows, Seen}
-use Rattle.command_explain.specs.Explain.{explain_from}
+use Rattle.command_explain.specs.Output.{explain_from}
 use Rattle.command_explain.specs.Meant.{AreMeanings, Meanings}
 use Rattle.command_explain.specs.Trace.{trace_lines}
 use Rattle.command_explain.proofs.Keeping.{Waits}

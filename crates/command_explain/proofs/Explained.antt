@@ -18,7 +18,7 @@ use Rattle.sx_explain.proofs.After.{after_more}
 use Rattle.sx_explain.proofs.Explained.{none_front}
 use Rattle.sx_explain.proofs.Following.{any_more, any_still}
 use Rattle.sx_explain.proofs.JudgesLegal.{allowed_next, is_not_none, judged_is, legal_front}
-use Rattle.command_explain.specs.Explain.{explain_from, illegal_output, stop_output, told_item, told_items}
+use Rattle.command_explain.specs.Output.{explain_from, illegal_output, stop_output, told_item, told_items}
 use Rattle.command_explain.specs.Laws.{Refused, TracesExplained, cause_line, causes_text}
 use Rattle.command_explain.specs.Trace.{trace}
 use Rattle.command_explain.proofs.Keeping.{joined}

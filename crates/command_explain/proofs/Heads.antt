@@ -24,7 +24,7 @@ use Rattle.command_head.specs.Headless.{EndsHeadless}
 use Rattle.command_head.specs.Refused.{fault_output}
 use Rattle.command_explain.specs.Meant.{Meanings}
 use Rattle.command_explain.specs.Trace.{explain_lines, image_lines}
-use Rattle.command_explain.specs.Explain.{explain_all, explain_found, explain_head}
+use Rattle.command_explain.specs.Output.{explain_all, explain_found, explain_head}
 use Rattle.command_head.specs.Found.{IsFound, RunsOutBehindHead}
 
 -- ---- longer lines

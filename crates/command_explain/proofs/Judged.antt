@@ -11,7 +11,7 @@ use Rattle.sx_explain.specs.declared.judge.Judged.{Judged}
 use Rattle.sx_explain.specs.declared.judge.Judged.TheVariants as verdict
 use Rattle.sx_explain.specs.Followed.{Follows, Seen, items_after}
 use Rattle.sx_explain.specs.Judging.{judged}
-use Rattle.command_explain.specs.Explain.{told_item}
+use Rattle.command_explain.specs.Output.{told_item}
 use Rattle.command_explain.specs.Turns.{JudgesItem, TellsItem}
 
 taken_on : (items : List Item) (item : Item) (j : Judged) → j ≢ verdict.Illegal → items_after items item j ≡ items ++ item ∷ []

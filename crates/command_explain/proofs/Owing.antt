@@ -20,7 +20,7 @@ use Rattle.command_explain.specs.declared.images.ImageLine.TheVariants as image
 use Rattle.command_explain.specs.declared.lines.TraceLine.{TraceLine}
 use Rattle.command_explain.specs.declared.lines.TraceLine.TheVariants as kind
 use Rattle.command_explain.specs.Meant.{Meanings}
-use Rattle.command_explain.specs.Explain.{because_line, broken_output, explain_all, explain_found, explain_from, explain_head, explain_start, illegal_output, stop_output, told_item, told_items}
+use Rattle.command_explain.specs.Output.{because_line, broken_output, explain_all, explain_found, explain_from, explain_head, explain_start, illegal_output, stop_output, told_item, told_items}
 use Rattle.command_explain.specs.Trace.{Behind, Breaks, Missing, Start, Stop, Unread, Whole, image_line, judged_line, line_of, on_image, rule_behind, start, stop_behind, trace}
 use Rattle.command_explain.proofs.Written.{said_broken, said_item, said_last, said_unread}
 

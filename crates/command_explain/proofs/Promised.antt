@@ -14,11 +14,11 @@ use Rattle.command_text.proofs.Ends.{came}
 use Rattle.sx_deploy.proofs.ValidApp.{app_valid}
 use Rattle.sx_explain.proofs.Caused.{legal_has_causes}
 use Rattle.command_explain.specs.Meant.{AreMeanings, Meanings}
-use Rattle.command_explain.specs.Explain.{explain_all}
+use Rattle.command_explain.specs.Output.{explain_all}
 use Rattle.command_head.specs.Found.{RunsOutBehindHead}
 use Rattle.command_head.specs.Wanting.{RanOutAt}
 use Rattle.command_explain.specs.Wants.{explain_may}
-use Rattle.command_explain.specs.Explains.{ExplainSays, input_of}
+use Rattle.command_explain.specs.Promise.{ExplainPromise, input_of}
 use Rattle.command_explain.specs.Trace.{explain_lines}
 use Rattle.command_explain.proofs.Found.{are_meant, meant}
 use Rattle.command_explain.proofs.Owing.{due_all}
@@ -57,7 +57,7 @@ zero_is {tells} {to_tell} {m0} {m1} {status} {also} means told t zero =
 
 pub explain_promise : {tells to_tell : Bool} {m0 m1 : CommandAt} {status : ℕ}
     → ((means : Meanings) → AreMeanings means → Told tells to_tell explain_lines m0 m1 status (explain_all means) (RunsOutBehindHead status))
-    → ((means : Meanings) → AreMeanings means → status ≡ out_of_memory → RanOutAt explain_lines (explain_may means) tells m0 m1) → ExplainSays tells to_tell m0 m1 status
+    → ((means : Meanings) → AreMeanings means → status ≡ out_of_memory → RanOutAt explain_lines (explain_may means) tells m0 m1) → ExplainPromise tells to_tell m0 m1 status
 explain_promise {tells} {to_tell} {m0} {m1} {status} told memory = record {
   told = told;
   streams = λ means is. streams-within explain_lines (explain_all means) (due_all means) (told means is);
@@ -74,7 +74,7 @@ explain_promise {tells} {to_tell} {m0} {m1} {status} told memory = record {
 }
 
 -- what was told doesn't end with the status for other words
-pub explain_not_two : {tells to_tell : Bool} {m0 m1 : CommandAt} {status : ℕ} → ExplainSays tells to_tell m0 m1 status → status ≡ 2 → ⊥
+pub explain_not_two : {tells to_tell : Bool} {m0 m1 : CommandAt} {status : ℕ} → ExplainPromise tells to_tell m0 m1 status → status ≡ 2 → ⊥
 explain_not_two says two =
     let w = told-some (says.told meant are_meant) in
     head_not_two meant (head w.0) (sym (w.1.0.whole (λ five. omega (arith, two, five)) (λ six. omega (arith, two, six))).0 ∙ two)

@@ -20,7 +20,7 @@ use Rattle.sx_deploy.proofs.Meanings.{one_meaning}
 use Rattle.command_head.specs.Ends.{EndsRefused}
 use Rattle.command_explain.specs.declared.images.ImageLine.TheVariants as image
 use Rattle.command_explain.specs.Meant.{AreMeanings, Meanings}
-use Rattle.command_explain.specs.Explain.{explain_deployed, explain_found}
+use Rattle.command_explain.specs.Output.{explain_deployed, explain_found}
 use Rattle.command_explain.specs.Trace.{Behind, Missing, Start, Unread, image_line, image_lines, is_image, is_trace, most_images, on_image, start, trace_lines}
 
 -- ---- a line before `trace`

@@ -20,8 +20,8 @@ use Rattle.command_explain.specs.declared.images.ImageLine.TheVariants as image
 use Rattle.command_explain.specs.declared.lines.TraceLine.{TraceLine}
 use Rattle.command_explain.specs.declared.lines.TraceLine.TheVariants as kind
 use Rattle.command_explain.specs.Meant.{Meanings}
-use Rattle.command_explain.specs.Explain.{explain_all, explain_found, explain_from, explain_head, explain_start, stop_output, told_item, told_items}
-use Rattle.command_explain.specs.Explains.{IsLegalInput, IsLegalOf, IsLegalTrace}
+use Rattle.command_explain.specs.Output.{explain_all, explain_found, explain_from, explain_head, explain_start, stop_output, told_item, told_items}
+use Rattle.command_explain.specs.Promise.{IsLegalInput, IsLegalOf, IsLegalTrace}
 use Rattle.command_explain.specs.Trace.{Behind, Breaks, Missing, Start, Stop, Trace, Unread, Whole, image_line, judged_line, line_of, on_image, on_line, start, stop_behind, trace}
 use Rattle.command_explain.proofs.Explained.{traces_explained}
 

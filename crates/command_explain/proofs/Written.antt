@@ -8,7 +8,7 @@ use Rattle.sx_mean.specs.Application.{AppTree}
 use Rattle.sx_explain.specs.Judging.{judged}
 use Rattle.command_explain.specs.declared.lines.TraceLine.{TraceLine}
 use Rattle.command_explain.specs.declared.lines.TraceLine.TheVariants as kind
-use Rattle.command_explain.specs.Explain.{broken_output, explain_from, stop_output, told_item, told_items}
+use Rattle.command_explain.specs.Output.{broken_output, explain_from, stop_output, told_item, told_items}
 use Rattle.command_explain.specs.Trace.{judged_line, line_of, on_line, stop_behind, trace}
 
 module _ (app : AppTree) (item : List ℕ → Option Item) (front : List Item) where

@@ -11,8 +11,8 @@ use Rattle.sx_model.specs.State.{Model, power_on}
 use Rattle.sx_model.specs.Step.{step}
 use Rattle.sx_model.specs.Legal.{Legal, after, before, is_forged}
 use Rattle.sx_explain.specs.Causes.{cause}
-use Rattle.command_explain.specs.Explain.{because_line, explain_from, illegal_output}
-use Rattle.command_explain.specs.Explain.{stop_output}
+use Rattle.command_explain.specs.Output.{because_line, explain_from, illegal_output}
+use Rattle.command_explain.specs.Output.{stop_output}
 use Rattle.command_explain.specs.Meant.{AreMeanings, Meanings}
 use Rattle.command_explain.specs.Trace.{Trace, trace}
 

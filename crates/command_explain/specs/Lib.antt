@@ -1,7 +1,7 @@
--- Begin with Explains: what the command promises. Explain has what it writes, Trace the items of
+-- Begin with Promise: what the command promises. Output has what it writes, Trace the items of
 -- the trace that it reads, Meant what texts and lines mean. Turns is for contracts of functions.
-pub mod Explain
-pub mod Explains
+pub mod Output
+pub mod Promise
 pub mod Laws
 pub mod Meant
 pub mod Trace

@@ -23,7 +23,7 @@ use Rattle.command_text.specs.Batch.{WritesPrefix}
 use Rattle.command_head.specs.Given.{GivenSince, RanOutSince, WantsLast}
 use Rattle.command_explain.specs.declared.images.ImageLine.{ImageLine}
 use Rattle.command_explain.specs.declared.images.ImageLine.TheVariants as image
-use Rattle.command_explain.specs.Explain.{told_item}
+use Rattle.command_explain.specs.Output.{told_item}
 use Rattle.command_explain.specs.Meant.{Meanings}
 use Rattle.command_explain.specs.Trace.{image_lines, most_images, trace_lines}
 use Rattle.command_explain.specs.Wants.{explain_may, trace_may}

@@ -9,11 +9,11 @@ ghost use Rattle.sx_deploy.specs.SeenDeployment.{deployed_as};
 ghost use Rattle.sx_mean.specs.Validity.{is_valid};
 ghost use Rattle.sx_mean.specs.View.{app_as};
 ghost use Rattle.command_head.specs.Ends.{EndsRefused};
-ghost use Rattle.command_explain.specs.Explain.{explain_all, explain_deployed, explain_found};
+ghost use Rattle.command_explain.specs.Output.{explain_all, explain_deployed, explain_found};
 ghost use Rattle.command_head.specs.Found.{RunsOutBehindHead};
 ghost use Rattle.command_head.specs.Given.{RanOutSince};
 ghost use Rattle.command_head.specs.Wanting.{RanOutAt};
-ghost use Rattle.command_explain.specs.Explains.{ExplainSays};
+ghost use Rattle.command_explain.specs.Promise.{ExplainPromise};
 ghost use Rattle.command_explain.specs.Meant.{AreMeanings, Meanings};
 ghost use Rattle.command_explain.specs.Trace.{explain_lines, image_lines, trace_lines};
 ghost use Rattle.command_explain.specs.Turns.{ReadWants};
@@ -100,7 +100,7 @@ fn explain_told<S: Source, K: Sink>(alloc: Global, input: &mut S, output: &mut K
 /// are judged by the deployment's sources alone while they are read. Gives the exit status, as
 /// `top` does for this command. Nothing is read once the line of an illegal item was whole.
 pub fn explain_over<S: Source, K: Sink>(alloc: Global, input: &mut S, output: &mut K) -> u8
-    ensures { ExplainSays S.tells K.tells (command_at (S.at input.old) (K.at output.old))
+    ensures { ExplainPromise S.tells K.tells (command_at (S.at input.old) (K.at output.old))
         (command_at (S.at input.new) (K.at output.new)) result }
 {
     explain_told(alloc, input, output)

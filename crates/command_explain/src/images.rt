@@ -8,7 +8,7 @@ ghost use Rattle.sx_deploy.specs.SeenDeployment.{deployed_as};
 ghost use Rattle.sx_mean.specs.Validity.{is_valid};
 ghost use Rattle.sx_mean.specs.View.{app_as};
 ghost use Rattle.command_head.specs.Given.{RanOutSince};
-ghost use Rattle.command_explain.specs.Explain.{explain_deployed};
+ghost use Rattle.command_explain.specs.Output.{explain_deployed};
 ghost use Rattle.command_explain.specs.Meant.{AreMeanings, Meanings};
 ghost use Rattle.command_explain.specs.Trace.{image_lines, trace_lines};
 ghost use Rattle.command_explain.specs.Turns.{front_line};

@@ -1,8 +1,8 @@
 //! The command `explain`: a deployment, and a trace that is judged by the source alone while it is
 //! read.
 //!
-//! What it promises is `ExplainSays` of specs/Explains.antt: what is written, and the exit status,
-//! are `explain_all` (specs/Explain.antt) of the input: of its head (command_promise), of what the
+//! What it promises is `ExplainPromise` of specs/Promise.antt: what is written, and the exit status,
+//! are `explain_all` (specs/Output.antt) of the input: of its head (command_promise), of what the
 //! deployment in it means (sx_deploy), and of the items of its trace (specs/Trace.antt), of each of
 //! which it is said what a judge says of it (sx_explain); and how far the input was read. `laws`
 //! has what that comes to for a whole trace.

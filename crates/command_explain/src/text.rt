@@ -6,8 +6,8 @@ ghost use Rattle.command_promise.specs.Told.{CommandEnds, Output, behind, out_of
 ghost use Rattle.sx_trace.specs.declared.items.Item.{Item as Listed};
 ghost use Rattle.sx_mean.specs.Application.{AppTree};
 ghost use Rattle.sx_explain.specs.Followed.{Follows};
-ghost use Rattle.command_explain.specs.Explain.{because_line, broken_output, forged_line};
-ghost use Rattle.command_explain.specs.Explain.{illegal_output, legal_text};
+ghost use Rattle.command_explain.specs.Output.{because_line, broken_output, forged_line};
+ghost use Rattle.command_explain.specs.Output.{illegal_output, legal_text};
 ghost use Rattle.command_explain.specs.Turns.{Puts, TellsItem};
 
 use arrayvec::ArrayVec;

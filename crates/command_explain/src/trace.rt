@@ -12,7 +12,7 @@ ghost use Rattle.sx_mean.specs.Validity.{is_valid};
 ghost use Rattle.sx_mean.specs.View.{app_as};
 ghost use Rattle.sx_model.specs.Memory.{may_take_memory};
 ghost use Rattle.sx_explain.specs.Followed.{Follows};
-ghost use Rattle.command_explain.specs.Explain.{explain_from, stop_output};
+ghost use Rattle.command_explain.specs.Output.{explain_from, stop_output};
 ghost use Rattle.command_explain.specs.Meant.{AreMeanings, Meanings};
 ghost use Rattle.command_explain.specs.Trace.{stop_behind, trace_lines};
 ghost use Rattle.command_explain.specs.Turns.{ComesNext, JudgesFrom, TraceWants};

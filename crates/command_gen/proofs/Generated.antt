@@ -18,7 +18,7 @@ use Rattle.sx_deploy.proofs.Meanings.{one_meaning}
 use Rattle.sx_bulk.specs.Bulk as bulk
 use Rattle.command_head.specs.Meanings.{Meaning, IsMeaning}
 use Rattle.command_head.specs.Ends.{EndsRefused}
-use Rattle.command_gen.specs.Workload.{GenWrote, gen_found, GenTold, GenWith, gen_run, told_at, workload}
+use Rattle.command_gen.specs.Promise.{GenWrote, gen_found, GenPromise, GenWith, gen_run, told_at, workload}
 use Rattle.sx_io.specs.Counts as count
 use Rattle.sx_io.specs.Reading.{Answer}
 use Rattle.spec_run.specs.Accepted.{setting_of}
@@ -27,8 +27,8 @@ use Rattle.spec_run.specs.State.{Acted, switched_on}
 use Rattle.command_world.specs.Broken.{broken_output}
 use Rattle.command_world.specs.Schedule.{Stop, AtEnd, Breaks, schedule}
 use Rattle.command_world.specs.Schedule as sched
-use Rattle.command_world.specs.Statuses.{schedule_status, stop_status}
-use Rattle.command_deploy.specs.Deploy.{found_status}
+use Rattle.command_world.specs.Status.{schedule_status, stop_status}
+use Rattle.command_deploy.specs.Output.{found_status}
 use Rattle.command_head.proofs.Known.{known, is_known}
 use Rattle.command_deploy.proofs.Good.{found_not_two}
 use Rattle.command_gen.proofs.Stated.{status_zero}
@@ -88,7 +88,7 @@ ends_good {n = n} w few quiet =
       | inr same ↦ inr (same ∙ status_zero known is_known n few)
     ]
 
-pub wrote_told : {mac : Mac} {n : ℕ} {to_tell : Bool} {k0 k1 : SinkAt} {status : ℕ} → n ≤ 8000 → GenWrote mac n to_tell k0 k1 status → GenTold mac n to_tell k0 k1 status
+pub wrote_told : {mac : Mac} {n : ℕ} {to_tell : Bool} {k0 k1 : SinkAt} {status : ℕ} → n ≤ 8000 → GenWrote mac n to_tell k0 k1 status → GenPromise mac n to_tell k0 k1 status
 wrote_told {mac} {n} {to_tell} {k0} {k1} {status} few (inl s) = record {
   says = inl s;
   exact = λ meaning is quiet. inl s.six;
@@ -109,7 +109,7 @@ with_not_two {mac} {n} w two =
     found_not_two (known bulk.head) (workload n)
     (sym (gen_status mac w.texts n (known bulk.head)) ∙ sym ((w.ends known is_known).whole (λ five. omega (arith, two, five)) (λ six. omega (arith, two, six))).0 ∙ two)
 
-pub gen_not_two : {mac : Mac} {n : ℕ} {to_tell : Bool} {k0 k1 : SinkAt} {status : ℕ} → GenTold mac n to_tell k0 k1 status → status ≡ 2 → ⊥
+pub gen_not_two : {mac : Mac} {n : ℕ} {to_tell : Bool} {k0 k1 : SinkAt} {status : ℕ} → GenPromise mac n to_tell k0 k1 status → status ≡ 2 → ⊥
 gen_not_two g two =
     elim g.says [
       | inl starved ↦ omega (arith, starved.six, two)

@@ -17,9 +17,9 @@ use Rattle.sx_bulk.proofs.WellFormed as good
 use Rattle.command_head.specs.Meanings.{Meaning, IsMeaning}
 use Rattle.command_world.specs.Schedule.{judged_line, or_rule}
 use Rattle.command_world.specs.WellFormed.{IsWellFormed, IsGoodRun}
-use Rattle.command_world.specs.Statuses.{schedule_status}
-use Rattle.command_gen.specs.Workload.{answers_from, workload}
-use Rattle.command_deploy.specs.Deploy.{found_status}
+use Rattle.command_world.specs.Status.{schedule_status}
+use Rattle.command_gen.specs.Promise.{answers_from, workload}
+use Rattle.command_deploy.specs.Output.{found_status}
 use Rattle.command_deploy.proofs.Good.{found_zero}
 
 said_good : (r : Result Line LineError) → IsOk r → IsOk (or_rule r)

@@ -25,7 +25,7 @@ use Rattle.command_gen.specs.Counting.{plus, ActsIn, ActsFrom, EndsAs, LineStops
 use Rattle.command_world.specs.Turning.{after_next}
 use Rattle.command_world.specs.Broken.{broken_output}
 use Rattle.command_world.specs.Schedule.{Schedule, AtEnd, judged_line, on_line, schedule}
-use Rattle.command_gen.specs.Workload.{answers_from, gen_run, told_at, workload}
+use Rattle.command_gen.specs.Promise.{answers_from, gen_run, told_at, workload}
 use Rattle.command_gen.specs.declared.counting.Stopped.{Stopped}
 use Rattle.command_gen.specs.declared.counting.Stopped.TheVariants.{Broken, OutOfMemory}
 

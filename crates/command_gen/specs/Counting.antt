@@ -16,7 +16,7 @@ use Rattle.command_gen.specs.Counts.{summary}
 use Rattle.command_world.specs.Turning.{after_next}
 use Rattle.command_world.specs.Broken.{broken_output}
 use Rattle.command_world.specs.Schedule.{judged_line}
-use Rattle.command_gen.specs.Workload.{gen_run}
+use Rattle.command_gen.specs.Promise.{gen_run}
 
 -- the sums of two counts
 abbrev pub plus : Counts → Counts → Counts

@@ -1,5 +1,5 @@
--- Begin with Workload: what the command writes and promises. Counts is what is counted of a run's
+-- Begin with Promise: what the command writes and promises. Counts is what is counted of a run's
 -- items; Counting is for contracts of functions.
 pub mod Counting
 pub mod Counts
-pub mod Workload
+pub mod Promise

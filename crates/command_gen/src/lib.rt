@@ -1,6 +1,6 @@
 //! The command `gen`: the run of the workload of sx_bulk, and what is counted in it.
 //!
-//! What it promises is `GenTold` of specs/Workload.antt.
+//! What it promises is `GenPromise` of specs/Promise.antt.
 #![tactic(auto)]
 
 mod counting;

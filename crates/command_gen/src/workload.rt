@@ -18,7 +18,7 @@ ghost use Rattle.sx_world.specs.Standing.{Stands};
 ghost use Rattle.spec_run.specs.State.{switched_on};
 ghost use Rattle.sx_bulk.specs.Bulk as bulk;
 ghost use Rattle.command_gen.specs.Counts.{summary};
-ghost use Rattle.command_gen.specs.Workload.{GenTold, GenWrote, gen_deployed, gen_run};
+ghost use Rattle.command_gen.specs.Promise.{GenPromise, GenWrote, gen_deployed, gen_run};
 
 use crate::counting::{Stopped, run_workload};
 use crate::counts::{Counts, summary};
@@ -127,7 +127,7 @@ fn gen_deployment<K: Sink, T: Tag + Copy>(
 /// `top` does for this command.
 pub fn gen_over<K: Sink, T: Tag + Copy>(alloc: Global, tag: T, samples: u32, output: &mut K) -> u8
     requires { samples ≤ MOST_SAMPLES }
-    ensures { GenTold T.mac samples K.tells (K.at output.old) (K.at output.new) result }
+    ensures { GenPromise T.mac samples K.tells (K.at output.old) (K.at output.new) result }
 {
     match read_deployment(alloc, head()) {
         Ok(deployment) => gen_deployment(alloc, tag, samples, &deployment, output),

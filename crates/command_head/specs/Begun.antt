@@ -13,9 +13,9 @@ HasHead (Some text) (Found found more) = found ≡ text
 HasHead (Some text) _ = ⊥
 
 -- the head is the text of this deployment, which keeps the rules
-abbrev pub Deploys : Option (List ℕ) → Deployed → Type 0
-Deploys None d = ⊥
-Deploys (Some text) d = IsRead text (Ok d)
+abbrev pub ReadsAs : Option (List ℕ) → Deployed → Type 0
+ReadsAs None d = ⊥
+ReadsAs (Some text) d = IsRead text (Ok d)
 
 -- memory ran out after a head and before the images were made, and nothing was written
 pub record Starved (tells : Bool) (m0 m1 : CommandAt) (status : ℕ) : Type 0 where

@@ -11,8 +11,8 @@ use Rattle.command_promise.specs.Head.{head, head_lines}
 use Rattle.command_text.proofs.Ends.{faults_of}
 use Rattle.command_head.proofs.Known as deployments
 use Rattle.command_property.proofs.Known as properties
-use Rattle.command_holds.specs.Holds.{AreMeanings, Meanings, holds_all}
-use Rattle.command_holds.specs.Promise.{HoldsTold, SaysOf}
+use Rattle.command_holds.specs.Output.{AreMeanings, Meanings, holds_all}
+use Rattle.command_holds.specs.Promise.{HoldsPromise, SaysOf}
 use Rattle.command_holds.specs.Ending.{ToldOf}
 use Rattle.command_promise.proofs.Laws.{told-some}
 use Rattle.command_holds.proofs.Statuses.{all_not_four, head_not_two}
@@ -34,7 +34,7 @@ of_input AtFault tells limit s0 s1 taken P t quiet e d = absurd (quiet (omega (a
 of_input Enough tells limit s0 s1 taken P t quiet e d =
     let Q : List ℕ → Type 0 = λ bytes. P (scan limit Ended [] bytes) in subst Q (sym e) (d.2 Ended s1.rest)
 
-pub promised : {tells to_tell : Bool} {m0 m1 : CommandAt} {status : ℕ} → ToldOf tells to_tell m0 m1 status → HoldsTold tells to_tell m0 m1 status
+pub promised : {tells to_tell : Bool} {m0 m1 : CommandAt} {status : ℕ} → ToldOf tells to_tell m0 m1 status → HoldsPromise tells to_tell m0 m1 status
 promised {tells} {to_tell} {m0} {m1} {status} (decision, told) = record {
   decision = decision;
   told = told;
@@ -46,7 +46,7 @@ promised {tells} {to_tell} {m0} {m1} {status} (decision, told) = record {
   faults = faults_of (λ bytes e. all_not_four known decision (scan head_lines Ended [] bytes) (faultless head_lines [] bytes) e) (told known are_known);
 }
 
-pub holds_not_two : {tells to_tell : Bool} {m0 m1 : CommandAt} {status : ℕ} → HoldsTold tells to_tell m0 m1 status → status ≡ 2 → ⊥
+pub holds_not_two : {tells to_tell : Bool} {m0 m1 : CommandAt} {status : ℕ} → HoldsPromise tells to_tell m0 m1 status → status ≡ 2 → ⊥
 holds_not_two holds two =
     let w = told-some (holds.told known are_known) in
     head_not_two known holds.decision (head w.0) (sym (w.1.0.whole (λ five. omega (arith, two, five)) (λ six. omega (arith, two, six))).0 ∙ two)

@@ -11,7 +11,7 @@ use Rattle.law_never.specs.Never.{IsNeverBroken}
 use Rattle.command_text.specs.Faults.{IsFaultless, TellsFaults}
 use Rattle.command_head.specs.Found.{IsFound}
 use Rattle.command_head.specs.Meanings.{input_of}
-use Rattle.command_holds.specs.Holds.{AreMeanings, Decision, Meanings, holds_all}
+use Rattle.command_holds.specs.Output.{AreMeanings, Decision, Meanings, holds_all}
 
 -- it is a property that no run of the deployment breaks, whatever its schedule, before the first
 -- forged item
@@ -42,7 +42,7 @@ pub record SaysOf (means : Meanings) (status : ℕ) (answers : List Answer) : Ty
 -- lines that were taken and for what was decided; and whatever comes after these lines, status 0
 -- says that the property that they hold is never broken (`told`). So it is of the whole input
 -- (`never`).
-pub record HoldsTold (tells to_tell : Bool) (m0 m1 : CommandAt) (status : ℕ) : Type 0 where
+pub record HoldsPromise (tells to_tell : Bool) (m0 m1 : CommandAt) (status : ℕ) : Type 0 where
   pub decision : Decision
   pub told : (means : Meanings) → AreMeanings means
       → Told tells to_tell head_lines m0 m1 status (holds_all means decision) (SaysOf means status)

@@ -1,7 +1,7 @@
 //! Where the search for a table gave up, in words. Nothing is promised of them.
 
 ghost use Rattle.std.specs.Prelude.{◌≡◌, IfOk, List, ℕ};
-ghost use Rattle.command_holds.specs.Holds.{unknown_line};
+ghost use Rattle.command_holds.specs.Output.{unknown_line};
 
 use itoa::Buffer;
 use std::alloc::{AllocError, Global};
@@ -85,7 +85,7 @@ fn gap_words(alloc: Global, names: &Names, gap: &Gap) -> Result<Vec<u8>, AllocEr
 }
 
 /// The line that says that a property wasn't decided.
-#[tactic(auto, unfolding(crate::specs::Holds::unknown_line))]
+#[tactic(auto, unfolding(crate::specs::Output::unknown_line))]
 fn unknown_line(alloc: Global, words: &[u8]) -> Result<Vec<u8>, AllocError>
     ensures { IfOk result (λ text. text.items ≡ unknown_line words.now) }
 {

@@ -9,8 +9,8 @@ ghost use Rattle.sx_watch.specs.Watched.{property_as};
 ghost use Rattle.command_head.specs.Ends.{EndsRefused};
 ghost use Rattle.command_holds.specs.Ending.{AnswersOf, DeployedEnds, EndsOf, GivesUp};
 ghost use Rattle.command_holds.specs.Ending.{TextEnds, ToldOf};
-ghost use Rattle.command_holds.specs.Holds.{Decision, decided_output};
-ghost use Rattle.command_holds.specs.Promise.{HoldsTold};
+ghost use Rattle.command_holds.specs.Output.{Decision, decided_output};
+ghost use Rattle.command_holds.specs.Promise.{HoldsPromise};
 
 use crate::gap::gap_line;
 use command_head::refusing::{refuse, refuse_head};
@@ -40,7 +40,7 @@ fn give_up<K: Sink>(alloc: Global, names: &Names, gap: &Gap, output: &mut K) -> 
 }
 
 /// Writes that a property holds.
-#[tactic(auto, unfolding(crate::specs::Holds::holds_line, command_text::specs::Output::end_line))]
+#[tactic(auto, unfolding(crate::specs::Output::holds_line, command_text::specs::Output::end_line))]
 fn affirm<K: Sink>(output: &mut K) -> u8
     ensures { CommandEnds K.tells (K.at output.old) (K.at output.new) result
         (decided_output Decision.Holds) }
@@ -151,7 +151,7 @@ fn holds_told<S: Source, K: Sink>(alloc: Global, input: &mut S, output: &mut K) 
 /// status, as `top` does for this command. What follows the second line `%%` isn't judged, and at
 /// most 4,096 bytes of it are read.
 pub fn holds_over<S: Source, K: Sink>(alloc: Global, input: &mut S, output: &mut K) -> u8
-    ensures { HoldsTold S.tells K.tells (command_at (S.at input.old) (K.at output.old))
+    ensures { HoldsPromise S.tells K.tells (command_at (S.at input.old) (K.at output.old))
         (command_at (S.at input.new) (K.at output.new)) result }
 {
     holds_told(alloc, input, output)

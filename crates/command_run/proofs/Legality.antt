@@ -16,7 +16,7 @@ use Rattle.sx_deploy.specs.Deployment.{Deployed, IsRead}
 use Rattle.sx_mean.specs.Application.{AppTree}
 use Rattle.sx_trace.specs.declared.items.Item.{Item}
 use Rattle.sx_model.specs.Legal.{before}
-use Rattle.command_head.specs.Begun.{Deploys}
+use Rattle.command_head.specs.Begun.{ReadsAs}
 use Rattle.spec_run.specs.Accepted.{AreImages, setting_of}
 use Rattle.spec_run.specs.Law.{OfRuns}
 use Rattle.spec_run.specs.AcceptedLaw.{AreLines, OfAcceptedRuns}
@@ -27,7 +27,7 @@ use Rattle.law_connections.specs.LinksUnseen.{LinksAreUnseen}
 use Rattle.law_connections.specs.Laws.{HidesKeys}
 use Rattle.law_connections.proofs.Final.{accepted_unseen}
 use Rattle.command_world.specs.Schedule.{Schedule, or_rule, judged_line, on_line, schedule}
-use Rattle.command_run.specs.Run.{items_of}
+use Rattle.command_run.specs.Output.{items_of}
 
 -- a line that keeps the rules is within the limit, and in form
 record Kept (names : NameLists) (number : ℕ) (line : Line) : Type 0 where
@@ -82,7 +82,7 @@ items_hold Holds runs mac text d texts tag read images more =
     let k = schedule_kept d.names 1 more (omega arith) in
     runs text d read mac texts tag images (schedule assembled d.names 1 more).lines (omega (arith, k.few)) k.form
 
-pub holds_by : (Holds : AppTree → List Item → Type 0) → OfRuns Holds → (mac : Mac) (deployment : Option (List ℕ)) (texts : List (List ℕ)) (d : Deployed) → IsTag mac → Deploys deployment d → AreImages mac d texts
+pub holds_by : (Holds : AppTree → List Item → Type 0) → OfRuns Holds → (mac : Mac) (deployment : Option (List ℕ)) (texts : List (List ℕ)) (d : Deployed) → IsTag mac → ReadsAs deployment d → AreImages mac d texts
     → (schedule : List Answer) → Holds d.app (before (items_of assembled mac d texts schedule))
 holds_by Holds runs mac None texts d tag deploys images schedule = absurd deploys
 holds_by Holds runs mac (Some text) texts d tag deploys images schedule = items_hold Holds (of_accepted Holds runs) mac text d texts tag deploys images schedule

@@ -21,7 +21,7 @@ use Rattle.command_world.specs.Turning.{after_next}
 use Rattle.command_run.specs.declared.trace.Shown.TheVariants.{Items, Lines}
 use Rattle.command_run.specs.Laws.{EachGivesItsItems, LinesGiveItems}
 use Rattle.command_run.specs.Lines.{Performed, lines_deployed, performed, performed_text, texts_in}
-use Rattle.command_run.specs.Run.{run_from, stop_output}
+use Rattle.command_run.specs.Output.{run_from, stop_output}
 use Rattle.command_run.specs.Turns.{shown_from, shown_text}
 use Rattle.command_run.proofs.Written.{items_text_append}
 

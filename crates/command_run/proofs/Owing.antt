@@ -10,9 +10,9 @@ use Rattle.sx_deploy.specs.Deployment.{Deployed}
 use Rattle.command_world.specs.Schedule.{Stop, AtEnd, Breaks, judged_line, schedule}
 use Rattle.command_world.specs.Schedule as sched
 use Rattle.command_world.specs.Items.{items_text}
-use Rattle.command_run.specs.Run.{stop_output, run_from, run_deployed, run_at_start}
-use Rattle.command_run.specs.Runs.{run_part}
-use Rattle.command_world.specs.Statuses.{schedule_status, stop_status}
+use Rattle.command_run.specs.Output.{stop_output, run_from, run_deployed, run_at_start}
+use Rattle.command_run.specs.Promise.{run_part}
+use Rattle.command_world.specs.Status.{schedule_status, stop_status}
 use Rattle.command_world.proofs.Stops.{not_zero, not_four, not_two}
 use Rattle.command_promise.proofs.Due.{lines_then, EndsUnread, Due, due-behind, behind-ends}
 use Rattle.spec_run.specs.Setting.{Setting}

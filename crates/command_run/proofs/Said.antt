@@ -15,12 +15,12 @@ use Rattle.spec_run.proofs.turns.RunsTakeTurns.{runs_take_turns}
 use Rattle.spec_run.proofs.turns.RunsAreGiven.{runs_are_given}
 use Rattle.sx_deploy.specs.Deployment.{Deployed}
 use Rattle.spec_run.specs.Accepted.{AreImages, setting_of}
-use Rattle.command_head.specs.Begun.{Deploys}
+use Rattle.command_head.specs.Begun.{ReadsAs}
 use Rattle.command_deploy.specs.Afterwards.{DeployTold}
 use Rattle.command_deploy.proofs.Said.{deploy_not_two, deploy_says}
 use Rattle.command_run.specs.Lines.{lines_deployed}
-use Rattle.command_run.specs.Run.{run_deployed}
-use Rattle.command_run.specs.Runs.{RunSays, RunsWith, run_may, run_part}
+use Rattle.command_run.specs.Output.{run_deployed}
+use Rattle.command_run.specs.Promise.{RunDeployPromise, RunsWith, run_may, run_part}
 use Rattle.command_run.specs.Tells.{LinesSay, lines_part}
 use Rattle.law_isolation.proofs.Performing.{runs_guarded}
 use Rattle.law_forgery.specs.Forgery.{ForgedIsForgery}
@@ -32,23 +32,23 @@ use Rattle.command_run.proofs.Legality.{holds_by, items_forged, links_unseen}
 use Rattle.command_run.proofs.Moving.{deployed_hides, deployed_moved}
 use Rattle.command_run.proofs.Owing.{lines_owe, run_owes}
 
-forged_by : (mac : Mac) (deployment : Option (List ℕ)) (texts : List (List ℕ)) (d : Deployed) → IsTag mac → Deploys deployment d → AreImages mac d texts
+forged_by : (mac : Mac) (deployment : Option (List ℕ)) (texts : List (List ℕ)) (d : Deployed) → IsTag mac → ReadsAs deployment d → AreImages mac d texts
     → (answers : List Answer) → ForgedIsForgery (setting_of mac d texts) (schedule assembled d.names 1 answers).lines
 forged_by mac None texts d tag deploys images answers = absurd deploys
 forged_by mac (Some text) texts d tag deploys images answers = items_forged mac text d texts tag deploys images answers
 
-links_by : (mac : Mac) (deployment : Option (List ℕ)) (texts : List (List ℕ)) (d : Deployed) → IsTag mac → Deploys deployment d → AreImages mac d texts
+links_by : (mac : Mac) (deployment : Option (List ℕ)) (texts : List (List ℕ)) (d : Deployed) → IsTag mac → ReadsAs deployment d → AreImages mac d texts
     → texts ≡ compiled_texts d → (answers : List Answer) → LinksAreUnseen (setting_of mac d texts) (schedule assembled d.names 1 answers).lines
 links_by mac None texts d tag deploys images made answers = absurd deploys
 links_by mac (Some text) texts d tag deploys images made answers = links_unseen mac text d texts tag deploys images (deployed_hides mac text d texts deploys made) answers
 
-moved_by : (mac : Mac) (deployment : Option (List ℕ)) (texts : List (List ℕ)) (d : Deployed) → IsTag mac → Deploys deployment d → AreImages mac d texts
+moved_by : (mac : Mac) (deployment : Option (List ℕ)) (texts : List (List ℕ)) (d : Deployed) → IsTag mac → ReadsAs deployment d → AreImages mac d texts
     → texts ≡ compiled_texts d → HasMoved (setting_of mac d texts)
 moved_by mac None texts d tag deploys images made = absurd deploys
 moved_by mac (Some text) texts d tag deploys images made = deployed_moved mac text d texts tag deploys images made
 
 -- what holds of images that realize their modules
-pub runs_with : (mac : Mac) → IsTag mac → (deployment : Option (List ℕ)) (texts : List (List ℕ)) → ((d : Deployed) → Deploys deployment d → AreImages mac d texts) → RunsWith assembled mac deployment texts
+pub runs_with : (mac : Mac) → IsTag mac → (deployment : Option (List ℕ)) (texts : List (List ℕ)) → ((d : Deployed) → ReadsAs deployment d → AreImages mac d texts) → RunsWith assembled mac deployment texts
 runs_with mac tag deployment texts realize = record {
   legal = λ d deploys schedule. holds_by Legal runs_legal mac deployment texts d tag deploys (realize d deploys) schedule;
   order = λ d deploys schedule. holds_by LegalInOrder runs_in_order mac deployment texts d tag deploys (realize d deploys) schedule;
@@ -61,12 +61,12 @@ runs_with mac tag deployment texts realize = record {
 }
 
 pub run_says : {tells to_tell : Bool} {m0 m1 : CommandAt} {status : ℕ} (mac : Mac) → IsTag mac → DeployTold mac (run_deployed assembled mac) (run_may assembled) tells to_tell m0 m1 status
-    → RunSays assembled mac tells to_tell m0 m1 status
+    → RunDeployPromise assembled mac tells to_tell m0 m1 status
 run_says {tells} {to_tell} {m0} {m1} {status} mac tag told =
     deploy_says {tells = tells} {to_tell = to_tell} {m0 = m0} {m1 = m1} {status = status} mac (run_part assembled mac) (run_owes mac)
     (λ deployment texts bytes realize. runs_with mac tag deployment texts realize) told
 
-pub says_not_two : {tells to_tell : Bool} {m0 m1 : CommandAt} {status : ℕ} (mac : Mac) → RunSays assembled mac tells to_tell m0 m1 status → status ≡ 2 → ⊥
+pub says_not_two : {tells to_tell : Bool} {m0 m1 : CommandAt} {status : ℕ} (mac : Mac) → RunDeployPromise assembled mac tells to_tell m0 m1 status → status ≡ 2 → ⊥
 says_not_two mac run two = deploy_not_two mac (run_part assembled mac) (run_owes mac) run two
 
 pub lines_say : {tells to_tell : Bool} {m0 m1 : CommandAt} {status : ℕ} (mac : Mac) → IsTag mac → DeployTold mac (lines_deployed assembled mac) (run_may assembled) tells to_tell m0 m1 status

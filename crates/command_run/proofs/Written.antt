@@ -23,7 +23,7 @@ use Rattle.command_world.specs.Schedule.{Schedule, judged_line, on_line, schedul
 use Rattle.command_world.specs.Items.{item_line, items_text}
 use Rattle.command_run.specs.declared.trace.Shown.{Shown}
 use Rattle.command_run.specs.Lines.{Performed, performed, texts_in}
-use Rattle.command_run.specs.Run.{stop_output}
+use Rattle.command_run.specs.Output.{stop_output}
 use Rattle.command_run.specs.Turns.{front, shown_from, shown_output, shown_text}
 use Rattle.command_world.specs.Turning.{after_next}
 use Rattle.command_world.specs.Broken.{broken_output}

@@ -12,13 +12,13 @@ use Rattle.spec_run.specs.Run.{run}
 use Rattle.command_deploy.specs.Same.{IsUnhindered, WriteTheSame}
 use Rattle.command_world.specs.Turning.{after_next}
 use Rattle.command_run.specs.Lines.{performed, performed_of}
-use Rattle.command_run.specs.Run.{items_of}
-use Rattle.command_run.specs.Runs.{RunSays}
+use Rattle.command_run.specs.Output.{items_of}
+use Rattle.command_run.specs.Promise.{RunDeployPromise}
 
 -- Two calls of `run` over the same input, neither of which is hindered, write the same trace.
 abbrev pub RunsAreSame : Type 0
 RunsAreSame = (assemble : Assembler) (mac : Mac) (m0 m1 k0 k1 : CommandAt) (s t : ℕ)
-    → RunSays assemble mac true true m0 m1 s → RunSays assemble mac true true k0 k1 t
+    → RunDeployPromise assemble mac true true m0 m1 s → RunDeployPromise assemble mac true true k0 k1 t
     → m0.source.rest ≡ k0.source.rest → IsUnhindered m0 m1 s → IsUnhindered k0 k1 t
     → WriteTheSame m0 m1 s k0 k1 t
 

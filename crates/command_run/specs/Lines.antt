@@ -18,7 +18,7 @@ use Rattle.command_text.specs.Output.{line}
 use Rattle.command_world.specs.Schedule.{schedule}
 use Rattle.command_world.specs.Items.{items_text}
 use Rattle.command_world.specs.Turning.{after_next}
-use Rattle.command_run.specs.Run.{stop_output}
+use Rattle.command_run.specs.Output.{stop_output}
 
 -- a line that was performed: its text as it was read, and the items that it gave
 pub record Performed : Type 0 where

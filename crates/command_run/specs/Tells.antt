@@ -15,10 +15,10 @@ use Rattle.sx_sched.specs.Reading.{Assembler}
 use Rattle.law_forgery.specs.Named.{NamesAgree}
 use Rattle.law_forgery.specs.Unseen.{RunsKeysUnseen}
 use Rattle.law_connections.specs.Found.{KeysFound}
-use Rattle.command_deploy.specs.Deploys.{DeploySays, OwnPart}
-use Rattle.command_world.specs.Statuses.{schedule_status}
+use Rattle.command_deploy.specs.Promise.{DeployPromise, OwnPart}
+use Rattle.command_world.specs.Status.{schedule_status}
 use Rattle.command_run.specs.Lines.{lines_deployed}
-use Rattle.command_run.specs.Runs.{RunsWith, run_may}
+use Rattle.command_run.specs.Promise.{RunsWith, run_may}
 
 -- what is its own after the head: the run is that of `run`, and so is what holds of it
 abbrev pub lines_part : Assembler → Mac → OwnPart
@@ -32,11 +32,11 @@ lines_part assemble mac = record {
 
 -- the command `lines`
 abbrev pub LinesSay : Assembler → Mac → Bool → Bool → CommandAt → CommandAt → ℕ → Type 0
-LinesSay assemble mac = DeploySays mac (lines_part assemble mac)
+LinesSay assemble mac = DeployPromise mac (lines_part assemble mac)
 
--- What `lines` promises, and beside it what a reader may take from its items, as `RunTold` says it
+-- What `lines` promises, and beside it what a reader may take from its items, as `RunPromise` says it
 -- of those of `run`.
-pub record LinesTold (assemble : Assembler) (mac : Mac) (tells to_tell : Bool) (m0 m1 : CommandAt)
+pub record LinesPromise (assemble : Assembler) (mac : Mac) (tells to_tell : Bool) (m0 m1 : CommandAt)
     (status : ℕ) : Type 0 where
   pub says : LinesSay assemble mac tells to_tell m0 m1 status
   pub reader : (d : Deployed) (items : List Item) → Legal d.app items → TellsReader d.app items

@@ -22,7 +22,7 @@ use Rattle.command_world.specs.Schedule.{Schedule, schedule}
 use Rattle.command_run.specs.declared.trace.Shown.{Shown}
 use Rattle.command_run.specs.declared.trace.Shown.TheVariants.{Items, Lines}
 use Rattle.command_run.specs.Lines.{Performed, performed, texts_in}
-use Rattle.command_run.specs.Run.{stop_output}
+use Rattle.command_run.specs.Output.{stop_output}
 
 -- what comes before a line's items
 abbrev pub front : Shown → List ℕ → List ℕ

@@ -8,12 +8,12 @@ ghost use Rattle.sx_sched.specs.Reading.{Assembler};
 ghost use Rattle.command_promise.specs.Head.{head};
 ghost use Rattle.command_head.specs.Meanings.{Meaning};
 ghost use Rattle.command_world.specs.WellFormed.{IsGoodInput};
-ghost use Rattle.command_world.specs.Statuses.{schedule_status};
-ghost use Rattle.command_deploy.specs.Deploy.{deploy_status};
+ghost use Rattle.command_world.specs.Status.{schedule_status};
+ghost use Rattle.command_deploy.specs.Output.{deploy_status};
 ghost use Rattle.command_run.specs.Laws.{EachGivesItsItems, LinesGiveItems, RunsAreSame};
 
 /// A deployment that keeps the rules, the line `%%` and a schedule that does have status 0. So
-/// `complete` of `RunSays` says of these that they are run to their end.
+/// `complete` of `RunDeployPromise` says of these that they are run to their end.
 pub fn good_input_has_status_0()
     ensures { (assemble : Assembler) (meaning : Meaning) (answers : List Answer)
         → IsGoodInput assemble meaning (head answers)

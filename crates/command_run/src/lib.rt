@@ -1,7 +1,7 @@
 //! The commands `run` and `lines`: a deployment, and a schedule that is performed while it is read.
 //!
-//! What they promise is `RunTold` of specs/Runs.antt and `LinesTold` of specs/Tells.antt. They are
-//! commands that deploy (command_deploy), whose own parts write `run_deployed` (specs/Run.antt) and
+//! What they promise is `RunPromise` of specs/Promise.antt and `LinesPromise` of specs/Tells.antt. They are
+//! commands that deploy (command_deploy), whose own parts write `run_deployed` (specs/Output.antt) and
 //! `lines_deployed` (specs/Lines.antt): of the deployment, of the texts of its modules' images, and
 //! of the lines of its schedule (command_world), each of which is an act in a world (sx_world). The
 //! assembler for the schedule's `asm` lines, a parameter there, is that of sx_asm.

@@ -3,7 +3,7 @@
 
 ghost use Rattle.sx_asm.specs.Assembled.{assembled};
 ghost use Rattle.command_promise.specs.Told.{command_at};
-ghost use Rattle.command_run.specs.Tells.{LinesTold};
+ghost use Rattle.command_run.specs.Tells.{LinesPromise};
 
 use crate::schedule::run_lines;
 use crate::trace::Shown;
@@ -22,7 +22,7 @@ struct LinesCommand;
 impl Deploys for LinesCommand {
     ghost use Rattle.sx_asm.specs.Assembled.{assembled};
     ghost use Rattle.command_run.specs.Lines.{lines_deployed};
-    ghost use Rattle.command_run.specs.Runs.{run_may};
+    ghost use Rattle.command_run.specs.Promise.{run_may};
 
     ghost behind = { lines_deployed assembled };
 
@@ -62,7 +62,7 @@ pub fn lines_over<S: Source, K: Sink, T: Tag + Copy>(
     input: &mut S,
     output: &mut K,
 ) -> u8
-    ensures { LinesTold assembled T.mac S.tells K.tells
+    ensures { LinesPromise assembled T.mac S.tells K.tells
         (command_at (S.at input.old) (K.at output.old))
         (command_at (S.at input.new) (K.at output.new)) result }
 {

@@ -2,7 +2,7 @@
 
 ghost use Rattle.sx_asm.specs.Assembled.{assembled};
 ghost use Rattle.command_promise.specs.Told.{command_at};
-ghost use Rattle.command_run.specs.Runs.{RunTold};
+ghost use Rattle.command_run.specs.Promise.{RunPromise};
 
 use crate::schedule::run_lines;
 use crate::trace::Shown;
@@ -21,8 +21,8 @@ struct RunCommand;
 
 impl Deploys for RunCommand {
     ghost use Rattle.sx_asm.specs.Assembled.{assembled};
-    ghost use Rattle.command_run.specs.Run.{run_deployed};
-    ghost use Rattle.command_run.specs.Runs.{run_may};
+    ghost use Rattle.command_run.specs.Output.{run_deployed};
+    ghost use Rattle.command_run.specs.Promise.{run_may};
 
     ghost behind = { run_deployed assembled };
 
@@ -67,7 +67,7 @@ pub fn run_over<S: Source, K: Sink, T: Tag + Copy>(
     input: &mut S,
     output: &mut K,
 ) -> u8
-    ensures { RunTold assembled T.mac S.tells K.tells
+    ensures { RunPromise assembled T.mac S.tells K.tells
         (command_at (S.at input.old) (K.at output.old))
         (command_at (S.at input.new) (K.at output.new)) result }
 {

@@ -14,7 +14,7 @@ ghost use Rattle.spec_run.specs.Law.{IsSoundSetting};
 ghost use Rattle.sx_world.specs.Standing.{IsGoing, Stands};
 ghost use Rattle.spec_run.specs.State.{switched_on};
 ghost use Rattle.command_head.specs.Given.{RanOutSince};
-ghost use Rattle.command_run.specs.Runs.{run_may};
+ghost use Rattle.command_run.specs.Promise.{run_may};
 ghost use Rattle.command_world.specs.Schedule.{judged_line};
 ghost use Rattle.command_run.specs.Turns.{TellsMade, TurnsFrom, shown_from};
 ghost use Rattle.command_world.specs.Turning.{MayRunOut};

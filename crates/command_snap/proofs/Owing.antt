@@ -16,11 +16,11 @@ use Rattle.command_world.specs.Schedule.{judged_line}
 use Rattle.command_world.specs.Images.{images_text}
 use Rattle.command_world.specs.Broken.{broken_output}
 use Rattle.command_snap.specs.declared.queries.Query.{Query}
-use Rattle.command_snap.specs.Queries.{judged_query}
+use Rattle.command_snap.specs.Input.{judged_query}
 use Rattle.command_snap.specs.Answers.{answer_text}
 use Rattle.command_snap.specs.Reading.{Asking, Asks, Breaks, Unread, asking}
-use Rattle.command_snap.specs.Snap.{answers_from, asked_output, on_query, query_fault, snap_from}
-use Rattle.command_snap.specs.Snaps.{snap_part}
+use Rattle.command_snap.specs.Output.{answers_from, asked_output, on_query, query_fault, snap_from}
+use Rattle.command_snap.specs.Promise.{snap_part}
 use Rattle.command_snap.proofs.Statuses.{deployed_same, not_zero, not_four, not_two}
 use Rattle.command_snap.proofs.Written.{asks_breaks, asks_line, asks_mark, asks_unread, query_line}
 

@@ -15,10 +15,10 @@ use Rattle.spec_run.specs.Accepted.{setting_of}
 use Rattle.command_world.specs.Schedule.{judged_line}
 use Rattle.command_world.specs.Images.{images_text}
 use Rattle.command_snap.specs.declared.queries.Query.{Query}
-use Rattle.command_snap.specs.Queries.{judged_query}
+use Rattle.command_snap.specs.Input.{judged_query}
 use Rattle.command_snap.specs.Reading.{Asking, Asks, Breaks, Unread, asking, on_line}
-use Rattle.command_snap.specs.Snap.{answers_from, asked_output, on_query, snap_deployed, snap_from}
-use Rattle.command_snap.specs.Statuses.{asking_status, queries_status, query_status, snap_status}
+use Rattle.command_snap.specs.Output.{answers_from, asked_output, on_query, snap_deployed, snap_from}
+use Rattle.command_snap.specs.Status.{asking_status, queries_status, query_status, snap_status}
 
 query_same : (names : NameLists) (set : Setting) (lines : List Line) (number : ℕ) (r : Result Query ℕ) (rest : Output) (n : ℕ) → rest.status ≡ n
     → (on_query names set lines number r rest).status ≡ query_status r n

@@ -15,14 +15,14 @@ use Rattle.spec_run.specs.Setting.{Setting}
 use Rattle.command_world.specs.Schedule.{judged_line}
 use Rattle.command_world.specs.Broken.{broken_output}
 use Rattle.command_snap.specs.declared.queries.Query.{Query}
-use Rattle.command_snap.specs.Queries.{judged_query}
+use Rattle.command_snap.specs.Input.{judged_query}
 use Rattle.spec_machine.specs.State.{State}
 use Rattle.sx_world.specs.Held.{Held}
 use Rattle.sx_snap.specs.Timeline.{world_at}
 use Rattle.sx_snap.specs.Checkpoints.{StandsAfter}
 use Rattle.command_snap.specs.Answers.{of_node}
 use Rattle.command_snap.specs.Reading.{Asks, asking, on_line}
-use Rattle.command_snap.specs.Snap.{answers_from, asked_output, ended_output, on_query, snap_from}
+use Rattle.command_snap.specs.Output.{answers_from, asked_output, ended_output, on_query, snap_from}
 
 module _ (names : NameLists) (set : Setting) (images : List ℕ) (before : List Line) where
   pub asks_end : snap_from names set images before (answer.End ∷ []) ≡ behind images ended_output

@@ -10,7 +10,7 @@ use Rattle.sx_trace.specs.Names.{NameLists}
 use Rattle.sx_sched.specs.Lines.{Line}
 use Rattle.command_head.specs.Given.{GivenSince, WantsLast}
 use Rattle.command_world.specs.Schedule.{judged_line}
-use Rattle.command_snap.specs.Queries.{judged_query}
+use Rattle.command_snap.specs.Input.{judged_query}
 
 -- the text is the next line of a schedule, and was kept
 pub record KeepsLine (names : NameLists) (text : List ℕ) (before after : List Line) : Type 0 where

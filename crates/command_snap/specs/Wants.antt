@@ -7,7 +7,7 @@ use Rattle.sx_trace.specs.Names.{NameLists}
 use Rattle.sx_deploy.specs.Deployment.{Deployed}
 use Rattle.command_world.specs.Schedule.{judged_line}
 use Rattle.command_world.specs.Turning.{MayRunOut}
-use Rattle.command_snap.specs.Queries.{judged_query}
+use Rattle.command_snap.specs.Input.{judged_query}
 
 -- where a line stands: after so many lines of the schedule; or after the mark of a schedule of so
 -- many lines, and so many queries

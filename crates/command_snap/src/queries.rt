@@ -4,9 +4,9 @@ ghost use Rattle.std.specs.Prelude.{◌≡◌, ◌+◌, ◌<◌, ◌≤◌, IfOk
 ghost use Rattle.sx_trace.specs.Names.{NameLists};
 ghost use Rattle.sx_trace.specs.ValidNames.{are_valid};
 ghost use Rattle.sx_sched.specs.Words.{words_of};
-ghost use Rattle.command_snap.specs.Queries.{bytes_query, items_query, judged_query};
+ghost use Rattle.command_snap.specs.Input.{bytes_query, items_query, judged_query};
 ghost use Rattle.command_snap.specs.Asked.{IsAsked};
-ghost use Rattle.command_snap.specs.Queries.{node_of, number_in, query_of_kind, registers_query};
+ghost use Rattle.command_snap.specs.Input.{node_of, number_in, query_of_kind, registers_query};
 
 use sx_io::number;
 use sx_sched::words::{four_words, is_comment, one_word, split_word, two_words};
@@ -138,7 +138,7 @@ fn query_of_kind(names: &Names, last: u32, first: &[u8], words: &[u8]) -> Result
 
 /// The query of the line with this number, counted from 1, about a schedule with so many lines; or
 /// the first rule that it breaks.
-#[tactic(auto, unfolding(crate::specs::Queries::judged_query))]
+#[tactic(auto, unfolding(crate::specs::Input::judged_query))]
 pub(crate) fn judge_query(names: &Names, last: u32, number: u32, text: &[u8]) -> Result<Query, u8>
     requires { IsTrue (are_valid names.now) }
     ensures query { result ≡ judged_query names.now last number text.now }

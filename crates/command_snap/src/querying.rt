@@ -13,11 +13,11 @@ ghost use Rattle.sx_deploy.specs.SeenDeployment.{deployed_as};
 ghost use Rattle.spec_run.specs.Accepted.{setting};
 ghost use Rattle.spec_run.specs.Law.{IsSoundSetting};
 ghost use Rattle.sx_snap.specs.Checkpoints.{IsTimeline};
-ghost use Rattle.command_snap.specs.Queries.{judged_query};
+ghost use Rattle.command_snap.specs.Input.{judged_query};
 ghost use Rattle.command_snap.specs.Asked.{IsAsked};
 ghost use Rattle.command_snap.specs.Kept.{QueriesWant};
 ghost use Rattle.command_snap.specs.Answers.{answer_text};
-ghost use Rattle.command_snap.specs.Snap.{answers_from, query_fault};
+ghost use Rattle.command_snap.specs.Output.{answers_from, query_fault};
 
 use crate::answers::{Range, bytes_line, items_text, registers_line};
 use crate::queries::{Query, TOO_LONG, judge_query};

@@ -18,7 +18,7 @@ ghost use Rattle.command_world.specs.Images.{images_text};
 ghost use Rattle.command_world.specs.Schedule.{judged_line};
 ghost use Rattle.command_world.specs.Turning.{MayRunOut};
 ghost use Rattle.command_snap.specs.Kept.{KeepsLine, QueriesWant};
-ghost use Rattle.command_snap.specs.Snap.{answers_from, ended_output, snap_from};
+ghost use Rattle.command_snap.specs.Output.{answers_from, ended_output, snap_from};
 ghost use Rattle.command_snap.specs.Wants.{snap_may};
 
 use crate::querying::answer_queries;

@@ -7,7 +7,7 @@ ghost use Rattle.sx_deploy.specs.Law.{IsSoundDeployment};
 ghost use Rattle.sx_deploy.specs.SeenDeployment.{deployed_as};
 ghost use Rattle.sx_world.specs.InMemory.{image_setting};
 ghost use Rattle.sx_snap.specs.Checkpoints.{IsTimeline};
-ghost use Rattle.command_snap.specs.Snaps.{SnapSays};
+ghost use Rattle.command_snap.specs.Promise.{SnapPromise};
 
 use crate::schedule::snap_built;
 use command_deploy::{Deploys, deploy_over};
@@ -47,7 +47,7 @@ fn new_timeline<T: Tag + Copy>(
 struct SnapCommand;
 
 impl Deploys for SnapCommand {
-    ghost use Rattle.command_snap.specs.Snap.{snap_deployed};
+    ghost use Rattle.command_snap.specs.Output.{snap_deployed};
     ghost use Rattle.command_snap.specs.Wants.{snap_may};
 
     ghost behind = { snap_deployed };
@@ -91,7 +91,7 @@ pub fn snap_over<S: Source, K: Sink, T: Tag + Copy>(
     input: &mut S,
     output: &mut K,
 ) -> u8
-    ensures { SnapSays T.mac S.tells K.tells (command_at (S.at input.old) (K.at output.old))
+    ensures { SnapPromise T.mac S.tells K.tells (command_at (S.at input.old) (K.at output.old))
         (command_at (S.at input.new) (K.at output.new)) result }
 {
     deploy_over::<SnapCommand, S, K, T>(alloc, tag, input, output)

@@ -11,7 +11,7 @@ use Rattle.command_explain.specs.Meant.{AreMeanings, Meanings}
 use Rattle.command_explain.specs.Trace.{trace_lines}
 use Rattle.command_watch.specs.declared.following.Following.{Following}
 use Rattle.command_watch.specs.Following.{Stands}
-use Rattle.command_watch.specs.Watch.{watch_from}
+use Rattle.command_watch.specs.Output.{watch_from}
 
 -- The property was followed through these items, and what is left is what is said from the line after them on.
 pub record Between (tells to_tell : Bool) (m1 m2 : CommandAt) (old new : Ahead) (names : NameLists) (first now : Following) (number : ℕ) : Type 0 where

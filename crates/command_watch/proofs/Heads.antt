@@ -41,7 +41,7 @@ use Rattle.command_explain.specs.Trace.{image_lines}
 use Rattle.command_explain.proofs.Heads.{told_also}
 use Rattle.command_watch.specs.Meant.{AreMeanings, Meanings}
 use Rattle.command_watch.specs.Following.{RefusesText, ReadsOn}
-use Rattle.command_watch.specs.Watch.{behind_mark, watch_all, watch_found, watch_head, watch_judged, watch_lines, watch_property}
+use Rattle.command_watch.specs.Output.{behind_mark, watch_all, watch_found, watch_head, watch_judged, watch_lines, watch_property}
 use Rattle.command_watch.proofs.Limits.{IsNone, end_longer, found_longer, longer_behind, none_longer, seen, seen_as, small, number_in, whole_behind}
 use Rattle.command_watch.proofs.Longer.{got_longer, reads_longer}
 

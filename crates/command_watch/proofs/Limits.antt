@@ -5,7 +5,7 @@ use Rattle.std.proofs.lemmas.List.{append-nil}
 use Rattle.sx_io.specs.Reading.{Answer, Ending, Ended, Broken, Line, End, Long, Fault, Limit, at_end, longest, newline, scan, without_return}
 use Rattle.command_promise.specs.Head.{Head, Found, TooLong, NoMark, Unread, head_behind, head_lines, is_mark, most_bytes}
 use Rattle.command_promise.specs.HeadRead.{Noted}
-use Rattle.command_watch.specs.Watch.{behind_mark}
+use Rattle.command_watch.specs.Output.{behind_mark}
 
 -- ---- what is seen of a head
 

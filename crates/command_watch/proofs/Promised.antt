@@ -12,11 +12,11 @@ use Rattle.command_promise.specs.Head.{head}
 use Rattle.command_text.specs.Faults.{TellsFaults}
 use Rattle.command_head.specs.Found.{RunsOutBehindHead}
 use Rattle.command_property.proofs.Known.{is_known, known}
-use Rattle.command_explain.specs.Explains.{EndsAs}
+use Rattle.command_explain.specs.Promise.{EndsAs}
 use Rattle.command_explain.proofs.Found.{are_meant as are_read, meant as read}
 use Rattle.command_watch.specs.Meant.{AreMeanings, Meanings}
-use Rattle.command_watch.specs.Watch.{watch_all, watch_lines}
-use Rattle.command_watch.specs.Watches.{WatchSays, input_of}
+use Rattle.command_watch.specs.Output.{watch_all, watch_lines}
+use Rattle.command_watch.specs.Promise.{WatchPromise, input_of}
 use Rattle.command_watch.proofs.Owing.{due_all}
 use Rattle.command_watch.proofs.Statuses.{head_not_two, head_twelve, head_zero, not_four, not_zero}
 
@@ -65,7 +65,7 @@ status_is to_tell m0 m1 status means (inl six) twelve = absurd (omega (arith, si
 status_is to_tell m0 m1 status means (inr all) twelve = sym all.0 ∙ twelve
 
 pub watch_promise : {tells to_tell : Bool} {m0 m1 : CommandAt} {status : ℕ}
-    → ((means : Meanings) → AreMeanings means → Told tells to_tell watch_lines m0 m1 status (watch_all means) (RunsOutBehindHead status)) → WatchSays tells to_tell m0 m1 status
+    → ((means : Meanings) → AreMeanings means → Told tells to_tell watch_lines m0 m1 status (watch_all means) (RunsOutBehindHead status)) → WatchPromise tells to_tell m0 m1 status
 watch_promise {tells} {to_tell} {m0} {m1} {status} told = record {
   told = told;
   streams = λ means is. streams-within watch_lines (watch_all means) (due_all means) (told means is);
@@ -80,7 +80,7 @@ watch_promise {tells} {to_tell} {m0} {m1} {status} told = record {
 }
 
 -- what was told doesn't end with the status for other words
-pub watch_not_two : {tells to_tell : Bool} {m0 m1 : CommandAt} {status : ℕ} → WatchSays tells to_tell m0 m1 status → status ≡ 2 → ⊥
+pub watch_not_two : {tells to_tell : Bool} {m0 m1 : CommandAt} {status : ℕ} → WatchPromise tells to_tell m0 m1 status → status ≡ 2 → ⊥
 watch_not_two says two =
     let w = told-some (says.told meant are_meant) in
     head_not_two meant (head w.0) (sym (w.1.0.whole (λ five. omega (arith, two, five)) (λ six. omega (arith, two, six))).0 ∙ two)

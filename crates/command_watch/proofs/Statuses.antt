@@ -17,8 +17,8 @@ use Rattle.command_explain.specs.declared.lines.TraceLine.{TraceLine}
 use Rattle.command_explain.specs.declared.lines.TraceLine.TheVariants as kind
 use Rattle.command_explain.specs.Trace.{Behind, Breaks, Missing, Start, Stop, Trace, Unread, Whole, image_line, judged_line, line_of, on_image, on_line, start, stop_behind, trace}
 use Rattle.command_watch.specs.Meant.{Meanings}
-use Rattle.command_watch.specs.Watch.{stop_output, unless_broken, watch_all, watch_found, watch_from, watch_head, watch_judged, watch_property, watch_start}
-use Rattle.command_watch.specs.Watches.{IsBrokenTrace, IsKeptTrace, OfDeployment, OfInput, OfProperty, OfRest}
+use Rattle.command_watch.specs.Output.{stop_output, unless_broken, watch_all, watch_found, watch_from, watch_head, watch_judged, watch_property, watch_start}
+use Rattle.command_watch.specs.Promise.{IsBrokenTrace, IsKeptTrace, OfDeployment, OfInput, OfProperty, OfRest}
 
 -- ---- what a status says of a trace
 

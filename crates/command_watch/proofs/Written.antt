@@ -8,9 +8,9 @@ use Rattle.sx_model.specs.Legal.{before}
 use Rattle.sx_watch.specs.Watched.{PropertyTree, broken_at}
 use Rattle.command_explain.specs.declared.lines.TraceLine.{TraceLine}
 use Rattle.command_explain.specs.declared.lines.TraceLine.TheVariants as kind
-use Rattle.command_explain.specs.Explain.{broken_output}
+use Rattle.command_explain.specs.Output.{broken_output}
 use Rattle.command_explain.specs.Trace.{Breaks, Trace, judged_line, line_of, on_line, stop_behind, trace}
-use Rattle.command_watch.specs.Watch.{broken_line, stop_output, unless_broken, watch_from}
+use Rattle.command_watch.specs.Output.{broken_line, stop_output, unless_broken, watch_from}
 use Rattle.command_watch.proofs.Standing.{broken_more}
 
 module _ (p : PropertyTree) (item : List ℕ → Option Item) (front : List Item) where

@@ -22,7 +22,7 @@ use Rattle.command_head.specs.Found.{RunsOutBehindHead}
 use Rattle.command_property.specs.Refused.{fault_words, refused_output}
 use Rattle.command_watch.specs.declared.following.Following.{Following}
 use Rattle.command_watch.specs.Meant.{Meanings}
-use Rattle.command_watch.specs.Watch.{watch_all, watch_from, watch_lines}
+use Rattle.command_watch.specs.Output.{watch_all, watch_from, watch_lines}
 
 -- None of these items breaks the property before the first that is forged, and f has seen
 -- those before that.

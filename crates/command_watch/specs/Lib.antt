@@ -1,6 +1,6 @@
--- Begin with Watches: what the command promises. Watch has what it writes, Meant what texts and
+-- Begin with Promise: what the command promises. Output has what it writes, Meant what texts and
 -- lines mean. Following is for contracts of functions.
 pub mod Following
 pub mod Meant
-pub mod Watch
-pub mod Watches
+pub mod Output
+pub mod Promise

@@ -7,7 +7,7 @@ ghost use Rattle.sx_trace.specs.ValidNames.{are_valid};
 ghost use Rattle.sx_watch.specs.Watched.{property_as};
 ghost use Rattle.command_explain.specs.Meant.{AreMeanings, Meanings};
 ghost use Rattle.command_explain.specs.Trace.{image_lines, start};
-ghost use Rattle.command_watch.specs.Watch.{watch_start};
+ghost use Rattle.command_watch.specs.Output.{watch_start};
 
 use crate::trace::watch_trace;
 use command_explain::{ImageLine, NO_TRACE, break_off, front_line};

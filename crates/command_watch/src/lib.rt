@@ -1,8 +1,8 @@
 //! The command `watch`: a deployment, a property of it, and a trace, of which it says which item is
 //! the first that breaks the property.
 //!
-//! What it promises is `WatchSays` of specs/Watches.antt: what is written, and the exit status, are
-//! `watch_all` (specs/Watch.antt) of the input: of its head (command_promise) and of the deployment in it
+//! What it promises is `WatchPromise` of specs/Promise.antt: what is written, and the exit status, are
+//! `watch_all` (specs/Output.antt) of the input: of its head (command_promise) and of the deployment in it
 //! (sx_deploy), of the text after that and of the property in it (sx_watch), and of the items of
 //! its trace (command_explain).
 //!

@@ -6,7 +6,7 @@ ghost use Rattle.sx_trace.specs.declared.items.Item.{Item as Listed};
 ghost use Rattle.sx_model.specs.Legal.{before};
 ghost use Rattle.sx_watch.specs.Watched.{PropertyTree};
 ghost use Rattle.command_watch.specs.Following.{Stands};
-ghost use Rattle.command_watch.specs.Watch.{broken_line, kept_output, kept_text};
+ghost use Rattle.command_watch.specs.Output.{broken_line, kept_output, kept_text};
 
 use crate::following::Following;
 use command_explain::{put_forged, put_number};

@@ -10,7 +10,7 @@ ghost use Rattle.sx_watch.specs.Watched.{PropertyTree, property_as};
 ghost use Rattle.command_explain.specs.Meant.{AreMeanings, Meanings};
 ghost use Rattle.command_explain.specs.Trace.{stop_behind, trace_lines};
 ghost use Rattle.command_watch.specs.Following.{Stands, TurnsFrom};
-ghost use Rattle.command_watch.specs.Watch.{stop_output, watch_from};
+ghost use Rattle.command_watch.specs.Output.{stop_output, watch_from};
 
 use crate::following::Following;
 use crate::text::{finish_broken, finish_kept};

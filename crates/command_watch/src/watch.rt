@@ -12,8 +12,8 @@ ghost use Rattle.command_head.specs.Found.{RunsOutBehindHead};
 ghost use Rattle.command_explain.specs.Trace.{image_lines};
 ghost use Rattle.command_watch.specs.Meant.{AreMeanings, Meanings};
 ghost use Rattle.command_watch.specs.Following.{RefusesText, ReadsOn};
-ghost use Rattle.command_watch.specs.Watch.{watch_all, watch_judged, watch_lines};
-ghost use Rattle.command_watch.specs.Watches.{WatchSays};
+ghost use Rattle.command_watch.specs.Output.{watch_all, watch_judged, watch_lines};
+ghost use Rattle.command_watch.specs.Promise.{WatchPromise};
 
 use crate::images::watch_images;
 use command_head::refusing::{refuse, refuse_head};
@@ -139,7 +139,7 @@ fn watch_told<S: Source, K: Sink>(alloc: Global, input: &mut S, output: &mut K) 
 /// output of a run. Gives the exit status, as `top` does for this command. Nothing is read once the
 /// line of the first item was whole that breaks the property.
 pub fn watch_over<S: Source, K: Sink>(alloc: Global, input: &mut S, output: &mut K) -> u8
-    ensures { WatchSays S.tells K.tells (command_at (S.at input.old) (K.at output.old))
+    ensures { WatchPromise S.tells K.tells (command_at (S.at input.old) (K.at output.old))
         (command_at (S.at input.new) (K.at output.new)) result }
 {
     watch_told(alloc, input, output)

@@ -10,7 +10,7 @@ use Rattle.sx_deploy.specs.Deployment.{Deployed}
 use Rattle.command_world.specs.Schedule.{Stop, AtEnd, Breaks, Schedule, judged_line, on_line, schedule}
 use Rattle.command_world.specs.Schedule as sched
 use Rattle.command_world.specs.WellFormed.{IsWellFormed}
-use Rattle.command_world.specs.Statuses.{schedule_status, stop_status}
+use Rattle.command_world.specs.Status.{schedule_status, stop_status}
 
 line_zero : (number : ℕ) (r : Result lines.Line ℕ) (rest : Schedule) → IsOk r → stop_status rest.stop ≡ 0 → stop_status (on_line number r rest).stop ≡ 0
 line_zero number (Ok line) rest good h = h

@@ -1,6 +1,6 @@
 -- Begin with Compiled, which images there are of a deployment, and Schedule, from the lines of an
 -- input to the lines of a schedule. Images has the lines that show images, Items those that show
--- items; Statuses and WellFormed say when an input is run to its end. Built and Turning are for
+-- items; Status and WellFormed say when an input is run to its end. Built and Turning are for
 -- contracts of functions.
 pub mod Built
 pub mod Compiled
@@ -10,4 +10,4 @@ pub mod Schedule
 pub mod Broken
 pub mod Turning
 pub mod WellFormed
-pub mod Statuses
+pub mod Status

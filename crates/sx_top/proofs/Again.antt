@@ -8,7 +8,7 @@ use Rattle.command_text.specs.Output.{trace_line, end_line}
 use Rattle.command_world.specs.Images.{images_text}
 use Rattle.command_world.specs.Schedule.{Schedule}
 use Rattle.command_world.specs.Items.{items_text}
-use Rattle.command_run.specs.Run.{run_from, schedule_output}
+use Rattle.command_run.specs.Output.{run_from, schedule_output}
 use Rattle.sx_top.specs.Laws.{LinesRunAgain}
 
 pub lines_run_again : LinesRunAgain

@@ -7,16 +7,16 @@ use Rattle.sx_tag.specs.Mac.{Mac}
 use Rattle.sx_deploy.specs.Deployment.{Deployed}
 use Rattle.spec_run.specs.Setting.{Setting}
 use Rattle.command_text.specs.Output.{trace_line, end_line}
-use Rattle.command_head.specs.Begun.{Deploys}
+use Rattle.command_head.specs.Begun.{ReadsAs}
 use Rattle.command_world.specs.Images.{images_text}
 use Rattle.command_world.specs.Items.{items_text}
 use Rattle.command_deploy.specs.Same.{RunsIn}
-use Rattle.command_run.specs.Run.{run_deployed}
-use Rattle.command_run.specs.Runs.{run_part}
+use Rattle.command_run.specs.Output.{run_deployed}
+use Rattle.command_run.specs.Promise.{run_part}
 use Rattle.command_run.specs.Tells.{lines_part}
-use Rattle.command_drive.specs.Drive.{driven_of}
-use Rattle.command_drive.specs.Drives.{DrivesWith, drive_part, items_said, lines_in, written}
-use Rattle.command_snap.specs.Snaps.{snap_part}
+use Rattle.command_drive.specs.Output.{driven_of}
+use Rattle.command_drive.specs.Promise.{DrivesWith, drive_part, items_said, lines_in, written}
+use Rattle.command_snap.specs.Promise.{snap_part}
 
 -- Each deployment has one setting: `run`, `drive`, `snap` and `lines` run it in this, in each call.
 abbrev pub OneSetting : Type 0
@@ -31,7 +31,7 @@ OneSetting = (mac : Mac) (d : Deployed) → (set : Setting)
 abbrev pub LinesRunAgain : Type 0
 LinesRunAgain = (mac : Mac) (deployment : Option (List ℕ)) (texts : List (List ℕ))
     → DrivesWith mac deployment texts
-    → (d : Deployed) → Deploys deployment d → (readings : List Answer)
+    → (d : Deployed) → ReadsAs deployment d → (readings : List Answer)
     → let said = (driven_of mac d texts readings).said in
     run_deployed assembled mac d texts (written d.names (lines_in said))
     ≡ behind (images_text d.names.modules texts ++ trace_line)

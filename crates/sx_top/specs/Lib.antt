@@ -1,6 +1,6 @@
--- Begin with Promises: what the program promises. Commands says which command the words name,
+-- Begin with Promise: what the program promises. Commands says which command the words name,
 -- Chosen what holds of it, and Laws what holds of two commands together.
 pub mod Commands
 pub mod Laws
 pub mod Chosen
-pub mod Promises
+pub mod Promise

@@ -4,7 +4,7 @@ ghost use Rattle.std.specs.Prelude.{◌≡◌, map, string_bytes};
 ghost use Rattle.command_promise.specs.Told.{command_at};
 ghost use Rattle.sx_tag.specs.Mac.{hmac_sha256};
 ghost use Rattle.sx_top.specs.Commands.{command_of};
-ghost use Rattle.sx_top.specs.Promises.{ProgramTold};
+ghost use Rattle.sx_top.specs.Promise.{ProgramPromise};
 ghost use Rattle.sx_top.specs.Chosen.{LeavesInput};
 
 use crate::words::{Command, command_of};
@@ -73,7 +73,7 @@ const MISUSED: u8 = 2;
 pub fn top<S: Source, K: Sink>(alloc: Global, words: &[String], input: &mut S, output: &mut K) -> u8
     // What is written, and the status, are what is defined for the words and for the bytes that
     // were taken, and no more was taken than must be.
-    ensures told { ProgramTold hmac_sha256 (map string_bytes words.now) S.tells K.tells
+    ensures told { ProgramPromise hmac_sha256 (map string_bytes words.now) S.tells K.tells
         (command_at (S.at input.old) (K.at output.old))
         (command_at (S.at input.new) (K.at output.new)) result }
     // `gen`, and words that are no command, read nothing.

@@ -1,11 +1,11 @@
 //! The program: it does the command that the words name, `run`, `check`, `explain`, `watch`,
 //! `drive`, `snap`, `holds`, `gen`, `asm`, `dis` or `lines`.
 //!
-//! `top` does all that the program does. What it promises is one record, `ProgramTold` of
-//! specs/Promises.antt, which hands on what its command promises: `AsmTold` and `DisTold`
-//! (command_asm), `CheckTold` (command_check), `DriveSays` (command_drive), `ExplainSays`
-//! (command_explain), `GenTold` (command_gen), `HoldsTold` (command_holds), `LinesTold` and
-//! `RunTold` (command_run), `SnapSays` (command_snap), `WatchSays` (command_watch).
+//! `top` does all that the program does. What it promises is one record, `ProgramPromise` of
+//! specs/Promise.antt, which hands on what its command promises: `AsmPromise` and `DisPromise`
+//! (command_asm), `CheckPromise` (command_check), `DrivePromise` (command_drive), `ExplainPromise`
+//! (command_explain), `GenPromise` (command_gen), `HoldsPromise` (command_holds), `LinesPromise` and
+//! `RunPromise` (command_run), `SnapPromise` (command_snap), `WatchPromise` (command_watch).
 #![tactic(auto)]
 
 mod command;

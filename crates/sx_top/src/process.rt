@@ -8,7 +8,7 @@ ghost use Rattle.std.specs.Prelude.{map, string_bytes};
 ghost use Rattle.std.specs.Process.{exit_status};
 ghost use Rattle.command_promise.specs.Told.{command_at};
 ghost use Rattle.sx_tag.specs.Mac.{hmac_sha256};
-ghost use Rattle.sx_top.specs.Promises.{ProgramTold};
+ghost use Rattle.sx_top.specs.Promise.{ProgramPromise};
 
 use crate::command::top;
 use std::alloc::Global;
@@ -36,7 +36,7 @@ pub fn run_over_streams<S: Source, K: Sink>(
     input: &mut S,
     output: &mut K,
 ) -> ExitCode
-    ensures told { ProgramTold hmac_sha256 (map string_bytes words.now) S.tells K.tells
+    ensures told { ProgramPromise hmac_sha256 (map string_bytes words.now) S.tells K.tells
         (command_at (S.at input.old) (K.at output.old))
         (command_at (S.at input.new) (K.at output.new)) (exit_status result) }
 {

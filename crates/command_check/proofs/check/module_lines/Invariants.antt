@@ -1,5 +1,5 @@
 use Rattle.std.specs.Prelude.{◌≡◌, ◌≤◌, ◌-◌, ◌++◌, length, drop}
-use Rattle.command_check.specs.Check.{module_lines}
+use Rattle.command_check.specs.Output.{module_lines}
 use Rattle.command_check.proofs.check.module_lines.Given as goal
 
 -- the lines so far, and after them those of the modules that are left

@@ -4,7 +4,7 @@ use Rattle.sx_deploy.specs.SeenDeployment.{deployed_as}
 use Rattle.sx_world.specs.InMemory.{image_setting}
 use Rattle.sx_image.specs.InMemory.{texts_of}
 use Rattle.command_head.proofs.Given.{given_none}
-use Rattle.command_drive.specs.Drive.{drive_deployed, drive_readings}
+use Rattle.command_drive.specs.Output.{drive_deployed, drive_readings}
 use Rattle.command_drive.proofs.drive.drive_built.Goals as goal
 
 pub returns-in-Stop-clause-rest : goal.returns-in-Stop-clause-rest

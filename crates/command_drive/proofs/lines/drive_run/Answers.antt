@@ -6,7 +6,7 @@ use Rattle.command_promise.proofs.Laws.{begun-put, does-same, ends-same, told-st
 use Rattle.sx_deploy.specs.SeenDeployment.{deployed_as}
 use Rattle.sx_drive.specs.Honest.{Honest, setup, start}
 use Rattle.command_head.proofs.Given.{given_none}
-use Rattle.command_drive.specs.Drive.{drive_readings}
+use Rattle.command_drive.specs.Output.{drive_readings}
 use Rattle.command_drive.specs.Parts.{drive_from, part_output}
 use Rattle.command_drive.proofs.Named.{are_there, same_app}
 use Rattle.command_drive.proofs.Written.{drive_set_up}

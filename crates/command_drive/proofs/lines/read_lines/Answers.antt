@@ -5,10 +5,10 @@ use Rattle.command_promise.specs.declared.turned.Turned.TheVariants.{Stop}
 use Rattle.command_promise.proofs.Laws.{begun-line, begun-put, ends-same, told-stop, told-end, told-too-long, told-failed}
 use Rattle.sx_deploy.specs.SeenDeployment.{deployed_as}
 use Rattle.command_deploy.proofs.Given.{gave_last, gave_line, gave_none}
-use Rattle.command_drive.specs.Drive.{steps_text}
-use Rattle.command_drive.specs.Drives.{drive_may}
+use Rattle.command_drive.specs.Output.{steps_text}
+use Rattle.command_drive.specs.Promise.{drive_may}
 use Rattle.command_drive.specs.Parts.{drive_from}
-use Rattle.command_drive.specs.Readings.{MayRunOut, judged_reading}
+use Rattle.command_drive.specs.Input.{MayRunOut, judged_reading}
 use Rattle.command_drive.proofs.Written.{drive_ended, drive_too_long, drive_unread}
 use Rattle.command_drive.proofs.lines.read_lines.Goals as goal
 

@@ -6,7 +6,7 @@ use Rattle.sx_drive.specs.Driving.{all_said, reading}
 use Rattle.command_drive.specs.declared.readings.ReadingLine.{ReadingLine}
 use Rattle.command_drive.specs.declared.readings.ReadingLine.TheVariants as says
 use Rattle.command_drive.specs.Parts.{drive_from}
-use Rattle.command_drive.specs.Readings.{MayRunOut, judged_reading}
+use Rattle.command_drive.specs.Input.{MayRunOut, judged_reading}
 use Rattle.command_drive.proofs.Named.{are_there, same_app}
 use Rattle.command_drive.proofs.Written.{drive_blank, drive_breaks, drive_reading}
 use Rattle.command_drive.proofs.lines.turn.Goals as goal

@@ -4,7 +4,7 @@ use Rattle.sx_io.specs.declared.outside.Failed.{Failed}
 use Rattle.sx_drive.specs.Driving.{said_of}
 use Rattle.command_text.specs.Batch.{Writes}
 use Rattle.command_world.specs.Items.{items_text}
-use Rattle.command_drive.specs.Drive.{said_text}
+use Rattle.command_drive.specs.Output.{said_text}
 use Rattle.command_drive.proofs.Telling.{said_added, said_failed}
 use Rattle.command_drive.proofs.saying.add_said.Goals as goal
 

@@ -3,7 +3,7 @@ use Rattle.command_promise.specs.Told.{read_line}
 use Rattle.command_promise.proofs.Laws.{ends-same, told-stop, told-end, told-too-long, told-failed}
 use Rattle.sx_mean.specs.View.{app_as}
 use Rattle.sx_deploy.specs.SeenDeployment.{deployed_as}
-use Rattle.command_explain.specs.Explain.{explain_start}
+use Rattle.command_explain.specs.Output.{explain_start}
 use Rattle.command_explain.specs.Trace.{on_image, start}
 use Rattle.command_explain.proofs.Fronts.{passed_line}
 use Rattle.command_explain.proofs.Starting.{behind_image, behind_trace, given, start_from}

@@ -4,7 +4,7 @@ use Rattle.command_promise.specs.Told.{CommandAt, Output, command_at}
 use Rattle.command_promise.specs.Parts.{Begun, Notes}
 use Rattle.sx_deploy.specs.SeenDeployment.{deployed_as}
 use Rattle.command_explain.specs.Meant.{AreMeanings, Meanings}
-use Rattle.command_explain.specs.Explain.{explain_deployed, explain_start}
+use Rattle.command_explain.specs.Output.{explain_deployed, explain_start}
 use Rattle.command_explain.specs.Trace.{image_lines}
 use Rattle.command_explain.proofs.Starting.{start_from}
 use Rattle.command_explain.proofs.Wanted.{GaveImages}

@@ -1,4 +1,4 @@
-use Rattle.command_explain.specs.Explain.{broken_output}
+use Rattle.command_explain.specs.Output.{broken_output}
 use Rattle.command_explain.proofs.Keeping.{ends_kept, ends_stopped}
 use Rattle.command_explain.proofs.text.break_kept.Goals as goal
 

@@ -2,7 +2,7 @@ use Rattle.std.proofs.Common.{List, ap, arith, refl, sym}
 use Rattle.sx_io.specs.Reading.{Answer}
 use Rattle.command_promise.specs.Told.{Output, read_line}
 use Rattle.command_promise.proofs.Laws.{begun-line, ends-same, told-stop, told-end, told-too-long, told-failed}
-use Rattle.command_explain.specs.Explain.{broken_output, stop_output}
+use Rattle.command_explain.specs.Output.{broken_output, stop_output}
 use Rattle.command_explain.specs.Trace.{stop_behind}
 use Rattle.sx_mean.specs.View.{app_as}
 use Rattle.command_explain.proofs.trace.explain_end.Goals as goal

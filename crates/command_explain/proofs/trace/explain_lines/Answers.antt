@@ -11,7 +11,7 @@ use Rattle.command_promise.proofs.Laws.{ends-same, told-end, told-too-long, told
 use Rattle.std.proofs.lemmas.List.{length-append}
 use Rattle.sx_mean.specs.View.{app_as}
 use Rattle.sx_explain.proofs.Following.{few_taken}
-use Rattle.command_explain.specs.Explain.{broken_output, explain_from, stop_output}
+use Rattle.command_explain.specs.Output.{broken_output, explain_from, stop_output}
 use Rattle.command_explain.specs.Trace.{judged_line, line_of, stop_behind}
 use Rattle.command_explain.proofs.Keeping.{Waits, waits_asked, waits_failed, waits_more, waits_new, waits_stop, waits_text, waits_written}
 use Rattle.command_explain.proofs.Written.{said_broken, said_end, said_item, said_last, said_long, said_unread}

@@ -1,7 +1,7 @@
 use Rattle.std.proofs.Common.{inl, refl, []}
 use Rattle.command_promise.proofs.Laws.{told-stop, ends-out-of-memory, prefix-none}
 use Rattle.sx_mean.specs.View.{app_as}
-use Rattle.command_explain.specs.Explain.{explain_from}
+use Rattle.command_explain.specs.Output.{explain_from}
 use Rattle.command_explain.proofs.trace.explain_trace.Goals as goal
 
 pub returns-in-Err-clause-rest : goal.returns-in-Err-clause-rest

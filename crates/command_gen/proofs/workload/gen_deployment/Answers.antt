@@ -6,7 +6,7 @@ use Rattle.sx_deploy.proofs.Meanings.{one_meaning}
 use Rattle.sx_image.specs.declared.image.Image.{Image}
 use Rattle.spec_run.specs.Accepted.{AreImages}
 use Rattle.sx_bulk.specs.Bulk as bulk
-use Rattle.command_gen.specs.Workload.{gen_found}
+use Rattle.command_gen.specs.Promise.{gen_found}
 use Rattle.command_world.specs.Compiled.{compiled_texts}
 use Rattle.command_world.proofs.Building.{are_compiled, are_deployed_images}
 use Rattle.command_gen.proofs.workload.gen_deployment.Goals as goal

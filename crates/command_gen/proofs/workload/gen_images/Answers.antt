@@ -9,7 +9,7 @@ use Rattle.sx_world.specs.Standing.{Stands}
 use Rattle.spec_run.specs.State.{switched_on}
 use Rattle.spec_run.proofs.accepted.Settled.{settled}
 use Rattle.command_world.specs.Images.{images_text}
-use Rattle.command_gen.specs.Workload.{gen_deployed, gen_run}
+use Rattle.command_gen.specs.Promise.{gen_deployed, gen_run}
 use Rattle.command_gen.proofs.Generated.{ends_put}
 use Rattle.command_gen.proofs.workload.gen_images.Goals as goal
 

@@ -6,7 +6,7 @@ use Rattle.sx_bulk.specs.Bulk as bulk
 use Rattle.command_gen.specs.declared.counting.Stopped.{Stopped}
 use Rattle.command_gen.specs.Counting.{EndsAs}
 use Rattle.command_gen.specs.Counts.{summary}
-use Rattle.command_gen.specs.Workload.{gen_run}
+use Rattle.command_gen.specs.Promise.{gen_run}
 use Rattle.command_gen.proofs.Generated.{ends_broken}
 use Rattle.command_gen.proofs.workload.tell_run.Goals as goal
 

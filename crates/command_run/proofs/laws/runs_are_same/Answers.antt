@@ -1,5 +1,5 @@
 use Rattle.command_deploy.proofs.Same.{says_same}
-use Rattle.command_run.specs.Runs.{run_part}
+use Rattle.command_run.specs.Promise.{run_part}
 use Rattle.command_run.proofs.laws.runs_are_same.Goals as goal
 
 pub returns : goal.returns

@@ -14,7 +14,7 @@ use Rattle.command_text.specs.Output.{end_line}
 use Rattle.command_deploy.proofs.Given.{gave_last, gave_line, gave_none}
 use Rattle.command_world.specs.Schedule.{judged_line}
 use Rattle.command_world.specs.Turning.{MayRunOut}
-use Rattle.command_run.specs.Runs.{run_may}
+use Rattle.command_run.specs.Promise.{run_may}
 use Rattle.command_run.specs.Turns.{TurnsLine, shown_from}
 use Rattle.command_run.proofs.Written.{shown_ended, shown_too_long, shown_unread}
 use Rattle.command_run.proofs.schedule.run_lines.Goals as goal

@@ -10,8 +10,8 @@ use Rattle.command_text.specs.Output.{end_line}
 use Rattle.command_head.proofs.Given.{given_line, wants_last}
 use Rattle.command_deploy.proofs.Given.{gave_line, gave_none}
 use Rattle.command_snap.specs.Kept.{query_may}
-use Rattle.command_snap.specs.Queries.{judged_query}
-use Rattle.command_snap.specs.Snap.{answers_from}
+use Rattle.command_snap.specs.Input.{judged_query}
+use Rattle.command_snap.specs.Output.{answers_from}
 use Rattle.command_snap.proofs.querying.answer_queries.Goals as goal
 
 pub queries-init : goal.queries-init

@@ -2,7 +2,7 @@ use Rattle.std.specs.Prelude.{◌≤◌, ◌-◌}
 use Rattle.command_promise.specs.Told.{command_at}
 use Rattle.sx_deploy.specs.SeenDeployment.{deployed_as}
 use Rattle.spec_run.specs.Accepted.{setting}
-use Rattle.command_snap.specs.Snap.{answers_from}
+use Rattle.command_snap.specs.Output.{answers_from}
 use Rattle.command_deploy.proofs.Given.{Gave}
 use Rattle.command_snap.proofs.Between.{GoesOn}
 use Rattle.command_snap.proofs.querying.answer_queries.Given as goal

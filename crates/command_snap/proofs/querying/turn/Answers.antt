@@ -4,9 +4,9 @@ use Rattle.command_promise.proofs.Laws.{does-same, ends-same}
 use Rattle.sx_deploy.specs.SeenDeployment.{deployed_as}
 use Rattle.spec_run.specs.Accepted.{setting}
 use Rattle.command_snap.specs.declared.queries.Query.{Query}
-use Rattle.command_snap.specs.Queries.{judged_query}
+use Rattle.command_snap.specs.Input.{judged_query}
 use Rattle.command_snap.specs.Asked.{IsAsked}
-use Rattle.command_snap.specs.Snap.{answers_from}
+use Rattle.command_snap.specs.Output.{answers_from}
 use Rattle.command_snap.proofs.Written.{query_line}
 use Rattle.command_snap.proofs.querying.turn.Goals as goal
 

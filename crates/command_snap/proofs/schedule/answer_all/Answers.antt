@@ -4,7 +4,7 @@ use Rattle.command_promise.specs.declared.turned.Turned.TheVariants.{Stop}
 use Rattle.command_promise.proofs.Laws.{begun-put, told-stop}
 use Rattle.sx_deploy.specs.SeenDeployment.{deployed_as}
 use Rattle.spec_run.specs.Accepted.{setting}
-use Rattle.command_snap.specs.Snap.{answers_from}
+use Rattle.command_snap.specs.Output.{answers_from}
 use Rattle.command_snap.proofs.schedule.answer_all.Goals as goal
 
 pub returns-in-Stop-clause-rest : goal.returns-in-Stop-clause-rest

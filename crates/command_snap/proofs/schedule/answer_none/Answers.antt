@@ -1,7 +1,7 @@
 use Rattle.std.proofs.Common.{[], ap, arith}
 use Rattle.command_promise.specs.declared.turned.Turned.TheVariants.{Stop}
 use Rattle.command_text.specs.Output.{end_line}
-use Rattle.command_snap.specs.Snap.{ended_output}
+use Rattle.command_snap.specs.Output.{ended_output}
 use Rattle.command_snap.proofs.Written.{put_and_end}
 use Rattle.command_snap.proofs.schedule.answer_none.Goals as goal
 

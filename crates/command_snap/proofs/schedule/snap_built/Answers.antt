@@ -9,7 +9,7 @@ use Rattle.spec_run.specs.Accepted.{setting}
 use Rattle.sx_image.specs.InMemory.{texts_of}
 use Rattle.command_head.proofs.Given.{given_none}
 use Rattle.command_world.specs.Images.{images_text}
-use Rattle.command_snap.specs.Snap.{snap_from}
+use Rattle.command_snap.specs.Output.{snap_from}
 use Rattle.command_snap.proofs.schedule.snap_built.Goals as goal
 
 pub returns-in-Ok-clause-rest : goal.returns-in-Ok-clause-rest

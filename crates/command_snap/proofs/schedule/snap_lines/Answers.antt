@@ -12,7 +12,7 @@ use Rattle.command_world.specs.Schedule.{judged_line}
 use Rattle.command_world.specs.Broken.{broken_output}
 use Rattle.command_world.specs.Turning.{MayRunOut}
 use Rattle.command_deploy.proofs.Given.{gave_last}
-use Rattle.command_snap.specs.Snap.{answers_from, snap_from}
+use Rattle.command_snap.specs.Output.{answers_from, snap_from}
 use Rattle.command_snap.specs.Wants.{snap_may}
 use Rattle.command_snap.proofs.Places.{line_may, queries_ran_out, schedule_more, schedule_none}
 use Rattle.command_snap.proofs.Written.{asks_breaks, asks_end, asks_line, asks_long, asks_mark, asks_unread}

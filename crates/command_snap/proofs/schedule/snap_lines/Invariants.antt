@@ -3,7 +3,7 @@ use Rattle.command_promise.specs.Told.{command_at}
 use Rattle.sx_deploy.specs.SeenDeployment.{deployed_as}
 use Rattle.spec_run.specs.Accepted.{setting}
 use Rattle.sx_snap.specs.Checkpoints.{IsTimeline}
-use Rattle.command_snap.specs.Snap.{snap_from}
+use Rattle.command_snap.specs.Output.{snap_from}
 use Rattle.command_snap.proofs.Between.{GoesOn}
 use Rattle.command_snap.proofs.Places.{GaveSchedule}
 use Rattle.command_snap.proofs.schedule.snap_lines.Given as goal

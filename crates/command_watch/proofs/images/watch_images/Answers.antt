@@ -5,7 +5,7 @@ use Rattle.sx_watch.specs.Watched.{property_as}
 use Rattle.command_explain.specs.Trace.{on_image, start}
 use Rattle.command_explain.proofs.Fronts.{passed_line}
 use Rattle.command_explain.proofs.Starting.{behind_image, behind_trace, given, start_from}
-use Rattle.command_watch.specs.Watch.{watch_start}
+use Rattle.command_watch.specs.Output.{watch_start}
 use Rattle.command_watch.proofs.images.watch_images.Goals as goal
 
 pub lines-init : goal.lines-init

@@ -6,7 +6,7 @@ use Rattle.sx_watch.specs.Watched.{property_as}
 use Rattle.command_explain.specs.Meant.{AreMeanings, Meanings}
 use Rattle.command_explain.specs.Trace.{image_lines}
 use Rattle.command_explain.proofs.Starting.{start_from}
-use Rattle.command_watch.specs.Watch.{watch_start}
+use Rattle.command_watch.specs.Output.{watch_start}
 use Rattle.command_watch.proofs.images.watch_images.Given as goal
 
 -- Whatever came before, what is left is what is said from the line with this number on.

@@ -1,7 +1,7 @@
 use Rattle.std.proofs.Common.{◌∙◌, ◌+◌, ◌∷◌, ◌++◌, [], Bool, true, ap, length, subst, sym}
 use Rattle.command_promise.proofs.Laws.{ends-same}
 use Rattle.command_watch.specs.Following.{Heeded}
-use Rattle.command_watch.specs.Watch.{broken_line}
+use Rattle.command_watch.specs.Output.{broken_line}
 use Rattle.command_watch.proofs.Written.{said_broken}
 use Rattle.command_watch.proofs.trace.turn.Goals as goal
 

@@ -2,9 +2,9 @@ use Rattle.std.proofs.Common.{◌+◌, List, ap, refl, sym}
 use Rattle.sx_io.specs.Reading.{Answer}
 use Rattle.command_promise.specs.Told.{Output, read_line}
 use Rattle.command_promise.proofs.Laws.{begun-line, ends-same, told-stop, told-end, told-too-long, told-failed}
-use Rattle.command_explain.specs.Explain.{broken_output}
+use Rattle.command_explain.specs.Output.{broken_output}
 use Rattle.command_explain.specs.Trace.{stop_behind}
-use Rattle.command_watch.specs.Watch.{stop_output}
+use Rattle.command_watch.specs.Output.{stop_output}
 use Rattle.command_watch.proofs.trace.watch_end.Goals as goal
 
 pub returns-in-End : goal.returns-in-End

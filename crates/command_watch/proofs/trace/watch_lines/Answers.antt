@@ -6,9 +6,9 @@ use Rattle.sx_io.specs.Reading.{Answer}
 use Rattle.command_promise.specs.Told.{Output, command_at, read_line}
 use Rattle.command_promise.specs.Parts.{Begun, Notes}
 use Rattle.command_promise.proofs.Laws.{begun-line, begun-same, ends-same, told-end, told-failed, told-stop, told-too-long}
-use Rattle.command_explain.specs.Explain.{broken_output}
+use Rattle.command_explain.specs.Output.{broken_output}
 use Rattle.command_explain.specs.Trace.{judged_line, line_of, stop_behind, trace_lines}
-use Rattle.command_watch.specs.Watch.{stop_output, watch_from}
+use Rattle.command_watch.specs.Output.{stop_output, watch_from}
 use Rattle.command_watch.proofs.Written.{said_bad, said_end, said_item, said_last, said_long, said_unread}
 use Rattle.command_watch.proofs.trace.watch_lines.Goals as goal
 

@@ -6,7 +6,7 @@ use Rattle.sx_watch.specs.declared.reading.PropertyFault.{PropertyFault}
 use Rattle.sx_watch.specs.Watched.{PropertyTree, property_as}
 use Rattle.sx_watch.proofs.Meanings.{one_property}
 use Rattle.command_explain.specs.Trace.{image_lines}
-use Rattle.command_watch.specs.Watch.{watch_judged}
+use Rattle.command_watch.specs.Output.{watch_judged}
 use Rattle.command_watch.proofs.Heads.{told_refused}
 use Rattle.command_watch.proofs.watch.watch_text.Goals as goal
 

@@ -2,10 +2,10 @@ use Rattle.sx_asm.specs.Assembled.{assembled}
 use Rattle.spec_run.specs.Accepted.{setting_of}
 use Rattle.command_world.specs.Compiled.{compiled_texts}
 use Rattle.command_deploy.proofs.Same.{runs_in}
-use Rattle.command_run.specs.Runs.{run_part}
+use Rattle.command_run.specs.Promise.{run_part}
 use Rattle.command_run.specs.Tells.{lines_part}
-use Rattle.command_drive.specs.Drives.{drive_part}
-use Rattle.command_snap.specs.Snaps.{snap_part}
+use Rattle.command_drive.specs.Promise.{drive_part}
+use Rattle.command_snap.specs.Promise.{snap_part}
 use Rattle.sx_top.proofs.laws.one_setting.Goals as goal
 
 pub returns : goal.returns

@@ -5,7 +5,7 @@ use Rattle.spec_run.proofs.accepted.Settled.{lawfully}
 use Rattle.sx_world.specs.InMemory.{image_setting}
 use Rattle.sx_drive.specs.Honest.{start}
 use Rattle.command_head.proofs.Given.{given_none}
-use Rattle.command_drive.specs.Drive.{drive_deployed}
+use Rattle.command_drive.specs.Output.{drive_deployed}
 use Rattle.command_drive.proofs.drive.DriveCommandDeploys.perform.Goals as goal
 
 pub drive_built-requires-clause-going : goal.drive_built-requires-clause-going

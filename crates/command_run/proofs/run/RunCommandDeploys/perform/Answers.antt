@@ -10,7 +10,7 @@ use Rattle.spec_run.specs.State.{switched_on}
 use Rattle.spec_run.proofs.accepted.Settled.{settled}
 use Rattle.command_head.proofs.Given.{given_none}
 use Rattle.command_run.specs.declared.trace.Shown.TheVariants.{Items}
-use Rattle.command_run.specs.Run.{run_at_start, run_deployed}
+use Rattle.command_run.specs.Output.{run_at_start, run_deployed}
 use Rattle.command_run.specs.Turns.{shown_from}
 use Rattle.command_run.proofs.Listed.{run_shown}
 use Rattle.command_run.proofs.run.RunCommandDeploys.perform.Goals as goal

@@ -7,7 +7,7 @@ use Rattle.spec_run.specs.Setting.{Site}
 use Rattle.spec_run.proofs.accepted.Settled.{settled}
 use Rattle.command_head.proofs.Given.{given_none}
 use Rattle.command_world.specs.Images.{images_text}
-use Rattle.command_snap.specs.Snap.{snap_deployed, snap_from}
+use Rattle.command_snap.specs.Output.{snap_deployed, snap_from}
 use Rattle.command_snap.proofs.snap.SnapCommandDeploys.perform.Goals as goal
 
 pub snap_built-requires-clause-images : goal.snap_built-requires-clause-images

@@ -23,8 +23,8 @@ use Rattle.command_world.specs.Compiled.{compiled_texts}
 use Rattle.command_world.specs.Images.{images_text}
 use Rattle.command_world.specs.Schedule.{Stop, AtEnd, Breaks, schedule}
 use Rattle.command_world.specs.Schedule as sched
-use Rattle.command_world.specs.Statuses.{schedule_status}
-use Rattle.command_deploy.specs.Deploy.{found_status}
+use Rattle.command_world.specs.Status.{schedule_status}
+use Rattle.command_deploy.specs.Output.{found_status}
 
 -- the answers of this many of the workload's lines, from the i-th on, and the end after them
 abbrev pub answers_from : ℕ → ℕ → List Answer
@@ -84,7 +84,7 @@ GenWrote mac n to_tell k0 k1 status =
 -- The command `gen` for n samples, of its sink at the start (k0) and at the end (k1). Whatever the
 -- images are, its status is that of the workload where no write failed and memory sufficed, and
 -- that is 0. Status 5 comes exactly of one write that failed.
-pub record GenTold (mac : Mac) (n : ℕ) (to_tell : Bool) (k0 k1 : SinkAt) (status : ℕ) : Type 0 where
+pub record GenPromise (mac : Mac) (n : ℕ) (to_tell : Bool) (k0 k1 : SinkAt) (status : ℕ) : Type 0 where
   pub says : GenWrote mac n to_tell k0 k1 status
   pub exact : (meaning : Meaning) → IsMeaning meaning → (count.Rose k0.faults k1.faults → ⊥)
       → (status ≡ out_of_memory)

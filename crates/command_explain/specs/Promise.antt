@@ -15,7 +15,7 @@ use Rattle.command_text.specs.Ended.{CameToItsEnd}
 use Rattle.command_head.specs.Found.{RunsOutBehindHead}
 use Rattle.command_head.specs.Wanting.{RanOutAt}
 use Rattle.command_explain.specs.Meant.{Meanings, AreMeanings}
-use Rattle.command_explain.specs.Explain.{explain_all}
+use Rattle.command_explain.specs.Output.{explain_all}
 use Rattle.command_explain.specs.Trace.{Start, Behind, Missing, Whole, explain_lines, start}
 use Rattle.command_explain.specs.Trace.{trace}
 use Rattle.command_explain.specs.Wants.{explain_may}
@@ -54,7 +54,7 @@ EndsAs to_tell m0 m1 status o = (status ≡ out_of_memory)
 -- first item that is forged (`legal`); and it comes for each such input (`complete`). What a legal
 -- trace of a deployment rests on follows (`causes`). Where memory ran out, no line after the head
 -- was given, or the last that was given is one at which it may (`memory`).
-pub record ExplainSays (tells to_tell : Bool) (m0 m1 : CommandAt) (status : ℕ) : Type 0 where
+pub record ExplainPromise (tells to_tell : Bool) (m0 m1 : CommandAt) (status : ℕ) : Type 0 where
   pub told : (means : Meanings) → AreMeanings means
       → Told tells to_tell explain_lines m0 m1 status (explain_all means) (RunsOutBehindHead status)
   pub streams : (means : Meanings) → AreMeanings means

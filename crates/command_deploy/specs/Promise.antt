@@ -8,11 +8,11 @@ use Rattle.command_promise.specs.Head.{head, head_lines}
 use Rattle.sx_deploy.specs.Deployment.{Deployed}
 use Rattle.spec_run.specs.Accepted.{AreImages}
 use Rattle.command_text.specs.Faults.{IsFaultless, TellsFaults}
-use Rattle.command_head.specs.Begun.{Deploys, HasHead, Starved}
+use Rattle.command_head.specs.Begun.{ReadsAs, HasHead, Starved}
 use Rattle.command_head.specs.Meanings.{Meaning, IsMeaning, input_of}
 use Rattle.command_head.specs.Wanting.{RanOutAt}
 use Rattle.command_world.specs.Compiled.{compiled_texts}
-use Rattle.command_deploy.specs.Deploy.{Behind, Wants, deploy_output, deploy_status}
+use Rattle.command_deploy.specs.Output.{Behind, Wants, deploy_output, deploy_status}
 
 -- What a command that deploys has of its own: what it writes after the head, and its status there,
 -- whatever the images are; the statuses with which it is cut short, whatever the input is; at which
@@ -35,8 +35,8 @@ pub record DeploysWith (mac : Mac) (part : OwnPart) (tells to_tell : Bool) (m0 m
   pub deployment : Option (List ℕ)
   pub texts : List (List ℕ)
   pub headed : deployment ≡ None → status ≡ out_of_memory → ⊥
-  pub realize : (d : Deployed) → Deploys deployment d → AreImages mac d texts
-  pub made : (d : Deployed) → Deploys deployment d → texts ≡ compiled_texts d
+  pub realize : (d : Deployed) → ReadsAs deployment d → AreImages mac d texts
+  pub made : (d : Deployed) → ReadsAs deployment d → texts ≡ compiled_texts d
   pub told : (meaning : Meaning) → IsMeaning meaning
       → Told tells to_tell head_lines m0 m1 status (deploy_output part.output meaning texts)
       (λ answers. HasHead deployment (head answers))
@@ -52,7 +52,7 @@ pub record DeploysWith (mac : Mac) (part : OwnPart) (tells to_tell : Bool) (m0 m
 -- and no write failed, unless the command was cut short; status 0 says that the input was read to
 -- its end. Where memory ran out, no line after the head was given, or the last that was given is
 -- one at which it may (`memory`).
-pub record DeploySays (mac : Mac) (part : OwnPart) (tells to_tell : Bool) (m0 m1 : CommandAt)
+pub record DeployPromise (mac : Mac) (part : OwnPart) (tells to_tell : Bool) (m0 m1 : CommandAt)
     (status : ℕ) : Type 0 where
   pub says : Starved tells m0 m1 status ⊎ DeploysWith mac part tells to_tell m0 m1 status
   pub faults : TellsFaults m0 m1 status

@@ -15,8 +15,8 @@ use Rattle.sx_explain.specs.Finished.{EventsAreFinished}
 use Rattle.sx_explain.specs.Sending.{TakenBehind}
 use Rattle.sx_deploy.specs.Deployment.{Deployed, IsRead}
 use Rattle.spec_run.specs.Accepted.{setting_of}
-use Rattle.command_head.specs.Begun.{Deploys}
-use Rattle.command_deploy.specs.Deploys.{DeploySays, OwnPart}
+use Rattle.command_head.specs.Begun.{ReadsAs}
+use Rattle.command_deploy.specs.Promise.{DeployPromise, OwnPart}
 use Rattle.sx_sched.specs.Lines.{Line}
 use Rattle.sx_sched.specs.Reading.{Assembler}
 use Rattle.law_isolation.specs.Guarded.{GuardedRun}
@@ -26,10 +26,10 @@ use Rattle.law_forgery.specs.Unseen.{RunsKeysUnseen}
 use Rattle.law_connections.specs.Found.{KeysFound}
 use Rattle.law_connections.specs.LinksUnseen.{LinksAreUnseen}
 use Rattle.law_connections.specs.Unlinks.{HasMoved}
-use Rattle.command_run.specs.Run.{items_of, run_deployed}
+use Rattle.command_run.specs.Output.{items_of, run_deployed}
 use Rattle.command_world.specs.Compiled.{compiled_texts}
 use Rattle.command_world.specs.Schedule.{judged_line, schedule}
-use Rattle.command_world.specs.Statuses.{schedule_status}
+use Rattle.command_world.specs.Status.{schedule_status}
 use Rattle.command_world.specs.Turning.{MayRunOut}
 
 -- Whatever the schedule is, the items of its run with these images are legal up to the first that
@@ -41,20 +41,20 @@ use Rattle.command_world.specs.Turning.{MayRunOut}
 -- which each thing that happens leaves each private section alone (`guarded`).
 pub record RunsWith (assemble : Assembler) (mac : Mac) (deployment : Option (List ℕ))
     (texts : List (List ℕ)) : Type 0 where
-  pub legal : (d : Deployed) → Deploys deployment d → (schedule : List Answer)
+  pub legal : (d : Deployed) → ReadsAs deployment d → (schedule : List Answer)
       → Legal d.app (before (items_of assemble mac d texts schedule))
-  pub order : (d : Deployed) → Deploys deployment d → (schedule : List Answer)
+  pub order : (d : Deployed) → ReadsAs deployment d → (schedule : List Answer)
       → LegalInOrder d.app (before (items_of assemble mac d texts schedule))
-  pub turns : (d : Deployed) → Deploys deployment d → (schedule : List Answer)
+  pub turns : (d : Deployed) → ReadsAs deployment d → (schedule : List Answer)
       → OneAtATime d.app (before (items_of assemble mac d texts schedule))
-  pub given : (d : Deployed) → Deploys deployment d → (schedule : List Answer)
+  pub given : (d : Deployed) → ReadsAs deployment d → (schedule : List Answer)
       → All IsGiven (before (items_of assemble mac d texts schedule))
-  pub forged : (d : Deployed) → Deploys deployment d → (answers : List Answer)
+  pub forged : (d : Deployed) → ReadsAs deployment d → (answers : List Answer)
       → ForgedIsForgery (setting_of mac d texts) (schedule assemble d.names 1 answers).lines
-  pub links : (d : Deployed) → Deploys deployment d → texts ≡ compiled_texts d
+  pub links : (d : Deployed) → ReadsAs deployment d → texts ≡ compiled_texts d
       → (answers : List Answer)
       → LinksAreUnseen (setting_of mac d texts) (schedule assemble d.names 1 answers).lines
-  pub moved : (d : Deployed) → Deploys deployment d → texts ≡ compiled_texts d
+  pub moved : (d : Deployed) → ReadsAs deployment d → texts ≡ compiled_texts d
       → HasMoved (setting_of mac d texts)
   pub guarded : (d : Deployed) (lines : List Line) → GuardedRun (setting_of mac d texts) lines
 
@@ -74,8 +74,8 @@ run_part assemble mac = record {
 }
 
 -- the command `run`
-abbrev pub RunSays : Assembler → Mac → Bool → Bool → CommandAt → CommandAt → ℕ → Type 0
-RunSays assemble mac = DeploySays mac (run_part assemble mac)
+abbrev pub RunDeployPromise : Assembler → Mac → Bool → Bool → CommandAt → CommandAt → ℕ → Type 0
+RunDeployPromise assemble mac = DeployPromise mac (run_part assemble mac)
 
 -- What `run` promises, and beside it what a reader may take from each legal trace: that follows
 -- from what is legal. So does what each reading, taking and output in it rests on (`causes`): the
@@ -85,9 +85,9 @@ RunSays assemble mac = DeploySays mac (run_part assemble mac)
 -- and that what a handler emits before it sends was put out before the word is taken (`behind`). Of
 -- the keys of nodes and modules a run shows nothing but tags (`keys`), so names in place of them do
 -- as well (`named`). Unless a key is found by code of no deployed module, none is guessed (`found`).
-pub record RunTold (assemble : Assembler) (mac : Mac) (tells to_tell : Bool) (m0 m1 : CommandAt)
+pub record RunPromise (assemble : Assembler) (mac : Mac) (tells to_tell : Bool) (m0 m1 : CommandAt)
     (status : ℕ) : Type 0 where
-  pub says : RunSays assemble mac tells to_tell m0 m1 status
+  pub says : RunDeployPromise assemble mac tells to_tell m0 m1 status
   pub reader : (d : Deployed) (items : List Item) → Legal d.app items → TellsReader d.app items
   pub causes : (text : List ℕ) (d : Deployed) → IsRead text (Ok d) → (items : List Item)
       → Legal d.app items → HasCauses d.app items

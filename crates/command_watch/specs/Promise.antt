@@ -10,12 +10,12 @@ use Rattle.sx_model.specs.Legal.{before}
 use Rattle.sx_deploy.specs.Deployment.{Deployed}
 use Rattle.command_text.specs.Faults.{IsFaultless, TellsFaults}
 use Rattle.command_head.specs.Found.{RunsOutBehindHead}
-use Rattle.command_explain.specs.Explains.{EndsAs}
+use Rattle.command_explain.specs.Promise.{EndsAs}
 use Rattle.command_explain.specs.Trace.{Start, Behind, Missing, Whole, start, trace}
 use Rattle.sx_watch.specs.declared.reading.PropertyFault.{PropertyFault}
 use Rattle.sx_watch.specs.Watched.{PropertyTree, broken_at}
 use Rattle.command_watch.specs.Meant.{Meanings, AreMeanings}
-use Rattle.command_watch.specs.Watch.{watch_all, watch_lines}
+use Rattle.command_watch.specs.Output.{watch_all, watch_lines}
 
 -- a whole trace, none of whose items before the first that is forged breaks the property
 abbrev pub IsKeptTrace : PropertyTree → (List ℕ → Option Item) → Start → Type 0
@@ -61,7 +61,7 @@ input_of m0 = scan watch_lines Ended [] m0.source.rest
 -- its end (`read_all`), that the trace is whole, and that no item before the first that is forged
 -- breaks the property (`kept`); status 12 that an item does (`broken`), and `exact` that its number
 -- is the one that was printed.
-pub record WatchSays (tells to_tell : Bool) (m0 m1 : CommandAt) (status : ℕ) : Type 0 where
+pub record WatchPromise (tells to_tell : Bool) (m0 m1 : CommandAt) (status : ℕ) : Type 0 where
   pub told : (means : Meanings) → AreMeanings means
       → Told tells to_tell watch_lines m0 m1 status (watch_all means) (RunsOutBehindHead status)
   pub streams : (means : Meanings) → AreMeanings means

@@ -2,8 +2,8 @@
 use Rattle.std.specs.Prelude.{ℕ, List}
 use Rattle.sx_io.specs.Reading.{Answer}
 use Rattle.sx_deploy.specs.Deployment.{Deployed}
-use Rattle.command_world.specs.Statuses.{stop_status}
-use Rattle.command_drive.specs.Readings.{readings_from}
+use Rattle.command_world.specs.Status.{stop_status}
+use Rattle.command_drive.specs.Input.{readings_from}
 
 -- the exit status after the head of a deployment
 abbrev pub drive_status : Deployed → List Answer → ℕ

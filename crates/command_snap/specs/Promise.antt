@@ -2,9 +2,9 @@
 use Rattle.std.specs.Prelude.{ℕ, ◌≡◌, Bool}
 use Rattle.command_promise.specs.Told.{CommandAt, out_of_memory}
 use Rattle.sx_tag.specs.Mac.{Mac}
-use Rattle.command_deploy.specs.Deploys.{DeploySays, OwnPart}
-use Rattle.command_snap.specs.Snap.{snap_deployed}
-use Rattle.command_snap.specs.Statuses.{snap_status}
+use Rattle.command_deploy.specs.Promise.{DeployPromise, OwnPart}
+use Rattle.command_snap.specs.Output.{snap_deployed}
+use Rattle.command_snap.specs.Status.{snap_status}
 use Rattle.command_snap.specs.Wants.{snap_may}
 
 -- what is `snap`'s own after the head; it is cut short only where memory runs out
@@ -18,5 +18,5 @@ snap_part mac = record {
 }
 
 -- the command `snap`
-abbrev pub SnapSays : Mac → Bool → Bool → CommandAt → CommandAt → ℕ → Type 0
-SnapSays mac = DeploySays mac (snap_part mac)
+abbrev pub SnapPromise : Mac → Bool → Bool → CommandAt → CommandAt → ℕ → Type 0
+SnapPromise mac = DeployPromise mac (snap_part mac)

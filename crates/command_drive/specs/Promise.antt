@@ -22,11 +22,11 @@ use Rattle.spec_honest.specs.Delivers.{Delivers}
 use Rattle.sx_drive.specs.Honest.{Driven, Reading, Said, SaidItem, SaidLine}
 use Rattle.law_honest.specs.Samplings.{items_of, samplings_of, told}
 use Rattle.command_world.specs.Schedule.{AtEnd, schedule}
-use Rattle.command_head.specs.Begun.{Deploys}
-use Rattle.command_deploy.specs.Deploys.{DeploySays, OwnPart}
-use Rattle.command_drive.specs.Drive.{drive_deployed, driven_of}
-use Rattle.command_drive.specs.Readings.{MayRunOut, judged_reading, readings_from}
-use Rattle.command_drive.specs.Statuses.{drive_status}
+use Rattle.command_head.specs.Begun.{ReadsAs}
+use Rattle.command_deploy.specs.Promise.{DeployPromise, OwnPart}
+use Rattle.command_drive.specs.Output.{drive_deployed, driven_of}
+use Rattle.command_drive.specs.Input.{MayRunOut, judged_reading, readings_from}
+use Rattle.command_drive.specs.Status.{drive_status}
 
 -- the lines of the schedule that were said
 abbrev pub lines_in : List Said → List Line
@@ -72,17 +72,17 @@ pub record IsPredicted (app : AppTree) (readings : List Reading) (a : Driven) : 
 -- readings has at most 65,536 lines (`room`), and the status is 9 exactly where one was (`status`).
 pub record DrivesWith (mac : Mac) (deployment : Option (List ℕ)) (texts : List (List ℕ)) : Type
     0 where
-  pub ran : (d : Deployed) → Deploys deployment d → (readings : List Answer)
+  pub ran : (d : Deployed) → ReadsAs deployment d → (readings : List Answer)
       → IsTheRun (setting_of mac d texts) (driven_of mac d texts readings)
-  pub replays : (d : Deployed) → Deploys deployment d → (readings : List Answer)
+  pub replays : (d : Deployed) → ReadsAs deployment d → (readings : List Answer)
       → AreRead d.names (lines_in (driven_of mac d texts readings).said)
-  pub delivered : (d : Deployed) → Deploys deployment d → (readings : List Answer)
+  pub delivered : (d : Deployed) → ReadsAs deployment d → (readings : List Answer)
       → (driven_of mac d texts readings).honest.long ≡ false
       → IsPredicted d.app (readings_from d 1 readings).readings (driven_of mac d texts readings)
-  pub room : (d : Deployed) → Deploys deployment d → (readings : List Answer) → (c : Course)
+  pub room : (d : Deployed) → ReadsAs deployment d → (readings : List Answer) → (c : Course)
       → IsHonest d.app (samplings_of (readings_from d 1 readings).readings) c
       → (driven_of mac d texts readings).honest.long ≡ false
-  pub status : (d : Deployed) → Deploys deployment d → (readings : List Answer)
+  pub status : (d : Deployed) → ReadsAs deployment d → (readings : List Answer)
       → (drive_deployed mac d texts readings).status
       ≡ (if (driven_of mac d texts readings).honest.long then left_out else drive_status d readings)
 
@@ -106,5 +106,5 @@ drive_part mac = record {
 }
 
 -- the command `drive`
-abbrev pub DriveSays : Mac → Bool → Bool → CommandAt → CommandAt → ℕ → Type 0
-DriveSays mac = DeploySays mac (drive_part mac)
+abbrev pub DrivePromise : Mac → Bool → Bool → CommandAt → CommandAt → ℕ → Type 0
+DrivePromise mac = DeployPromise mac (drive_part mac)

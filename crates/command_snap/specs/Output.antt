@@ -15,7 +15,7 @@ use Rattle.command_text.specs.Refusals.{fault_output}
 use Rattle.command_world.specs.Images.{images_text}
 use Rattle.command_world.specs.Broken.{broken_output}
 use Rattle.command_snap.specs.declared.queries.Query.{Query}
-use Rattle.command_snap.specs.Queries.{judged_query}
+use Rattle.command_snap.specs.Input.{judged_query}
 use Rattle.command_snap.specs.Answers.{answer_text}
 use Rattle.command_snap.specs.Reading.{Asking, Asks, Breaks, Unread, asking}
 

@@ -16,7 +16,7 @@ use Rattle.sx_explain.specs.Judging.{first_forged}
 use Rattle.command_text.specs.Output.{line, end_line}
 use Rattle.command_head.specs.Refused.{fault_output}
 use Rattle.command_property.specs.Refused.{fault_words, no_property_output, refused_output}
-use Rattle.command_explain.specs.Explain.{broken_output, forged_line}
+use Rattle.command_explain.specs.Output.{broken_output, forged_line}
 use Rattle.command_explain.specs.Trace.{Start, Behind, Missing, Stop, Whole, Unread, Breaks}
 use Rattle.command_explain.specs.Trace.{image_lines, start, trace}
 use Rattle.sx_watch.specs.declared.reading.PropertyFault.{PropertyFault}

@@ -15,7 +15,7 @@ use Rattle.command_text.specs.Output.{line, end_line}
 use Rattle.command_text.specs.Refusals.{fault_output}
 use Rattle.command_world.specs.Images.{images_text}
 use Rattle.command_world.specs.Schedule.{Stop, AtEnd, Unread, Breaks}
-use Rattle.command_drive.specs.Readings.{readings_from}
+use Rattle.command_drive.specs.Input.{readings_from}
 
 -- a line of the schedule comes after `> `, an item as a run writes it
 unfoldable pub said_line : NameLists → Said → List ℕ
