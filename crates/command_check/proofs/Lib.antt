@@ -1,6 +1,2 @@
--- Begin with Promised: what follows for the command. Heads leads to it from a head that was read,
--- ModuleLines has the modules' lines, Statuses the exit status.
-pub mod Heads
+-- The modules' lines.
 pub mod ModuleLines
-pub mod Promised
-pub mod Statuses

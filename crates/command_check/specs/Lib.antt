@@ -1,3 +1,2 @@
--- Begin with Promise: what the command promises. Output has what it writes.
+-- What `check` writes, and what it promises.
 pub mod Output
-pub mod Promise

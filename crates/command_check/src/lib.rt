@@ -1,7 +1,7 @@
 //! The command `check`: where the modules of a deployment are, or which rule it breaks.
 //!
-//! What it promises is `CheckPromise` of specs/Promise.antt: what is written, and the exit status, are
-//! `check_all` (specs/Output.antt) of the input's head.
+//! What it promises is `CheckPromise` of specs/Output.antt: that it reports (command_report) the lines
+//! `check_report`.
 #![tactic(auto)]
 
 mod check;

@@ -5,7 +5,7 @@ use Rattle.std.specs.Str.{bytes_eq}
 use Rattle.sx_io.specs.Numbers.{number_of}
 use Rattle.sx_top.specs.declared.words.Command.{Command}
 use Rattle.sx_top.specs.declared.words.Command.TheVariants.{Run, Check, Explain, Snap, Gen, Asm}
-use Rattle.sx_top.specs.declared.words.Command.TheVariants.{Dis, Drive, Holds, Lines, Watch}
+use Rattle.sx_top.specs.declared.words.Command.TheVariants.{Dis, Drive, Holds, Lines, Watch, Describe}
 
 -- the commands without a number
 abbrev pub plain_command : List ℕ → Option Command
@@ -18,6 +18,7 @@ plain_command word =
     if bytes_eq word (codes "snap") then Some Snap else
     if bytes_eq word (codes "holds") then Some Holds else
     if bytes_eq word (codes "lines") then Some Lines else
+    if bytes_eq word (codes "describe") then Some Describe else
     None
 
 -- an address from 0 to 65,535

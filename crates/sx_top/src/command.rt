@@ -10,6 +10,7 @@ ghost use Rattle.sx_top.specs.Chosen.{LeavesInput};
 use crate::words::{Command, command_of};
 use command_asm::{asm_over, dis_over};
 use command_check::check_over;
+use command_describe::describe_over;
 use command_drive::drive_over;
 use command_explain::explain_over;
 use command_gen::gen_over;
@@ -29,13 +30,13 @@ const MISUSED: u8 = 2;
 /// after the program's name.
 ///
 /// The commands are `run`, `check`, `explain`, `watch`, `drive`, `snap`, `holds`, `gen N` for 1 to
-/// 8,000 samples, `asm A` and `dis A` with an address A, and `lines`. All but `gen`, `asm`
-/// and `dis` read a deployment and the line `%%` after it. `check` writes where
-/// each module stands, and `end`. `run` writes each module's image, `trace`, the items of the
-/// schedule that follows, one a line, and `end`; a line's items are written before the next line is
-/// read. `explain` reads such an output behind the deployment, and writes which item caused which,
-/// how many are legal, and `end`. `watch` reads a property, a second line `%%` and such an output,
-/// and writes which item is the first that breaks the property, or how many were watched where none
+/// 8,000 samples, `asm A` and `dis A` with an address A, `lines` and `describe`. All but `gen`,
+/// `asm` and `dis` read a deployment and the line `%%` after it. `check` writes where each module
+/// stands, and `end`. `run` writes each module's image, `trace`, the items of the schedule that
+/// follows, one a line, and `end`; a line's items are written before the next line is read.
+/// `explain` reads such an output behind the deployment, and writes which item caused which, how
+/// many are legal, and `end`. `watch` reads a property, a second line `%%` and such an output, and
+/// writes which item is the first that breaks the property, or how many were watched where none
 /// does, and `end`. `drive` reads readings, each a sensor and its value: it writes the images, the
 /// honest run with each line of its schedule after `> ` and the items that the line shows, how many
 /// steps of nodes it took, and `end`; what a reading shows is written before the next line is read.
@@ -47,11 +48,12 @@ const MISUSED: u8 = 2;
 /// and `end`. `asm` reads a text of assembly, and `dis` bytes in hexadecimal; both write the
 /// listing of the code at the address, and `end`. `lines` reads what `run` reads, and writes each
 /// line of the schedule after `> ` and the items that the line gave, before the next is read, and
+/// `end`. `describe` writes what the deployment was read as, a line for each thing in it, and
 /// `end`.
 ///
 /// | Status | Last line | When |
 /// |---|---|---|
-/// | 0 | `end` | all was written; all but `check` and `gen` read the input to its end |
+/// | 0 | `end` | all was written; only `check`, `describe` and `gen` don't read to the end |
 /// | 1 | `fault deployment Dk place` | the deployment breaks rule Dk, the first that it breaks |
 /// | 2 | `fault usage` | the words are no command; nothing was read |
 /// | 3 | `fault schedule Sk line` | this line, from 1, is the first to break a rule, Sk the rule |
@@ -92,6 +94,7 @@ pub fn top<S: Source, K: Sink>(alloc: Global, words: &[String], input: &mut S, o
         Some(Command::Asm(at)) => asm_over(alloc, at, input, output),
         Some(Command::Dis(at)) => dis_over(at, input, output),
         Some(Command::Lines) => lines_over(alloc, Hmac, input, output),
+        Some(Command::Describe) => describe_over(alloc, input, output),
         None => finish(output, b"fault usage\n", MISUSED),
     }
 }

@@ -24,6 +24,8 @@ pub(crate) enum Command {
     Holds,
     /// A run, with each line of its schedule before the items that it gave.
     Lines,
+    /// What a deployment was read as.
+    Describe,
     /// The run of the workload that carries this many samples.
     Gen(u32),
     /// The listing of a text's code for this address.
@@ -53,6 +55,8 @@ fn plain_command(word: &[u8]) -> Option<Command>
         Some(Command::Holds)
     } else if word == b"lines".as_slice() {
         Some(Command::Lines)
+    } else if word == b"describe".as_slice() {
+        Some(Command::Describe)
     } else {
         None
     }

@@ -2,11 +2,11 @@ use Rattle.std.proofs.Common.{◌∙◌, arith, map, refl, sym, subst, ap, Optio
 use Rattle.std.specs.Prelude.{string_bytes}
 use Rattle.sx_tag.specs.Mac.{hmac_sha256}
 use Rattle.sx_top.specs.declared.words.Command.{Command}
-use Rattle.sx_top.specs.declared.words.Command.TheVariants.{Run, Check, Explain, Drive, Snap, Gen, Asm, Dis, Holds, Watch, Lines}
+use Rattle.sx_top.specs.declared.words.Command.TheVariants.{Run, Check, Explain, Drive, Snap, Gen, Asm, Dis, Holds, Watch, Lines, Describe}
 use Rattle.sx_top.specs.Chosen.{CarriesFew}
 use Rattle.command_text.specs.Refusals.{usage_line}
 use Rattle.command_run.proofs.Said.{lines_not_two, says_not_two}
-use Rattle.command_check.proofs.Promised.{check_not_two}
+use Rattle.command_report.proofs.Promised.{report_not_two}
 use Rattle.command_explain.proofs.Promised.{explain_not_two}
 use Rattle.command_watch.proofs.Promised.{watch_not_two}
 use Rattle.command_drive.proofs.Said.{says_not_two as drive_not_two}
@@ -27,7 +27,7 @@ pub returns-in-Some-Check-clause-told : goal.returns-in-Some-Check-clause-told
 returns-in-Some-Check-clause-told g c =
     program hmac_sha256 (map string_bytes c.args.words.now) (Some Check)
     (sym c.command_of.ensures.command ∙ c.in-Some-Check.is ∙ ap Some c.in-Some-Check.field-0-is) c.check_over.ensures
-    (λ two. absurd (check_not_two c.check_over.ensures two))
+    (λ two. absurd (report_not_two c.check_over.ensures two))
 
 pub returns-in-Some-Explain-clause-told : goal.returns-in-Some-Explain-clause-told
 returns-in-Some-Explain-clause-told g c =
@@ -88,6 +88,12 @@ returns-in-Some-Lines-clause-told g c =
     program hmac_sha256 (map string_bytes c.args.words.now) (Some Lines)
     (sym c.command_of.ensures.command ∙ c.in-Some-Lines.is ∙ ap Some c.in-Some-Lines.field-0-is) c.lines_over.ensures
     (λ two. absurd (lines_not_two hmac_sha256 c.lines_over.ensures.says two))
+
+pub returns-in-Some-Describe-clause-told : goal.returns-in-Some-Describe-clause-told
+returns-in-Some-Describe-clause-told g c =
+    program hmac_sha256 (map string_bytes c.args.words.now) (Some Describe)
+    (sym c.command_of.ensures.command ∙ c.in-Some-Describe.is ∙ ap Some c.in-Some-Describe.field-0-is) c.describe_over.ensures
+    (λ two. absurd (report_not_two c.describe_over.ensures two))
 
 pub returns-in-None-clause-told : goal.returns-in-None-clause-told
 unfolding usage_line

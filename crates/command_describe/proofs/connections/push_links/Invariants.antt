@@ -1,0 +1,8 @@
+use Rattle.std.specs.Prelude.{◌≡◌, ◌++◌, drop}
+use Rattle.sx_deploy.specs.SeenDeployment.{deployed_as}
+use Rattle.command_describe.specs.Output.{each_from, link_line}
+use Rattle.command_describe.proofs.connections.push_links.Given as goal
+
+abbrev pub invariant-loop-number : goal.invariant-loop-number
+invariant-loop-number l = l.text.items ++ each_from (link_line (deployed_as l.deployment)) l.number (drop l.number l.deployment.app.links.items)
+    ≡ l.fn.text.items ++ each_from (link_line (deployed_as l.deployment)) 0 l.deployment.app.links.items

@@ -1,0 +1,2 @@
+-- What `describe` writes, and what it promises.
+pub mod Output
