@@ -42,9 +42,7 @@ LINKS = [f"law_connections.{law}" for law in ("LinksUnseen.LinksAreUnseen", "Unl
 PROPERTIES = ["sx_watch.Text.IsProperty", "sx_watch.Watched.broken_at"]
 # How seldom a `forged` comes: counts of tables, makers of schedules, and what their distinguishers say.
 ODDS = [
-    *(f"law_rarity.{law}" for law in (
-        "Rare.ForgeriesAreRare", "Erring.AnswersAreTold", "Erring.DistinguisherSeldomErrs", "Names.NamedHasNames",
-    )),
+    "law_rarity.Erring.AnswersAreTold", "law_rarity.Erring.DistinguisherSeldomErrs",
     "law_counting.Pads.CiphersAreRandom",
     *(f"law_makers.{law}" for law in (
         "Makers.MakersSeeTheSame", "Makers.DistinguisherIsRun", "Makers.DistinguisherKnowsNoKey",
@@ -52,9 +50,11 @@ ODDS = [
         "Impostors.IdentitiesDiffer", "Impostors.ImpostorsHaveOtherNames", "Impostors.NamesAreUnlawful",
     )),
 ]
-# What a run asks of tags, and players who guess: steps to the laws of ODDS, which don't speak of them. Nobody has to believe these there.
+# What a run asks of tags, players who guess, and tables of any tags: steps to the laws of ODDS, which don't speak of them, so that nobody has
+# to believe these there.
 USES = [
     "law_counting.Guesses.FewGuessesHit",
+    "law_rarity.Rare.ForgeriesAreRare", "law_rarity.Covering.AllAreAnswers", "law_rarity.Names.NamedHasNames",
     *(f"law_uses.{law}" for law in (
         "UsesAlone.UsesAlone", "Whole.ScriptsAlone", "Whole.RunsAlone", "Whole.KeysAreHeld",
         "GivenLogged.GivenAreLogged", "GivenLogged.HeldAreLogged",

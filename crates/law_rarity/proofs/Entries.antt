@@ -1,13 +1,14 @@
 -- A table of tags: what stands at an entry, and that all else is as before.
-use Rattle.std.proofs.Common.{◌≡◌, ◌≢◌, ℕ, zero, suc, ◌+◌, ◌*◌, ◌^◌, ◌%◌, ◌/◌, ◌<◌, ◌&&◌, Bool, true, false, cond, bytes_eq, List, [], ◌∷◌, ◌++◌, length, take, drop, Option, Some, None, refl, sym, ◌∙◌, ap, subst, arith}
+use Rattle.std.proofs.Common.{◌≡◌, ◌≢◌, ℕ, zero, suc, ◌+◌, ◌*◌, ◌^◌, ◌%◌, ◌/◌, ◌<◌, ◌&&◌, Bool, true, false, cond, bytes_eq, List, [], ◌∷◌, ◌++◌, length, take, drop, Option, Some, None, refl, sym, ◌∙◌, ap, ap₂, subst, arith}
 use Rattle.std.specs.Prelude.{slice_get}
 use Rattle.std.proofs.lemmas.Bool.{true≢false, and_parts, and_from}
 use Rattle.std.proofs.lemmas.Slice.Eq.{bytes_eq-Decides}
 use Rattle.lemmas.proofs.Texts.{bytes_eq-same}
 use Rattle.spec_run.specs.Setting.{Setting}
 use Rattle.law_counting.specs.Counting.{IsTable, at, put}
+use Rattle.law_counting.proofs.Lines.{put_table, at_other}
 use Rattle.law_uses.specs.Unasked.{DifferAt}
-use Rattle.law_rarity.specs.Tables.{Entry, key_of_entry, message_of, AreDistinct, bytes_of, tabled}
+use Rattle.law_rarity.specs.Tables.{Entry, key_of_entry, message_of, bytes_of, tabled}
 use Rattle.law_rarity.proofs.Asked.{IsClose}
 
 -- Numbers as bytes.
@@ -85,7 +86,7 @@ found_at set (e ∷ es) key message i h = by (has set e key message) refl (index
         let low = r.low in
         subst (λ (k : ℕ). Found set (e ∷ es) key message k) z (record { entry = r.entry; there = r.there; key_is = r.key_is; message_is = r.message_is; low = omega (arith, low) })
 
-index_there : (set : Setting) (es : List Entry) (key message : List ℕ) (i : ℕ) (e : Entry) → slice_get es i ≡ Some e → has set e key message ≡ true
+pub index_there : (set : Setting) (es : List Entry) (key message : List ℕ) (i : ℕ) (e : Entry) → slice_get es i ≡ Some e → has set e key message ≡ true
     → (j : ℕ) × (index_of set es key message ≡ Some j)
 index_there set [] key message i e g h = absurd cc
 index_there set (x ∷ es) key message i e g h = by (has set x key message) refl i g (λ k f. index_there set es key message k e f h)
@@ -99,14 +100,6 @@ index_there set (x ∷ es) key message i e g h = by (has set x key message) refl
         (suc r.0, ap (λ (b : Bool). cond b (Some 0) (more (index_of set es key message))) t ∙ ap more r.1)
 
 module _ (set : Setting) where
-  -- where entries are distinct, it is the only one
-  pub index_is : (es : List Entry) → AreDistinct set es → (i : ℕ) (e : Entry) → slice_get es i ≡ Some e → (key message : List ℕ) → key ≡ key_of_entry set e → message ≡ message_of e
-      → index_of set es key message ≡ Some i
-  index_is es distinct i e there key message k m =
-      let r = index_there set es key message i e there (has_from set e key message k m) in
-      let f = found_at set es key message r.0 r.1 in
-      r.1 ∙ ap (λ (z : ℕ). Some z) (distinct r.0 i f.entry e f.there there (sym f.key_is ∙ k) (sym f.message_is ∙ m))
-
   pub index_found : (es : List Entry) (key message : List ℕ) (i : ℕ) → index_of set es key message ≡ Some i → Found set es key message i
   index_found es key message i h = found_at set es key message i h
 
@@ -188,3 +181,18 @@ module _ (set : Setting) where
     others = λ key message ne. put_others es t i v e there key message ne;
     size = put_long es t i v (key_of_entry set e) (message_of e);
   }
+
+  -- where another entry before it has its key and its message, its number shows in nothing
+  pub put_unused : (es : List Entry) (w : ℕ) (t : List ℕ) (i v : ℕ) → IsTable (length es) w t → v < w → (e : Entry) → slice_get es i ≡ Some e
+      → (k : ℕ) → index_of set es (key_of_entry set e) (message_of e) ≡ Some k → (k ≡ i → ⊥)
+      → (key message : List ℕ) → tabled set es t key message ≡ tabled set es (put t i v) key message
+  put_unused es w t i v table wide e there k first ne key message = by (has set e key message) refl
+    where
+      by : (b : Bool) → has set e key message ≡ b → tabled set es t key message ≡ tabled set es (put t i v) key message
+      by true f =
+          let p = has_parts set e key message f in
+          let here : index_of set es key message ≡ Some k = ap₂ (λ (x y : List ℕ). index_of set es x y) p.0 p.1 ∙ first in
+          tag_at es w t table key message k here
+          ∙ ap (λ (z : ℕ). bytes_of 16 z ++ drop 16 (set.mac key message)) (sym (at_other t k i v ne))
+          ∙ sym (tag_at es w (put t i v) (put_table (length es) w t i v table wide) key message k here)
+      by false f = put_others es t i v e there key message (λ x y. absurd (true≢false (sym (has_from set e key message x y) ∙ f)))

@@ -34,6 +34,8 @@ use Rattle.law_rarity.specs.Tables.{Entry, bytes_of, tabled, with_tags}
 use Rattle.law_rarity.specs.Rare.{ForgesAt}
 use Rattle.law_rarity.specs.Erring.{is_answer_forged, forges_answer, answer_distinguisher, AnswersAreTold, DistinguisherSeldomErrs}
 use Rattle.law_rarity.proofs.Entries.{has, has_parts, tabled_others}
+use Rattle.law_rarity.specs.Covering.{all_answers}
+use Rattle.law_rarity.proofs.Covering.{all_are_answers, answers_cover}
 use Rattle.law_rarity.proofs.Extending.{moment_before}
 use Rattle.law_rarity.proofs.Names.{named_has_names, names_short}
 use Rattle.law_rarity.proofs.Tabled.{with_tags_sound}
@@ -186,19 +188,22 @@ module _ (set : Setting) (base : Mac) (es : List Entry) (t : List ℕ) where
   same_setting = ap (λ (mac : Mac). record bare_names { mac = mac }) (λ i key message. same_tags key message i)
 
 pub distinguisher_seldom_errs : DistinguisherSeldomErrs
-distinguisher_seldom_errs set base es make n q sound always tag long distinct asks few keeps le =
-    forgeries_are_rare names es make n q (named_is_sound set base sound always tag long) always (named_has_names set base) distinct asks few keeps.form le
+distinguisher_seldom_errs set base make n boots q sound always tag long few low keeps le =
+    forgeries_are_rare names es make n q (named_is_sound set base sound always tag long) always (named_has_names set base) (all_are_answers (length set.app.parts) boots q low) few (λ t table. (keeps t table).form) le
     (λ t. answer_distinguisher set make n (tabled names es t)) forges
   where
     names : Setting
     names = named_setting base set
+
+    es : List Entry
+    es = all_answers (length set.app.parts) boots q
 
     forges : (t : List ℕ) → IsTable (length es) (2 ^ 128) t → answer_distinguisher set make n (tabled names es t) ≡ true
         → ForgesAt es (with_tags names es t) (made (with_tags names es t) make n).lines q
     forges t table h =
         let b = with_tags names es t in
         let lines = (made b make n).lines in
-        let form = keeps.form t table in
+        let form = (keeps t table).form in
         let whole = with_tags_sound names (named_is_sound set base sound always tag long) always es t in
         let f = first_of (run b (switched_on b) lines).items (sym (ap (λ (s : Setting). forges_answer s make n) (same_setting set base es t)) ∙ h) in
         let shown = forged_shown b lines f.front f.rest None f.is f.none in
@@ -206,10 +211,10 @@ distinguisher_seldom_errs set base es make n q sound always tag long distinct as
         let now = shown.1 in
         let first : FirstForged b lines k now None = shown.2 in
         let a = comes b now.world now.next (holds b lines whole k now (lines_form b lines whole form) first.at first.first).form first.shown in
-        let c = keeps.covered t table k now a.m a.boot a.packet a.ask first.at a.is a.asked in
+        let c = answers_cover b lines boots q (keeps t table).ends (keeps t table).below k now a.m a.boot a.packet a.ask first.at a.is a.asked in
         record {
           k = k;
-          soon = moment_before b lines k q now (keeps.ends t table) first.at;
+          soon = moment_before b lines k q now (keeps t table).ends first.at;
           now = now;
           who = None;
           first = first;

@@ -1,6 +1,7 @@
 -- Same, Extending and Making: two runs that go side by side until a use has another answer. Asked: what
 -- the two ask. Entries and Tabled: tables of tags. Whose, Words and Names: names tell modules. Playing: a
--- run is a blind player; Rare counts, and Erring is about the distinguisher.
+-- run is a blind player; Rare counts. Covering lists all answers, and Erring is about the
+-- distinguisher.
 pub mod Same
 pub mod Extending
 pub mod Making
@@ -12,4 +13,5 @@ pub mod Words
 pub mod Names
 pub mod Playing
 pub mod Rare
+pub mod Covering
 pub mod Erring

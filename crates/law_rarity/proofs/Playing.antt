@@ -16,9 +16,9 @@ use Rattle.law_uses.specs.Unasked.{Spares, AllSpare}
 use Rattle.law_uses.proofs.Unasked.{all_same}
 use Rattle.law_uses.proofs.Whole.{keys_are_held}
 use Rattle.law_makers.specs.Makers.{Maker, made}
-use Rattle.law_rarity.specs.Tables.{Entry, key_of_entry, message_of, AreDistinct, bytes_of, tabled, with_tags}
+use Rattle.law_rarity.specs.Tables.{Entry, key_of_entry, message_of, bytes_of, tabled, with_tags}
 use Rattle.law_rarity.proofs.Asked.{NoTries, TriesFirst, first_of, tries_first, first_same, uses_same, derives}
-use Rattle.law_rarity.proofs.Entries.{number, number_of, has, has_from, index_of, index_found, index_is, tag_at, tabled_others, put_close, put_differs}
+use Rattle.law_rarity.proofs.Entries.{number, number_of, has, has_from, index_of, index_there, index_found, tag_at, put_unused, tabled_others, put_close, put_differs}
 use Rattle.law_rarity.proofs.Making.{moments_made}
 
 -- an entry that is tried with a tag
@@ -39,7 +39,7 @@ misses_false : (x : Option Attempt) (y : Attempt) (t : List ℕ) → x ≡ Some 
 misses_false x y t e h same =
     true≢false (sym (subst (λ (z : Option Attempt). misses z t ≡ true) e h) ∙ ap not (eq-eqb (at t y.entry) y.value same))
 
-module _ (set : Setting) (es : List Entry) (make : Maker) (n : ℕ) (distinct : AreDistinct set es) where
+module _ (set : Setting) (es : List Entry) (make : Maker) (n : ℕ) where
   abbrev pub with_ : List ℕ → Setting
   with_ t = with_tags set es t
 
@@ -121,13 +121,13 @@ module _ (set : Setting) (es : List Entry) (make : Maker) (n : ℕ) (distinct : 
       sym ((keys_are_held set (tabled set es t) (λ key rest. sym (tabled_others set es t key 0x4B rest (λ e. absurd (omega (arith, e)))))).1 who)
 
   -- a try of this entry is an attempt
-  pub attempts : (t : List ℕ) (j : ℕ) (now : Moment) → at_moment t j ≡ Some now → (i : ℕ) (e : Entry) → slice_get es i ≡ Some e → given t j i ≡ false
-      → (who : Holder) (kind : ℕ) (rest tag : List ℕ) → IsUse (Tries who kind rest tag) (uses (with_ t) now) → key_held set who ≡ key_of_entry set e → kind ∷ rest ≡ message_of e
+  pub attempts : (t : List ℕ) (j : ℕ) (now : Moment) → at_moment t j ≡ Some now → (i : ℕ) → given t j i ≡ false
+      → (who : Holder) (kind : ℕ) (rest tag : List ℕ) → IsUse (Tries who kind rest tag) (uses (with_ t) now) → index_of set es (key_held set who) (kind ∷ rest) ≡ Some i
       → tries t j ≡ Some (attempt_of i tag)
-  attempts t j now here i e there free who kind rest tag is key message =
+  attempts t j now here i free who kind rest tag is found =
       ap (λ (o : Option Moment). unless_given (given t j) (try_in (first_of (uses_of t o)))) here
       ∙ ap (λ (o : Option Use). unless_given (given t j) (try_in o)) (first (uses (with_ t) now) (tries_first (with_ t) (tabled set es (put t i 0)) (put_close set es t i 0) now) is)
-      ∙ ap (λ (o : Option ℕ). unless_given (given t j) (tried_at o tag)) (index_is set es distinct i e there (key_held set who) (kind ∷ rest) key message)
+      ∙ ap (λ (o : Option ℕ). unless_given (given t j) (tried_at o tag)) found
       ∙ ap (λ (b : Bool). cond {A = Option Attempt} b None (Some (attempt_of i tag))) free
     where
       none : (us : List Use) → NoTries us → IsUse (Tries who kind rest tag) us → ⊥
@@ -158,13 +158,10 @@ module _ (set : Setting) (es : List Entry) (make : Maker) (n : ℕ) (distinct : 
     tail = length e.header ∷ (e.header ++ e.cipher)
 
     -- a tag that isn't the number at the entry isn't right
-    wrong : (u : List ℕ) → IsTable (length es) (2 ^ 128) u → (tag : List ℕ) → (at u i ≡ number tag → ⊥)
+    wrong : index_of set es (key_of_entry set e) (message_of e) ≡ Some i → (u : List ℕ) → IsTable (length es) (2 ^ 128) u → (tag : List ℕ) → (at u i ≡ number tag → ⊥)
         → bytes_eq tag (take 16 (tabled set es u (key_of_entry set e) (message_of e))) ≡ false
-    wrong u is tag ne = by (bytes_eq tag (take 16 (tabled set es u (key_of_entry set e) (message_of e)))) refl
+    wrong found u is tag ne = by (bytes_eq tag (take 16 (tabled set es u (key_of_entry set e) (message_of e)))) refl
       where
-        found : index_of set es (key_of_entry set e) (message_of e) ≡ Some i
-        found = index_is set es distinct i e there (key_of_entry set e) (message_of e) refl refl
-
         value : (n w : ℕ) (x : List ℕ) → IsTable n w x → (k : ℕ) → k < n → at x k < w
         value zero w x h k lt = absurd (omega (arith, lt))
         value (suc n) w [] h k lt = absurd h
@@ -180,9 +177,9 @@ module _ (set : Setting) (es : List Entry) (make : Maker) (n : ℕ) (distinct : 
             ∙ ap (take 16) (tag_at set es (2 ^ 128) u is (key_of_entry set e) (message_of e) i found) in
             absurd (ne (sym (ap number is_tag ∙ number_of (at u i) (value (length es) (2 ^ 128) u is i low))))
 
-    spares : (j : ℕ) (now : Moment) → at_moment t j ≡ Some now → given t (suc j) i ≡ false → misses (tries t j) t ≡ true → misses (tries t j) s ≡ true
+    spares : index_of set es (key_of_entry set e) (message_of e) ≡ Some i → (j : ℕ) (now : Moment) → at_moment t j ≡ Some now → given t (suc j) i ≡ false → misses (tries t j) t ≡ true → misses (tries t j) s ≡ true
         → AllSpare (with_ t) (tabled set es s) (key_of_entry set e) tail (uses (with_ t) now)
-    spares j now here free one two = by (uses (with_ t) now) (λ u is. is) none_given
+    spares found j now here free one two = by (uses (with_ t) now) (λ u is. is) none_given
       where
         parts : (given t j i ≡ false) × (any_gives (slice_get es i) (uses_of t (at_moment t j)) ≡ false)
         parts = or_parts (given t j i) (any_gives (slice_get es i) (uses_of t (at_moment t j))) free
@@ -194,9 +191,10 @@ module _ (set : Setting) (es : List Entry) (make : Maker) (n : ℕ) (distinct : 
         spare (Gives who kind rest) is g = λ k m.
             true≢false (sym (has_from set e (key_held set who) (kind ∷ rest) (sym (key_under t who) ∙ k) m) ∙ g)
         spare (Tries who kind rest tag) is g = λ k m.
-            let x = attempts t j now here i e there parts.0 who kind rest tag is (sym (key_under t who) ∙ k) m in (
-              wrong t table tag (misses_false (tries t j) (attempt_of i tag) t x one),
-              wrong s (Rattle.law_counting.proofs.Lines.put_table (length es) (2 ^ 128) t i v table wide) tag (misses_false (tries t j) (attempt_of i tag) s x two),
+            let at_it : index_of set es (key_held set who) (kind ∷ rest) ≡ Some i = ap₂ (λ (x y : List ℕ). index_of set es x y) (sym (key_under t who) ∙ k) m ∙ found in
+            let x = attempts t j now here i parts.0 who kind rest tag is at_it in (
+              wrong found t table tag (misses_false (tries t j) (attempt_of i tag) t x one),
+              wrong found s (Rattle.law_counting.proofs.Lines.put_table (length es) (2 ^ 128) t i v table wide) tag (misses_false (tries t j) (attempt_of i tag) s x two),
             )
         spare (Sizes who header body) is g = tt
 
@@ -240,9 +238,9 @@ module _ (set : Setting) (es : List Entry) (make : Maker) (n : ℕ) (distinct : 
         by None = refl
         by (Some x) = ap (λ (b : Bool). cond {A = Option Attempt} b None (Some x)) (given_same j x.entry alike)
 
-    alike : (j : ℕ) → given t j i ≡ false → all_miss play t j ≡ true → all_miss play s j ≡ true → Alike j
-    alike zero g p q k now lt e = absurd (omega (arith, lt))
-    alike (suc j) g p q k now lt here = by (cases_eq k j) (alike j (given_stays t j (suc j) i (omega arith) g) pp.0 qq.0)
+    first_alike : index_of set es (key_of_entry set e) (message_of e) ≡ Some i → (j : ℕ) → given t j i ≡ false → all_miss play t j ≡ true → all_miss play s j ≡ true → Alike j
+    first_alike found zero g p q k now lt e = absurd (omega (arith, lt))
+    first_alike found (suc j) g p q k now lt here = by (cases_eq k j) (first_alike found j (given_stays t j (suc j) i (omega arith) g) pp.0 qq.0)
       where
         pp : (all_miss play t j ≡ true) × (misses (tries t j) t ≡ true)
         pp = and_parts (all_miss play t j) (misses (tries t j) t) p
@@ -254,7 +252,31 @@ module _ (set : Setting) (es : List Entry) (make : Maker) (n : ℕ) (distinct : 
         by (inr ne) before = before k now (omega (arith, lt, ne)) here
         by (inl same) before =
             all_same (with_ t) (tabled set es s) (key_of_entry set e) tail (put_differs set es t i v e there) (uses (with_ t) now)
-            (spares j now (subst (λ (z : ℕ). at_moment t z ≡ Some now) same here) g pp.1 (subst (λ (x : Option Attempt). misses x s ≡ true) (tries_same j before) qq.1))
+            (spares found j now (subst (λ (z : ℕ). at_moment t z ≡ Some now) same here) g pp.1 (subst (λ (x : Option Attempt). misses x s ≡ true) (tries_same j before) qq.1))
+
+    -- all uses have the same answers where the number at the entry shows in nothing
+    unused : ((key message : List ℕ) → tabled set es t key message ≡ tabled set es s key message) → (us : List Use) → SameUses (with_ t) (with_ s) us
+    unused same [] = tt
+    unused same (Gives who kind rest ∷ us) =
+        (same (key_held (with_ t) who) (kind ∷ rest) ∙ ap (λ (k : List ℕ). tabled set es s k (kind ∷ rest)) (key_under t who ∙ sym (key_under s who)), unused same us)
+    unused same (Tries who kind rest tag ∷ us) = (
+      ap (λ (z : List ℕ). bytes_eq tag (take 16 z))
+          (same (key_held (with_ t) who) (kind ∷ rest) ∙ ap (λ (k : List ℕ). tabled set es s k (kind ∷ rest)) (key_under t who ∙ sym (key_under s who))),
+      unused same us,
+    )
+    unused same (Sizes who header body ∷ us) =
+        ((all_same (with_ t) (tabled set es s) (key_of_entry set e) tail (put_differs set es t i v e there) (Sizes who header body ∷ []) (tt, tt)).0, unused same us)
+
+    alike : (j : ℕ) → given t j i ≡ false → all_miss play t j ≡ true → all_miss play s j ≡ true → Alike j
+    alike j g p q = by (cases_eq first.0 i)
+      where
+        first : (k : ℕ) × (index_of set es (key_of_entry set e) (message_of e) ≡ Some k)
+        first = index_there set es (key_of_entry set e) (message_of e) i e there (has_from set e (key_of_entry set e) (message_of e) refl refl)
+
+        by : (first.0 ≡ i) ⊎ (first.0 ≡ i → ⊥) → Alike j
+        by (inl same) = first_alike (first.1 ∙ ap (λ (z : ℕ). Some z) same) j g p q
+        by (inr ne) = λ k now lt here.
+            unused (put_unused set es (2 ^ 128) t i v table wide e there first.0 first.1 ne) (uses (with_ t) now)
 
   pub is_blind : IsBlind (length es) (2 ^ 128) play
   is_blind = record {

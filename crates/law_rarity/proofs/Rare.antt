@@ -1,5 +1,5 @@
 -- A first `forged` is a hit of an entry that wasn't given, so few tables lead to one.
-use Rattle.std.proofs.Common.{◌≡◌, ℕ, zero, suc, ◌+◌, ◌-◌, ◌*◌, ◌^◌, ◌<◌, ◌≤◌, ◌==◌, ◌||◌, not, ◌⊎◌, inl, inr, Bool, true, false, cond, bytes_eq, List, [], ◌∷◌, ◌++◌, length, take, Option, Some, None, refl, sym, ◌∙◌, ap, subst, arith}
+use Rattle.std.proofs.Common.{◌≡◌, ℕ, zero, suc, ◌+◌, ◌-◌, ◌*◌, ◌^◌, ◌<◌, ◌≤◌, ◌==◌, ◌||◌, not, ◌⊎◌, inl, inr, Bool, true, false, cond, bytes_eq, List, [], ◌∷◌, ◌++◌, length, take, Option, Some, None, refl, sym, ◌∙◌, ap, ap₂, subst, arith}
 use Rattle.std.specs.Prelude.{slice_get}
 use Rattle.std.proofs.lemmas.Bool.{true≢false, and_parts, or_from, eq-eqb, eqb-true, cases_eq}
 use Rattle.std.proofs.lemmas.List.{length-append}
@@ -26,12 +26,12 @@ use Rattle.law_uses.specs.Hit.{IsFreshHit}
 use Rattle.law_uses.proofs.Hit.{answers_hit_fresh}
 use Rattle.law_uses.proofs.Whole.{module_key_same as keys_same}
 use Rattle.law_makers.specs.Makers.{Maker, made}
-use Rattle.law_rarity.specs.Tables.{Entry, key_of_entry, message_of, AreDistinct, bytes_of, tabled, with_tags}
+use Rattle.law_rarity.specs.Tables.{Entry, key_of_entry, message_of, bytes_of, tabled, with_tags}
 use Rattle.law_rarity.specs.Rare.{ForgesAt, AreAnswers, MakesForm, ForgeriesAreRare}
 use Rattle.law_rarity.specs.Names.{HasNames}
 use Rattle.law_rarity.proofs.Names.{head_of, its_own}
 use Rattle.law_rarity.proofs.Asked.{NoTries, TriesFirst, tries_first}
-use Rattle.law_rarity.proofs.Entries.{number, number_of, has, has_parts, index_is, tag_at, tabled_others, put_close}
+use Rattle.law_rarity.proofs.Entries.{number, number_of, has, has_from, has_parts, index_of, Found, index_there, index_found, tag_at, tabled_others, put_close}
 use Rattle.law_rarity.proofs.Playing.{attempt_of, given, any_gives, uses_of, tries, play, key_under, attempts, is_blind}
 use Rattle.law_rarity.proofs.Tabled.{with_tags_sound}
 
@@ -76,23 +76,23 @@ tries_ask set w m boot p ask asked first who rest tag i = by (slice_get set.site
     by (Some site) None f i = absurd i
     by (Some site) (Some answer) f i = verdict site answer (option_flatten (slice_get w.deployer.open_asks m)) asked f i
 
-module _ (set : Setting) (es : List Entry) (make : Maker) (n q : ℕ) (sound : IsSoundSetting set) (always : RealizesAlways set) (named : HasNames set) (distinct : AreDistinct set es)
+module _ (set : Setting) (es : List Entry) (make : Maker) (n q : ℕ) (sound : IsSoundSetting set) (always : RealizesAlways set) (named : HasNames set)
     (asks : AreAnswers es) (few : n ≤ 65536) (form : MakesForm set es make n) where
   abbrev with_ : List ℕ → Setting
   with_ t = with_tags set es t
 
   -- what gives an entry
-  giving : (e : Entry) (us : List Use) → any_gives set es make n distinct (Some e) us ≡ true → Giving set e us
+  giving : (e : Entry) (us : List Use) → any_gives set es make n (Some e) us ≡ true → Giving set e us
   giving e [] h = absurd (true≢false (sym h))
   giving e (u ∷ us) h = by u refl h (giving e us)
     where
       further : Giving set e us → Giving set e (u ∷ us)
       further g = record { who = g.who; kind = g.kind; rest = g.rest; is = inr g.is; has_it = g.has_it }
 
-      by : (v : Use) → u ≡ v → any_gives set es make n distinct (Some e) (v ∷ us) ≡ true → (any_gives set es make n distinct (Some e) us ≡ true → Giving set e us) → Giving set e (u ∷ us)
+      by : (v : Use) → u ≡ v → any_gives set es make n (Some e) (v ∷ us) ≡ true → (any_gives set es make n (Some e) us ≡ true → Giving set e us) → Giving set e (u ∷ us)
       by (Gives who kind rest) f g rec = pick (has set e (key_held set who) (kind ∷ rest)) refl g
         where
-          pick : (b : Bool) → has set e (key_held set who) (kind ∷ rest) ≡ b → (b || any_gives set es make n distinct (Some e) us) ≡ true → Giving set e (u ∷ us)
+          pick : (b : Bool) → has set e (key_held set who) (kind ∷ rest) ≡ b → (b || any_gives set es make n (Some e) us) ≡ true → Giving set e (u ∷ us)
           pick true x y = record { who = who; kind = kind; rest = rest; is = inl f; has_it = x }
           pick false x y = further (rec y)
       by (Tries who kind rest tag) f g rec = further (rec g)
@@ -101,6 +101,19 @@ module _ (set : Setting) (es : List Entry) (make : Maker) (n q : ℕ) (sound : I
   module _ (t : List ℕ) (table : IsTable (length es) (2 ^ 128) t) (f : ForgesAt es (with_ t) (made (with_ t) make n).lines q) where
     abbrev e : Entry
     e = f.entry
+
+    -- the first entry with its key and its message
+    first : (k : ℕ) × (index_of set es (key_of_entry set e) (message_of e) ≡ Some k)
+    first = index_there set es (key_of_entry set e) (message_of e) f.i e f.there (has_from set e (key_of_entry set e) (message_of e) refl refl)
+
+    there : Found set es (key_of_entry set e) (message_of e) first.0
+    there = index_found set es (key_of_entry set e) (message_of e) first.0 first.1
+
+    abbrev i : ℕ
+    i = first.0
+
+    abbrev d : Entry
+    d = there.entry
 
     abbrev tail : List ℕ
     tail = length e.header ∷ (e.header ++ e.cipher)
@@ -128,52 +141,52 @@ module _ (set : Setting) (es : List Entry) (make : Maker) (n q : ℕ) (sound : I
         key_in_table n boot provider id = keys_same (tabled set es t) set.mac (λ key rest. tabled_others set es t key 0x4B rest (λ e. absurd (omega (arith, e)))) (list_at set.keys n) boot provider id
 
     -- nobody else has its key, so no moment before gave it
-    not_given : (j : ℕ) → j ≤ f.k → given set es make n distinct t j f.i ≡ false
+    not_given : (j : ℕ) → j ≤ f.k → given set es make n t j i ≡ false
     not_given zero le = refl
     not_given (suc j) le =
-        or_from (given set es make n distinct t j f.i) (any_gives set es make n distinct (slice_get es f.i) (uses_of set es make n distinct t (moment (with_ t) (made (with_ t) make n).lines j)))
+        or_from (given set es make n t j i) (any_gives set es make n (slice_get es i) (uses_of set es make n t (moment (with_ t) (made (with_ t) make n).lines j)))
         (not_given j (omega (arith, le)))
-        (ap (λ (o : Option Entry). any_gives set es make n distinct o (uses_of set es make n distinct t (moment (with_ t) (made (with_ t) make n).lines j))) f.there
+        (ap (λ (o : Option Entry). any_gives set es make n o (uses_of set es make n t (moment (with_ t) (made (with_ t) make n).lines j))) there.there
         ∙ by (moment (with_ t) (made (with_ t) make n).lines j) refl)
       where
-        by : (o : Option Moment) → moment (with_ t) (made (with_ t) make n).lines j ≡ o → any_gives set es make n distinct (Some e) (uses_of set es make n distinct t o) ≡ false
+        by : (o : Option Moment) → moment (with_ t) (made (with_ t) make n).lines j ≡ o → any_gives set es make n (Some d) (uses_of set es make n t o) ≡ false
         by None here = refl
-        by (Some past) here = of (any_gives set es make n distinct (Some e) (uses (with_ t) past)) refl
+        by (Some past) here = of (any_gives set es make n (Some d) (uses (with_ t) past)) refl
           where
-            of : (b : Bool) → any_gives set es make n distinct (Some e) (uses (with_ t) past) ≡ b → any_gives set es make n distinct (Some e) (uses (with_ t) past) ≡ false
+            of : (b : Bool) → any_gives set es make n (Some d) (uses (with_ t) past) ≡ b → any_gives set es make n (Some d) (uses (with_ t) past) ≡ false
             of false g = g
             of true g =
-                let u = giving e (uses (with_ t) past) g in
-                let p = has_parts set e (key_held set u.who) (u.kind ∷ u.rest) u.has_it in
-                let message : u.kind ∷ u.rest ≡ 0x54 ∷ tail = p.1 in
+                let u = giving d (uses (with_ t) past) g in
+                let p = has_parts set d (key_held set u.who) (u.kind ∷ u.rest) u.has_it in
+                let message : u.kind ∷ u.rest ≡ 0x54 ∷ tail = p.1 ∙ sym there.message_is in
                 let kind : u.kind ≡ 0x54 = cc in
                 let rest : u.rest ≡ tail = cc in
                 let whose : u.who ≡ module_holder hit.site e.boot =
                 its_own (with_ t) named_too (with_tags_sound set sound always es t) (made (with_ t) make n).lines (form t table) (let l = made_long (with_ t) make n in omega (arith, l, few)) j past here
                 u.who u.kind u.rest (ap head_of rest ∙ eqb-true (length e.header) 18 (and_parts (length e.header == 18) _ (asks f.i e f.there).ask).0) e.m hit.site e.boot hit.sited (asks f.i e f.there).boot
-                (key_under set es make n distinct t u.who ∙ p.0 ∙ sym key_is ∙ sym (key_under set es make n distinct t (module_holder hit.site e.boot))) past.next u.is in
+                (key_under set es make n t u.who ∙ p.0 ∙ sym there.key_is ∙ sym key_is ∙ sym (key_under set es make n t (module_holder hit.site e.boot))) past.next u.is in
                 absurd (hit.fresh j past (omega (arith, le)) here
                 (subst (λ (r : List ℕ). IsUse (Gives (module_holder hit.site e.boot) 0x54 r) (uses (with_ t) past)) (rest ∙ sym same_rest)
                 (subst (λ (k : ℕ). IsUse (Gives (module_holder hit.site e.boot) k u.rest) (uses (with_ t) past)) kind
                 (subst (λ (w : Holder). IsUse (Gives w u.kind u.rest) (uses (with_ t) past)) whose u.is))))
 
-    attempt : tries set es make n distinct t f.k ≡ Some (attempt_of f.i hit.tag)
+    attempt : tries set es make n t f.k ≡ Some (attempt_of i hit.tag)
     attempt =
-        attempts set es make n distinct t f.k f.now f.first.at f.i e f.there (not_given f.k (omega arith)) (module_holder hit.site e.boot) 0x54 (length hit.header ∷ (hit.header ++ hit.cipher))
-        hit.tag hit.is key_is (ap (λ (r : List ℕ). 0x54 ∷ r) same_rest)
+        attempts set es make n t f.k f.now f.first.at i (not_given f.k (omega arith)) (module_holder hit.site e.boot) 0x54 (length hit.header ∷ (hit.header ++ hit.cipher)) hit.tag hit.is
+        (ap₂ (λ (x y : List ℕ). index_of set es x y) key_is (ap (λ (r : List ℕ). 0x54 ∷ r) same_rest) ∙ first.1)
 
     -- its number is the table's
-    right : at t f.i ≡ number hit.tag
+    right : at t i ≡ number hit.tag
     right =
         let key = key_of_entry set e in
         let whole : bytes_eq hit.tag (take 16 (tabled set es t key (message_of e))) ≡ true =
         subst (λ (r : List ℕ). bytes_eq hit.tag (take 16 (tabled set es t key (0x54 ∷ r))) ≡ true) same_rest
         (subst (λ (z : List ℕ). bytes_eq hit.tag (take 16 (tabled set es t z (0x54 ∷ length hit.header ∷ (hit.header ++ hit.cipher)))) ≡ true)
-        (key_under set es make n distinct t (module_holder hit.site e.boot) ∙ key_is) hit.right) in
-        let tag : hit.tag ≡ bytes_of 16 (at t f.i) =
+        (key_under set es make n t (module_holder hit.site e.boot) ∙ key_is) hit.right) in
+        let tag : hit.tag ≡ bytes_of 16 (at t i) =
         (bytes_eq-Decides hit.tag (take 16 (tabled set es t key (message_of e)))).0 whole
-        ∙ ap (take 16) (tag_at set es (2 ^ 128) t table key (message_of e) f.i (index_is set es distinct f.i e f.there key (message_of e) refl refl)) in
-        sym (ap number tag ∙ number_of (at t f.i) (value (length es) (2 ^ 128) t table f.i (Rattle.spec_run.proofs.tie.Lists.get_within es f.i e f.there)))
+        ∙ ap (take 16) (tag_at set es (2 ^ 128) t table key (message_of e) i first.1) in
+        sym (ap number tag ∙ number_of (at t i) (value (length es) (2 ^ 128) t table i there.low))
       where
         value : (n w : ℕ) (x : List ℕ) → IsTable n w x → (k : ℕ) → k < n → at x k < w
         value zero w x h k lt = absurd (omega (arith, lt))
@@ -182,33 +195,33 @@ module _ (set : Setting) (es : List Entry) (make : Maker) (n q : ℕ) (sound : I
         value (suc n) w (y ∷ x) h (suc k) lt = value n w x h.1 k (omega (arith, lt))
 
     -- so this attempt doesn't miss
-    hits : all_miss (play set es make n distinct) t q ≡ false
-    hits = by (all_miss (play set es make n distinct) t q) refl
+    hits : all_miss (play set es make n) t q ≡ false
+    hits = by (all_miss (play set es make n) t q) refl
       where
-        each : (j : ℕ) → all_miss (play set es make n distinct) t j ≡ true → f.k < j → misses (tries set es make n distinct t f.k) t ≡ true
+        each : (j : ℕ) → all_miss (play set es make n) t j ≡ true → f.k < j → misses (tries set es make n t f.k) t ≡ true
         each zero h lt = absurd (omega (arith, lt))
         each (suc j) h lt = pick (cases_eq f.k j) (each j)
           where
-            parts : (all_miss (play set es make n distinct) t j ≡ true) × (misses (tries set es make n distinct t j) t ≡ true)
-            parts = and_parts (all_miss (play set es make n distinct) t j) (misses (tries set es make n distinct t j) t) h
+            parts : (all_miss (play set es make n) t j ≡ true) × (misses (tries set es make n t j) t ≡ true)
+            parts = and_parts (all_miss (play set es make n) t j) (misses (tries set es make n t j) t) h
 
-            pick : (f.k ≡ j) ⊎ (f.k ≡ j → ⊥) → (all_miss (play set es make n distinct) t j ≡ true → f.k < j → misses (tries set es make n distinct t f.k) t ≡ true) → misses (tries set es make n distinct t f.k) t ≡ true
-            pick (inl same) rec = subst (λ (z : ℕ). misses (tries set es make n distinct t z) t ≡ true) (sym same) parts.1
+            pick : (f.k ≡ j) ⊎ (f.k ≡ j → ⊥) → (all_miss (play set es make n) t j ≡ true → f.k < j → misses (tries set es make n t f.k) t ≡ true) → misses (tries set es make n t f.k) t ≡ true
+            pick (inl same) rec = subst (λ (z : ℕ). misses (tries set es make n t z) t ≡ true) (sym same) parts.1
             pick (inr ne) rec = rec parts.0 (omega (arith, lt, ne))
 
-        by : (b : Bool) → all_miss (play set es make n distinct) t q ≡ b → all_miss (play set es make n distinct) t q ≡ false
+        by : (b : Bool) → all_miss (play set es make n) t q ≡ b → all_miss (play set es make n) t q ≡ false
         by false g = g
         by true g =
             let m = subst (λ (x : Option Attempt). misses x t ≡ true) attempt (each q g f.soon) in
-            absurd (true≢false (sym m ∙ ap not (eq-eqb (at t f.i) (number hit.tag) right)))
+            absurd (true≢false (sym m ∙ ap not (eq-eqb (at t i) (number hit.tag) right)))
 
   rare : (p : List ℕ → Bool) → q ≤ 2 ^ 128 → ((t : List ℕ) → IsTable (length es) (2 ^ 128) t → p t ≡ true → ForgesAt es (with_ t) (made (with_ t) make n).lines q)
       → count (length es) (2 ^ 128) p * 2 ^ 128 ≤ q * (2 ^ 128) ^ length es
   rare p le forges =
       let w : ℕ = 2 ^ 128 in
       let l = length es in
-      let misses_all : List ℕ → Bool = λ t. all_miss (play set es make n distinct) t q in
-      let many : (w - q) * w ^ l ≤ count l w misses_all * w = few_guesses_hit l w q (play set es make n distinct) (is_blind set es make n distinct) le in
+      let misses_all : List ℕ → Bool = λ t. all_miss (play set es make n) t q in
+      let many : (w - q) * w ^ l ≤ count l w misses_all * w = few_guesses_hit l w q (play set es make n) (is_blind set es make n) le in
       let apart : count l w p + count l w misses_all ≤ w ^ l =
       subst (λ (z : ℕ). z ≤ w ^ l) (sum_add l w (λ t. one (p t)) (λ t. one (misses_all t)))
       (subst (λ (z : ℕ). sum_all l w (λ t. one (p t) + one (misses_all t)) ≤ z) (sum_one l w)
@@ -231,4 +244,4 @@ module _ (set : Setting) (es : List Entry) (make : Maker) (n q : ℕ) (sound : I
           omega (arith, a, b, d, many)
 
 pub forgeries_are_rare : ForgeriesAreRare
-forgeries_are_rare set es make n q sound always named distinct asks few form le p forges = rare set es make n q sound always named distinct asks few form p le forges
+forgeries_are_rare set es make n q sound always named asks few form le p forges = rare set es make n q sound always named asks few form p le forges

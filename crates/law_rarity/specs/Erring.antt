@@ -1,7 +1,6 @@
 -- How seldom a maker of schedules takes a random table for the tags of the key tree.
-use Rattle.std.specs.Prelude.{◌≡◌, ℕ, ◌*◌, ◌^◌, ◌≤◌, Bool, true, false, List, [], length, slice_get, find}
+use Rattle.std.specs.Prelude.{◌≡◌, ℕ, ◌*◌, ◌^◌, ◌≤◌, Bool, true, false, List, length, find}
 use Rattle.std.specs.Prelude.{Option, Some, None}
-use Rattle.std.specs.Option.{option_flatten}
 use Rattle.sx_trace.specs.declared.items.Item.{Item}
 use Rattle.sx_trace.specs.declared.items.Item.TheVariants as item
 use Rattle.sx_tag.specs.Mac.{Mac, IsTag}
@@ -10,15 +9,14 @@ use Rattle.sx_sched.specs.Lines.{Line}
 use Rattle.spec_run.specs.Setting.{Setting}
 use Rattle.spec_run.specs.State.{switched_on}
 use Rattle.spec_run.specs.Run.{run}
-use Rattle.spec_run.specs.Law.{IsSoundSetting}
-use Rattle.law_isolation.specs.Happening.{Answer}
-use Rattle.law_forgery.specs.Moments.{Moment, moment}
+use Rattle.spec_run.specs.Law.{IsSoundSetting, LinesInForm}
+use Rattle.law_forgery.specs.Moments.{moment}
 use Rattle.law_forgery.specs.Named.{HasTags, named_setting}
 use Rattle.law_connections.specs.Laws.{RealizesAlways}
 use Rattle.law_makers.specs.Makers.{Maker, made}
 use Rattle.law_counting.specs.Counting.{IsTable, count}
-use Rattle.law_rarity.specs.Tables.{Entry, AreDistinct, tabled, with_tags}
-use Rattle.law_rarity.specs.Rare.{AreAnswers, MakesForm}
+use Rattle.law_rarity.specs.Tables.{tabled, with_tags}
+use Rattle.law_rarity.specs.Covering.{all_answers, AnswersBelow}
 
 -- the item is a `forged` of the deployer, who took an answer
 abbrev pub is_answer_forged : Option Item → Bool
@@ -39,28 +37,26 @@ abbrev pub AnswersAreTold : Type 0
 AnswersAreTold = (set : Setting) (make : Maker) (n : ℕ) (oracle : Mac) → length set.secret ≡ 16
     → HasTags oracle set → answer_distinguisher set make n oracle ≡ forges_answer set make n
 
--- each answer to an ask that a run has is for one of the entries
-abbrev pub Covers : Setting → List Line → List Entry → Type 0
-Covers set lines es = (k : ℕ) (now : Moment) (m boot packet : ℕ) (ask : List ℕ)
-    → moment set lines k ≡ Some now → now.next ≡ Answer m boot packet
-    → option_flatten (slice_get now.world.deployer.open_asks m) ≡ Some ask
-    → (i : ℕ) × (slice_get es i ≡ Some (record { m = m; boot = boot; header = ask; cipher = [] }))
+-- the lines are in form, their run has at most q moments, and its answers are for boots below this
+pub record Keeps (set : Setting) (lines : List Line) (boots q : ℕ) : Type 0 where
+  pub form : LinesInForm set lines
+  pub ends : moment set lines q ≡ None
+  pub below : AnswersBelow set lines boots
 
--- whatever the table, the run has at most so many moments, and the entries cover it
-pub record KeepsTo (set : Setting) (es : List Entry) (make : Maker) (n q : ℕ) : Type 0 where
-  pub form : MakesForm set es make n
-  pub ends : (t : List ℕ) → IsTable (length es) (2 ^ 128) t
-      → moment (with_tags set es t) (made (with_tags set es t) make n).lines q ≡ None
-  pub covered : (t : List ℕ) → IsTable (length es) (2 ^ 128) t
-      → Covers (with_tags set es t) (made (with_tags set es t) make n).lines es
+-- so do the lines that are made, whatever the table
+abbrev pub KeepsTo : Setting → Maker → (n boots q : ℕ) → Type 0
+KeepsTo set make n boots q =
+    let es = all_answers (length set.app.parts) boots q in
+    (t : List ℕ) → IsTable (length es) (2 ^ 128) t
+    → Keeps (with_tags set es t) (made (with_tags set es t) make n).lines boots q
 
--- Over a random table, whatever stands beside it, it says so for at most the part q / 2^128 of all
--- tables.
+-- Over a table of random tags of all answers, whatever stands beside it, it says so for at most the
+-- part q / 2^128 of all tables.
 abbrev pub DistinguisherSeldomErrs : Type 0
-DistinguisherSeldomErrs = (set : Setting) (base : Mac) (es : List Entry) (make : Maker) (n q : ℕ)
-    → IsSoundSetting set → RealizesAlways set → IsTag base → length set.secret ≡ 16
-    → AreDistinct (named_setting base set) es → AreAnswers es → n ≤ 65536
-    → KeepsTo (named_setting base set) es make n q → q ≤ 2 ^ 128
-    → count (length es) (2 ^ 128) (λ t.
+DistinguisherSeldomErrs = (set : Setting) (base : Mac) (make : Maker) (n boots q : ℕ)
+    → IsSoundSetting set → RealizesAlways set → IsTag base → length set.secret ≡ 16 → n ≤ 65536
+    → boots ≤ 2 ^ 32 → KeepsTo (named_setting base set) make n boots q → q ≤ 2 ^ 128
+    → let es = all_answers (length set.app.parts) boots q in
+    count (length es) (2 ^ 128) (λ t.
     answer_distinguisher set make n (tabled (named_setting base set) es t)) * 2 ^ 128
     ≤ q * (2 ^ 128) ^ length es

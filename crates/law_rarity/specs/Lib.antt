@@ -1,6 +1,7 @@
--- Begin with Tables: random numbers in place of tags. Rare is the law on them,
--- and Erring says so of a distinguisher.
+-- Begin with Tables: random numbers in place of tags. Rare is the law on them, Covering lists the
+-- entries of all answers, and Erring says of a distinguisher how seldom it errs.
 pub mod Tables
 pub mod Names
 pub mod Rare
+pub mod Covering
 pub mod Erring

@@ -11,7 +11,7 @@ use Rattle.law_forgery.specs.Moments.{Moment, FirstForged}
 use Rattle.law_connections.specs.Laws.{RealizesAlways}
 use Rattle.law_makers.specs.Makers.{Maker, made}
 use Rattle.law_counting.specs.Counting.{IsTable, count}
-use Rattle.law_rarity.specs.Tables.{Entry, AreDistinct, with_tags}
+use Rattle.law_rarity.specs.Tables.{Entry, with_tags}
 use Rattle.law_rarity.specs.Names.{HasNames}
 
 -- The first `forged` of a run comes before its q-th moment, and with an answer: to the ask, of the
@@ -47,7 +47,7 @@ MakesForm set es make n = (t : List ℕ) → IsTable (length es) (2 ^ 128) t
 -- comes with an answer before the q-th moment. `p` is any test that such a table alone passes.
 abbrev pub ForgeriesAreRare : Type 0
 ForgeriesAreRare = (set : Setting) (es : List Entry) (make : Maker) (n q : ℕ) → IsSoundSetting set
-    → RealizesAlways set → HasNames set → AreDistinct set es → AreAnswers es → n ≤ 65536
+    → RealizesAlways set → HasNames set → AreAnswers es → n ≤ 65536
     → MakesForm set es make n → q ≤ 2 ^ 128
     → (p : List ℕ → Bool)
     → ((t : List ℕ) → IsTable (length es) (2 ^ 128) t → p t ≡ true

@@ -1,6 +1,6 @@
 -- Random numbers in place of some tags.
-use Rattle.std.specs.Prelude.{◌≡◌, ℕ, zero, suc, ◌%◌, ◌/◌, ◌&&◌, if◌then◌else◌, List, [], ◌∷◌, ◌++◌}
-use Rattle.std.specs.Prelude.{length, drop, slice_get, bytes_eq, Some}
+use Rattle.std.specs.Prelude.{ℕ, zero, suc, ◌%◌, ◌/◌, ◌&&◌, if◌then◌else◌, List, [], ◌∷◌, ◌++◌}
+use Rattle.std.specs.Prelude.{length, drop, bytes_eq}
 use Rattle.sx_tag.specs.Mac.{Mac}
 use Rattle.spec_run.specs.Setting.{Setting}
 use Rattle.law_forgery.specs.Forgery.{OfModule, key_named}
@@ -20,18 +20,13 @@ key_of_entry set e = key_named set (OfModule e.m e.boot)
 abbrev pub message_of : Entry → List ℕ
 message_of e = 0x54 ∷ length e.header ∷ (e.header ++ e.cipher)
 
--- no two entries have one key and one message
-abbrev pub AreDistinct : Setting → List Entry → Type 0
-AreDistinct set es = (i j : ℕ) (e f : Entry) → slice_get es i ≡ Some e → slice_get es j ≡ Some f
-    → key_of_entry set e ≡ key_of_entry set f → message_of e ≡ message_of f → i ≡ j
-
 -- a number as so many bytes, the lowest first
 abbrev pub bytes_of : ℕ → ℕ → List ℕ
 bytes_of zero v = []
 bytes_of (suc n) v = v % 256 ∷ bytes_of n (v / 256)
 
 -- The tag function with these numbers at the entries, each in place of the 16 bytes that are shown;
--- everywhere else it is as before.
+-- everywhere else it is as before. Of entries with one key and one message the first counts.
 abbrev pub tabled : Setting → List Entry → List ℕ → Mac
 tabled set [] vs key message = set.mac key message
 tabled set (e ∷ es) [] key message = set.mac key message

@@ -1,5 +1,6 @@
 //! How rare forgeries are. Each law is a function that does nothing: its contract is the law.
 
+ghost use Rattle.law_rarity.specs.Covering.{AllAreAnswers};
 ghost use Rattle.law_rarity.specs.Erring.{AnswersAreTold, DistinguisherSeldomErrs};
 ghost use Rattle.law_rarity.specs.Names.{NamedHasNames};
 ghost use Rattle.law_rarity.specs.Rare.{ForgeriesAreRare};
@@ -12,6 +13,11 @@ pub fn named_has_names()
 /// Of all tables at most the part q / 2^128 leads to a run whose first `forged` comes with an answer.
 pub fn forgeries_are_rare()
     ensures { ForgeriesAreRare }
+{}
+
+/// The entries that are listed are answers.
+pub fn all_are_answers()
+    ensures { AllAreAnswers }
 {}
 
 /// Over the tags of the key tree the distinguisher says whether the first `forged` comes with an
