@@ -204,12 +204,12 @@ module _ (set : Setting) (lines : List Line) (k : ℕ) (w : World) (n : ℕ) (s 
 
     -- an ask, under the own key, or an event
     sent_parts : (id : ℕ) → (step set.mac s).shown.event ≡ event.Wrapped id → SentParts (header_of x) (body_of x) x.own_key
-    sent_parts id e = elim (sent id e) [ inl a ↦ inl a | inr v ↦ inr (v.0, v.1, v.2) ]
+    sent_parts id e = elim (sent id e) [ inl a ↦ inl a | inr v ↦ inr (v.0, v.1, ap length v.2.1) ]
 
-    sends_own : (id : ℕ) → (step set.mac s).shown.event ≡ event.Wrapped id → SendsOwn set m (header_of x)
+    sends_own : (id : ℕ) → (step set.mac s).shown.event ≡ event.Wrapped id → SendsOwn set m (header_of x) (body_of x)
     sends_own id e ev = elim (sent id e) [
       | inl a ↦ let l = ask_long (header_of x) a.1 in let l2 = event_long (header_of x) ev in absurd (omega (arith, l, l2))
-      | inr v ↦ ap (sender_of set.app) v.7 ∙ sent_sender set.app m v.3 v.4 v.5 v.6
+      | inr v ↦ (v.2, ap (sender_of set.app) v.7 ∙ sent_sender set.app m v.3 v.4 v.5 v.6)
     ]
 
     -- where the tag of a packet of this size was
@@ -315,7 +315,7 @@ module _ (set : Setting) (lines : List Line) (k : ℕ) (w : World) (n : ℕ) (s 
           | inl ask ↦ let l = ask_long (header_of x) ask.0 in let l2 = event_long (header_of x) ev in absurd (omega (arith, l, l2))
           | inr v ↦
               let same : body_of x ≡ body =
-              b ∙ body_back set.secret set.mac (connection_key set (link_in (header_of x)) (epoch_in (header_of x))) (header_of x) cipher plain body 2 sound.tag v.1 (omega arith) c is in
+              b ∙ body_back set.secret set.mac (connection_key set (link_in (header_of x)) (epoch_in (header_of x))) (header_of x) cipher plain body 2 sound.tag (ap length v.1.1) (omega arith) c is in
               let sender = subst (λ (i : ℕ). is_made w.ledger (made_entry (maker.Module i) NO_TARGET 0 (header_of x) body) ≡ true) (sym v.2) was.1 in
               true≢false (sym sender ∙ subst (λ (z : List ℕ). is_made w.ledger (made_entry (maker.Module (sender_of set.app (link_in (header_of x)))) NO_TARGET 0 (header_of x) z) ≡ false) same none)
         ]
@@ -347,7 +347,7 @@ module _ (set : Setting) (lines : List Line) (k : ℕ) (w : World) (n : ℕ) (s 
       ]
 
   -- what the module's code wraps
-  pub step_sends : (m id : ℕ) → module_of set.sites n s (own_of s) ≡ Some m → (step set.mac s).shown.event ≡ event.Wrapped id → SendsOwn set m (header_of x)
+  pub step_sends : (m id : ℕ) → module_of set.sites n s (own_of s) ≡ Some m → (step set.mac s).shown.event ≡ event.Wrapped id → SendsOwn set m (header_of x) (body_of x)
   step_sends m id runs e = let o = runner_found m runs in sends_own m o.0 o.1 runs (ap violation_of e) id e
 
   pub step_enters : (m id : ℕ) → module_of set.sites n s (own_of s) ≡ Some m → (step set.mac s).shown.event ≡ event.Wrapped id → IsEntered set n s m (after_step set w n s).world.ledger

@@ -23,7 +23,7 @@ use Rattle.spec_run.specs.Acts.{at_node, after_step, with_deployer, key_given, k
 use Rattle.spec_run.specs.Run.{sense_at, give}
 use Rattle.spec_run.proofs.tie.Entries.{made_behind}
 use Rattle.law_isolation.specs.Happening.{Happening, Begin, Step, Put, Set, Take, Give, Forge, Sense, Irq, Reset, Ask, Answer, Show, done}
-use Rattle.law_forgery.specs.Logged.{IsLogged}
+use Rattle.law_forgery.specs.Logged.{IsWord, IsLogged}
 
 abbrev pub AllLogged : Setting → List Made → Type 0
 AllLogged set ledger = (e : Made) → is_made ledger e ≡ true → IsLogged set e.maker e
@@ -35,11 +35,11 @@ none_long : (body : List ℕ) → (length body == 0) ≡ true → body ≡ []
 none_long [] e = refl
 none_long (b ∷ bs) e = absurd (omega (arith, eqb-true (length (b ∷ bs)) 0 e))
 
--- an event that a module wraps is of a connection that comes from it
-abbrev pub SendsOwn : Setting → ℕ → List ℕ → Type 0
-SendsOwn set m header = is_event_header header ≡ true → sender_of set.app (link_in header) ≡ m
+-- an event that a module wraps is a word, and of a connection that comes from it
+abbrev pub SendsOwn : Setting → ℕ → List ℕ → List ℕ → Type 0
+SendsOwn set m header body = is_event_header header ≡ true → IsWord body × (sender_of set.app (link_in header) ≡ m)
 
-wrapped_logged : (set : Setting) (m boot : ℕ) (header body : List ℕ) (own : Bool) (ledger : List Made) → SendsOwn set m header → AllLogged set ledger
+wrapped_logged : (set : Setting) (m boot : ℕ) (header body : List ℕ) (own : Bool) (ledger : List Made) → SendsOwn set m header body → AllLogged set ledger
     → AllLogged set (has_wrapped m boot header body own ledger).ledger
 wrapped_logged set m boot header body own ledger sends h = by (is_ask header && ((length body == 0) && own)) refl (is_event_header header && (length body == 2)) refl
   where
@@ -54,12 +54,12 @@ wrapped_logged set m boot header body own ledger sends h = by (is_ask header && 
         more set ledger (made_entry (maker.Module m) NO_TARGET boot header body) (inl (p.0, none_long body (and_parts (length body == 0) own p.1).0)) h
     by false e true f =
         let p = and_parts (is_event_header header) (length body == 2) f in
-        more set ledger (made_entry (maker.Module m) NO_TARGET 0 header body) (inr (p.0, eqb-true (length body) 2 p.1, sends p.0)) h
+        more set ledger (made_entry (maker.Module m) NO_TARGET 0 header body) (inr (p.0, (sends p.0).0, (sends p.0).1)) h
     by false e false f = h
 
 -- what the code of this module wraps in a step with this event
 abbrev Wraps : Setting → Option ℕ → State → Event → Type 0
-Wraps set runner s e = (m id : ℕ) → runner ≡ Some m → e ≡ event.Wrapped id → SendsOwn set m (header_of s.exchange)
+Wraps set runner s e = (m id : ℕ) → runner ≡ Some m → e ≡ event.Wrapped id → SendsOwn set m (header_of s.exchange) (body_of s.exchange)
 
 event_logged : (set : Setting) (n : ℕ) (runner : Option ℕ) (s : State) (ledger : List Made) (e : Event) → Wraps set runner s e → AllLogged set ledger
     → AllLogged set (event_seen set n runner s ledger e).ledger

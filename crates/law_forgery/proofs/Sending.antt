@@ -35,7 +35,7 @@ use Rattle.law_forgery.proofs.Packets.{read_long}
 -- an answer to an ask, under the own key; or an event for a sending end, with its connection in the header
 abbrev pub Sent : Setup → Mark → Type 0
 Sent s (mark.Wrapped header body own) = ((own ≡ true) × (is_ask header ≡ true) × (body ≡ []))
-    ⊎ ((own ≡ false) × (is_event_header header ≡ true) × (length body ≡ 2) × (k : ℕ) × (e : End) × (slice_get s.ends k ≡ Some e) × (e.side ≡ From) × (link_in header ≡ e.link))
+    ⊎ ((own ≡ false) × (is_event_header header ≡ true) × ((v : ℕ) × (body ≡ two v)) × (k : ℕ) × (e : End) × (slice_get s.ends k ≡ Some e) × (e.side ≡ From) × (link_in header ≡ e.link))
 Sent s (mark.Unwrapped header body own) = Unit {0}
 Sent s (mark.Sampled device v) = Unit {0}
 Sent s (mark.Actuated device v) = Unit {0}
@@ -66,7 +66,7 @@ module _ (set : Setting) (s : Setup) (call : Call) where
     wraps = λ p v k e at side o h. (
       same_keyed set s.ends p.state.ends k _ h.0,
       all_more (Sent s) p.marks (mark.Wrapped (event_header (end_of p.state.ends k)) (two v) false)
-          (inr (refl, refl, refl, k, e, at, side, (keyed_get set s.ends p.state.ends k e at h.0 o).1)) h.1,
+          (inr (refl, refl, (v, refl), k, e, at, side, (keyed_get set s.ends p.state.ends k e at h.0 o).1)) h.1,
     );
     writes = λ p device v h. (h.0, all_more (Sent s) p.marks (mark.Actuated device v) tt h.1);
   }

@@ -1,5 +1,5 @@
 -- The ledger is a log of what is wrapped under keys of modules and connections.
-use Rattle.std.specs.Prelude.{◌≡◌, ℕ, true, false, ◌⊎◌, List, [], length, slice_get, Some}
+use Rattle.std.specs.Prelude.{◌≡◌, ℕ, ◌/◌, ◌%◌, true, false, ◌⊎◌, List, [], ◌∷◌, slice_get, Some}
 use Rattle.sx_ledger.specs.declared.entry.Maker.{Maker}
 use Rattle.sx_ledger.specs.declared.entry.Maker.TheVariants as maker
 use Rattle.spec_machine.specs.declared.kinds.Event.TheVariants as event
@@ -16,12 +16,16 @@ use Rattle.spec_run.specs.Observation.{sender_of}
 use Rattle.law_isolation.specs.Happening.{Step, done}
 use Rattle.law_forgery.specs.Moments.{Moment, moment, NoneBefore}
 
+-- the two bytes of a word, the low one first
+abbrev pub IsWord : List ℕ → Type 0
+IsWord body = (v : ℕ) × (body ≡ v % 256 ∷ v / 256 ∷ [])
+
 -- An entry of the deployer is a set-key packet; one of a module is an ask that it answers, which
--- has no body, or an event of two bytes over a connection that comes from it.
+-- has no body, or an event, whose body is a word, over a connection that comes from it.
 abbrev pub IsLogged : Setting → Maker → Made → Type 0
 IsLogged set maker.Deployer e = (g : Grant) × (e ≡ set_key_entry set g)
 IsLogged set (maker.Module k) e = ((is_ask e.header ≡ true) × (e.body ≡ []))
-    ⊎ ((is_event_header e.header ≡ true) × (length e.body ≡ 2)
+    ⊎ ((is_event_header e.header ≡ true) × IsWord e.body
     × (sender_of set.app (link_in e.header) ≡ k))
 
 -- What the code of the m-th module wraps in the next step of the n-th node is an ask, under its own

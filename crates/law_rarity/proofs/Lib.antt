@@ -1,7 +1,7 @@
 -- Same, Extending and Making: two runs that go side by side until a use has another answer. Asked: what
 -- the two ask. Entries and Tabled: tables of tags. Whose, Words and Names: names tell modules. Playing: a
 -- run is a blind player; Rare counts. Covering lists all answers, and Erring is about the
--- distinguisher.
+-- distinguisher. Once is about the ledger alone.
 pub mod Same
 pub mod Extending
 pub mod Making
@@ -15,3 +15,4 @@ pub mod Playing
 pub mod Rare
 pub mod Covering
 pub mod Erring
+pub mod Once

@@ -1,7 +1,9 @@
 -- Begin with Tables: random numbers in place of tags. Rare is the law on them, Covering lists the
--- entries of all answers, and Erring says of a distinguisher how seldom it errs.
+-- entries of all answers, and Erring says of a distinguisher how seldom it errs. Once: no pad is used
+-- twice.
 pub mod Tables
 pub mod Names
 pub mod Rare
 pub mod Covering
 pub mod Erring
+pub mod Once

@@ -3,6 +3,7 @@
 ghost use Rattle.law_rarity.specs.Covering.{AllAreAnswers};
 ghost use Rattle.law_rarity.specs.Erring.{AnswersAreTold, DistinguisherSeldomErrs};
 ghost use Rattle.law_rarity.specs.Names.{NamedHasNames};
+ghost use Rattle.law_rarity.specs.Once.{PadsOnce};
 ghost use Rattle.law_rarity.specs.Rare.{ForgeriesAreRare};
 
 /// In a setting whose nodes hold names, the key of each module is its name.
@@ -29,4 +30,9 @@ pub fn answers_are_told()
 /// Over a random table it seldom does.
 pub fn distinguisher_seldom_errs()
     ensures { DistinguisherSeldomErrs }
+{}
+
+/// Until a `forged` no pad is used twice.
+pub fn pads_once()
+    ensures { PadsOnce }
 {}
