@@ -43,7 +43,7 @@ PROPERTIES = ["sx_watch.Text.IsProperty", "sx_watch.Watched.broken_at"]
 # How seldom a `forged` comes: counts of tables, makers of schedules, and what their distinguishers say.
 ODDS = [
     "law_rarity.Erring.AnswersAreTold", "law_rarity.Erring.DistinguisherSeldomErrs",
-    "law_counting.Pads.CiphersAreRandom",
+    "law_counting.Pads.CiphersAreRandom", "law_rarity.Once.PadsOnce",
     *(f"law_makers.{law}" for law in (
         "Makers.MakersSeeTheSame", "Makers.DistinguisherIsRun", "Makers.DistinguisherKnowsNoKey",
         "LinkMakers.SeesNoLink", "Time.StepsShowNoKey", "Time.ShowsNoLink", "NamedSound.NamedIsSound",

@@ -16,7 +16,7 @@ use Rattle.spec_run.specs.Observation.{sender_of}
 use Rattle.law_isolation.specs.Happening.{Step, done}
 use Rattle.law_forgery.specs.Moments.{Moment, moment, NoneBefore}
 
--- the two bytes of a word, the low one first
+-- a number's low byte, and what is above it: the two bytes of a word
 abbrev pub IsWord : List ℕ → Type 0
 IsWord body = (v : ℕ) × (body ≡ v % 256 ∷ v / 256 ∷ [])
 

@@ -32,7 +32,7 @@ pub fn distinguisher_seldom_errs()
     ensures { DistinguisherSeldomErrs }
 {}
 
-/// Until a `forged` no pad is used twice.
+/// In a run without a `forged` no pad is used twice.
 pub fn pads_once()
     ensures { PadsOnce }
 {}
