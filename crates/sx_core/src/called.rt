@@ -39,7 +39,8 @@ fn constant_onto_any<B: Bus>(
 }
 
 /// Executes the instruction at PC of this shortcut. Its code stays out of the way of what most
-/// steps do.
+/// steps do, and the compiler takes those for likely.
+#[cold]
 #[inline(never)]
 #[tactic(auto, unfolding(spec_machine::specs::Rows::program, sx_isa::specs::Reading::length_of))]
 pub fn step_called<B: Bus>(executor: &mut Executor<B>, shortcut: Shortcut) -> Result<(), Violation>
