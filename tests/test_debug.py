@@ -2,14 +2,10 @@
 
 import re
 import unittest
-from unittest.mock import patch
 
-from support import EXAMPLES, HEAD, LIGHTING, PROGRAM, TOP, Room, needs_program, program, sancus
+from support import EXAMPLES, HEAD, LIGHTING, Room, needs_program, program, sancus
 
-from sancus.builds import Builds
-from sancus.cli.program import Program
-from sancus.cli.say import Voice
-from sancus.model import forged, marks, session
+from sancus.model import forged, session
 from sancus.model.deployment import plan_of
 from sancus.model.items import Item
 from sancus.model.texts import Input
@@ -145,35 +141,21 @@ class Variables(Room):
 
 @needs_program
 class Marks(Room):
-    def test_in_several_runs(self):
-        """A schedule of more than half the lines that one may have is marked in several runs, with the same lines."""
-        runs = Program(Builds(TOP, PROGRAM), Voice())
-        for text in (LIGHTING, b"%%\nset n sp 0x600\nasm n 0x800 .word 0\nset n pc 0x800\nrun n 9\nreset n\n"):
-            data = Input(text)
-            whole = list(marks.marked_lines(data, marks.marked_run(data, runs)))
-            fault = Input(text + b"fly\n")
-            broken = list(marks.marked_lines(fault, marks.marked_run(fault, runs)))
-            self.assertTrue(broken[-1].startswith(b"fault schedule S3 "))
-            for most in (len(fault.schedule), len(fault.schedule) + 9):
-                with self.subTest(most), patch.object(marks, "MOST_LINES", most):
-                    self.assertEqual(list(marks.marked_lines(data, marks.marked_run(data, runs))), whole)
-                    self.assertEqual(list(marks.marked_lines(fault, marks.marked_run(fault, runs))), broken)
-
     def test_a_short_line_is_no_line_for_people(self):
         text = LIGHTING.replace(b"call eye 3 0x300 0x400", b"call eye 3")
         self.assertEqual(sancus("marks", text=text).lines[-1], program("run", text=text).lines[-1])
 
     def test_a_deployment_with_a_fault(self):
-        self.says(sancus("marks", text=b"x = 1\n"), "D2: there is no line %%", "no marked run")
+        self.says(sancus("marks", text=b"x = 1\n"), "D2: there is no line %%")
         self.says(sancus("marks", text=b"secret\n%%\n"), "D3: the deployment isn't TOML")
 
-    def test_too_many_lines(self):
+    def test_as_many_lines_as_a_run_takes(self):
         text = b"%%\n" + b"reset n\n" * 65537
-        self.says(sancus("marks", text=text), "no marked run: the schedule has more lines than a run takes")
+        self.assertEqual(sancus("marks", text=text).lines[-3:], ["> reset n", "reset n asked", "fault schedule S2 65537"])
 
     def test_lines_for_people(self):
         head, easy = self.file("d.toml", HEAD), self.file("easy.txt", EASY)
-        lines = sancus("marks", "--no-images", head, easy).lines
+        lines = sancus("marks", head, easy).lines
         at = lines.index("> call lamp 2 0x300 0x400")
         self.assertEqual(lines[at + 1 :], ["take lamp down 0 1", "out lamp 1", "done lamp 1 0", "end"])
         self.assertIn(f"> #= {easy}:6 carry logic lamp", lines)

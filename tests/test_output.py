@@ -120,17 +120,17 @@ class Output(Room):
     def test_marks_hold_no_keys(self):
         """The deployment, with its keys, is printed on demand alone, and what a comment holds moves no cursor."""
         text = LIGHTING + b"# \x1b]0;owned\x07 \xc2\x9b caf\xc3\xa9\n"
-        ran = sancus("marks", self.file("x", text), "--no-images")
-        self.assertEqual((ran.status, ran.lines[:2]), (0, ["trace", f"> {Input(LIGHTING).schedule[0].decode()}"]))
+        ran = sancus("marks", self.file("x", text))
+        self.assertEqual((ran.status, ran.lines[0]), (0, f"> {Input(LIGHTING).schedule[0].decode()}"))
         self.assertNotIn(b"secret", ran.out)
         self.assertIn("> # \\x1b]0;owned\\x07 \\x9b caf\u00e9\n", ran.out.decode())
-        whole = sancus("marks", self.file("x", text), "--no-images", "--input")
+        whole = sancus("marks", self.file("x", text), "--input")
         self.assertEqual(whole.out, text.partition(b"%%\n")[0] + b"%%\n" + ran.out)
 
     def test_marks_up_to_a_line_that_can_not_be_done(self):
         lines = self.file("p", "deploy eye\nsample ear 3\nreset a\n")
-        ran = sancus("marks", EXAMPLES / "lighting.txt", lines, "--no-images")
-        self.assertEqual((ran.status, ran.lines[:3]), (122, ["trace", f"> #= {lines}:1 deploy eye", "> load eye"]))
+        ran = sancus("marks", EXAMPLES / "lighting.txt", lines)
+        self.assertEqual((ran.status, ran.lines[:2]), (122, [f"> #= {lines}:1 deploy eye", "> load eye"]))
         self.assertEqual(ran.lines[-1], "done eye 1 0")
         self.says(ran, f"{lines}:2: sample ear 3: there is no module ear")
 
@@ -139,19 +139,17 @@ class Output(Room):
         for file, ran in zip(files, one_by_one(lambda it: sancus("marks", it), files)):
             with self.subTest(file.name):
                 wanted = program("run", text=file.read_bytes())
-                items = b"\n".join(it for it in ran.out.split(b"\n") if not it.startswith(b"> "))
-                self.assertEqual((items, ran.status), (wanted.out, wanted.status))
+                items = [it for it in ran.lines if not it.startswith("> ")]
+                self.assertEqual((["trace", *items], ran.status), (wanted.lines[wanted.lines.index("trace") :], wanted.status))
 
     def test_marks_of_faults(self):
         ran = sancus("marks", text=LIGHTING + b"\n# x\nload ear\n")
         self.assertEqual((ran.status, ran.lines[-1]), (3, "fault schedule S4 48"))
         self.says(ran, "a module: eye logic lamp")
-        self.assertEqual(sancus("marks", text=b"load eye\n").status, 122)
+        self.assertEqual(sancus("marks", text=b"load eye\n").lines, ["fault deployment D2 -"])
         self.assertEqual(sancus("marks", text=b"node = 3\n%%\n").lines, ["fault deployment D4 top"])
-        self.assertEqual(
-            sancus("marks", text=b"%%\nset n r5 1\nreset n\n").lines[-4:],
-            ["> set n r5 1", "> reset n", "reset n asked", "end"],
-        )
+        ran = sancus("marks", text=b"%%\nset n r5 1\n\nreset n\n")
+        self.assertEqual(ran.lines, ["> set n r5 1", "> ", "> reset n", "reset n asked", "end"])
 
 
 @needs_program

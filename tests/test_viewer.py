@@ -20,10 +20,9 @@ from support import EXAMPLES, LIGHTING as LIGHTING_BYTES, PROGRAM, TOP, Room, ne
 from sancus.builds import Builds
 from sancus.cli.program import Program
 from sancus.cli.say import Voice
-from sancus.model.marks import marked_lines, marked_run
-from sancus.model.texts import Input
+from sancus.model.texts import Input, is_act
 from sancus.viewer.join import joined
-from sancus.viewer.pages import of_readings, of_run, page_of, without_lines
+from sancus.viewer.pages import of_readings, of_run, page_of
 
 BROWSER = next(
     (found for name in ("chromium", "chromium-browser", "google-chrome") if (found := shutil.which(name))), ""
@@ -152,9 +151,9 @@ call lamp 2 0x300 0x400
 
 
 def readings(count, packets=0):
-    """The lines and the items of this many readings, on modules that have their keys, when so many packets were
-    made."""
-    lines, items = [], []
+    """The lines of this many readings, each with its items after it, on modules that have their keys, when so many
+    packets were made."""
+    rows = []
     for number in range(count):
         value = 37 * number % 200
         text = READING.format(
@@ -164,15 +163,24 @@ def readings(count, packets=0):
             number=number,
             lit=int(value > 100),
         )
-        for line in text.splitlines():
-            (items if line.startswith(" ") else lines).append(line.strip())
-    return lines, items
+        rows += text.splitlines()
+    return rows
 
 
-def run_of(lines, items, last="end"):
+def lines_of(rows):
+    return [it for it in rows if not it.startswith(" ")]
+
+
+def items_of(rows):
+    return [it[1:] for it in rows if it.startswith(" ")]
+
+
+def run_of(rows, last="end"):
+    """A run of lines, each with its items after it, which begin with a blank."""
+    output = "".join(f"{it[1:]}\n" if it.startswith(" ") else f"> {it}\n" for it in rows)
     return {
-        "input": (DEPLOYMENT + "\n".join(lines) + "\n").encode(),
-        "output": ("trace\n" + "".join(f"{it}\n" for it in items) + f"{last}\n").encode(),
+        "input": (DEPLOYMENT + "\n".join(lines_of(rows)) + "\n").encode(),
+        "output": f"{output}{last}\n".encode(),
     }
 
 
@@ -196,7 +204,7 @@ class Viewer(unittest.TestCase):
         return self.browser.value(f"[...document.querySelectorAll({json.dumps(selector)})].map(it => it.textContent)")
 
     def test_one_reading(self):
-        self.show(run_of(*readings(1)) | {"name": b"reading.txt"})
+        self.show(run_of(readings(1)) | {"name": b"reading.txt"})
         self.assertEqual(self.texts("#title"), ["reading.txt"])
         self.assertEqual(self.texts("#notes div"), [])
         rows = self.texts(".row .cell")
@@ -211,25 +219,23 @@ class Viewer(unittest.TestCase):
             self.assertIn(text, drawn)
 
     def test_trouble_and_forged_stand_out(self):
-        lines = [
+        rows = [
             "call eye 3 0x300 0x400",
+            " done eye 8 0",
             "reset a",
+            " reset a asked",
             "put a 0x4000 00",
             "give 7 b 0x300",
+            " skip b",
             "call lamp 2 0x300 0x400",
+            " forged lamp",
+            " take lamp down 0 1",
+            " out lamp 1",
+            " done lamp 1 0",
             "run a 9",
+            " reset a read",
         ]
-        items = [
-            "done eye 8 0",
-            "reset a asked",
-            "skip b",
-            "forged lamp",
-            "take lamp down 0 1",
-            "out lamp 1",
-            "done lamp 1 0",
-            "reset a read",
-        ]
-        self.show(run_of(lines, items))
+        self.show(run_of(rows))
         self.browser.shoot("forged")
         drawn = self.texts("svg.drawing text")
         for text in (
@@ -253,7 +259,7 @@ class Viewer(unittest.TestCase):
 
     def test_causes(self):
         causes = b"because 2 1\nbecause 5 2\nbecause 8 5\nbecause 9 8\nlegal\n"
-        self.show(run_of(*readings(1)) | {"causes": causes}, "#item=9")
+        self.show(run_of(readings(1)) | {"causes": causes}, "#item=9")
         self.browser.shoot("causes")
         self.assertIn(
             "Because: 9 out lamp 0 ← 8 take lamp down 0 0 ← 5 take logic up 0 0 ← 2 read eye 0 ← 1 sense light 0",
@@ -264,8 +270,7 @@ class Viewer(unittest.TestCase):
         self.assertIn("Item 8: take lamp", self.texts("#more")[0])
 
     def test_two_thousand_readings(self):
-        lines, items = readings(2000)
-        self.show(run_of(lines, items))
+        self.show(run_of(readings(2000)))
         self.browser.shoot("many-folded")
         self.assertEqual(self.texts("#about"), ["20000 items · 2000 out · 0 reset"])
         self.assertEqual(self.texts("#notes div.bad"), [])
@@ -280,7 +285,7 @@ class Viewer(unittest.TestCase):
         self.browser.shoot("many-open")
         self.assertLess(self.browser.value("document.getElementsByTagName('*').length"), 3000)
         self.assertIn("out lamp", self.texts("#more")[0] + "".join(self.texts(".row")))
-        self.is_quick("20,000 items that are matched")
+        self.is_quick("20,000 items")
 
     def is_quick(self, what):
         """Opens the run once more, and moves about in it."""
@@ -291,22 +296,21 @@ class Viewer(unittest.TestCase):
 
     @needs_program
     def test_two_thousand_readings_of_the_program(self):
-        lines, items = readings(2000, PACKETS)
-        texts = of_run(Input((SET_UP + "\n".join(lines) + "\n").encode()), started()).texts
-        self.assertIn(b"> sense light 37\nsense light 37\n", texts["output"])
-        self.assertIn("\n".join(items[-10:]), without_lines(b"%%\n" + texts["output"]).decode())
+        rows = readings(2000, PACKETS)
+        texts = of_run(Input((SET_UP + "\n".join(lines_of(rows)) + "\n").encode()), started()).texts
+        self.assertTrue(texts["output"].endswith(run_of(rows)["output"]))
         self.show(texts)
         self.assertEqual(self.texts("#about"), ["20033 items · 2000 out · 0 reset"])
         self.assertEqual(self.texts("#notes div"), [])
         self.browser.shoot("program-folded")
-        self.is_quick("20,033 items of a marked run")
+        self.is_quick("20,033 items of the program")
         self.browser.shoot("program-open")
         self.browser.value("page.go(page.run.output.items.findLast(it => it.kind === 'out').row)")
         self.browser.shoot("program-out")
         self.assertIn("out lamp 1", self.texts("#more")[0])
 
     def test_find_and_fold(self):
-        self.show(run_of(*readings(3)))
+        self.show(run_of(readings(3)))
         self.browser.value('page.find("packet 3")')
         self.assertEqual(self.texts("#count"), ["1 found"])
         self.browser.press("n")
@@ -317,10 +321,13 @@ class Viewer(unittest.TestCase):
         self.assertEqual(len(self.texts(".row.group")), 0)
 
     def test_texts_that_do_not_fit(self):
-        lines, items = readings(1)
-        self.show(run_of(lines, items[:3] + ["out lamp 1"] + items[3:]))
-        self.assertIn("The output isn't this schedule's", self.texts("#notes div.bad")[0])
-        self.show(run_of(lines[:3] + ["load ear"], items[:4], "fault schedule S4 4"))
+        rows = readings(1)
+        items = "".join(f"{it}\n" for it in ("trace", *items_of(rows), "end"))
+        self.show(run_of(rows) | {"output": items.encode()})
+        self.assertIn("doesn't say which line gave an item", self.texts("#notes div")[0])
+        self.assertEqual(self.texts(".row .cell")[-1], "10done lamp 1 0")
+        texts = run_of(rows[:7], "fault schedule S4 4")
+        self.show(texts | {"input": texts["input"] + b"load ear\n"})
         self.assertEqual(self.texts("#notes div.bad"), ["fault schedule S4 4"])
         self.assertEqual(self.texts(".row.fault .text"), ["load ear", "  fault schedule S4 4"])
         self.show({"output": b"trace\nsense light 3\nread eye 3\n"})
@@ -330,8 +337,8 @@ class Viewer(unittest.TestCase):
 
     def test_files_that_are_opened(self):
         """A deployment, a schedule and an output, in any order."""
-        lines, items = readings(1)
-        schedule, output = "\n".join(lines) + "\n", "trace\n" + "\n".join(items) + "\nend\n"
+        rows = readings(1)
+        schedule, output = "\n".join(lines_of(rows)) + "\n", run_of(rows)["output"].decode()
         self.show({})
         self.browser.value(f"page.open({json.dumps([DEPLOYMENT.partition('%%')[0]])})")
         self.assertIn("This is a part of a run", self.texts("#notes div")[0])
@@ -343,19 +350,19 @@ class Viewer(unittest.TestCase):
         self.assertEqual(self.texts(".row .cell")[-1], "10done lamp 1 0")
 
     def test_an_item_that_breaks_a_property(self):
-        lines, items = readings(3)
-        at = items.index("out lamp 0") + 1
-        self.show(run_of(lines, items) | {"broken": f"{at} item {at} breaks it".encode()})
+        rows = readings(3)
+        at = items_of(rows).index("out lamp 0") + 1
+        self.show(run_of(rows) | {"broken": f"{at} item {at} breaks it".encode()})
         (row,) = self.texts(".row.broken")
         self.assertIn("out lamp 0", row)
         self.assertIn(f"Item {at} breaks it", self.texts("#notes div"))
         self.assertIn(f"item {at} breaks it", self.texts("#more div"))
-        self.show(run_of(lines, items) | {"broken": b"0 no item breaks it"})
+        self.show(run_of(rows) | {"broken": b"0 no item breaks it"})
         self.assertEqual((self.texts(".row.broken"), self.texts("#notes div")[-1]), ([], "No item breaks it"))
 
     def test_hostile_texts_stay_texts(self):
         text = '# </script><img src=x onerror="window.bad=1">'
-        self.show(run_of([text, *readings(1)[0]], readings(1)[1]))
+        self.show(run_of([text, *readings(1)]))
         self.assertIn(text[2:], self.texts(".row.note .text"))
         self.assertEqual(self.browser.value("document.images.length + (window.bad ?? 0)"), 0)
 
@@ -367,27 +374,21 @@ class Viewer(unittest.TestCase):
 
     @needs_program
     def test_examples(self):
-        """The items of each line that the page finds are those of a marked run, or it says that it isn't sure."""
+        """The page draws each line that the program performed, with its items."""
+        split = "page.run.rows.filter(row => row.kind === 'act').map(row => [row.line.number, ...row.line.items.map(it => it.text)])"
         for file in sorted(EXAMPLES.glob("*.txt")):
             text = file.read_bytes()
             if b"`./sancus drive`" in text.partition(b"\n")[0]:
                 continue
             with self.subTest(file.name):
-                plain = program("run", text=text).out
-                lines = b"".join(
-                    it + b"\n" for it in marked_lines(Input(text), marked_run(Input(text), started()))
-                )
-                self.assertEqual(without_lines(lines), plain)
-                split = "page.run.rows.filter(row => row.kind === 'act').map(row => [row.line.text.trim(), row.line.isUnsure ? null : row.line.items.map(item => item.text)])"
-                self.show({"input": text, "output": plain})
-                found = self.browser.value(split)
-                self.show({"input": text, "output": lines})
+                self.show(of_run(Input(text), started()).texts)
                 self.browser.shoot(file.stem)
-                exact = self.browser.value(split)
-                self.assertEqual(len(found), len(exact))
-                for one, other in zip(found, exact):
-                    self.assertEqual(one[0], other[0])
-                    self.assertIn(one[1], (None, other[1]))
+                acts = [at for at, it in enumerate(Input(text).schedule, 1) if is_act(it)]
+                items = program("run", text=text).lines
+                items = items[items.index("trace") + 1 : -1]
+                rows = self.browser.value(split)
+                self.assertEqual([row[0] for row in rows], acts[: len(rows)])
+                self.assertEqual([it for row in rows for it in row[1:]], items)
 
     @needs_program
     def test_readings(self):
@@ -405,15 +406,6 @@ class Viewer(unittest.TestCase):
         chain = "42 out lamp 1 ← 41 take lamp down 0 1 ← 38 take logic up 0 120 ← 35 read eye 120 ← 34 sense light 120"
         self.assertIn(f"Because: {chain}", self.texts("#more")[0])
 
-    def test_busy_comes_after_a_run(self):
-        """A line that comes before any `run` of its node can't have given a `busy`."""
-        self.show(run_of(["put a 0x800 00", "run a 5", "put a 0x800 00", "sense light 3"], ["busy a", "busy a"]))
-        self.assertEqual(self.texts("#notes div"), [])
-        cells = self.texts(".row .cell")
-        self.assertEqual(
-            [it.replace("▾", "") for it in cells][-4:], ["3put a 0x800 00", "1busy a", "4sense light 3", "2busy a"]
-        )
-
     @needs_program
     def test_the_set_up_is_folded(self):
         self.show(of_run(Input(LIGHTING_BYTES), started()).texts)
@@ -424,7 +416,7 @@ class Viewer(unittest.TestCase):
         self.assertEqual(self.browser.value(folded), [True] * 5 + [False] * 2)
         self.assertLess(self.browser.value("page.run.shown.length"), 25)
         # (a short set-up isn't)
-        self.show(run_of(*readings(1)))
+        self.show(run_of(readings(1)))
         self.assertEqual(self.browser.value("page.at"), 0)
 
     @needs_program
@@ -448,7 +440,7 @@ class Viewer(unittest.TestCase):
         self.assertEqual(self.browser.value("page.look.scale"), 1)
 
     def test_columns_are_hidden_and_moved(self):
-        self.show(run_of(*readings(2)))
+        self.show(run_of(readings(2)))
         self.browser.press("f")
         wide, rows = (self.browser.value(it) for it in ("page.picture.columns.width", "page.run.shown.length"))
         self.browser.value(
@@ -470,24 +462,24 @@ class Viewer(unittest.TestCase):
         self.assertEqual(self.browser.value("page.run.shown.length"), rows)
 
     def test_comments_of_a_schedule_for_people(self):
-        first, items = readings(2)
-        lines = [
+        first = readings(2)
+        second = first.index("sense light 37")
+        rows = [
             "# --- 1. a reading",
             "#= x:4 sample eye 0",
-            *first[:2],
+            *first[:5],
             "#= x:5 carry eye logic",
-            *first[2:5],
+            *first[5:11],
             "# p is packet 0",
-            *first[5:8],
+            *first[11:second],
             "#= x:6 sample eye 37",
-            *first[8:10],
-            *first[10:],
+            *first[second:],
         ]
-        self.show(run_of(lines, items))
+        self.show(run_of(rows))
         made = ["sample eye 0", "carry eye logic", "sample eye 37"]
         titles = self.browser.value("page.run.groups.map(it => it.title)")
         self.assertEqual(titles, ["--- 1. a reading", *made])
-        self.show(run_of(lines[1:], items))
+        self.show(run_of(rows[1:]))
         self.assertEqual(self.browser.value("page.run.groups.map(it => it.title)"), made)
 
     @needs_program
@@ -502,12 +494,10 @@ class Viewer(unittest.TestCase):
         self.assertEqual(self.browser.value("page.run.shown[page.at].text"), "sample eye 120  (x:3)")
 
     def test_acts_of_an_attacker(self):
-        lines, items = readings(1)
         # the event for logic is given twice, and that for lamp never
-        lines = [*lines[:5], "give 0 a 0x300", "call logic 2 0x300 0x400", "asm b 0x800 mov #9, &0x1000", "run b 1"]
-        lines.append("take a 0x400 24")
-        items = [*items[:6], "done logic 6 0", "raw bulb 9", "packet 1 24"]
-        self.show(run_of(lines, items))
+        rows = [*readings(1)[:11], "give 0 a 0x300", "call logic 2 0x300 0x400", " done logic 6 0"]
+        rows += ["asm b 0x800 mov #9, &0x1000", "run b 1", " raw bulb 9", "take a 0x400 24", " packet 1 24"]
+        self.show(run_of(rows))
         self.browser.shoot("attacker")
         drawn = self.texts("svg.drawing text")
         for text in ("#0", "#0 again", "#1 · never given", "RAW bulb 9"):
@@ -540,7 +530,7 @@ class Viewer(unittest.TestCase):
         self.assertRegex(self.texts("#more")[0], r"Variables of vio: limit = 120, .*occupied = \[1 0\] \(was \[0 0\]\)")
 
     def test_no_other_script_runs(self):
-        self.show(run_of(*readings(1)))
+        self.show(run_of(readings(1)))
         self.browser.value(
             "document.body.append(Object.assign(document.createElement('script'), {textContent: 'window.bad = 1'}))"
         )
@@ -548,7 +538,7 @@ class Viewer(unittest.TestCase):
         self.assertIsNone(self.browser.value("window.bad"))
 
     def test_picture_as_a_file(self):
-        self.show(run_of(*readings(2)) | {"causes": b"because 9 8\nlegal\n"}, "#item=9")
+        self.show(run_of(readings(2)) | {"causes": b"because 9 8\nlegal\n"}, "#item=9")
         text = self.browser.value("wholePicture(page)")
         names = {it.tag.rpartition("}")[2] for it in ElementTree.fromstring(text).iter()}
         self.assertEqual(names & {"script", "image", "foreignObject", "a"}, set())
@@ -557,13 +547,13 @@ class Viewer(unittest.TestCase):
             self.assertIn(part, text)
 
     def test_dark_and_folded(self):
-        self.show(run_of(*readings(3)), "#dark&fold")
+        self.show(run_of(readings(3)), "#dark&fold")
         self.browser.shoot("dark-folded")
         self.assertEqual(self.browser.value("document.documentElement.dataset.theme"), "dark")
         self.assertEqual(len(self.texts(".row.group")), 3)
 
 
-VALUED = ("toml", "texts", "language", "plan", "match", "values", "rows", "words")
+VALUED = ("toml", "texts", "language", "plan", "values", "rows", "words")
 NODE = shutil.which("node") or shutil.which("nodejs")
 FORGED = """
 const run = new Run(JSON.parse(require("fs").readFileSync(0)));

@@ -13,7 +13,7 @@ from sancus.model import causes, stepping, variables
 from sancus.model.asking import Answer
 from sancus.model.faults import Teller
 from sancus.model.inspection import Inspected, Line
-from sancus.model.marks import CannotMark, marked_run
+from sancus.model.lines import run_by_line
 from sancus.model.session import Stopped, snapped
 from sancus.model.shown import text_of
 from sancus.model.stepping import Step
@@ -86,17 +86,12 @@ class Run:
         return [item_of(it, at, self.line_of, self.app.plan) for at, it in enumerate(self.texts, 1)]
 
     @cached_property
-    def marked(self) -> List[Optional[int]]:
-        """The line of each item, from a second run with marks between."""
-        try:
-            made = marked_run(Input(self.app.input(self.text)), self.app.program)
-        except CannotMark:
-            return []
-        return [line for line, _ in made.items()]
+    def lines_of_items(self) -> List[int]:
+        return [line for line, _ in run_by_line(self.app.input(self.text), self.app.program).items]
 
-    def line_of(self, number: int) -> Optional[int]:
-        """The line of the schedule that gave an item, by its number; None if that can't be told."""
-        return self.marked[number - 1] if number <= len(self.marked) else None
+    def line_of(self, number: int) -> int:
+        """The line of the schedule that gave an item, by its number."""
+        return self.lines_of_items[number - 1]
 
     @cached_property
     def fault(self) -> Optional[Fault]:

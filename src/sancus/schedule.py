@@ -20,7 +20,7 @@ class Keeping(Writer):
     """A writer that keeps the items of each line with the number of that line."""
 
     def __init__(self, app: "App") -> None:
-        session = start(app.program, app.head, app.plan)
+        session = start(app.program, app.head)
         super().__init__(app.plan, app.head, session, app.program)
         self.items: List[Item] = []
 

@@ -1,8 +1,5 @@
 // One command given to one text: what it reads, what came of it, and what is drawn of it.
 
-// A run that took longer, in milliseconds, isn't run once more to be drawn.
-const MOST_TIME = 2000;
-
 // The output of `drive` as `run` writes it: without the lines of the schedule and the count of steps.
 function traceOf(driven) {
   const lines = splitLines(driven).filter(line => !/^(> |steps )/.test(line));
@@ -81,15 +78,12 @@ class Job {
     if (!this.run.trace) return [];
     const causes = word === "explain" ? ended : await this.start("explain", this.judged(this.run.trace));
     const hasCauses = causes.text && !/^fault /.test(causes.text);
-    return [asSchedule(text), await this.withLines(), ...(hasCauses ? [causes.text] : [])];
+    return [asSchedule(text), await this.byLine(), ...(hasCauses ? [causes.text] : [])];
   }
 
-  // The output with each line of the schedule before its items, if that is soon known.
-  async withLines() {
-    const {text, time} = this.run;
-    const marks = /^> /m.test(text) || time > MOST_TIME ? null : new Marks(asSchedule(this.text));
-    if (!marks?.isPossible) return text;
-    const marked = await this.start("run", marks.input);
-    return marked.text && marks.joined(text, marked.text) || text;
+  // The output with each line of the schedule before its items.
+  async byLine() {
+    const {text} = this.run;
+    return /^> /m.test(text) ? text : (await this.start("lines", asSchedule(this.text))).text ?? text;
   }
 }

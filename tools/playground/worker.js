@@ -28,7 +28,6 @@ class Session {
     this.plan = Deployment.of(text);
     this.writer = new Writer(this.plan, (...asked) => this.read(...asked));
     this.network = new Network(this.writer);
-    this.marker = this.plan.names("module")[0];
     this.output = "";
     this.notes = [];
     this.at = null;
@@ -46,13 +45,13 @@ class Session {
   run() {
     const steps = this.all(), decoder = new TextDecoder();
     const more = () => {
-      // (the last line is the mark's item, or `trace`)
-      const {value, done} = steps.next(splitLines(this.output).slice(0, -1));
+      // (the line itself comes before its items)
+      const {value, done} = steps.next(splitLines(this.output).slice(1));
       this.output = "";
-      return done ? "" : `${value}\nanswer ${this.marker} 0 4294967295\n`;
+      return done ? "" : `${value}\n`;
     };
     const keep = part => this.output += decoder.decode(part, {stream: true});
-    return runOnce(this.module, ["run"], new Feed(`${this.head}%%\n`, more), keep);
+    return runOnce(this.module, ["lines"], new Feed(`${this.head}%%\n`, more), keep);
   }
 
   // What the lines became, what they showed, what is on its way then, and the line that can't be done, with the fault or the words for it.

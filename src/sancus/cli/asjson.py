@@ -13,10 +13,9 @@ from sancus.cli.program import Sink
 from sancus.cli.reading import file_part, is_regular, read_all
 from sancus.cli.running import gathered, parts_of, run_program, words_for_program
 from sancus.cli.telling import tell
-from sancus.model import marks
 from sancus.model.deployment import plan_of
 from sancus.model.faults import Teller
-from sancus.model.shown import text_of
+from sancus.model.lines import run_by_line
 from sancus.model.texts import find_mark
 
 
@@ -52,28 +51,20 @@ def as_json(context: Context, given: Given, files: List[str]) -> int:
 
 
 def run_as_json(context: Context, given: Given, files: List[str]) -> int:
-    """A run as JSON, with the line of each item, which a marked run tells."""
+    """A run as JSON, with the line of each item."""
     parts = parts_of(given, files, context) or [file_part(files[0])]
     kept, data, refusal = as_schedule(*gathered(parts), context)
     if refusal:
         raise refusal
-    sink = jsonlines.JsonSink(Sink(), plan=plan_of(data.head), has_images=not given.has("no_images"))
-    try:
-        made = marks.marked_run(data, context.program)
-    except marks.CannotMark as error:
-        context.voice.say(f"the items have no lines: {error}")
-        ran = context.program.ran_of(["run"], data.data, sink)
-        last, status = ran.last, ran.status
-    else:
-        for it in made.images:
-            sink.write(it + b"\n")
-        for line, item in made.items():
-            sink.line_now = line
-            sink.write(item + b"\n")
-        if made.last is not None:
-            sink.write(made.last + b"\n")
-        last, status = text_of(made.last or b""), made.status
-    told = Teller(kept, "run", context.program.ask).told(last)
+    sink = jsonlines.JsonSink(Sink(), plan=plan_of(data.head))
+    run = run_by_line(data.data, context.program)
+    if not given.has("no_images") and not run.last.startswith("fault deployment "):
+        images = context.program.answer(["run"], data.head + b"%%\n").lines[:-2]
+        sink.write(b"".join(it + b"\n" for it in images))
+    for sink.line_now, item in run.items:
+        sink.write(item + b"\n")
+    sink.write(f"{run.last}\n".encode(errors="surrogateescape"))
+    told = Teller(kept, "run", context.program.ask).told(run.last)
     sink.finish(told)
     context.voice.say(*told)
-    return status
+    return run.status

@@ -153,6 +153,16 @@ COMMANDS: Tuple[Command, ...] = (
         typed="a deployment, a line %%, a schedule, a line %%, and queries",
     ),
     Command(
+        "lines",
+        "prints each line of a schedule before the items that it gave",
+        (DEPLOYMENT, SCHEDULES),
+        (),
+        "sancus lines examples/forged.txt",
+        "Each line comes after `> `. `sancus marks` takes lines for people too.",
+        True,
+        typed="a deployment, a line %%, and a schedule, each line of which is answered at once",
+    ),
+    Command(
         "gen",
         "runs a fixed application for some samples, and counts",
         (Argument("SAMPLES", ONE, "a number from 1 to 8,000", False),),
@@ -212,8 +222,9 @@ The program runs as the lines are written, so packets, boots and pieces are thos
         "marks",
         "runs a schedule and prints which items each of its lines gave",
         (DEPLOYMENT, SCHEDULES),
-        (NO_IMAGES, IMAGES, Option("--input", "prints the deployment first, with its keys, and a line %%")),
+        (Option("--input", "prints the deployment first, with its keys, and a line %%"),),
         "sancus marks examples/forged.txt",
+        "It prints what `lines` prints, of lines for people too.",
         typed="a deployment, a line %%, and a schedule",
     ),
     Command(

@@ -13,15 +13,13 @@ from sancus.cli.output import print_lines, write
 from sancus.cli.program import Program
 from sancus.cli.reading import file_part
 from sancus.cli.running import gathered, parts_of
-from sancus.cli.sinks import is_image, short_image
 from sancus.model.deployment import plan_of
 from sancus.model.faults import Teller, of_line
-from sancus.model.marks import MOST_LINES, CannotMark, marked_lines, marked_run
 from sancus.model.people import are_for_people
 from sancus.model.schedule import Mistake, Writer
 from sancus.model.session import Stopped, start
 from sancus.model.shown import plain, short, text_of
-from sancus.model.texts import MARK, Input, Kept, kept_of, split_lines
+from sancus.model.texts import MARK, MOST_LINES, Input, Kept, kept_of, split_lines
 from sancus.records import dataclass, field
 from sancus.status import BAD_TEXT, Ended
 
@@ -103,7 +101,7 @@ def begun(made: Lines, context: Context, kind: Type[W]) -> W:
     if plan is None:
         raise Ended(BAD_TEXT, "the deployment can't be read: `sancus check` says why")
     try:
-        session = start(context.program, made.head, plan)
+        session = start(context.program, made.head)
     except Stopped as error:
         raise Ended(BAD_TEXT, error.fault, *Teller(made.kept, "run", context.program.ask).told(error.fault)) from None
     return kind(plan, made.head, session, context.program)
@@ -177,34 +175,14 @@ def answer(context: Context, given: Given) -> int:
     return 0
 
 
-def why_unmarked(kept: Kept, data: Input, context: Context) -> List[str]:
-    """The fault of a deployment that has one, and what it means."""
-    answer = context.program.ask(["check"], data.head + b"%%\n") if data.has_mark else b"fault deployment D2 -"
-    fault = text_of(answer.strip().split(b"\n")[-1])
-    told = Teller(kept, "run", context.program.ask).told(fault)
-    return [fault, *told] if told else []
-
-
 def print_marked(context: Context, given: Given) -> int:
     """Prints a run with the line of the schedule before the items that it gave."""
     files = [*given.texts("DEPLOYMENT"), *given.texts("SCHEDULE")] or ["-"]
     kept, data, refusal = as_schedule(*gathered(parts_of(given, files, context) or [file_part(files[0])]), context)
-    try:
-        made = marked_run(data, context.program)
-    except CannotMark as error:
-        raise Ended(BAD_TEXT, f"no marked run: {error}", *why_unmarked(kept, data, context)) from None
-    last = text_of(made.last or b"")
-    if not made.has_trace:
-        print_lines(last)
-        context.voice.say(*Teller(kept, "run", context.program.ask).told(last))
-        return made.status
-    if refusal:
-        made.last = None
-    is_short = os.isatty(1) and not given.has("images")
-    lines = (short_image(it) if is_short else it for it in marked_lines(data, made))
+    answer = context.program.answer(["lines"], data.data)
     head = [*split_lines(data.head), MARK] if given.has("input") else []
-    print_lines(*map(text_of, head), *(text_of(it) for it in lines if not (given.has("no_images") and is_image(it))))
+    print_lines(*map(text_of, [*head, *answer.lines[: -1 if refusal else None]]))
     if refusal:
         raise refusal
-    context.voice.say(*Teller(kept, "run", context.program.ask).told(last))
-    return made.status
+    context.voice.say(*Teller(kept, "run", context.program.ask).told(answer.last))
+    return answer.status

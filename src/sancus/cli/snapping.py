@@ -9,10 +9,9 @@ from sancus.cli.people import Written, lines_of, written
 from sancus.cli.program import Collected, Ran, Sink
 from sancus.model.numbers import number
 from sancus.model.shown import text_of
-from sancus.model.texts import MARK, Input, Kept, is_act
+from sancus.model.texts import MARK, MOST_LINES, Input, Kept, is_act
 
 # As docs/FORMATS.md has them.
-MOST_LINES = 65536
 MOST_QUERIES = 64
 QUERY_FAULT = 11
 

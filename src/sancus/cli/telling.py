@@ -12,7 +12,7 @@ from sancus.cli.reading import is_regular, open_file
 from sancus.model import forged, warnings
 from sancus.model.deployment import Plan, plan_of
 from sancus.model.faults import Teller
-from sancus.model.marks import marked_run
+from sancus.model.lines import run_by_line
 from sancus.model.session import Stopped, snapped
 from sancus.model.shown import text_of
 from sancus.model.texts import MOST_HEAD, Input, Kept, find_mark, kept_of
@@ -69,10 +69,10 @@ def about_forged(context: Context, kept: Kept) -> List[str]:
     plan = plan_of(data.head)
     if not kept.is_whole() or not plan or not context.program.is_fast:
         return [f"the trace has an item `forged`, and `sancus explain --words` says what was accepted; {forged.AFTER}"]
-    pairs = [(line, text_of(item)) for line, item in marked_run(data, context.program).items()]
+    pairs = [(line, text_of(item)) for line, item in run_by_line(data.data, context.program).items]
     said, line = forged.notes(pairs, [text_of(it) for it in data.schedule], plan)
     teller = Teller(kept, "run")
-    return [said, *(teller.shown(teller.mark + line) if line else []), forged.AFTER]
+    return [said, *teller.shown(teller.mark + line), forged.AFTER]
 
 
 def after_finish(context: Context, data: Input, kept: Kept) -> List[str]:

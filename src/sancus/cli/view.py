@@ -67,7 +67,6 @@ def run_drawn(context: Context, given: Given, files: List[str]) -> Drawn:
     if plan and not is_driven:
         kept, data, refusal = as_schedule(kept, data, context)
     drawn = (of_readings if is_driven else of_run)(data, context.program)
-    context.voice.say(*([drawn.note] if drawn.note else []))
     if drawn.last.startswith("fault "):
         lines = Teller(kept, "drive" if is_driven else "run", context.program.ask).told(drawn.last)
         if drawn.last.startswith("fault deployment") or drawn.last == "fault read":

@@ -16,7 +16,7 @@ from sancus.cli.running import gathered
 from sancus.cli.runs import is_schedule
 from sancus.model.causes import Explained, chosen, judged, must_be_judged, others_named, why
 from sancus.model.items import ITEMS
-from sancus.model.marks import CannotMark, marked_run
+from sancus.model.lines import run_by_line
 from sancus.model.numbers import number
 from sancus.model.shown import text_of
 from sancus.model.texts import Input, kept_of
@@ -32,16 +32,12 @@ def explain_run(files: List[str], context: Context) -> Explained:
     """Runs the schedule, or lines for people, of some files, and has the trace judged."""
     seen = inspected(files, False, context)
     lines = "".join(f"{it}\n" for it in seen.lines).encode(errors="surrogateescape")
-    try:
-        run = marked_run(Input(seen.head + b"%%\n" + lines), context.program)
-    except CannotMark as error:
-        raise Ended(BAD_TEXT, f"the schedule isn't run: {error}") from None
-    if run.last != b"end":
-        context.voice.say(*seen.fault_told(text_of(run.last or b"")), "what came before is judged")
-    items = list(run.items())
-    text = seen.head + b"%%\n" + b"\n".join([b"trace", *(it for _, it in items), b"end", b""])
+    run = run_by_line(seen.head + b"%%\n" + lines, context.program)
+    if run.last != "end":
+        context.voice.say(*seen.fault_told(run.last), "what came before is judged")
+    text = seen.head + b"%%\n" + b"\n".join([b"trace", *(it for _, it in run.items), b"end", b""])
     made = judged(kept_of(text, ""), Input(text), context.program)
-    made.seen, made.lines = seen, [at for at, _ in items]
+    made.seen, made.lines = seen, [at for at, _ in run.items]
     return made
 
 

@@ -4,6 +4,8 @@ from __future__ import annotations
 
 from typing import List, NamedTuple, Protocol
 
+from sancus.model.shown import text_of
+
 
 class Answer(NamedTuple):
     """How the program ended, and what it wrote."""
@@ -15,6 +17,11 @@ class Answer(NamedTuple):
     def lines(self) -> List[bytes]:
         """The lines that are whole."""
         return self.output.split(b"\n")[:-1]
+
+    @property
+    def last(self) -> str:
+        """The last whole line, if there is one."""
+        return text_of(self.lines[-1]) if self.lines else ""
 
 
 class Program(Protocol):

@@ -46,7 +46,7 @@ class Explained:
     plan: Optional[Plan] = None
     # the schedule, if the items come from a run of it, and for each item the line that gave it
     seen: Optional[Inspected] = None
-    lines: List[Optional[int]] = field(default_factory=list)
+    lines: List[int] = field(default_factory=list)
 
     def item(self, at: int) -> Item:
         return self.items[at - 1]

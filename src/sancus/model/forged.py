@@ -73,10 +73,10 @@ def presented_by(lines: List[str], at: int, plan: Plan) -> str:
     return found
 
 
-def notes(pairs: List[Tuple[Optional[int], str]], lines: List[str], plan: Plan) -> Tuple[str, Optional[int]]:
+def notes(pairs: List[Tuple[int, str]], lines: List[str], plan: Plan) -> Tuple[str, int]:
     """What the first `forged` of a run says, with the line that shows it; of the items, each with its line."""
     items = [Item(at, text) for at, (_, text) in enumerate(pairs, 1)]
     at = next(it.number for it in items if it.kind == "forged")
     line = pairs[at - 1][0]
-    presented = presented_by(lines, line, plan) if line else ""
+    presented = presented_by(lines, line, plan)
     return f"item {at}, `{items[at - 1].text}`: {said(items, at, plan, presented)}", line

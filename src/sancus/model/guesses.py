@@ -159,6 +159,7 @@ def without_mark(command: str, name: str, first: bytes) -> List[str]:
         return [f"these are lines of {of}, and the deployment comes before them: `sancus run DEPLOYMENT {file}`"]
     more = {
         "run": ("SCHEDULE", "a schedule"),
+        "lines": ("SCHEDULE", "a schedule"),
         "drive": ("READINGS", "readings"),
         "explain": ("TRACE", "the output of a run"),
         "snap": ("SCHEDULE", "a schedule"),
@@ -180,7 +181,7 @@ def of_act(act: str, line: bytes, command: str, plan: Optional[Plan]) -> List[st
     from sancus.model.rules import near
 
     text = line.strip()
-    if text == b"%%" and command == "run":
+    if text == b"%%" and command in ("run", "lines"):
         return ["a second `%%` is for `sancus snap`, whose queries follow it"]
     if text in (b"%%", b"%"):
         return ["the mark is a line `%%` alone: no blank before or after it"]

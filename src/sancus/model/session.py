@@ -7,9 +7,7 @@ from threading import Thread
 from typing import List, Optional, Sequence, Tuple
 
 from sancus.model.asking import Program
-from sancus.model.deployment import Plan
-from sancus.model.marks import MOST_LINES, Marker, marker_of
-from sancus.model.texts import is_act
+from sancus.model.texts import MOST_LINES, is_act
 from sancus.records import dataclass, field
 from sancus.status import NO_ANSWER, Ended
 
@@ -28,37 +26,32 @@ class Stopped(Exception):
 
 @dataclass
 class Session:
-    """A run of the program, which waits for the next line."""
+    """A run of the program's `lines`, which waits for the next line. A blank line is given after each act: the program
+    prints it after the act's items."""
 
     command: List[str]
-    marker: Marker
-    # the lines that were given, without marks
+    head: bytes
+    # the lines that were given, without blank ones
     lines: List[str] = field(default_factory=list)
-    # how many lines the program was given, with marks, and how many items it showed
+    # how many lines the program was given, with blank ones, and how many it printed
     given: int = 0
-    shown: int = 0
+    printed: int = 0
 
     def __post_init__(self) -> None:
         self.start()
 
     def start(self) -> None:
-        """Starts the program, and reads the images, up to where the trace begins."""
+        """Starts the program, up to where the schedule begins."""
         try:
             self.process = subprocess.Popen(self.command, stdin=subprocess.PIPE, stdout=subprocess.PIPE)
         except OSError as error:
             raise Ended(NO_ANSWER, f"{self.command[0]} can't be started: {error.strerror}") from None
-        self.given = 0
-        self.give(self.marker.head + b"%%\n")
-        try:
-            while self.read() != b"trace":
-                pass
-        except Stopped:
-            self.close()
-            raise
+        self.given = self.printed = 0
+        self.give(self.head + b"%%\n")
 
     @property
     def has_room(self) -> bool:
-        """Whether the run takes a further line and a mark."""
+        """Whether the run takes a further line and a blank one."""
         return self.given + 2 <= MOST_LINES
 
     def read(self) -> bytes:
@@ -71,9 +64,18 @@ class Session:
             raise Stopped(line[:-1].decode(errors="replace"))
         return line[:-1]
 
-    def item(self) -> bytes:
-        self.shown += 1
-        return self.read()
+    def items(self) -> List[str]:
+        """The items up to where the program prints the next line, or to the end."""
+        items = []
+        while not (line := self.read()).startswith(b"> ") and line != b"end":
+            items.append(line.decode(errors="surrogateescape"))
+        self.printed += 1
+        return items
+
+    def pass_to(self, number: int) -> None:
+        """Passes over the output before the items of a line that was given."""
+        while self.printed < number:
+            self.items()
 
     def give(self, text: bytes) -> None:
         assert self.process.stdin
@@ -84,9 +86,9 @@ class Session:
             # (it ended with a fault, which is read next)
             pass
 
-    def give_lines(self, acts: Sequence[bytes]) -> None:
-        self.given += len(acts)
-        self.give(b"".join(it + b"\n" for it in acts))
+    def give_lines(self, *lines: bytes) -> None:
+        self.given += len(lines)
+        self.give(b"".join(it + b"\n" for it in lines))
 
     def do(self, line: str) -> List[str]:
         """The items that a line gives."""
@@ -96,69 +98,48 @@ class Session:
             return []
         if not self.has_room:
             self.start_again()
-        if not self.has_room:
-            return self.end_with(act)
-        self.give_lines([act, self.marker.line])
-        items: List[str] = []
-        while True:
-            item = self.read()
-            if item == self.marker.item and not self.marker.is_own(act, len(items)):
-                self.shown += len(items)
-                return items
-            items.append(item.decode(errors="surrogateescape"))
+        at = self.given + 1
+        if self.has_room:
+            self.give_lines(act, b"")
+        else:
+            self.end_with(act)
+        self.pass_to(at)
+        return self.items()
 
     def start_again(self) -> None:
-        """Has all lines but the last done once more, without marks, which leaves room for further ones."""
+        """Has all lines but the last done once more, without blank ones, which leaves room for further ones."""
         self.close()
-        shown, self.shown = self.shown, 0
         self.start()
-        writer = self.writing([it for it in map(as_act, self.lines[:-1]) if is_act(it)])
-        while self.shown < shown:
-            self.item()
-        writer.join()
+        self.perform(self.lines[:-1])
 
-    def end_with(self, act: bytes) -> List[str]:
-        """The items of the last line that a run takes, after which no mark has room."""
-        self.give_lines([act])
+    def end_with(self, act: bytes) -> None:
+        """Gives the last line that a run takes, after which no blank one has room."""
+        self.give_lines(act)
         assert self.process.stdin
         self.process.stdin.close()
-        items = list(iter(self.item, b"end"))
-        self.shown -= 1
-        return [it.decode(errors="surrogateescape") for it in items]
 
-    def writing(self, acts: Sequence[bytes]) -> Thread:
-        """Gives lines while their items are read: neither pipe takes all of them."""
-        writer = Thread(target=self.give_lines, args=(acts,), daemon=True)
+    def perform(self, lines: Sequence[str]) -> None:
+        """Gives lines while their items are passed over: neither pipe takes all of them."""
+        acts = [it for it in map(as_act, lines) if is_act(it)]
+        self.given += len(acts)
+        writer = Thread(target=self.give, args=(b"".join(it + b"\n" for it in acts),), daemon=True)
         writer.start()
-        return writer
+        self.pass_to(self.given)
+        writer.join()
 
     def skip(self, lines: Sequence[str]) -> None:
-        """Has lines done whose items nobody asks for. One mark follows them: an `answer` of its own module gives one of
-        two items, so the mark's is the one after those."""
+        """Has lines done whose items nobody asks for."""
         self.lines += lines
-        acts = [it for it in map(as_act, lines) if is_act(it)]
-        left = sum(self.marker.is_own(it, 0) for it in acts)
-        own = (self.marker.item, b"attested " + self.marker.module.encode())
-        writer = self.writing([*acts, self.marker.line])
-        while left >= 0:
-            item = self.item()
-            left -= b" ".join(item.split(b" ")[:2]) in own
-        writer.join()
-        self.shown -= 1
+        self.perform(lines)
 
-    def step(self, node: str, steps: int = 1) -> Tuple[List[str], bool]:
+    def step(self, node: str) -> Tuple[List[str], bool]:
         """The items of a step of a node, and whether a module runs there then: a `put` past the end of memory changes
         nothing and tells."""
-        line = f"run {node} {steps}"
+        line, at = f"run {node} 1", self.given + 1
         self.lines.append(line)
-        self.give_lines([line.encode(), f"put {node} 0xffff 0000".encode()])
-        items: List[str] = []
-        while True:
-            item = self.item().decode(errors="surrogateescape")
-            if item in (f"busy {node}", f"skip {node}"):
-                self.shown -= 1
-                return items, item.startswith("busy")
-            items.append(item)
+        self.give_lines(line.encode(), f"put {node} 0xffff 0000".encode())
+        self.pass_to(at)
+        return self.items(), self.read().startswith(b"busy ")
 
     def close(self) -> None:
         self.process.kill()
@@ -172,15 +153,14 @@ def as_act(line: str) -> bytes:
     return line.encode(errors="surrogateescape")
 
 
-def start(program: Program, head: bytes, plan: Plan) -> Session:
+def start(program: Program, head: bytes) -> Session:
     """A run of a deployment whose schedule is still to come."""
     if not program.is_fast:
         raise Ended(NO_ANSWER, "this runs the program line by line, and needs a fast build: `./sancus build` makes one")
-    marker = marker_of(head, plan)
-    answer = program.ask(["check"], head + b"%%\n").decode(errors="replace").strip() if marker.is_added else "end"
-    if answer != "end":
-        raise Stopped(answer)
-    return Session(program.command(["run"]), marker)
+    checked = program.answer(["check"], head + b"%%\n")
+    if checked.status:
+        raise Stopped(checked.last)
+    return Session(program.command(["lines"]), head)
 
 
 def snapped(program: Program, head: bytes, lines: List[str], queries: List[str]) -> List[str]:

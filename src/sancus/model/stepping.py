@@ -124,7 +124,7 @@ class Walk:
 
 def walked(seen: Inspected, at: int, parts: Parts) -> Walk:
     """Takes the steps, and finds how many they are."""
-    session = start(seen.program, seen.head, seen.plan)
+    session = start(seen.program, seen.head)
     walk = Walk()
     try:
         session.skip(seen.lines[: at - 1])

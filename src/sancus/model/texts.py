@@ -18,6 +18,8 @@ MOST_HEAD = 262_145
 # What is kept of the last that came. The program reads 4,096 bytes ahead, and a pipe holds as many.
 WINDOW = 256 * 1024
 MARK = b"%%"
+# The most lines of a schedule.
+MOST_LINES = 65536
 
 
 def without_return(line: bytes) -> bytes:

@@ -10,9 +10,9 @@ from typing import Dict, Iterator, List, Optional, Tuple, Union
 
 from sancus.model.deployment import Bounds
 from sancus.model.inspection import Inspected, Line, broken
-from sancus.model.marks import CannotMark, marked_run
+from sancus.model.lines import run_by_line
 from sancus.model.session import Stopped, snapped
-from sancus.model.texts import Input
+from sancus.model.shown import text_of
 from sancus.records import dataclass, field
 
 SLOTS, SLOT = 512, 24
@@ -28,16 +28,13 @@ class Seen:
     since: Optional[int] = None
 
 
-def items_up_to(seen: Inspected, line: int) -> List[Tuple[Optional[int], str]]:
+def items_up_to(seen: Inspected, line: int) -> List[Tuple[int, str]]:
     """The items of a run up to a line, each with its line."""
     text = seen.head + b"%%\n" + "".join(f"{it}\n" for it in seen.lines[:line]).encode(errors="surrogateescape")
-    try:
-        run = marked_run(Input(text), seen.program)
-    except CannotMark:
-        return [(None, it.decode(errors="replace")) for it in seen.program.ask(["run"], text).split(b"\n")]
-    if run.last is not None and run.last.startswith(b"fault "):
-        raise broken(seen, run.last.decode(errors="replace"))
-    return [(at, it.decode(errors="replace")) for at, it in run.items()]
+    run = run_by_line(text, seen.program)
+    if run.last.startswith("fault "):
+        raise broken(seen, run.last)
+    return [(at, text_of(it)) for at, it in run.items]
 
 
 def presence(seen: Inspected, module: str, line: int) -> Iterator[Tuple[int, Seen]]:
@@ -48,10 +45,10 @@ def presence(seen: Inspected, module: str, line: int) -> Iterator[Tuple[int, See
         if words[:2] == ["reset", node]:
             found = Seen(found.boot + 1)
         elif words == ["protect", node, module]:
-            found = Seen(found.boot, at or 0)
+            found = Seen(found.boot, at)
         else:
             continue
-        yield at or 0, found
+        yield at, found
 
 
 def looked_up(seen: Inspected, module: str, line: int) -> Seen:

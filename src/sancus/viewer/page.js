@@ -209,7 +209,7 @@ class Page {
     const parts = [];
     if (row.kind === "act") {
       parts.push(
-          html("span", "number", `${row.line.isUnsure ? "≈" : ""}${row.line.number ?? ""}`),
+          html("span", "number", `${row.line.number ?? ""}`),
           html("span", this.run.isAttack(row) ? "text is-attack" : "text", row.line.text.trim()));
       if (row.fault) parts.push(html("span", "text trouble", `  ${row.fault}`));
     }
@@ -296,8 +296,7 @@ class Page {
 
   tellLine(row, say) {
     if (row.line.number)
-      say(`Line ${row.line.number}: `, html("code", "", row.line.text.trim()),
-          row.line.isUnsure ? " — ≈ the items fit the lines in more than one way" : "");
+      say(`Line ${row.line.number}: `, html("code", "", row.line.text.trim()));
     if (row.fault) say(row.fault);
     if (row.item)
       say(`Item ${row.item.number}: `, html("code", "", row.item.text),

@@ -34,7 +34,7 @@ class Plan {
   }
 
   addModule(module) {
-    this.modules.set(module.name, {...module, ends: 0});
+    this.modules.set(module.name, {...module});
     this.addNode(module.node);
     const device = this.devices.get(module.device);
     if (device) device.driver = module.name;
@@ -44,8 +44,6 @@ class Plan {
     const connection =
         {name, from: String(from).split(".")[0], to: String(to).split(".")[0], port: String(to).split(".")[1], text: `${from} → ${to}`};
     this.connections.set(name, connection);
-    for (const end of [connection.from, connection.to])
-      if (this.modules.has(end)) this.modules.get(end).ends++;
   }
 
   // Takes names from an item that no deployment gave.
@@ -67,16 +65,6 @@ class Plan {
   nodeOf(module) { return this.modules.get(module)?.node; }
 
   deviceOf(module) { return [...this.devices.values()].find(device => device.driver === module); }
-
-  // The node on which code made the item, or which the item names; none for items of the deployer and the
-  // network.
-  nodeOfItem({kind, words}) {
-    if (["protect", "budget", "reset", "busy", "skip"].includes(kind)) return words[1];
-    if (["drain", "raw", "sense"].includes(kind)) return this.devices.get(words[1])?.node;
-    if (["vouch", "open", "take", "read", "out", "done", "forged"].includes(kind))
-      return this.nodeOf(words[1]);
-    return undefined;
-  }
 
   // Whether an actuator that a module drives was written past its driver.
   isPastDriver({kind, words}) { return kind === "raw" && Boolean(this.devices.get(words[1])?.driver); }

@@ -33,37 +33,16 @@ class Run {
 
   note(text, isBad) { this.notes.push({text, isBad}); }
 
-  // The lines of the schedule, each with its items, or one line of all items if they can't be told apart.
+  // The lines of the schedule, each with its items, and the line that breaks a rule; or one line of all items, if the output has them alone.
   lines() {
-    const {input, output} = this;
-    if (output?.lines) return this.numbered(output.lines);
-    if (!input) return [this.wholeRun()];
-    if (!output) {
+    const {input, output, fault} = this;
+    if (output?.lines) return [...output.lines, ...(fault && input?.lines.slice(output.lines.length, fault[1]) || [])];
+    if (input && !output) {
       this.note("Only the schedule is here: open the output too.", false);
       return input.lines;
     }
-    const {error, unsure} = new Matcher(input.lines, output, this.plan).match();
-    if (error) {
-      this.note(`${error} The items are shown by themselves.`, true);
-      return [this.wholeRun()];
-    }
-    if (unsure)
-      this.note(
-          `The output doesn't say which line an item belongs to: ${
-              unsure} of the lines fit in more than one ` +
-              "way, and the likeliest is shown (≈). A marked run, as `sancus view` makes it, is exact.",
-          false);
-    return input.lines;
-  }
-
-  wholeRun() { return {number: null, text: "", words: [], kind: "all", items: this.output?.items ?? []}; }
-
-  // Gives lines of a marked run the numbers that they have in the input.
-  numbered(lines) {
-    const own = (this.input?.lines ?? []).filter(line => line.kind);
-    if (lines.every((line, k) => line.text.trim() === own[k]?.text.trim()))
-      lines.forEach((line, k) => line.number = own[k].number);
-    return lines;
+    if (input) this.note("This output doesn't say which line gave an item: what `lines` writes does.", false);
+    return [{number: null, text: "", words: [], kind: "all", items: output?.items ?? []}];
   }
 
   say() {
