@@ -2,7 +2,8 @@
 use Rattle.std.specs.Prelude.{◌≤◌, Option, Some, None}
 use Rattle.sx_top.specs.declared.words.Command.{Command}
 use Rattle.sx_top.specs.declared.words.Command.TheVariants.{Run, Check, Explain, Snap, Gen, Asm}
-use Rattle.sx_top.specs.declared.words.Command.TheVariants.{Dis, Drive, Holds, Lines, Watch, Describe}
+use Rattle.sx_top.specs.declared.words.Command.TheVariants.{Batch, Dis, Drive, Holds, Lines, Watch}
+use Rattle.sx_top.specs.declared.words.Command.TheVariants.{Describe}
 
 -- a workload carries at most 8,000 samples
 abbrev pub CarriesFew : Option Command → Type 0
@@ -19,6 +20,7 @@ CarriesFew (Some (Asm at)) = Unit {0}
 CarriesFew (Some (Dis at)) = Unit {0}
 CarriesFew (Some Lines) = Unit {0}
 CarriesFew (Some Describe) = Unit {0}
+CarriesFew (Some Batch) = Unit {0}
 
 -- words that are no command, and `gen`, leave the input alone
 abbrev pub LeavesInput : Option Command → Type 0
@@ -35,3 +37,4 @@ LeavesInput (Some (Asm at)) = ⊥
 LeavesInput (Some (Dis at)) = ⊥
 LeavesInput (Some Lines) = ⊥
 LeavesInput (Some Describe) = ⊥
+LeavesInput (Some Batch) = ⊥

@@ -5,7 +5,8 @@ use Rattle.std.specs.Str.{bytes_eq}
 use Rattle.sx_io.specs.Numbers.{number_of}
 use Rattle.sx_top.specs.declared.words.Command.{Command}
 use Rattle.sx_top.specs.declared.words.Command.TheVariants.{Run, Check, Explain, Snap, Gen, Asm}
-use Rattle.sx_top.specs.declared.words.Command.TheVariants.{Dis, Drive, Holds, Lines, Watch, Describe}
+use Rattle.sx_top.specs.declared.words.Command.TheVariants.{Batch, Dis, Drive, Holds, Lines, Watch}
+use Rattle.sx_top.specs.declared.words.Command.TheVariants.{Describe}
 
 -- the commands without a number
 abbrev pub plain_command : List ℕ → Option Command
@@ -19,6 +20,7 @@ plain_command word =
     if bytes_eq word (codes "holds") then Some Holds else
     if bytes_eq word (codes "lines") then Some Lines else
     if bytes_eq word (codes "describe") then Some Describe else
+    if bytes_eq word (codes "batch") then Some Batch else
     None
 
 -- an address from 0 to 65,535

@@ -14,17 +14,20 @@ use Rattle.command_deploy.specs.Same.{RunsIn}
 use Rattle.command_run.specs.Output.{run_deployed}
 use Rattle.command_run.specs.Promise.{run_part}
 use Rattle.command_run.specs.Tells.{lines_part}
+use Rattle.command_batch.specs.Promise.{batch_part}
 use Rattle.command_drive.specs.Output.{driven_of}
 use Rattle.command_drive.specs.Promise.{DrivesWith, drive_part, items_said, lines_in, written}
 use Rattle.command_snap.specs.Promise.{snap_part}
 
--- Each deployment has one setting: `run`, `drive`, `snap` and `lines` run it in this, in each call.
+-- Each deployment has one setting: `run`, `drive`, `snap`, `lines` and `batch` run it in this, in
+-- each call.
 abbrev pub OneSetting : Type 0
 OneSetting = (mac : Mac) (d : Deployed) → (set : Setting)
     × RunsIn mac (run_part assembled mac) d set
     × RunsIn mac (drive_part mac) d set
     × RunsIn mac (snap_part mac) d set
     × RunsIn mac (lines_part assembled mac) d set
+    × RunsIn mac (batch_part assembled mac) d set
 
 -- With the same deployment and the same images, `run` writes of the lines that `drive` says exactly
 -- the items that `drive` says, and reads to the end.

@@ -6,13 +6,15 @@ use Rattle.sx_asm.specs.Assembled.{assembled}
 use Rattle.sx_tag.specs.Mac.{Mac}
 use Rattle.sx_top.specs.declared.words.Command.{Command}
 use Rattle.sx_top.specs.declared.words.Command.TheVariants.{Run, Check, Explain, Snap, Gen, Asm}
-use Rattle.sx_top.specs.declared.words.Command.TheVariants.{Dis, Drive, Holds, Lines, Watch, Describe}
+use Rattle.sx_top.specs.declared.words.Command.TheVariants.{Batch, Dis, Drive, Holds, Lines, Watch}
+use Rattle.sx_top.specs.declared.words.Command.TheVariants.{Describe}
 use Rattle.command_asm.specs.Assembling.{AsmPromise}
 use Rattle.sx_top.specs.Commands.{command_of}
 use Rattle.command_asm.specs.Disassembling.{DisPromise}
 use Rattle.command_text.specs.Refusals.{misuse_output}
 use Rattle.command_run.specs.Promise.{RunPromise}
 use Rattle.command_run.specs.Tells.{LinesPromise}
+use Rattle.command_batch.specs.Promise.{BatchPromise}
 use Rattle.command_gen.specs.Promise.{GenPromise}
 use Rattle.command_check.specs.Output.{CheckPromise}
 use Rattle.command_describe.specs.Output.{DescribePromise}
@@ -51,6 +53,8 @@ CommandPromise mac (Some (Dis at)) tells to_tell m0 m1 status = DisPromise at te
 CommandPromise mac (Some Lines) tells to_tell m0 m1 status =
     LinesPromise assembled mac tells to_tell m0 m1 status
 CommandPromise mac (Some Describe) tells to_tell m0 m1 status = DescribePromise tells to_tell m0 m1 status
+CommandPromise mac (Some Batch) tells to_tell m0 m1 status =
+    BatchPromise assembled mac tells to_tell m0 m1 status
 
 -- The program: it does the command that the words name. Status 2 comes for other words alone.
 pub record ProgramPromise (mac : Mac) (words : List (List ℕ)) (tells to_tell : Bool)

@@ -9,6 +9,7 @@ ghost use Rattle.sx_top.specs.Chosen.{LeavesInput};
 
 use crate::words::{Command, command_of};
 use command_asm::{asm_over, dis_over};
+use command_batch::batch_over;
 use command_check::check_over;
 use command_describe::describe_over;
 use command_drive::drive_over;
@@ -30,8 +31,8 @@ const MISUSED: u8 = 2;
 /// after the program's name.
 ///
 /// The commands are `run`, `check`, `explain`, `watch`, `drive`, `snap`, `holds`, `gen N` for 1 to
-/// 8,000 samples, `asm A` and `dis A` with an address A, `lines` and `describe`. All but `gen`,
-/// `asm` and `dis` read a deployment and the line `%%` after it. `check` writes where each module
+/// 8,000 samples, `asm A` and `dis A` with an address A, `lines`, `describe` and `batch`. All but
+/// `gen`, `asm` and `dis` read a deployment and the line `%%` after it. `check` writes where each module
 /// stands, and `end`. `run` writes each module's image, `trace`, the items of the schedule that
 /// follows, one a line, and `end`; a line's items are written before the next line is read.
 /// `explain` reads such an output behind the deployment, and writes which item caused which, how
@@ -49,7 +50,8 @@ const MISUSED: u8 = 2;
 /// listing of the code at the address, and `end`. `lines` reads what `run` reads, and writes each
 /// line of the schedule after `> ` and the items that the line gave, before the next is read, and
 /// `end`. `describe` writes what the deployment was read as, a line for each thing in it, and
-/// `end`.
+/// `end`. `batch` reads common lines, which write nothing, and after each further line `%%` a
+/// schedule: it writes the items of each, run from the world after the common lines, and `end`.
 ///
 /// | Status | Last line | When |
 /// |---|---|---|
@@ -65,6 +67,7 @@ const MISUSED: u8 = 2;
 /// | 7 | `fault property Pk place` | the property breaks rule Pk, the first that it breaks |
 /// | 8 | `illegal N` | item N of a trace isn't allowed by the sources after those before it |
 /// | 9 | `fault drive long` | the honest run needs more lines than a schedule may have, 65,536 |
+/// | 9 | `fault batch long` | there are more than 65,536 schedules |
 /// | 10 | `fault asm Ak line`, `fault hex Bk line` | rule Ak or Bk is broken; `-` is no line |
 /// | 11 | `fault query Yk line` | this line after the second `%%` is the first to break a rule |
 /// | 12 | `broken N` | item N of a trace is the first that breaks the property |
@@ -95,6 +98,7 @@ pub fn top<S: Source, K: Sink>(alloc: Global, words: &[String], input: &mut S, o
         Some(Command::Dis(at)) => dis_over(at, input, output),
         Some(Command::Lines) => lines_over(alloc, Hmac, input, output),
         Some(Command::Describe) => describe_over(alloc, input, output),
+        Some(Command::Batch) => batch_over(alloc, Hmac, input, output),
         None => finish(output, b"fault usage\n", MISUSED),
     }
 }

@@ -3,8 +3,8 @@
 
 ghost use Rattle.sx_top.specs.Laws.{LinesRunAgain, OneSetting};
 
-/// `run`, `drive`, `snap` and `lines` run a deployment in one setting, with the same images, in
-/// each call. So `snap` answers about the run that `run` makes of the same lines.
+/// `run`, `drive`, `snap`, `lines` and `batch` run a deployment in one setting, with the same
+/// images, in each call. So `snap` answers about the run that `run` makes of the same lines.
 pub fn one_setting()
     ensures { OneSetting }
 {}

@@ -1,12 +1,12 @@
 //! The program: it does the command that the words name, `run`, `check`, `explain`, `watch`,
-//! `drive`, `snap`, `holds`, `gen`, `asm`, `dis`, `lines` or `describe`.
+//! `drive`, `snap`, `holds`, `gen`, `asm`, `dis`, `lines`, `describe` or `batch`.
 //!
 //! `top` does all that the program does. What it promises is one record, `ProgramPromise` of
 //! specs/Promise.antt, which hands on what its command promises: `AsmPromise` and `DisPromise`
-//! (command_asm), `CheckPromise` (command_check), `DescribePromise` (command_describe), `DrivePromise`
-//! (command_drive), `ExplainPromise` (command_explain), `GenPromise` (command_gen), `HoldsPromise`
-//! (command_holds), `LinesPromise` and `RunPromise` (command_run), `SnapPromise` (command_snap), `WatchPromise`
-//! (command_watch).
+//! (command_asm), `BatchPromise` (command_batch), `CheckPromise` (command_check), `DescribePromise`
+//! (command_describe), `DrivePromise` (command_drive), `ExplainPromise` (command_explain),
+//! `GenPromise` (command_gen), `HoldsPromise` (command_holds), `LinesPromise` and `RunPromise`
+//! (command_run), `SnapPromise` (command_snap), `WatchPromise` (command_watch).
 #![tactic(auto)]
 
 mod command;
@@ -16,6 +16,7 @@ mod words;
 
 pub use command::top;
 pub use command_asm::{asm_over, dis_over};
+pub use command_batch::batch_over;
 pub use command_check::check_over;
 pub use command_describe::describe_over;
 pub use command_drive::drive_over;

@@ -26,6 +26,8 @@ pub(crate) enum Command {
     Lines,
     /// What a deployment was read as.
     Describe,
+    /// Many runs that begin with the same lines.
+    Batch,
     /// The run of the workload that carries this many samples.
     Gen(u32),
     /// The listing of a text's code for this address.
@@ -57,6 +59,8 @@ fn plain_command(word: &[u8]) -> Option<Command>
         Some(Command::Lines)
     } else if word == b"describe".as_slice() {
         Some(Command::Describe)
+    } else if word == b"batch".as_slice() {
+        Some(Command::Batch)
     } else {
         None
     }

@@ -2,10 +2,11 @@ use Rattle.std.proofs.Common.{◌∙◌, arith, map, refl, sym, subst, ap, Optio
 use Rattle.std.specs.Prelude.{string_bytes}
 use Rattle.sx_tag.specs.Mac.{hmac_sha256}
 use Rattle.sx_top.specs.declared.words.Command.{Command}
-use Rattle.sx_top.specs.declared.words.Command.TheVariants.{Run, Check, Explain, Drive, Snap, Gen, Asm, Dis, Holds, Watch, Lines, Describe}
+use Rattle.sx_top.specs.declared.words.Command.TheVariants.{Run, Check, Explain, Drive, Snap, Gen, Asm, Dis, Holds, Watch, Lines, Describe, Batch}
 use Rattle.sx_top.specs.Chosen.{CarriesFew}
 use Rattle.command_text.specs.Refusals.{usage_line}
 use Rattle.command_run.proofs.Said.{lines_not_two, says_not_two}
+use Rattle.command_batch.proofs.Said.{batch_not_two}
 use Rattle.command_report.proofs.Promised.{report_not_two}
 use Rattle.command_explain.proofs.Promised.{explain_not_two}
 use Rattle.command_watch.proofs.Promised.{watch_not_two}
@@ -94,6 +95,12 @@ returns-in-Some-Describe-clause-told g c =
     program hmac_sha256 (map string_bytes c.args.words.now) (Some Describe)
     (sym c.command_of.ensures.command ∙ c.in-Some-Describe.is ∙ ap Some c.in-Some-Describe.field-0-is) c.describe_over.ensures
     (λ two. absurd (report_not_two c.describe_over.ensures two))
+
+pub returns-in-Some-Batch-clause-told : goal.returns-in-Some-Batch-clause-told
+returns-in-Some-Batch-clause-told g c =
+    program hmac_sha256 (map string_bytes c.args.words.now) (Some Batch)
+    (sym c.command_of.ensures.command ∙ c.in-Some-Batch.is ∙ ap Some c.in-Some-Batch.field-0-is) c.batch_over.ensures
+    (λ two. absurd (batch_not_two hmac_sha256 c.batch_over.ensures two))
 
 pub returns-in-None-clause-told : goal.returns-in-None-clause-told
 unfolding usage_line
