@@ -73,6 +73,7 @@ CASES = [
     (["check"], LIGHTING),
     (["snap"], LIGHTING.partition(b"%%\n")[0] + b"%%\n" + QUERIES),
     (["lines"], LIGHTING),
+    (["batch"], LIGHTING + b"%%\nsense light 120\ncall eye 3 0x300 0x400\n%%\nfly\nreset a\n"),
     (["gen", "4"], b""),
     (["asm", "0x4000"], LISTED),
     (["dis", "0x4000"], b"26453040000000a0\n"),

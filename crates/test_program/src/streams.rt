@@ -78,7 +78,7 @@ type Failing<'a> = (&'a str, &'a [u8], usize, u64, usize, u64, u8, &'a [u8]);
 
 const ONE_STEP: &[u8] = b"%%\nput n 0x4000 2645\nset n r5 0x5000\nset n pc 0x4000\nrun n 1\n";
 
-const FAILING: [Failing; 24] = [
+const FAILING: [Failing; 25] = [
     ("run", ONE_STEP, 1, 2, 100, 0, 4, b"fault read\n"),
     ("run", ONE_STEP, 1, 22, 100, 0, 4, b"trace\nfault read\n"),
     ("run", b"%%\nreset n\n", 4096, 0, 100, 1, 5, b""),
@@ -93,6 +93,16 @@ const FAILING: [Failing; 24] = [
         0,
         4,
         b"> reset n\nreset n asked\nfault read\n",
+    ),
+    (
+        "batch",
+        b"%%\nforge 00\n%%\nreset n\n%%\n",
+        4096,
+        2,
+        100,
+        0,
+        4,
+        b"reset n asked\nend\nfault read\n",
     ),
     ("check", b"%%\n", 1, 1, 100, 0, 4, b"fault read\n"),
     ("gen 1", b"", 1, 0, 20_000, 1, 5, b""),
