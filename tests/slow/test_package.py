@@ -1,4 +1,4 @@
-"""The wheels that tools/wheels.py makes, each installed into an environment of its own, without a connection."""
+"""The wheels and the source distribution that tools/wheels.py makes, each installed into an environment of its own, without a connection."""
 
 import importlib.util
 import os
@@ -16,6 +16,7 @@ READINGS = EXAMPLES / "readings.txt"
 
 
 def made(folder):
+    folder.mkdir()
     subprocess.run([sys.executable, TOOLS / "wheels.py", folder], check=True)
     return sorted(folder.glob("*.whl"))
 
@@ -29,12 +30,12 @@ class Wheels(unittest.TestCase):
         cls.room = Path(folder.name)
         cls.anywhere, cls.native = made(cls.room / "wheels")
 
-    def installed(self, wheel):
-        """The command of a wheel in a new environment, and what of the path it sees."""
-        where = self.room / wheel.stem
-        subprocess.run([sys.executable, "-m", "venv", where], check=True)
+    def installed(self, file, *options):
+        """The command of a wheel, or of what one is made of, in a new environment."""
+        where = self.room / file.stem
+        subprocess.run([sys.executable, "-m", "venv", *options, where], check=True)
         pip = [where / "bin" / "python", "-m", "pip", "--disable-pip-version-check"]
-        subprocess.run([*pip, "install", "--quiet", "--no-index", wheel], check=True)
+        subprocess.run([*pip, "install", "--quiet", "--no-index", "--no-build-isolation", file], check=True)
         return where / "bin" / "sancus"
 
     def call(self, command, *words, path=""):
@@ -59,6 +60,13 @@ class Wheels(unittest.TestCase):
         status, _, said = self.call(command, "build")
         self.assertEqual(status, 125)
         self.assertIn("`sancus build` is for a clone", said)
+
+    def test_a_source_distribution(self):
+        (source,) = (self.room / "wheels").glob("*.tar.gz")
+        # (setuptools and wheel, which make a wheel of it, are those that are here)
+        command = self.installed(source, "--system-site-packages")
+        here = subprocess.run([SANCUS, "drive", READINGS], capture_output=True, text=True)
+        self.assertEqual(self.call(command, "drive", READINGS), (0, here.stdout, here.stderr))
 
     def test_webassembly_alone(self):
         command = self.installed(self.anywhere)
