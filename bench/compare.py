@@ -8,7 +8,7 @@ meets both alike. The table has the median of the rates, in million instructions
 of their ratios, with the least and the greatest ratio. The last column has the processor's instructions that a step of
 `sancus` takes, which don't differ from run to run, so that a change of the code shows in it at once: valgrind counts them, and
 a dash stands where it isn't installed. Below the table stands the median time of 20,000 resets, before each of which a
-page of memory was written. The program must be built (`./sancus build`). Not a part of the gate.
+page of memory was written. `counting` says which program is measured. Not a part of the gate.
 
 With --instructions the processor's instructions a step are printed alone, and also those of other code: of what a compiler writes, outside every module and
 as the code of one, of the loop on memory where one, two and eight sections meet the page of its word, and of whole samples of `gen`: there without
@@ -17,10 +17,10 @@ what the module instructions do.
     bench/compare.py                   the table
     bench/compare.py --instructions    the instructions a step alone
 """
-import os, re, resource, shutil, statistics, subprocess, sys
+import re, resource, shutil, statistics, subprocess, sys
 
-HERE = os.path.dirname(os.path.abspath(__file__))
-PROGRAM = os.path.join(HERE, "..", "crates", "sancus_run", "out", "sancus_run")
+from counting import PROGRAM, counted, protected
+
 TURNS, ROUNDS = 160, 5
 RUN = 65535  # the most steps of a line
 
@@ -44,13 +44,7 @@ CODE = {
 def protect(number):
     """The lines that protect a section of this number: 8 bytes of code on page 6, 16 bytes of data on page 7."""
     text, data = 0x600 + 16 * number, 0x700 + 16 * number
-    return [f"put n {text:#x} 2645ff3f"] + protected(text, text + 8, data, data + 16)
-
-
-def protected(*bounds):
-    """The lines that protect a section with these bounds."""
-    registers = zip(("r9", "r10", "r11", "r12", "r13"), (1, *bounds))
-    return ["put n 0x400 8113"] + [f"set n {register} {value:#x}" for register, value in registers] + ["set n pc 0x400", "run n 1"]
+    return [f"put n {text:#x} 2645ff3f", *protected(text, text + 8, data, data + 16)]
 
 
 def little(words):
@@ -83,13 +77,6 @@ def stepped(words, steps, sections):
 
 def ours(words, steps, sections):
     return seconds([PROGRAM, "run"], schedule(words, steps, sections))
-
-
-def counted(words, text=b"", options=()):
-    """The processor's instructions of a call of the program."""
-    command = ["valgrind", "--tool=callgrind", "--callgrind-out-file=/dev/null", *options, PROGRAM, *words]
-    told = subprocess.run(command, input=text, stdout=subprocess.DEVNULL, stderr=subprocess.PIPE, check=True).stderr
-    return int(re.search(rb"Collected : (\d+)", told).group(1))
 
 
 def instructions(words, sections):

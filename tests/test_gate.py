@@ -6,10 +6,16 @@ import re
 import shutil
 import signal
 import subprocess
+import sys
 import time
 import unittest
+from contextlib import redirect_stdout
+from io import StringIO
 
 from support import TOP, Room, usual_signals
+
+sys.path.insert(0, str(TOP / "bench"))
+import instructions  # noqa: E402
 
 
 class Gate(Room):
@@ -80,6 +86,17 @@ class Gate(Room):
     def test_the_line_is_plain(self):
         lines = (TOP / ".ci" / "run").read_text().splitlines()
         self.assertEqual(len([it for it in lines if re.search(r"^[^#]*\brt ci$", it)]), 1)
+
+
+class Measures(unittest.TestCase):
+    """What is printed of the processor's instructions behind the gate."""
+
+    def test_counts_that_are_far_from_their_figures(self):
+        stored = {"run": {"instructions": 1000}}
+        for case, count, shown in (("run", 1030, ""), ("run", 970, ""), ("run", 1031, "+3.10%"), ("run", 969, "-3.10%"), ("gen", 1, "no figure")):
+            with self.subTest(count), redirect_stdout(StringIO()) as printed:
+                is_near = instructions.are_near({case: {"instructions": count}}, stored, instructions.TOLERANCE_OF_GATE, True)
+            self.assertEqual((is_near, printed.getvalue().split()[3:]), (not shown, shown.split()))
 
 
 if __name__ == "__main__":

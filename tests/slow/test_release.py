@@ -35,6 +35,7 @@ class Repository(Room):
         # (of what else runs after the gate, nothing stands here)
         for name in ("try_wrong_bodies", "try_wrong_systems", "crate_lists", "contracts", "recursion"):
             self.write(f"tools/{name}.py", "")
+        self.write("bench/instructions.py", "")
         for name in ("sancus", "tools/release.sh", "tools/after_gate.sh"):
             shutil.copy(TOP / name, self.top / name)
         for name in (".ci", "src"):
