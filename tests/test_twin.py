@@ -2,14 +2,17 @@
 changed at random. SANCUS_SEED repeats the changes of an earlier run, which a failure names.
 """
 
+import json
 import os
 import random
 import re
+import shutil
+import subprocess
 import unittest
 from itertools import takewhile
 from typing import Iterator, List, Tuple
 
-from support import EXAMPLES, PROGRAM, needs_program
+from support import EXAMPLES, PROGRAM, TOP, needs_program
 from test_rows import ROWS, rows_of
 
 from sancus.model import language, legality, rules
@@ -27,6 +30,22 @@ POOL = (
     "65536 0xFFFF a b v x limit level bright // # %"
 ).split()
 RUNNER = Runner([PROGRAM])
+# Where the page's parser leaves the grammar in each source, or -1.
+PAGE = """
+const {readFileSync} = require("fs"), {runInNewContext} = require("vm");
+const code = readFileSync(process.argv[1], "utf8");
+const {Parser, NotInGrammar} = runInNewContext(`${code}; ({Parser, NotInGrammar})`);
+const leftAt = source => {
+  try {
+    new Parser(source).module();
+    return -1;
+  } catch (error) {
+    if (!(error instanceof NotInGrammar)) throw error;
+    return error.token.at;
+  }
+};
+process.stdout.write(JSON.stringify(JSON.parse(readFileSync(0, "utf8")).map(leftAt)));
+"""
 
 
 def given_in_rows(*commands: str) -> List[Input]:
@@ -84,6 +103,15 @@ def in_rules(plan: Plan, index: int, rule: str) -> Iterator[str]:
     broken = [it for it in rules.RULES if rules.places(tree, it)]
     if broken[:1] != [rule]:
         yield f"it breaks rule {rule} first, and not {broken[:1]}"
+
+
+def left_at(source: str) -> int:
+    """Where a source leaves the grammar, or -1."""
+    try:
+        language.parse(source)
+        return -1
+    except language.NotInGrammar as error:
+        return error.token.at
 
 
 def changed(source: str, chance: random.Random) -> str:
@@ -177,14 +205,25 @@ class Twin(unittest.TestCase):
         self.assertGreater(len(heads), 100)
         self.agree((it, head[-400:].decode(errors="replace")) for head in heads for it in in_deployment(head))
 
-    def test_changed_sources(self) -> None:
+    def changed_sources(self) -> List[str]:
         plans = filter(None, (plan_of(it.head) for it in given_in_rows("check", "run", "drive") if len(it.head) < 60_000))
         found = sorted({str(it.get("source")) for plan in plans for it in plan.modules})
         sources = [it for it in found if 5 < len(it) < 1500]
-        made = (changed(self.chance.choice(sources), self.chance) for _ in range(SOURCES))
-        plain = [it for it in made if '"""' not in it and "\\" not in it and not it.endswith('"')]
-        self.assertGreater(len(plain), SOURCES // 2)
+        made = [changed(self.chance.choice(sources), self.chance) for _ in range(SOURCES)]
+        self.assertGreater(len({*made}), SOURCES // 2)
+        return made
+
+    def test_changed_sources(self) -> None:
+        plain = [it for it in self.changed_sources() if '"""' not in it and "\\" not in it and not it.endswith('"')]
         self.agree((it, source) for source in plain for it in in_deployment(MODULE.format(source).encode()))
+
+    @unittest.skipUnless(shutil.which("node"), "there is no node")
+    def test_the_page(self) -> None:
+        sources = [it for it in self.changed_sources() if it.isascii()]
+        command = ["node", "-e", PAGE, str(TOP / "src/sancus/viewer/language.js")]
+        ran = subprocess.run(command, input=json.dumps(sources), capture_output=True, text=True, check=True)
+        pairs = zip(sources, json.loads(ran.stdout))
+        self.agree((f"the page leaves the grammar at {at}, not {left_at(it)}", it) for it, at in pairs if at != left_at(it))
 
     def test_traces(self) -> None:
         explained = [(it.head, it.rest) for it in given_in_rows("explain") if b"\ntrace\n" in b"\n" + it.rest]
