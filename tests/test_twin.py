@@ -1,5 +1,5 @@
-"""What the front end knows of the language and of legal traces is what the program does: both judge the sources and traces of the rows, and others that are
-changed at random. SANCUS_SEED repeats the changes of an earlier run, which a failure names.
+"""What the front end knows of the language and of legal traces is what the program does: both judge the sources and traces of the rows, and others
+that are changed at random. SANCUS_SEED repeats the changes of an earlier run, which a failure names.
 """
 
 import json

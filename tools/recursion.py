@@ -1,9 +1,9 @@
 #!/usr/bin/env python3
 """Which functions of the crates may call themselves, directly.
 
-A proof that a call ends says nothing of how long that takes, nor of the stack: a body that calls itself twice where once is enough is proved as well. So each
-function that calls itself is listed in tools/recursion.txt, one `CRATE FILE FUNCTION` a line with the number of its calls of itself, and a new one is looked at by a
-person before it is listed.
+A proof that a call ends says nothing of how long that takes, nor of the stack: a body that calls itself twice where once is enough is proved as
+well. So each function that calls itself is listed in tools/recursion.txt, a line each: crate, file, function, and how many of its calls are of
+itself. A person looks at a new one before it is listed.
 
     tools/recursion.py            prints where the sources and the list differ, and ends with status 1 then
     tools/recursion.py --store    writes the list
@@ -26,7 +26,7 @@ def body_of(text, begin, indent):
 
 
 def of_itself(name, body, is_method):
-    """How often a function calls itself by its name. A method's name may be that of a method of another type, and what a field's method does isn't counted."""
+    """How often a function calls itself by its name. (A method of another type may have the same name, and what a field's method does isn't counted.)"""
     before = r"(?<![.\w])(?:[a-z_0-9]+\.|Self::)" if is_method else r"(?<![.:\w])"
     return len(re.findall(rf"{before}{name}(?:::<[^()]*>)?\(", body))
 

@@ -1,7 +1,7 @@
 """A choice of the build that is kept from call to call, with the look of all that it depends on.
 
-Sums over the sources take far longer than a run, so a later call that finds every place looking as it did starts the same build. A place's look is its
-size, its number on the disk and its time of change, which nobody can set back, as the time of the last write can be.
+Sums over the sources take far longer than a run, so a later call that finds every place looking as it did starts the same build. A place's look is
+its size, its number on the disk and its time of change, which nobody can set back, as the time of the last write can be.
 """
 
 from __future__ import annotations
@@ -31,7 +31,8 @@ class Build:
 
 
 def look(top: str, places: list[bytes]) -> bytes:
-    """What the system, and these places of a checkout, look like; nothing if one isn't there. (A copy of a checkout has a copy of what that keeps.)"""
+    """What the system, and these places of a checkout, look like; nothing if one isn't there. (A copy of a checkout has
+    a copy of what that keeps.)"""
     try:
         looks = [number for it in map(os.stat, places) for number in (it.st_size, it.st_ino, it.st_ctime_ns)]
         return f"{pack(f'{len(looks)}Q', *looks).hex()} {top!r} {os.uname()!r}".encode(errors="backslashreplace")

@@ -1,7 +1,7 @@
 """Dataclasses that share their methods.
 
-`dataclasses` compiles methods for each class, which with the modules that it loads was a third of what a call of the command takes. This has what
-`sancus.model` and `sancus.cli` use of it. The API's classes are real dataclasses.
+`dataclasses` compiles methods for each class, which with the modules that it loads was a third of what a call of the command took. This has what
+`sancus.model` and `sancus.cli` use of it. The API's classes are real dataclasses, and neither kind extends the other.
 """
 
 from __future__ import annotations

@@ -1,5 +1,5 @@
-"""Where a call begins. If it has `--quiet`, one file, and nothing else that the front end does, the program is executed in its place: that takes a fifth of
-what the front end takes.
+"""Where a call begins. If it has `--quiet`, one file, and nothing else for the front end to do, the program is executed in its place, which takes a
+third of what the front end takes.
 """
 
 from __future__ import annotations
