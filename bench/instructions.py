@@ -8,7 +8,8 @@ few lines of difference. valgrind counts: callgrind the instructions, and memche
     bench/instructions.py --store    counts, and writes these figures
     bench/instructions.py --long [--store]    the same for long inputs, instructions alone; takes some ten minutes
     bench/instructions.py --print CASE    writes the input of a case alone
-    bench/instructions.py --gate    counts instructions alone, and prints what differs by more than three parts in a hundred; nothing without valgrind
+    bench/instructions.py --gate    counts instructions alone, and prints what differs by more than three parts in a hundred; nothing without valgrind,
+                                    or on another processor than that of the figures
 
 The cases: `check` and `images` of the largest deployment, `steps` of code outside modules, `events` that are carried from
 the sensor to the bulb, `gen` of 1,000 samples, `lighting`, which is examples/lighting.txt, and `explain` of a trace of
@@ -23,8 +24,9 @@ from counting import ENVIRONMENT, PROGRAM, TOP, counted, joined
 
 FIGURES = os.path.join(TOP, "bench", "instructions.json")
 TOLERANCE = 0.01
-# Of a processor on which the C library copies otherwise.
 TOLERANCE_OF_GATE = 0.03
+# The C library copies in other ways on other processors, so figures say which one they are of.
+OF = "processor"
 
 # The limits of a deployment: its text in bytes, a line, and what it lists.
 TEXT, LINE, NODES, MODULES, CONNECTIONS = 262144, 4096, 16, 32, 64
@@ -132,6 +134,15 @@ def allocations(words, lines):
     return {name: int(count.replace(",", "")) for name, count in zip(("allocations", "bytes allocated"), found.groups())}
 
 
+def processor():
+    """The name of this machine's processor, empty where the system doesn't say it."""
+    try:
+        with open("/proc/cpuinfo", encoding="utf-8") as file:
+            return next((line.partition(":")[2].strip() for line in file if line.startswith("model name")), "")
+    except OSError:
+        return ""
+
+
 def instructions(words, lines):
     return {"instructions": counted(words, joined(lines))}
 
@@ -172,7 +183,7 @@ def store(figures):
 
 
 def gate():
-    if shutil.which("valgrind") is None:
+    if shutil.which("valgrind") is None or processor() != stored_figures().get(OF):
         return True
     found = {case: instructions(*given) for case, given in inputs().items()}
     is_well = are_near(found, stored_figures(), TOLERANCE_OF_GATE, True)
@@ -193,7 +204,7 @@ def main():
     is_long, stored = "--long" in words, stored_figures()
     found = {case: (instructions if is_long else counts)(*given) for case, given in (long_inputs() if is_long else inputs()).items()}
     if "--store" in words:
-        stored |= found
+        stored |= found | {OF: processor()}
         store(stored)
     return are_near(found, stored, TOLERANCE, False)
 

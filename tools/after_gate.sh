@@ -1,8 +1,9 @@
 #!/usr/bin/env bash
 # What .ci/run checks after `rt ci` has passed: whether release/ holds the build that was proved, whether each wrong body and each wrong system
-# still applies, whether commands take the processor's instructions that they took, if valgrind is installed, whether the pages that are made of
-# the sources are up to date, whether a function calls itself that tools/recursion.txt doesn't list, what mypy 1.0.1 finds if it is installed, and
-# the rows and other tests of tests/. It says nothing if all is well. Without Python 3.10 only the release is compared.
+# still applies, whether commands take the processor's instructions that they took, if valgrind is installed and the processor is the one that the
+# figures are of, whether the pages that are made of the sources are up to date, whether a function calls itself that tools/recursion.txt doesn't
+# list, what mypy 1.0.1 finds if it is installed, and the rows and other tests of tests/. It says nothing if all is well. Without Python 3.10 only
+# the release is compared.
 cd "$(dirname "$0")/.." || exit 1
 if [ -x crates/sancus_run/out/sancus_run ]; then
   tools/release.sh stamp && tools/release.sh check || exit
