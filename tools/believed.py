@@ -76,7 +76,7 @@ PROMISES = {
     "a trace under a property": ["command_watch.Promise.WatchPromise"],
     "`snap`": ["command_snap.Promise.SnapPromise"],
     "`gen`": ["sx_top.Promise.GenReadsNothing"],
-    "`check`": ["command_check.Output.CheckPromise"],
+    "`check` and `describe`": ["command_check.Output.CheckPromise", "command_describe.Output.DescribePromise"],
     "`asm` and `dis`": ["command_asm.Assembling.AsmPromise", "command_asm.Disassembling.DisPromise"],
     "the node": ["spec_machine.Laws.*", "spec_machine.NodeLaws.*"],
     "compiled modules": ["sx_image.Realizes.Realizes"],
