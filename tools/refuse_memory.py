@@ -71,6 +71,7 @@ CASES = [
     (["run"], LIGHTING),
     (["drive"], LIGHTING.partition(b"%%\n")[0] + b"%%\nlight 120\n"),
     (["check"], LIGHTING),
+    (["describe"], LIGHTING),
     (["snap"], LIGHTING.partition(b"%%\n")[0] + b"%%\n" + QUERIES),
     (["lines"], LIGHTING),
     (["batch"], LIGHTING + b"%%\nsense light 120\ncall eye 3 0x300 0x400\n%%\nfly\nreset a\n"),
