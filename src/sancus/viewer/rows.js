@@ -75,9 +75,10 @@ class Run {
     let before = "";
     for (const line of lines) {
       if (this.fault && line.number > Number(this.fault[1])) break;
+      if (!line.kind) continue;
       if (line.kind === "#")
         this.addNote(line, before);
-      else if (line.kind)
+      else
         this.addLine(line, before);
       before = line.kind;
     }
