@@ -5,7 +5,7 @@ import unittest
 
 from slow import EXAMPLES, PROGRAM, TOP, needs_program
 
-READING = ("run", "check", "describe", "snap", "asm 0", "dis 0", "explain", "watch", "holds")
+READING = ("run", "lines", "batch", "check", "describe", "snap", "asm 0", "dis 0", "explain", "watch", "holds")
 
 
 @needs_program

@@ -13,7 +13,7 @@ const inTop = name => fileURLToPath(new URL(name, TOP));
 const [native = inTop("release/sancus_run"), file = inTop("release/sancus.wasm"), ...host] = process.argv.slice(2);
 const runOnce = new Function(`${readFileSync(new URL("host.js", import.meta.url), "utf8")}; return runOnce;`)();
 const module = new WebAssembly.Module(readFileSync(file));
-const COMMANDS = ["run", "drive", "check", "explain", "snap", "lines", "describe"];
+const COMMANDS = ["run", "drive", "check", "explain", "snap", "lines", "batch", "describe"];
 let count = 0, differ = 0;
 
 function started(command, words, input) {
