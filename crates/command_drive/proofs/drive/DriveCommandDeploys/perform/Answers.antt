@@ -1,7 +1,7 @@
 use Rattle.std.proofs.Common.{[], inl, map, refl}
 use Rattle.command_promise.proofs.Laws.{told-stop, ends-out-of-memory, prefix-none}
 use Rattle.sx_deploy.specs.SeenDeployment.{deployed_as}
-use Rattle.spec_run.proofs.accepted.Settled.{lawfully}
+use Rattle.spec_run.proofs.accepted.Settled.{settled}
 use Rattle.sx_world.specs.InMemory.{image_setting}
 use Rattle.sx_drive.specs.Honest.{start}
 use Rattle.command_head.proofs.Given.{given_none}
@@ -16,7 +16,7 @@ drive_built-requires-clause-going g c =
       set = set;
       honest = start set;
       follows = c.in-Ok.ensures.starts;
-      sound = lawfully mac d (map (λ i. i.text.items) c.args.images.now) c.requires.sound c.requires.images g.met.T.Tag.is_tag;
+      sound = settled mac d (map (λ i. i.text.items) c.args.images.now) c.requires.sound c.requires.images g.met.T.Tag.is_tag;
     }
 
 pub returns-in-Err-clause-rest : goal.returns-in-Err-clause-rest
