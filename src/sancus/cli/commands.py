@@ -142,6 +142,16 @@ COMMANDS: Tuple[Command, ...] = (
         typed="a deployment, a line %%, and a trace",
     ),
     Command(
+        "describe",
+        "prints what a deployment was read as, a line for each thing in it",
+        (Argument("DEPLOYMENT", MAYBE, "the deployment, with or without a line %%; absent or -, standard input"),),
+        (),
+        "sancus describe examples/lighting.txt",
+        "",
+        True,
+        typed="a deployment",
+    ),
+    Command(
         "snap",
         "prints registers, memory or items after any line of a schedule",
         (DEPLOYMENT, Argument("SCHEDULE", MAYBE, "a schedule"), Argument("QUERIES", MAYBE, "queries, a line each")),
@@ -161,6 +171,16 @@ COMMANDS: Tuple[Command, ...] = (
         "Each line comes after `> `. `sancus marks` takes lines for people too.",
         True,
         typed="a deployment, a line %%, and a schedule, each line of which is answered at once",
+    ),
+    Command(
+        "batch",
+        "prints what each of many schedules gives after common lines",
+        (Argument("INPUT", MAYBE, "a deployment, and after lines %% common lines and schedules; absent or -, standard input"),),
+        (),
+        "sancus batch examples/lighting.txt",
+        "Each schedule begins where the common lines end, and is answered by its items and `end`, or its fault.",
+        True,
+        typed="a deployment, a line %%, common lines, and each schedule after a line %%",
     ),
     Command(
         "gen",

@@ -72,7 +72,7 @@ def parts_of(given: Given, files: List[str], context: Context) -> Optional[List[
     if len(files) > 1:
         return joined(files, context.voice)
     fd = open_file(files[0])
-    if word == "check" and (has_no_mark(fd) if is_regular(fd) else not is_direct(fd)):
+    if word in ("check", "describe") and (has_no_mark(fd) if is_regular(fd) else not is_direct(fd)):
         return with_mark(files[0])
     return None
 
