@@ -10,6 +10,7 @@ from sancus.errors import Fault, NoProgram
 from sancus.model import warnings
 from sancus.model.asking import Program
 from sancus.model.deployment import Plan, plan_of
+from sancus.model.described import Deployment, deployment_of
 from sancus.model.faults import Teller
 from sancus.model.people import are_for_people
 from sancus.model.shown import text_of
@@ -41,12 +42,15 @@ class App:
         self.head = head if head.endswith(b"\n") or not head else head + b"\n"
         self.name, self.own_schedule = name, schedule
         self.program: Program = program or runner()
-        lines = [text_of(it) for it in self.program.answer(["check"], self.input(b"")).lines]
+        lines = [text_of(it) for it in self.program.answer(["describe"], self.input(b"")).lines]
         self.must_be_accepted(lines[-1] if lines else "")
         plan = plan_of(self.head)
         assert plan
         self.plan: Plan = plan
-        self.bounds: Dict[str, Bounds] = dict(map(bounds_of, lines[:-1]))
+        self.deployment: Deployment = deployment_of(lines[:-1])
+        self.bounds: Dict[str, Bounds] = {
+            it.name: Bounds(it.text, it.data) for it in self.deployment.modules.values()
+        }
 
     def input(self, schedule: bytes) -> bytes:
         """The input of a run, as the program reads it."""
@@ -125,13 +129,6 @@ def bytes_of(lines: Lines) -> bytes:
             return lines.encode(errors="surrogateescape")
         case _:
             return "".join(f"{it}\n" for it in lines).encode(errors="surrogateescape")
-
-
-def bounds_of(line: str) -> Tuple[str, Bounds]:
-    """A module's line of `check`: `module M text A B data C D`."""
-    words = line.split(" ")
-    text, text_end, data, data_end = (int(words[at], 16) for at in (3, 4, 6, 7))
-    return words[1], Bounds(range(text, text_end), range(data, data_end))
 
 
 def loads(text: Union[str, bytes], name: str = "") -> App:

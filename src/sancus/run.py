@@ -157,7 +157,8 @@ class Run:
     def inspected(self) -> Inspected:
         lines = self.lines
         given = [Line("", it, at, at) for at, it in enumerate(lines, 1)]
-        return Inspected(self.app.name, self.app.head, self.app.plan, lines, given, self.app.program)
+        app = self.app
+        return Inspected(app.name, app.head, app.plan, app.deployment, lines, given, app.program)
 
     def state(self, module: str, line: Optional[int] = None) -> State:
         """A module's variables, arrays and ends after a line of the schedule; without one, at the end."""

@@ -36,7 +36,7 @@ def has_trace(data: Input) -> bool:
 
 
 # The commands that read one file, each with what tells that the program is all that answers it.
-ENOUGH = {"run": has_plain_lines, "drive": has_mark, "check": has_mark, "explain": has_trace}
+ENOUGH = {"run": has_plain_lines, "drive": has_mark, "check": has_mark, "describe": has_mark, "explain": has_trace}
 
 
 def words_of(call: list[str]) -> list[str]:

@@ -13,7 +13,7 @@ from sancus.cli.context import Context
 from sancus.cli.output import print_lines, write
 from sancus.cli.reading import read_all
 from sancus.cli.writing import must_be_free, write_file
-from sancus.model.deployment import Plan, plan_of
+from sancus.model.described import Deployment, deployment_of
 from sancus.model.shown import plain
 from sancus.model.texts import Input
 from sancus.records import dataclass, field
@@ -26,7 +26,6 @@ MEMORY = 0x10000
 ALLOCATED, NULL, NO_BITS, LOADED = 2, 0, 8, 1
 RELOCATABLE = 1
 DATA, END, SEGMENT, START_SEGMENT, LINEAR, START = 0, 1, 2, 3, 4, 5
-MODULE = re.compile(r"^module (\S+) text 0x(\w{4}) 0x(\w{4}) data 0x(\w{4}) 0x(\w{4})$", re.M)
 THREE = "a file is ELF, Intel HEX (each line begins with `:`) or TI-TXT (a line `@ADDRESS`, then bytes)"
 IMAGE = re.compile(r"^image (\S+) ([0-9a-f]+)$", re.M)
 
@@ -236,21 +235,20 @@ class Taken:
     end: int
 
 
-def taken(plan: Plan, node: str) -> Iterator[Taken]:
+def taken(deployment: Deployment, node: str) -> Iterator[Taken]:
     yield Taken("address 0, where `load` puts the protecting instruction and calls return", 0, 2)
-    for module in plan.modules:
-        bounds = plan.bounds(module)
-        if module.get("node") == node and bounds:
-            yield Taken(f"the public section of {module['name']}", bounds.text, bounds.text_end)
-            yield Taken(f"the private section of {module['name']}", bounds.data, bounds.data_end)
-    for device in plan.devices:
-        if device.get("node") == node:
-            yield Taken(f"the device {device['name']}", device["at"], device["at"] + 2)
+    for module in deployment.modules.values():
+        if module.node == node:
+            yield Taken(f"the public section of {module.name}", module.text.start, module.text.stop)
+            yield Taken(f"the private section of {module.name}", module.data.start, module.data.stop)
+    for device in deployment.devices.values():
+        if device.node == node:
+            yield Taken(f"the device {device.name}", device.at, device.at + 2)
 
 
-def meetings(pieces: List[Piece], plan: Plan, node: str) -> Iterator[str]:
+def meetings(pieces: List[Piece], deployment: Deployment, node: str) -> Iterator[str]:
     for piece in pieces:
-        for it in taken(plan, node):
+        for it in taken(deployment, node):
             if piece.at < it.end and it.begin < piece.end:
                 yield f"0x{piece.at:04x} to 0x{piece.end:04x} meets {it.what}, 0x{it.begin:04x} to 0x{it.end:04x}"
 
@@ -258,12 +256,10 @@ def meetings(pieces: List[Piece], plan: Plan, node: str) -> Iterator[str]:
 def put(context: Context, given: Given, node: str, file: str) -> None:
     code = read(file)
     if given.has("input"):
-        plan = plan_of(Input(read_all(given.text("input"))).head)
-        if plan is None:
-            raise Bad(f"{given.text('input')} has no deployment that can be read")
-        if node not in plan.names("node"):
-            raise Bad(f"there is no node {node}: {' '.join(plan.names('node'))}")
-        context.voice.say(*meetings(code.pieces, plan, node))
+        deployment = described(context, Input(read_all(given.text("input"))).head)
+        if node not in deployment.nodes:
+            raise Bad(f"there is no node {node}: {' '.join(deployment.nodes)}")
+        context.voice.say(*meetings(code.pieces, deployment, node))
     if given.has("pc") and code.entry is None:
         raise Bad("the file says no entry: write `set NODE pc ADDRESS` yourself")
     lines = [f"# {plain(os.path.basename(file))}: {sum(len(it.body) for it in code.pieces)} bytes"]
@@ -282,21 +278,24 @@ def asked(context: Context, word: str, head: bytes) -> str:
     return answer
 
 
+def described(context: Context, head: bytes) -> Deployment:
+    return deployment_of(asked(context, "describe", head).split("\n"))
+
+
 def image(context: Context, given: Given, name: str) -> None:
     data = Input(read_all(name))
-    bounds = {it[1]: int(it[2], 16) for it in MODULE.finditer(asked(context, "check", data.head))}
+    modules = described(context, data.head).modules.values()
     images = {it[1]: bytes.fromhex(it[2]) for it in IMAGE.finditer(asked(context, "run", data.head))}
-    if not bounds:
+    if not modules:
         raise Bad("the deployment has no module, so there is no image")
-    plan = plan_of(data.head)
     chosen = FORMATS[given.text("format") or "ti"]
     folder = Path(given.text("to") or ".")
     nodes: Dict[str, List[Piece]] = {}
     files: Dict[Path, List[Piece]] = {}
-    for module, at in bounds.items():
-        piece = Piece(at, images[module])
-        nodes.setdefault(plan.node_of(module) if plan else "n", []).append(piece)
-        files[folder / f"{module}.{chosen.ending}"] = [piece]
+    for module in modules:
+        piece = Piece(module.text.start, images[module.name])
+        nodes.setdefault(module.node, []).append(piece)
+        files[folder / f"{module.name}.{chosen.ending}"] = [piece]
     named = {folder / f"node_{node}.{chosen.ending}": joined(pieces) for node, pieces in nodes.items()}
     write_images({**files, **named}, chosen, [name], given.has("force"))
     for path, pieces in named.items():

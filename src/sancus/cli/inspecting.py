@@ -11,6 +11,7 @@ from sancus.cli.reading import file_part
 from sancus.cli.running import gathered
 from sancus.model.asking import Program
 from sancus.model.deployment import Plan, plan_of
+from sancus.model.described import Deployment, deployment_of
 from sancus.model.faults import Teller
 from sancus.model.inspection import Inspected, Line, are_readings, driven, marked_lines, readings_of
 from sancus.model.people import are_for_people
@@ -18,16 +19,16 @@ from sancus.model.texts import Input, Kept
 from sancus.status import BAD_TEXT, Ended
 
 
-def must_be_accepted(kept: Kept, data: Input, name: str, program: Program) -> Plan:
+def must_be_accepted(kept: Kept, data: Input, name: str, program: Program) -> Tuple[Plan, Deployment]:
     if not data.has_mark:
         raise Ended(
             BAD_TEXT, f"{name} has no line %%, so there is no schedule; a schedule of its own file comes after {name}"
         )
     plan = plan_of(data.head)
-    answer = program.ask(["check"], data.head + b"%%\n").decode(errors="replace").strip()
-    if plan is None or not answer.endswith("end"):
-        raise Ended(BAD_TEXT, f"{name} has no deployment that is accepted: {answer}", *Teller(kept, "run").told(answer))
-    return plan
+    *lines, last = program.ask(["describe"], data.head + b"%%\n").decode(errors="replace").strip().split("\n")
+    if plan is None or last != "end":
+        raise Ended(BAD_TEXT, f"{name} has no deployment that is accepted: {last}", *Teller(kept, "run").told(last))
+    return plan, deployment_of(lines)
 
 
 def put_together(files: List[str], context: Context) -> Tuple[Kept, Input]:
@@ -39,8 +40,8 @@ def inspected(files: List[str], is_driven: bool, context: Context) -> Inspected:
     """The input of some files. Of readings the schedule is the one that `drive` makes, and of lines for people the one
     that they become."""
     kept, data = put_together(files, context)
-    plan = must_be_accepted(kept, data, files[0], context.program)
-    seen = Inspected(files[0], data.head, plan, [], [], context.program)
+    plan, deployment = must_be_accepted(kept, data, files[0], context.program)
+    seen = Inspected(files[0], data.head, plan, deployment, [], [], context.program)
     seen.is_driven = is_driven or are_readings(plan, data)
     if seen.is_driven:
         if not is_driven:

@@ -10,7 +10,8 @@ from sancus.cli.context import Context
 from sancus.cli.program import Ran
 from sancus.cli.reading import is_regular, open_file
 from sancus.model import forged, warnings
-from sancus.model.deployment import Plan, plan_of
+from sancus.model.deployment import plan_of
+from sancus.model.described import Deployment, described
 from sancus.model.faults import Teller
 from sancus.model.lines import run_by_line
 from sancus.model.session import Stopped, snapped
@@ -77,10 +78,11 @@ def about_forged(context: Context, kept: Kept) -> List[str]:
 
 def after_finish(context: Context, data: Input, kept: Kept) -> List[str]:
     """The `finish` lines that end with PC in a section of a module that doesn't run there."""
-    plan, lines = plan_of(data.head), [text_of(it) for it in data.schedule]
+    lines = [text_of(it) for it in data.schedule]
     ends = [(at, it.split()[1]) for at, it in enumerate(lines, 1) if it.split()[:1] == ["finish"]][:64]
-    if not plan or not context.program.is_fast:
+    if not context.program.is_fast:
         return []
+    deployment = described(context.program, data.head)
     try:
         answers = snapped(context.program, data.head, lines, [f"regs {node} {at}" for at, node in ends])
     except Stopped:
@@ -88,7 +90,7 @@ def after_finish(context: Context, data: Input, kept: Kept) -> List[str]:
     teller, made = Teller(kept, "run"), []
     for (at, node), answer in zip(ends, answers):
         pc = int(answer.split(" ")[3], 16)
-        module = inside(plan, node, pc)
+        module = inside(deployment, node, pc)
         if module:
             made += [
                 f"warning: this `finish` ends before code outside runs an instruction of {module}, at 0x{pc:04x}: that "
@@ -98,14 +100,11 @@ def after_finish(context: Context, data: Input, kept: Kept) -> List[str]:
     return made
 
 
-def inside(plan: Plan, node: str, pc: int) -> Optional[str]:
+def inside(deployment: Deployment, node: str, pc: int) -> Optional[str]:
     """The module in whose sections an address lies, but at its entry."""
-    for it in plan.modules:
-        bounds = plan.bounds(it)
-        if it.get("node") != node or not bounds:
-            continue
-        if bounds.text < pc < bounds.text_end or bounds.data <= pc < bounds.data_end:
-            return str(it.get("name"))
+    for it in deployment.modules.values():
+        if it.node == node and pc != it.text.start and (pc in it.text or pc in it.data):
+            return it.name
     return None
 
 

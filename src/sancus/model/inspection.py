@@ -8,6 +8,7 @@ from typing import List, Optional, Tuple
 
 from sancus.model.asking import Program
 from sancus.model.deployment import Plan
+from sancus.model.described import Deployment
 from sancus.model.faults import Teller
 from sancus.model.numbers import number
 from sancus.model.rules import near
@@ -42,6 +43,7 @@ class Inspected:
     name: str
     head: bytes
     plan: Plan
+    deployment: Deployment
     lines: List[str]
     given: List[Line]
     program: Program

@@ -9,7 +9,6 @@ import re
 from typing import Callable, Dict, Iterator, List, Optional, Set, Tuple
 
 from sancus.model import stepping
-from sancus.model.deployment import Bounds
 from sancus.model.forged import presented_by
 from sancus.model.inspection import Inspected, broken
 from sancus.model.items import Item
@@ -67,19 +66,16 @@ class Moment:
         """The modules that are protected on any node."""
         return set(self.model.present)
 
-    def bounds(self, module: str) -> Optional[Bounds]:
-        return self.seen.plan.bounds(self.seen.plan.named("module", module) or {})
-
     def places(self, node: str) -> List[Place]:
         """The sections of protected modules, and the words of devices, of a node."""
         found = []
         for module in sorted(self.protected()):
-            it = self.bounds(module)
-            if it and self.seen.plan.node_of(module) == node:
-                found.append(Place(f"the public section of {module}", it.text, it.text_end, module))
-                found.append(Place(f"the private section of {module}", it.data, it.data_end, module, True))
-        devices = [it for it in self.seen.plan.devices if it.get("node") == node]
-        return found + [Place(f"the word of the device {it['name']}", it["at"], it["at"] + 2) for it in devices]
+            it = self.seen.deployment.modules[module]
+            if it.node == node:
+                found.append(Place(f"the public section of {module}", it.text.start, it.text.stop, module))
+                found.append(Place(f"the private section of {module}", it.data.start, it.data.stop, module, True))
+        devices = [it for it in self.seen.deployment.devices.values() if it.node == node]
+        return found + [Place(f"the word of the device {it.name}", it.at, it.at + 2) for it in devices]
 
     def ask(self, queries: List[str]) -> List[str]:
         try:
@@ -249,8 +245,8 @@ def span_of(moment: Moment, packets: Dict[int, int]) -> Tuple[int, int]:
     if act == "put":
         return number(words[2]) or 0, len(words[3]) // 2
     if act == "load":
-        found = moment.bounds(words[1])
-        return (found.text, found.text_end - found.text) if found else (0, 0)
+        section = moment.seen.deployment.modules[words[1]].text
+        return section.start, len(section)
     if act == "asm":
         text = " ".join(words[3:]).replace(";", "\n")
         listing = moment.seen.program.ask(["asm", words[2]], text.encode(errors="surrogateescape")).split(b"\n")
@@ -322,14 +318,14 @@ def no_entry(moment: Moment, module: str, entry: int, _window: int) -> Iterator[
 
 
 def no_window(moment: Moment, module: str, _entry: int, _window: int) -> Iterator[str]:
-    found = moment.bounds(module)
+    data = moment.seen.deployment.modules[module].data
     for name, word, size in (("in", moment.words[3], IN_WINDOW), ("out", moment.words[4], OUT_WINDOW)):
         begin = number(word) or 0
         told = f"the {name}-window of {size} bytes, 0x{begin:04x} to 0x{(begin + size - 1) % TOP:04x},"
         if begin + size > TOP:
             yield f"{told} passes the end of memory"
-        elif found and begin < found.data_end and found.data < begin + size:
-            yield f"{told} meets the private section of {module}, 0x{found.data:04x} to 0x{found.data_end - 1:04x}"
+        elif begin < data.stop and data.start < begin + size:
+            yield f"{told} meets the private section of {module}, 0x{data.start:04x} to 0x{data.stop - 1:04x}"
 
 
 def other_packet(moment: Moment, module: str, entry: int, window: int) -> Iterator[str]:

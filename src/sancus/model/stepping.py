@@ -76,15 +76,15 @@ def parts_of(seen: Inspected, line: str) -> Parts:
     if act == "finish":
         return Parts(words[1], is_whole=True)
     if act == "call":
-        node, entry = seen.plan.node_of(words[1]), seen.plan.named("module", words[1]) or {}
+        it = seen.deployment.modules[words[1]]
         sets = [
             ("r12", words[2]),
             ("r13", words[3]),
             ("r14", words[4]),
             ("r15", "0"),
-            ("pc", f"0x{entry.get('text'):x}"),
+            ("pc", f"0x{it.text.start:x}"),
         ]
-        return Parts(node, [f"set {node} {name} {value}" for name, value in sets], is_whole=True)
+        return Parts(it.node, [f"set {it.node} {name} {value}" for name, value in sets], is_whole=True)
     if act == "load":
         return Parts(seen.plan.node_of(words[1]), most=1)
     return Parts("", note=NOTHING + (": an interrupt is no instruction" if act == "irq" else ""))
@@ -92,12 +92,11 @@ def parts_of(seen: Inspected, line: str) -> Parts:
 
 def load_parts(seen: Inspected, module: str, image: str) -> List[str]:
     """What a `load` does before its step: the image in pieces, the instruction that protects, and the registers."""
-    entry = seen.plan.named("module", module) or {}
-    node, bounds = seen.plan.node_of(module), seen.plan.bounds(entry)
-    assert bounds
+    it = seen.deployment.modules[module]
+    node, text, data = it.node, it.text, it.data
     pieces = [image[at : at + 2048] for at in range(0, len(image), 2048)]
-    lines = [f"put {node} 0x{bounds.text + 1024 * at:x} {piece}" for at, piece in enumerate(pieces)]
-    values = [entry.get("provider"), bounds.text, bounds.text_end, bounds.data, bounds.data_end]
+    lines = [f"put {node} 0x{text.start + 1024 * at:x} {piece}" for at, piece in enumerate(pieces)]
+    values = [it.provider, text.start, text.stop, data.start, data.stop]
     return [
         *lines,
         f"asm {node} 0 protect",
@@ -193,11 +192,8 @@ def changes(step: Step) -> str:
 
 
 def module_at(seen: Inspected, node: str, pc: int) -> Optional[str]:
-    for it in seen.plan.modules:
-        bounds = seen.plan.bounds(it)
-        if bounds and it.get("node") == node and bounds.text <= pc < bounds.text_end:
-            return str(it.get("name"))
-    return None
+    found = seen.deployment.at(node, pc)
+    return found.name if found else None
 
 
 def rows(steps: List[Step]) -> Iterator[str]:

@@ -8,14 +8,13 @@ from __future__ import annotations
 
 from typing import Dict, Iterator, List, Optional, Tuple, Union
 
-from sancus.model.deployment import Bounds
+from sancus.model.described import CELL, Module
 from sancus.model.inspection import Inspected, Line, broken
 from sancus.model.lines import run_by_line
 from sancus.model.session import Stopped, snapped
 from sancus.model.shown import text_of
 from sancus.records import dataclass, field
 
-SLOTS, SLOT = 512, 24
 MOST_BYTES = 64
 WORD = 0xFFFF
 
@@ -39,7 +38,7 @@ def items_up_to(seen: Inspected, line: int) -> List[Tuple[int, str]]:
 
 def presence(seen: Inspected, module: str, line: int) -> Iterator[Tuple[int, Seen]]:
     """The lines up to one at which the module comes or goes, with what was seen of it then."""
-    node, found = seen.plan.node_of(module), Seen()
+    node, found = seen.deployment.modules[module].node, Seen()
     for at, item in items_up_to(seen, line):
         words = item.split(" ")
         if words[:2] == ["reset", node]:
@@ -68,9 +67,9 @@ def bytes_of(answers: List[str]) -> bytes:
     return b"".join(bytes.fromhex(it.split(" ")[-1]) for it in answers)
 
 
-def private_bytes(seen: Inspected, node: str, bounds: Bounds, line: int) -> Tuple[bytes, List[str]]:
+def private_bytes(seen: Inspected, module: Module, line: int) -> Tuple[bytes, List[str]]:
     """The slots and cells of a private section, and the registers of its node."""
-    pieces = pieces_of(bounds.data + SLOTS, bounds.data_end)
+    pieces, node = pieces_of(module.kept.start, module.kept.stop), module.node
     queries = [f"regs {node} {line}", *(f"bytes {node} 0x{at:x} {size} {line}" for at, size in pieces)]
     answers = snapped(seen.program, seen.head, seen.lines, queries)
     return bytes_of(answers[1:]), answers[0].split(" ")[3:]
@@ -98,14 +97,12 @@ class Cells:
                 yield f"{self.name}{f'[{at}]' if self.kind == 'array' else ''} {old} -> {new}"
 
 
-def cells_of(seen: Inspected, module: str, data: bytes) -> List[Cells]:
-    tree, cells = seen.plan.tree(module), []
-    stored = words_of(data)
-    for it in tree.cells() if tree else []:
-        size = it.value if it.kind == "array" else 1
-        first = 0 if it.kind == "array" else it.value
-        cells.append(Cells(it.kind, it.name, [(value + first) & WORD for value in stored[:size]]))
-        stored = stored[size:]
+def cells_of(module: Module, data: bytes, begin: int) -> List[Cells]:
+    """The variables and arrays of a module, in the bytes from an address on."""
+    cells = []
+    for it in module.variables:
+        stored = words_of(data[it.at - begin : it.at - begin + CELL * it.length])
+        cells.append(Cells(it.kind, it.name, [(value + it.first) & WORD for value in stored]))
     return cells
 
 
@@ -137,46 +134,37 @@ def state_of(seen: Inspected, module: str, line: int) -> State:
     found = looked_up(seen, module, line)
     if found.since is None:
         return State(module, line, found.boot)
+    described = seen.deployment.modules[module]
     try:
-        data, registers = private_bytes(seen, seen.plan.node_of(module), bounds_of(seen, module), line)
+        data, registers = private_bytes(seen, described, line)
     except Stopped as error:
         raise broken(seen, str(error)) from None
-    ends = {}
-    for at, end in enumerate(seen.plan.ends(module)):
-        number, event, is_open = words_of(data[SLOT * at : SLOT * at + 6])
+    ends, begin = {}, described.kept.start
+    for end in described.ends:
+        number, event, is_open = words_of(data[end.at - begin : end.at - begin + 6])
         ends[end.connection, end.side] = (number >> 8, event) if is_open else None
-    cells = cells_of(seen, module, data[SLOT * len(ends) :])
-    return State(module, line, found.boot, found.since, cells, ends, int(registers[0], 16))
-
-
-def bounds_of(seen: Inspected, module: str) -> Bounds:
-    entry: Dict[str, object] = seen.plan.named("module", module) or {}
-    bounds = seen.plan.bounds(entry)
-    assert bounds
-    return bounds
+    return State(module, line, found.boot, found.since, cells_of(described, data, begin), ends, int(registers[0], 16))
 
 
 def end_lines(seen: Inspected, state: State) -> Iterator[str]:
-    for (connection, side), is_open in state.ends.items():
+    for it in seen.deployment.modules[state.module].ends:
+        is_open = state.ends[it.connection, it.side]
         said = f"open in epoch {is_open[0]}, next event {is_open[1]}" if is_open else "not open"
-        other = f"sends to {seen.plan.receiver(connection)}" if side == "from" else f"takes from {seen.plan.sender(connection)}"
-        yield f"end {connection} {side}: {said} ({other})"
+        yield f"end {it.connection} {it.side}: {said} ({'sends to' if it.side == 'from' else 'takes from'} {it.peer})"
 
 
 def pc_line(seen: Inspected, node: str, pc: int) -> str:
-    for it in seen.plan.modules:
-        bounds = seen.plan.bounds(it)
-        if bounds and it.get("node") == node and bounds.text <= pc < bounds.text_end:
-            return f"pc of {node} 0x{pc:04x}, in the public section of {it.get('name')}"
-    return f"pc of {node} 0x{pc:04x}, outside the deployed modules"
+    found = seen.deployment.at(node, pc)
+    where = f"in the public section of {found.name}" if found else "outside the deployed modules"
+    return f"pc of {node} 0x{pc:04x}, {where}"
 
 
 def told(seen: Inspected, module: str, asked: Line) -> List[str]:
     """A module after a line, as lines."""
-    node, bounds = seen.plan.node_of(module), bounds_of(seen, module)
-    state = state_of(seen, module, asked.last)
-    head = f"module {module} on node {node}, boot {state.boot}"
-    where = f"text 0x{bounds.text:04x} to 0x{bounds.text_end:04x}, data 0x{bounds.data:04x} to 0x{bounds.data_end:04x}"
+    it, state = seen.deployment.modules[module], state_of(seen, module, asked.last)
+    head = f"module {module} on node {it.node}, boot {state.boot}"
+    text, data = it.text, it.data
+    where = f"text 0x{text.start:04x} to 0x{text.stop:04x}, data 0x{data.start:04x} to 0x{data.stop:04x}"
     if not state.is_protected:
         return [seen.headed(asked), f"{head}: not protected after this line; {where}"]
     since = f" since {seen.said(state.since)}" if state.since else ""
@@ -185,7 +173,7 @@ def told(seen: Inspected, module: str, asked: Line) -> List[str]:
         f"{head}: protected{since}; {where}",
         *(it.told() for it in state.cells),
         *end_lines(seen, state),
-        pc_line(seen, node, state.pc),
+        pc_line(seen, it.node, state.pc),
     ]
 
 
@@ -202,16 +190,16 @@ def runs_on(seen: Inspected, node: str, line: str) -> bool:
 
 def cells_after(seen: Inspected, module: str, lines: List[int]) -> Iterator[Tuple[int, List[Cells]]]:
     """The variables and arrays after each of some lines."""
-    node, bounds = seen.plan.node_of(module), bounds_of(seen, module)
-    pieces = pieces_of(bounds.data + SLOTS + SLOT * len(seen.plan.ends(module)), bounds.data_end)
-    queries = [f"bytes {node} 0x{at:x} {size} {line}" for line in lines for at, size in pieces]
+    it = seen.deployment.modules[module]
+    pieces = pieces_of(it.cells.start, it.cells.stop)
+    queries = [f"bytes {it.node} 0x{at:x} {size} {line}" for line in lines for at, size in pieces]
     try:
         answers = snapped(seen.program, seen.head, seen.lines, queries)
     except Stopped as error:
         raise broken(seen, str(error)) from None
     for which, line in enumerate(lines):
         begin = which * len(pieces)
-        yield line, cells_of(seen, module, bytes_of(answers[begin : begin + len(pieces)]))
+        yield line, cells_of(it, bytes_of(answers[begin : begin + len(pieces)]), it.cells.start)
 
 
 def protected_after(moments: List[int], met: Dict[int, Seen]) -> Iterator[int]:
