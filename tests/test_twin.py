@@ -17,6 +17,7 @@ from test_rows import ROWS, rows_of
 
 from sancus.model import language, legality, rules
 from sancus.model.deployment import Plan, plan_of
+from sancus.model.described import Deployment, deployment_of
 from sancus.model.items import Item
 from sancus.model.texts import MOST_HEAD, Input
 from sancus.runner import Runner
@@ -58,31 +59,35 @@ def given_in_rows(*commands: str) -> List[Input]:
 
 
 def in_deployment(head: bytes) -> Iterator[str]:
-    """What the front end and `check` say differently of a deployment."""
-    answer, plan = RUNNER.answer(["check"], head + b"%%\n"), plan_of(head)
+    """What the front end and `describe` say differently of a deployment."""
+    answer, plan = RUNNER.answer(["describe"], head + b"%%\n"), plan_of(head)
     if not plan:
         return
-    lines = [it.decode(errors="replace").split() for it in answer.lines]
+    lines = [it.decode(errors="replace") for it in answer.lines]
+    place = lines[-1].split()
     if answer.status == 0:
-        yield from in_accepted(plan, [it for it in lines if it[0] == "module"])
-    elif lines[-1][2] == "D7":
-        yield from in_grammar(plan, *map(int, lines[-1][4:]))
-    elif lines[-1][2] == "D8":
-        yield from in_rules(plan, int(lines[-1][4]), lines[-1][5])
+        yield from in_accepted(plan, deployment_of(lines))
+    elif place[2] == "D7":
+        yield from in_grammar(plan, *map(int, place[4:]))
+    elif place[2] == "D8":
+        yield from in_rules(plan, int(place[4]), place[5])
 
 
-def in_accepted(plan: Plan, modules: List[List[str]]) -> Iterator[str]:
-    bounds_of = {it[1]: [it[3], it[4], it[6], it[7]] for it in modules}
-    for module in plan.modules:
-        tree = plan.tree(str(module["name"]))
-        if not tree:
+def in_accepted(plan: Plan, deployment: Deployment) -> Iterator[str]:
+    for entry in plan.modules:
+        module, tree, found = deployment.modules[str(entry["name"])], plan.tree(str(entry["name"])), plan.bounds(entry)
+        if not tree or not found:
             yield "an accepted source isn't parsed"
             continue
         yield from (f"an accepted source breaks rule {it}" for it in rules.RULES if rules.places(tree, it))
-        found = plan.bounds(module)
-        bounds = [found.text, found.text_end, found.data, found.data_end] if found else []
-        if [f"0x{it:04x}" for it in bounds] != bounds_of[str(module["name"])]:
-            yield f"{module['name']} has other bounds: {found}"
+        if (range(found.text, found.text_end), range(found.data, found.data_end)) != (module.text, module.data):
+            yield f"{module.name} has other bounds: {found}"
+        own = [(it.kind, it.name, it.value) for it in tree.cells()]
+        if own != [(it.kind, it.name, it.length if it.kind == "array" else it.first) for it in module.variables]:
+            yield f"{module.name} has other variables: {own}"
+        ends = [(it.connection, it.side) for it in plan.ends(module.name)]
+        if ends != [(it.connection, it.side) for it in module.ends]:
+            yield f"{module.name} has other ends: {ends}"
 
 
 def in_grammar(plan: Plan, index: int, line: int, column: int) -> Iterator[str]:
