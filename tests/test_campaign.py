@@ -114,7 +114,7 @@ class Campaigns(Room):
             app = load(EXAMPLES / "parking" / "parking.toml")
         words = [it.split() for it in (EXAMPLES / "parking" / "day.readings").read_text().splitlines()]
         readings = [(it[0], int(it[1])) for it in words if it[0] not in ("%%", "#")]
-        layout = Layout(app.plan)
+        layout = Layout(app.deployment)
         drivers = {device: module for module, device in layout.sensors.items()}
         ran = app.run(layout.lines(Reading(drivers[device], value) for device, value in readings))
         honest = app.drive(readings)

@@ -3,12 +3,13 @@
 import re
 import unittest
 
-from support import EXAMPLES, HEAD, LIGHTING, Room, needs_program, program, sancus
+from support import EXAMPLES, HEAD, LIGHTING, PROGRAM, Room, needs_program, program, sancus
 
 from sancus.model import forged, session
-from sancus.model.deployment import plan_of
+from sancus.model.described import described
 from sancus.model.items import Item
 from sancus.model.texts import Input
+from sancus.runner import Runner
 
 LIGHTING_FILE = EXAMPLES / "lighting.txt"
 EASY = "deploy all\nsample eye 120\ncarry eye logic\nput a 0x900 00\n# at last\ncarry logic lamp\n"
@@ -525,7 +526,7 @@ class Why(Room):
         self.says(sancus("run", EXAMPLES / "public_key.txt"), "; packet 3 was given to this window last\n")
 
     def test_kinds_of_forged(self):
-        plan = plan_of(HEAD)
+        deployment = described(Runner([PROGRAM]), HEAD)
         for texts, words in (
             (
                 ("packet 4 38", "forged lamp", "open lamp down to 1"),
@@ -539,12 +540,12 @@ class Why(Room):
         ):
             items = [Item(at, it) for at, it in enumerate(texts, 1)]
             at = next(it.number for it in items if it.kind == "forged")
-            self.assertIn(words, forged.said(items, at, plan))
+            self.assertIn(words, forged.said(items, at, deployment))
         lines = ["give 3 b 0x300", "give 4 b 768", "give 5 a 0x300", "give 6 b 0x302", "call lamp 2 0x300 0x400"]
-        self.assertEqual(forged.presented_by(lines, 5, plan), "; packet 4 was given to this window last")
-        self.assertEqual(forged.presented_by([*lines[:4], "reset b", lines[4]], 6, plan), "")
-        self.assertEqual(forged.presented_by(["answer lamp 0 7"], 1, plan), ", in packet 7")
-        self.assertEqual(forged.presented_by(["run b 9"], 1, plan), "")
+        self.assertEqual(forged.presented_by(lines, 5, deployment), "; packet 4 was given to this window last")
+        self.assertEqual(forged.presented_by([*lines[:4], "reset b", lines[4]], 6, deployment), "")
+        self.assertEqual(forged.presented_by(["answer lamp 0 7"], 1, deployment), ", in packet 7")
+        self.assertEqual(forged.presented_by(["run b 9"], 1, deployment), "")
 
 
 if __name__ == "__main__":

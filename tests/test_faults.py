@@ -3,13 +3,15 @@ are its own too."""
 
 import re
 import unittest
+from unittest.mock import patch
 
 from support import EXAMPLES, HEAD, LIGHTING, PROGRAM, Room, needs_program, program, sancus, one_by_one, whole_examples
 
 from sancus.model import language, tables, toml, warnings
-from sancus.model.deployment import plan_of
+from sancus.model.deployment import tables_of
 from sancus.model.faults import Teller
 from sancus.model.texts import Input, kept_of
+from sancus.status import Ended
 
 # What is changed in the lighting example, the command, the fault line, and words of what is told.
 CASES = [
@@ -419,7 +421,7 @@ class Guessed(Room):
 
 class Warnings(Room):
     def of(self, text):
-        return warnings.of_deployment(plan_of(Input(text).head))
+        return warnings.of_deployment(tables_of(Input(text).head))
 
     def test_none_of_examples(self):
         self.assertEqual(self.of(LIGHTING), [])
@@ -504,20 +506,14 @@ class Warnings(Room):
 
 
 class Reading(unittest.TestCase):
-    """What the front end reads by itself: TOML if Python has no reader, and the language."""
+    """What the front end reads by itself."""
 
-    def test_toml(self):
-        for file in whole_examples():
-            head = Input(file.read_bytes()).head
-            self.assertEqual(toml.Reader(head.decode()).document(), plan_of(head).toml, file.name)
-
-    def test_toml_forms(self):
-        text = "a.b = 1_0 # c\n'd e' = \"\\u0041\\n\"\nf = [ [0x1f,], true ]\n[g]\nh = '''\nx''''\n[[i]]\nj = {}\n[[i]]\n[i.k]\nl = -3\n"
-        wanted = {"a": {"b": 10}, "d e": "A\n", "f": [[31], True], "g": {"h": "x'"}, "i": [{"j": {}}, {"k": {"l": -3}}]}
-        self.assertEqual(toml.Reader(text).document(), wanted)
-        for bad in ("a", "a = ", "a = 1 2", 'a = "x', "a = 1\na = 2", "[a", "a = [1"):
-            with self.assertRaises(toml.NoToml):
-                toml.Reader(bad).document()
+    def test_what_reads_toml(self):
+        missing = patch("sancus.model.toml.import_module", side_effect=ImportError)
+        with missing, self.assertRaises(Ended) as caught:
+            toml.read("")
+        self.assertIn("pip install tomli", caught.exception.lines[0])
+        self.assertEqual(toml.read('[[i]]\nj = "\\u0041"'), {"i": [{"j": "A"}]})
 
     def test_sizes(self):
         tree = language.parse("var a; array b[3]; input i; on i(v) { b[v] = -a * (2 + b[1]); repeat 3 { } }")
@@ -538,19 +534,6 @@ class Reading(unittest.TestCase):
             with self.assertRaises(language.NotInGrammar) as caught:
                 language.parse(text)
             self.assertEqual(language.place_of(text, caught.exception.token.at), place)
-
-    @needs_program
-    def test_bounds_are_those_of_check(self):
-        for file in whole_examples():
-            text = file.read_bytes()
-            plan = plan_of(Input(text).head)
-            shown = []
-            for it in plan.modules:
-                bounds = plan.bounds(it)
-                shown.append(
-                    f"module {it['name']} text 0x{bounds.text:04x} 0x{bounds.text_end:04x} data 0x{bounds.data:04x} 0x{bounds.data_end:04x}"
-                )
-            self.assertEqual(program("check", text=text).lines, [*shown, "end"], file.name)
 
 
 if __name__ == "__main__":

@@ -10,10 +10,11 @@ from support import EXAMPLES, PROGRAM, Room, needs_program, program, sancus
 
 from sancus.cli import vacuity
 from sancus.model import language, solvers
-from sancus.model.deployment import plan_of
+from sancus.model.described import described
 from sancus.model.property import Property, watched_of
 from sancus.model.search import Search
 from sancus.model.texts import Input
+from sancus.runner import Runner
 
 LAMP = EXAMPLES / "lighting.txt"
 PROPERTIES = EXAMPLES / "properties"
@@ -67,13 +68,14 @@ class Meaning(unittest.TestCase):
                 language.parse_property(source)
 
 
+@needs_program
 class Searching(unittest.TestCase):
     """The search alone: its runs are moves, which the program judges elsewhere."""
 
     def found(self, deployment, property):
         head = Input((EXAMPLES / deployment).read_bytes()).head
         name = PROPERTIES / f"{property}.property"
-        return Search(plan_of(head), Property(name.name, name.read_text())).run(20)
+        return Search(described(Runner([PROGRAM]), head), Property(name.name, name.read_text())).run(20)
 
     def test_a_late_event(self):
         found = self.found("lighting.txt", "last_reading")

@@ -15,9 +15,9 @@ from typing import Iterator, List, Tuple
 from support import EXAMPLES, PROGRAM, TOP, needs_program
 from test_rows import ROWS, rows_of
 
-from sancus.model import language, legality, rules
-from sancus.model.deployment import Plan, plan_of
-from sancus.model.described import Deployment, deployment_of
+from sancus.model import language, legality, rules, tables
+from sancus.model.deployment import Tables, tables_of
+from sancus.model.described import Deployment, described
 from sancus.model.items import Item
 from sancus.model.texts import MOST_HEAD, Input
 from sancus.runner import Runner
@@ -60,38 +60,34 @@ def given_in_rows(*commands: str) -> List[Input]:
 
 def in_deployment(head: bytes) -> Iterator[str]:
     """What the front end and `describe` say differently of a deployment."""
-    answer, plan = RUNNER.answer(["describe"], head + b"%%\n"), plan_of(head)
-    if not plan:
+    deployment, found = described(RUNNER, head), tables_of(head)
+    if not found:
         return
-    lines = [it.decode(errors="replace") for it in answer.lines]
-    place = lines[-1].split()
-    if answer.status == 0:
-        yield from in_accepted(plan, deployment_of(lines))
+    place = deployment.last.split()
+    if deployment.is_accepted:
+        yield from in_accepted(found, deployment)
     elif place[2] == "D7":
-        yield from in_grammar(plan, *map(int, place[4:]))
+        yield from in_grammar(found, *map(int, place[4:]))
     elif place[2] == "D8":
-        yield from in_rules(plan, int(place[4]), place[5])
+        yield from in_rules(found, int(place[4]), place[5])
 
 
-def in_accepted(plan: Plan, deployment: Deployment) -> Iterator[str]:
-    for entry in plan.modules:
-        module, tree, found = deployment.modules[str(entry["name"])], plan.tree(str(entry["name"])), plan.bounds(entry)
-        if not tree or not found:
+def in_accepted(found: Tables, deployment: Deployment) -> Iterator[str]:
+    for entry in found.modules:
+        module, tree = deployment.modules[str(entry["name"])], found.tree(str(entry["name"]))
+        if not tree:
             yield "an accepted source isn't parsed"
             continue
         yield from (f"an accepted source breaks rule {it}" for it in rules.RULES if rules.places(tree, it))
-        if (range(found.text, found.text_end), range(found.data, found.data_end)) != (module.text, module.data):
-            yield f"{module.name} has other bounds: {found}"
+        if tables.sizes(found, entry) != (len(module.text), len(module.data)):
+            yield f"{module.name} has other sizes: {tables.sizes(found, entry)}"
         own = [(it.kind, it.name, it.value) for it in tree.cells()]
         if own != [(it.kind, it.name, it.length if it.kind == "array" else it.first) for it in module.variables]:
             yield f"{module.name} has other variables: {own}"
-        ends = [(it.connection, it.side) for it in plan.ends(module.name)]
-        if ends != [(it.connection, it.side) for it in module.ends]:
-            yield f"{module.name} has other ends: {ends}"
 
 
-def in_grammar(plan: Plan, index: int, line: int, column: int) -> Iterator[str]:
-    source = plan.modules[index]["source"]
+def in_grammar(found: Tables, index: int, line: int, column: int) -> Iterator[str]:
+    source = found.modules[index]["source"]
     try:
         language.parse(source)
         yield "a source that isn't in the grammar is parsed"
@@ -100,8 +96,8 @@ def in_grammar(plan: Plan, index: int, line: int, column: int) -> Iterator[str]:
             yield f"the grammar is left at {language.place_of(source, error.token.at)}, not {(line, column)}"
 
 
-def in_rules(plan: Plan, index: int, rule: str) -> Iterator[str]:
-    tree = plan.tree(str(plan.modules[index]["name"]))
+def in_rules(found: Tables, index: int, rule: str) -> Iterator[str]:
+    tree = found.tree(str(found.modules[index]["name"]))
     if not tree:
         yield "a source in the grammar isn't parsed"
         return
@@ -143,9 +139,10 @@ def changed(source: str, chance: random.Random) -> str:
 
 def in_trace(head: bytes, trace: bytes) -> Iterator[str]:
     """What the front end and `explain` say differently of a trace."""
-    answer, plan = RUNNER.answer(["explain"], head + b"%%\n" + trace), plan_of(head)
-    if not plan or answer.status not in (0, 8):
+    answer = RUNNER.answer(["explain"], head + b"%%\n" + trace)
+    if answer.status not in (0, 8):
         return
+    deployment = described(RUNNER, head)
     lines = trace.decode(errors="replace").split("\n")
     after = lines[lines.index("trace") + 1 :]
     texts = takewhile(lambda it: it not in ("end", "") and not it.startswith("fault "), after)
@@ -153,11 +150,11 @@ def in_trace(head: bytes, trace: bytes) -> Iterator[str]:
     said = [it.decode().split() for it in answer.lines]
     if answer.status == 8:
         number = int(said[-1][1])
-        if not legality.reason(plan, items, number):
+        if not legality.reason(deployment, items, number):
             yield f"no reason is found why item {number}, {items[number - 1].text}, is illegal"
         return
     legal = next(int(it[1]) for it in said if it[0] == "legal")
-    model = legality.Model(plan)
+    model = legality.Model(deployment)
     for it in items[:legal]:
         try:
             model.step(it)
@@ -211,8 +208,8 @@ class Twin(unittest.TestCase):
         self.agree((it, head[-400:].decode(errors="replace")) for head in heads for it in in_deployment(head))
 
     def changed_sources(self) -> List[str]:
-        plans = filter(None, (plan_of(it.head) for it in given_in_rows("check", "run", "drive") if len(it.head) < 60_000))
-        found = sorted({str(it.get("source")) for plan in plans for it in plan.modules})
+        whole = filter(None, (tables_of(it.head) for it in given_in_rows("check", "run", "drive") if len(it.head) < 60_000))
+        found = sorted({str(it.get("source")) for tables in whole for it in tables.modules})
         sources = [it for it in found if 5 < len(it) < 1500]
         made = [changed(self.chance.choice(sources), self.chance) for _ in range(SOURCES)]
         self.assertGreater(len({*made}), SOURCES // 2)

@@ -9,8 +9,8 @@ from typing import TYPE_CHECKING, Dict, Iterable, List, Optional, Tuple, Union
 from sancus.errors import Fault, NoProgram
 from sancus.model import warnings
 from sancus.model.asking import Program
-from sancus.model.deployment import Plan, plan_of
-from sancus.model.described import Deployment, deployment_of
+from sancus.model.deployment import tables_of
+from sancus.model.described import Deployment, described
 from sancus.model.faults import Teller
 from sancus.model.people import are_for_people
 from sancus.model.shown import text_of
@@ -42,12 +42,8 @@ class App:
         self.head = head if head.endswith(b"\n") or not head else head + b"\n"
         self.name, self.own_schedule = name, schedule
         self.program: Program = program or runner()
-        lines = [text_of(it) for it in self.program.answer(["describe"], self.input(b"")).lines]
-        self.must_be_accepted(lines[-1] if lines else "")
-        plan = plan_of(self.head)
-        assert plan
-        self.plan: Plan = plan
-        self.deployment: Deployment = deployment_of(lines[:-1])
+        self.deployment: Deployment = described(self.program, self.head)
+        self.must_be_accepted(self.deployment.last)
         self.bounds: Dict[str, Bounds] = {
             it.name: Bounds(it.text, it.data) for it in self.deployment.modules.values()
         }
@@ -61,19 +57,20 @@ class App:
             raise Fault(last, Teller(kept_of(self.input(b""), self.name), "check", self.program.ask).told(last))
 
     def __repr__(self) -> str:
-        of = f"{len(self.plan.nodes)} nodes, {len(self.modules)} modules, {len(self.plan.connections)} connections"
+        of = ", ".join(f"{len(self.deployment.names(it))} {it}s" for it in ("node", "module", "connection"))
         return f"<App {self.name}: {of}>" if self.name else f"<App: {of}>"
 
     @property
     def modules(self) -> List[str]:
         """The names of its modules, in order."""
-        return self.plan.names("module")
+        return list(self.deployment.modules)
 
     @property
     def warnings(self) -> List[str]:
         """What the rules allow and hardly anybody wants."""
         teller = Teller(kept_of(self.input(b""), self.name), "check")
-        return [*warnings.of_deployment(self.plan), *warnings.of_values(teller)]
+        tables = tables_of(self.head)
+        return [*warnings.of_deployment(tables), *warnings.of_values(teller)] if tables else []
 
     def schedule(self) -> "Schedule":
         """A schedule of it that is still empty: the program runs beside it."""

@@ -203,7 +203,7 @@ class Worker:
             raise NoCampaign(f"the package sancus on {platform.node()} isn't the one of the campaign")
         self.plan = plan
         self.app = App(plan.head, program=program_of(plan))
-        self.layout = Layout(self.app.plan)
+        self.layout = Layout(self.app.deployment)
         self.generate = self.generator()
         self.check = plan.check.loaded() if isinstance(plan.check, Code) else None
 

@@ -8,7 +8,7 @@ from __future__ import annotations
 from dataclasses import dataclass, field, fields
 from typing import Any, Callable, ClassVar, Dict, Optional, Type
 
-from sancus.model.deployment import Plan
+from sancus.model.described import Deployment
 from sancus.model.items import Item as Words
 from sancus.model.items import node_of
 
@@ -231,9 +231,9 @@ KINDS: Dict[str, Type[Item]] = {it.kind: it for it in Item.__subclasses__()}
 FIELDS = {kind: [it.name for it in fields(made) if it.name != "place"] for kind, made in KINDS.items()}
 
 
-def item_of(text: str, number: int, line_of: Callable[[int], Optional[int]], plan: Plan) -> Item:
+def item_of(text: str, number: int, line_of: Callable[[int], Optional[int]], deployment: Deployment) -> Item:
     """An item of its line of the trace."""
     words = Words(number, text)
     made = words.fields()
-    place = Place(number, node_of(words, plan), text, line_of)
+    place = Place(number, node_of(words, deployment), text, line_of)
     return KINDS[words.kind](**{name: made[name] for name in FIELDS[words.kind]}, place=place)

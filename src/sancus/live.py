@@ -159,7 +159,7 @@ class Live:
 
     def delivery(self, event: int) -> List[str]:
         it = self.event(event)
-        return [f"give {it.name} {self.app.plan.node_of(it.receiver)}", f"call {it.receiver} {EVENT_IN}"]
+        return [f"give {it.name} {self.app.deployment.node_of(it.receiver)}", f"call {it.receiver} {EVENT_IN}"]
 
     def carried(self, text: str, sender: str, receiver: str, connection: str = "") -> Waiting:
         """The event that a line `carry` means."""
@@ -195,7 +195,7 @@ class Live:
         if words[:1] != ["take"] or words[3] != str(EVENT):
             return
         at, calls = number(words[2]), self.schedule.writer.state.calls
-        there = [(it, call) for it, call in calls.items() if self.app.plan.node_of(it) == words[1]]
+        there = [(it, call) for it, call in calls.items() if self.app.deployment.node_of(it) == words[1]]
         new = {(it, call.line, at) for it, call in there if at is not None and at in call.places}
         self.network = Network(self.network.waiting, self.network.taken | new, self.network.next)
 
@@ -211,7 +211,7 @@ class Live:
         call = self.schedule.writer.state.calls.get(sender)
         pieces = self.schedule.writer.pieces(sender, call) if call else []
         connection = next((it.connection for it in pieces if it.at == at), "")
-        if connection and self.app.plan.receiver(connection) == receiver:
+        if connection and self.app.deployment.connections[connection].receiver == receiver:
             self.network = self.network.having(Waiting(which, sender, receiver, connection))
 
     def take_what_was_sent(self) -> List[Item]:
@@ -226,6 +226,6 @@ class Live:
             places = [] if call.window is None else writer.pieces(sender, call)
             gone = {*call.carried, *(at for it, line, at in self.network.taken if (it, line) == (sender, call.line))}
             new = [it for it in places if it.at not in gone]
-            found += [(sender, it.at, self.app.plan.receiver(it.connection)) for it in new]
+            found += [(sender, it.at, self.app.deployment.connections[it.connection].receiver) for it in new]
         numbered = enumerate(found, self.network.next)
-        return [(self.app.plan.node_of(it), at, f"e{which}.{it}.{to}") for which, (it, at, to) in numbered]
+        return [(self.app.deployment.node_of(it), at, f"e{which}.{it}.{to}") for which, (it, at, to) in numbered]

@@ -83,7 +83,7 @@ class Run:
     @cached_property
     def items(self) -> List[Item]:
         """The items, in order."""
-        return [item_of(it, at, self.line_of, self.app.plan) for at, it in enumerate(self.texts, 1)]
+        return [item_of(it, at, self.line_of, self.app.deployment) for at, it in enumerate(self.texts, 1)]
 
     @cached_property
     def lines_of_items(self) -> List[int]:
@@ -158,7 +158,7 @@ class Run:
         lines = self.lines
         given = [Line("", it, at, at) for at, it in enumerate(lines, 1)]
         app = self.app
-        return Inspected(app.name, app.head, app.plan, app.deployment, lines, given, app.program)
+        return Inspected(app.name, app.head, app.deployment, lines, given, app.program)
 
     def state(self, module: str, line: Optional[int] = None) -> State:
         """A module's variables, arrays and ends after a line of the schedule; without one, at the end."""

@@ -21,14 +21,14 @@ class Keeping(Writer):
 
     def __init__(self, app: "App") -> None:
         session = start(app.program, app.head)
-        super().__init__(app.plan, app.head, session, app.program)
+        super().__init__(app.deployment, session, app.program)
         self.items: List[Item] = []
 
     def put(self, *words: str) -> List[Words]:
         made = super().put(*words)
         line = len(self.lines)
         for it in made:
-            self.items.append(item_of(it.text, len(self.items) + 1, lambda _number: line, self.plan))
+            self.items.append(item_of(it.text, len(self.items) + 1, lambda _number: line, self.deployment))
         return made
 
 
@@ -139,7 +139,7 @@ class Schedule:
 
     def replay(self, sender: str, receiver: str) -> List[Item]:
         """Gives the event that was carried last to its receiver once more."""
-        node = self.app.plan.node_of(receiver)
+        node = self.app.deployment.node_of(receiver)
         return self.step(f"give event.{sender}.{receiver} {node}", f"call {receiver} 2")
 
     def reset(self, node: str) -> List[Item]:

@@ -17,13 +17,13 @@ from sancus.model.schedule import EVENT
 
 def network(app: App, values: Optional[SearchStrategy[int]] = None, max_size: int = 8) -> SearchStrategy[List[Act]]:
     """Readings with fates of the events that follow, and resets: the faults of a network and of nodes."""
-    layout = Layout(app.plan)
+    layout = Layout(app.deployment)
     return st.lists(st.one_of(*readings(layout, values), resets(layout)), max_size=max_size)
 
 
 def acts(app: App, values: Optional[SearchStrategy[int]] = None, max_size: int = 20) -> SearchStrategy[List[Act]]:
     """The same, and single events that are carried, held back, given again or changed: an attacker's acts."""
-    layout = Layout(app.plan)
+    layout = Layout(app.deployment)
     kinds: List[SearchStrategy[Act]] = [*readings(layout, values), resets(layout), *samples(layout, values)]
     if layout.connections:
         kinds += of_events(st.sampled_from(layout.connections))

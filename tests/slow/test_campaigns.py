@@ -89,7 +89,7 @@ class Campaigns(Room):
         from sancus.campaign import Layout
 
         app = sancus.load(CAMPAIGN / "pump.toml")
-        layout = Layout(app.plan)
+        layout = Layout(app.deployment)
 
         @settings(max_examples=200, deadline=None, database=None)
         @given(strategies.acts(app))

@@ -69,7 +69,7 @@ class Answering(Writer):
     def judge(self, text: str) -> None:
         """Has the program judge a line by itself: rules look at no other line."""
         act = text.encode(errors="surrogateescape")
-        answer = self.program.ask(["run"], self.head + b"%%\n" + act + b"\n").strip()
+        answer = self.program.ask(["run"], self.deployment.head + b"%%\n" + act + b"\n").strip()
         last = text_of(answer.rpartition(b"\n")[2])
         if last.startswith("fault schedule "):
             raise Stopped(last)

@@ -13,7 +13,7 @@ from sancus.cli.program import Sink
 from sancus.cli.reading import file_part, is_regular, read_all
 from sancus.cli.running import gathered, parts_of, run_program, words_for_program
 from sancus.cli.telling import tell
-from sancus.model.deployment import plan_of
+from sancus.model.described import described
 from sancus.model.faults import Teller
 from sancus.model.lines import run_by_line
 from sancus.model.texts import find_mark
@@ -38,11 +38,11 @@ def as_json(context: Context, given: Given, files: List[str]) -> int:
     if head is None:
         # (a pipe is read whole first, since its deployment tells the nodes of items)
         kept, data = gathered(parts_of(given, files, context) or [file_part(files[0])])
-        sink.plan = plan_of(data.head)
+        sink.deployment = described(context.program, data.head)
         ran = context.program.ran_of(words_for_program(given), data.data, sink)
         ran.kept = kept
     else:
-        sink.plan = plan_of(head)
+        sink.deployment = described(context.program, head)
         ran = run_program(context, given, files, sink)
     told = tell(context, given, ran)
     sink.finish(told)
@@ -56,7 +56,7 @@ def run_as_json(context: Context, given: Given, files: List[str]) -> int:
     kept, data, refusal = as_schedule(*gathered(parts), context)
     if refusal:
         raise refusal
-    sink = jsonlines.JsonSink(Sink(), plan=plan_of(data.head))
+    sink = jsonlines.JsonSink(Sink(), deployment=described(context.program, data.head))
     run = run_by_line(data.data, context.program)
     if not given.has("no_images") and not run.last.startswith("fault deployment "):
         images = context.program.answer(["run"], data.head + b"%%\n").lines[:-2]

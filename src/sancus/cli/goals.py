@@ -12,7 +12,7 @@ from sancus.cli.inspecting import inspected
 from sancus.cli.output import print_lines
 from sancus.cli.program import Collected
 from sancus.model import toml
-from sancus.model.deployment import plan_of
+from sancus.model.deployment import tables_of
 from sancus.model.inspection import Inspected
 from sancus.model.judging import Watched, heading_of
 from sancus.model.numbers import counted, number
@@ -245,7 +245,7 @@ def answer(context: Context, given: Given) -> int:
     if not name:
         return listed(context)
     goal = goal_named(Path(context.top), name)
-    if plan_of(Path(goal.deployment).read_bytes()) is None:
+    if tables_of(Path(goal.deployment).read_bytes()) is None:
         raise Ended(BAD_TEXT, f"{goal.deployment} can't be read")
     if given.has("never"):
         if files:

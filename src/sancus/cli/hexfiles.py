@@ -13,7 +13,7 @@ from sancus.cli.context import Context
 from sancus.cli.output import print_lines, write
 from sancus.cli.reading import read_all
 from sancus.cli.writing import must_be_free, write_file
-from sancus.model.described import Deployment, deployment_of
+from sancus.model.described import Deployment, described
 from sancus.model.shown import plain
 from sancus.model.texts import Input
 from sancus.records import dataclass, field
@@ -256,7 +256,7 @@ def meetings(pieces: List[Piece], deployment: Deployment, node: str) -> Iterator
 def put(context: Context, given: Given, node: str, file: str) -> None:
     code = read(file)
     if given.has("input"):
-        deployment = described(context, Input(read_all(given.text("input"))).head)
+        deployment = accepted(context, Input(read_all(given.text("input"))).head)
         if node not in deployment.nodes:
             raise Bad(f"there is no node {node}: {' '.join(deployment.nodes)}")
         context.voice.say(*meetings(code.pieces, deployment, node))
@@ -270,22 +270,18 @@ def put(context: Context, given: Given, node: str, file: str) -> None:
     print_lines(*lines, *([f"set {node} pc 0x{code.entry:04x}"] if given.has("pc") else []))
 
 
-def asked(context: Context, word: str, head: bytes) -> str:
-    """What the program writes of a deployment without a schedule."""
-    answer = context.program.ask([word], head + b"%%\n").decode(errors="replace")
-    if not answer.endswith("end\n"):
-        raise Bad(f"`{word}` ends with {answer.strip().split(chr(10))[-1]}")
-    return answer
-
-
-def described(context: Context, head: bytes) -> Deployment:
-    return deployment_of(asked(context, "describe", head).split("\n"))
+def accepted(context: Context, head: bytes) -> Deployment:
+    made = described(context.program, head)
+    if not made.is_accepted:
+        raise Bad(f"`describe` ends with {made.last}")
+    return made
 
 
 def image(context: Context, given: Given, name: str) -> None:
     data = Input(read_all(name))
-    modules = described(context, data.head).modules.values()
-    images = {it[1]: bytes.fromhex(it[2]) for it in IMAGE.finditer(asked(context, "run", data.head))}
+    modules = accepted(context, data.head).modules.values()
+    output = context.program.ask(["run"], data.head + b"%%\n").decode(errors="replace")
+    images = {it[1]: bytes.fromhex(it[2]) for it in IMAGE.finditer(output)}
     if not modules:
         raise Bad("the deployment has no module, so there is no image")
     chosen = FORMATS[given.text("format") or "ti"]

@@ -16,7 +16,8 @@ from sancus.cli.showing import Shown, shown
 from sancus.cli.vacuity import unreached
 from sancus.model import solvers, warnings
 from sancus.model.counterexample import moves_said
-from sancus.model.deployment import Plan
+from sancus.model.deployment import Tables, tables_of
+from sancus.model.described import Deployment
 from sancus.model.numbers import number
 from sancus.model.property import Property
 from sancus.model.search import Found, Search
@@ -53,21 +54,21 @@ class Answer:
 # --- Warnings ---------------------------------------------------------------------------------------------------------
 
 
-def of_outputs(plan: Plan, property: Property) -> List[str]:
+def of_outputs(deployment: Deployment, property: Property) -> List[str]:
     """A property that sees what a module writes, and not what other code writes to the same device."""
     lines = []
     for kind, module in sorted(property.watched):
-        device = str((plan.named("module", module) or {}).get("device"))
-        if kind == "out" and not property.sees("raw", device):
+        device = deployment.modules[module].device if kind == "out" else None
+        if device and not property.sees("raw", device.name):
             lines.append(
-                f"note: {property.name} watches `out {module}` and not `raw {device}`: other code may write {device} "
-                f"while {module} is absent"
+                f"note: {property.name} watches `out {module}` and not `raw {device.name}`: other code may write "
+                f"{device.name} while {module} is absent"
             )
     return lines
 
 
-def of_keys(plan: Plan) -> List[str]:
-    found = warnings.of_keys(plan)
+def of_keys(tables: Tables) -> List[str]:
+    found = warnings.of_keys(tables)
     return [*found, "so anybody may make a `forged` here, after which nothing is said"] if found else []
 
 
@@ -134,20 +135,18 @@ def of_found(question: Question, found: Found, by: str, path: str) -> Answer:
 
 def searched(question: Question, seconds: float, most_moves: int, path: str) -> Answer:
     """Looks for a run that breaks the property by the front end's own search."""
-    assert question.plan
-    found = Search(question.plan, question.property(), most_moves).run(seconds, Progress(question.context))
+    found = Search(question.deployment, question.property(), most_moves).run(seconds, Progress(question.context))
     return of_found(question, found, "search", path) if found else Answer("unknown", "search")
 
 
 def solved(question: Question, seconds: float, path: str) -> Answer:
     """Asks the engines that are installed."""
-    plan, property = question.plan, question.property()
-    assert plan
+    deployment, property = question.deployment, question.property()
     question.context.voice.say(f"asking {solvers.ABC} and {solvers.CADICAL}, for {seconds:.0f} s at most")
-    proof = solvers.proof(plan, property, seconds)
+    proof = solvers.proof(deployment, property, seconds)
     if proof.is_proved:
         return Answer("holds", solvers.ABC, how=proof.told())
-    found = solvers.refutation(plan, property, seconds) if proof.is_broken else None
+    found = solvers.refutation(deployment, property, seconds) if proof.is_broken else None
     return of_found(question, found, solvers.ABC, path) if found else Answer("unknown", solvers.ABC, how=proof.told())
 
 
@@ -172,8 +171,8 @@ def answered(question: Question, seconds: float, most_moves: int, path: str) -> 
 def of_run(question: Question, answer: Answer) -> List[str]:
     """A run that breaks the property, a move a line."""
     found = answer.found
-    assert found and question.plan
-    names = "all" if found.names == question.plan.names("module") else " ".join(found.names)
+    assert found
+    names = "all" if found.names == list(question.deployment.modules) else " ".join(found.names)
     first = f"after `deploy {names}`:" if found.deploying else "from power-on:"
     return [first, *(f"    {it}" for it in moves_said(found))]
 
@@ -242,14 +241,14 @@ def holds(context: Context, given: Given) -> int:
     path = given.text("schedule") or SCHEDULE
     question = asked(context, given.text("DEPLOYMENT"), given.text("PROPERTY"))
     try:
-        if question.plan:
-            context.voice.say(*of_keys(question.plan))
+        tables = tables_of(question.head)
+        if tables:
+            context.voice.say(*of_keys(tables))
         if not given.text("schedule"):
             must_be_free(path)
         answer = answered(question, seconds, moves, path)
     except Refused as error:
         return refused(context, error)
-    assert question.plan
-    context.voice.say(*of_outputs(question.plan, question.property()), *answer.notes)
+    context.voice.say(*of_outputs(question.deployment, question.property()), *answer.notes)
     print_lines(json.dumps(as_object(question, answer))) if given.has("json") else print_lines(*told(question, answer))
     return answer.status

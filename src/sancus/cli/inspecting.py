@@ -10,8 +10,7 @@ from sancus.cli.people import lines_of, written_so_far
 from sancus.cli.reading import file_part
 from sancus.cli.running import gathered
 from sancus.model.asking import Program
-from sancus.model.deployment import Plan, plan_of
-from sancus.model.described import Deployment, deployment_of
+from sancus.model.described import Deployment, described
 from sancus.model.faults import Teller
 from sancus.model.inspection import Inspected, Line, are_readings, driven, marked_lines, readings_of
 from sancus.model.people import are_for_people
@@ -19,16 +18,16 @@ from sancus.model.texts import Input, Kept
 from sancus.status import BAD_TEXT, Ended
 
 
-def must_be_accepted(kept: Kept, data: Input, name: str, program: Program) -> Tuple[Plan, Deployment]:
+def accepted(kept: Kept, data: Input, name: str, program: Program) -> Deployment:
     if not data.has_mark:
         raise Ended(
             BAD_TEXT, f"{name} has no line %%, so there is no schedule; a schedule of its own file comes after {name}"
         )
-    plan = plan_of(data.head)
-    *lines, last = program.ask(["describe"], data.head + b"%%\n").decode(errors="replace").strip().split("\n")
-    if plan is None or last != "end":
-        raise Ended(BAD_TEXT, f"{name} has no deployment that is accepted: {last}", *Teller(kept, "run").told(last))
-    return plan, deployment_of(lines)
+    made = described(program, data.head)
+    if not made.is_accepted:
+        told = Teller(kept, "run").told(made.last)
+        raise Ended(BAD_TEXT, f"{name} has no deployment that is accepted: {made.last}", *told)
+    return made
 
 
 def put_together(files: List[str], context: Context) -> Tuple[Kept, Input]:
@@ -40,9 +39,9 @@ def inspected(files: List[str], is_driven: bool, context: Context) -> Inspected:
     """The input of some files. Of readings the schedule is the one that `drive` makes, and of lines for people the one
     that they become."""
     kept, data = put_together(files, context)
-    plan, deployment = must_be_accepted(kept, data, files[0], context.program)
-    seen = Inspected(files[0], data.head, plan, deployment, [], [], context.program)
-    seen.is_driven = is_driven or are_readings(plan, data)
+    deployment = accepted(kept, data, files[0], context.program)
+    seen = Inspected(files[0], data.head, deployment, [], [], context.program)
+    seen.is_driven = is_driven or are_readings(deployment, data)
     if seen.is_driven:
         if not is_driven:
             context.voice.say(f"{files[-1]} has readings: the lines are those that `drive` makes of them")

@@ -6,7 +6,7 @@ import json
 from typing import Any, Dict, List, Optional
 
 from sancus.cli.sinks import Lines
-from sancus.model.deployment import Plan
+from sancus.model.described import Deployment
 from sancus.model.items import ITEMS, Item, node_of
 from sancus.records import dataclass
 
@@ -15,10 +15,10 @@ def line_of(made: Dict[str, Any]) -> bytes:
     return (json.dumps(made, ensure_ascii=False) + "\n").encode(errors="surrogateescape")
 
 
-def item_object(item: Item, plan: Optional[Plan], line: Optional[int]) -> Dict[str, Any]:
+def item_object(item: Item, deployment: Optional[Deployment], line: Optional[int]) -> Dict[str, Any]:
     """An item: its number, the schedule's line that gave it, its node, its words by name, and its text."""
     made: Dict[str, Any] = {"item": item.number, "line": line, "kind": item.kind}
-    made["node"] = node_of(item, plan) if plan else None
+    made["node"] = node_of(item, deployment) if deployment else None
     made["module"] = None
     made.update(item.fields())
     made["text"] = item.text
@@ -39,7 +39,7 @@ def fault_object(text: str, told: List[str]) -> Dict[str, Any]:
 class JsonSink(Lines):
     """Takes what the program writes, and passes on objects. A fault waits for its words until the run has ended."""
 
-    plan: Optional[Plan] = None
+    deployment: Optional[Deployment] = None
     has_images: bool = True
     # the schedule's line of the item that comes
     line_now: Optional[int] = None
@@ -60,7 +60,7 @@ class JsonSink(Lines):
             return {"kind": "line", "line": self.line_now, "text": text[2:]}
         if words[0] in ITEMS:
             self.items += 1
-            return item_object(Item(self.items, text), self.plan, self.line_now)
+            return item_object(Item(self.items, text), self.deployment, self.line_now)
         return self.last(text, words)
 
     def last(self, text: str, words: List[str]) -> Optional[Dict[str, Any]]:
@@ -91,7 +91,7 @@ class CheckSink(JsonSink):
         if words[0] != "module" or len(words) != 8:
             return self.last(text, words)
         bounds = [int(words[at], 16) for at in (3, 4, 6, 7)]
-        node = self.plan.node_of(words[1]) if self.plan else None
+        node = self.deployment.node_of(words[1]) if self.deployment else None
         return {"kind": "module", "module": words[1], "node": node, "text": bounds[:2], "data": bounds[2:]}
 
 

@@ -45,7 +45,7 @@ HELP = (
 
 
 def item_line(it: Item, live: Live) -> str:
-    return f"  {it.number:>3} {it.text:<28} {say(Words(it.number, it.text), live.app.plan)}".rstrip()
+    return f"  {it.number:>3} {it.text:<28} {say(Words(it.number, it.text), live.app.deployment)}".rstrip()
 
 
 def state_lines(state: State) -> List[str]:
@@ -156,7 +156,7 @@ class Shell(cmd.Cmd):
         return [it for it in (*own, *FORMS, *ACTS) if it.startswith(text)]
 
     def completedefault(self, *given: Any) -> List[str]:
-        names = [name for kind in KINDS for name in self.live.app.plan.names(kind)]
+        names = [name for kind in KINDS for name in self.live.app.deployment.names(kind)]
         return [it for it in names if it.startswith(given[0])]
 
     complete_vars = completedefault

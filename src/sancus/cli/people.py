@@ -13,7 +13,7 @@ from sancus.cli.output import print_lines, write
 from sancus.cli.program import Program
 from sancus.cli.reading import file_part
 from sancus.cli.running import gathered, parts_of
-from sancus.model.deployment import plan_of
+from sancus.model.described import described
 from sancus.model.faults import Teller, of_line
 from sancus.model.people import are_for_people
 from sancus.model.schedule import Mistake, Writer
@@ -97,14 +97,11 @@ def noted(writer: Writer, at: str, text: str) -> List[str]:
 
 def begun(made: Lines, context: Context, kind: Type[W]) -> W:
     """A writer of lines, with the program beside it."""
-    plan = plan_of(made.head)
-    if plan is None:
-        raise Ended(BAD_TEXT, "the deployment can't be read: `sancus check` says why")
     try:
         session = start(context.program, made.head)
     except Stopped as error:
         raise Ended(BAD_TEXT, error.fault, *Teller(made.kept, "run", context.program.ask).told(error.fault)) from None
-    return kind(plan, made.head, session, context.program)
+    return kind(described(context.program, made.head), session, context.program)
 
 
 def do_line(writer: Writer, at: str, text: str, made: Lines, context: Context) -> List[str]:

@@ -13,7 +13,7 @@ from sancus.cli.reading import Part, file_part, text_part
 from sancus.cli.running import gathered
 from sancus.cli.say import Voice
 from sancus.cli.telling import words_of
-from sancus.model.deployment import Plan, plan_of
+from sancus.model.described import described
 from sancus.model.faults import Teller
 from sancus.model.property import Property, watched_of
 from sancus.model.shown import text_of
@@ -59,7 +59,7 @@ class Question:
         whole = Input(self.data)
         self.head = whole.head
         self.text = Input(whole.rest).head
-        self.plan: Optional[Plan] = plan_of(self.head)
+        self.deployment = described(self.context.program, self.head)
 
     def property(self) -> Property:
         """The property, which the program has accepted."""

@@ -7,13 +7,13 @@ import os
 from sancus.cli.context import Context
 from sancus.cli.joining import joined, trace_part
 from sancus.cli.people import as_schedule
-from sancus.cli.program import Collected
+from sancus.cli.program import Collected, Program
 from sancus.cli.reading import Part, read_all, text_part
 from sancus.cli.running import gathered
 from sancus.cli.say import Voice
 from sancus.cli.sinks import TraceOnly
 from sancus.model.acts import ACTS
-from sancus.model.deployment import plan_of
+from sancus.model.described import described
 from sancus.model.faults import Teller
 from sancus.model.inspection import are_readings
 from sancus.model.people import PEOPLE
@@ -21,28 +21,29 @@ from sancus.model.shown import text_of
 from sancus.model.texts import Input, first_word, is_act
 
 
-def is_schedule(name: str, deployment: str) -> bool:
+def is_schedule(name: str, deployment: str, program: Program) -> bool:
     """Whether a file has lines of a schedule, for people, or readings, and no trace."""
     if name == "-" or not os.path.isfile(name):
         return False
     data = Input(read_all(name))
     lines = data if data.has_mark else Input(b"%%\n" + data.data)
     first = text_of(first_word(next((it for it in lines.schedule if is_act(it)), b"")))
-    plan = plan_of(Input(read_all(deployment)).head) if os.path.isfile(deployment) else None
-    return first in ACTS or first in PEOPLE or bool(plan and are_readings(plan, lines))
+    if first in ACTS or first in PEOPLE or not os.path.isfile(deployment):
+        return first in ACTS or first in PEOPLE
+    return are_readings(described(program, Input(read_all(deployment)).head), lines)
 
 
 def trace_for(deployment: str, name: str, context: Context) -> Part:
     """A trace by its file's name, or that of the run of a schedule."""
-    if not is_schedule(name, deployment):
+    if not is_schedule(name, deployment, context.program):
         return trace_part(name, context.voice)
     kept, data = gathered(joined([deployment, name], Voice(True)))
-    plan = plan_of(data.head)
-    if plan is None or not context.program.ask(["check"], data.head + b"%%\n").endswith(b"end\n"):
+    deployed = described(context.program, data.head)
+    if not deployed.is_accepted:
         # (the program says which rule the deployment breaks)
         return trace_part(name, context.voice)
     trace = Collected()
-    if are_readings(plan, data):
+    if are_readings(deployed, data):
         ran = context.program.ran_of(["drive"], data.data, TraceOnly(trace))
         told = Teller(kept, "drive", context.program.ask).told(ran.last)
     else:

@@ -13,7 +13,8 @@ from sancus.cli.commands import Given, Usage
 from sancus.cli.context import Context
 from sancus.cli.output import print_lines
 from sancus.cli.reading import read_all
-from sancus.model.deployment import Entry, Plan, plan_of
+from sancus.model.deployment import Tables, tables_of
+from sancus.model.described import Deployment, Module, described
 from sancus.model.numbers import number
 from sancus.model.rules import near
 from sancus.model.texts import Input
@@ -51,20 +52,17 @@ def field_of(link: int, epoch: int) -> bytes:
     return low_first(link + 256 * epoch, 2)
 
 
-def connection_key(plan: Plan, link: int, epoch: int) -> bytes:
-    return derived(bytes.fromhex(plan.toml.get("secret", "00" * TAG)), field_of(link, epoch))
+def connection_key(tables: Tables, link: int, epoch: int) -> bytes:
+    return derived(bytes.fromhex(tables.toml.get("secret", "00" * TAG)), field_of(link, epoch))
 
 
-def module_key(plan: Plan, module: Entry, image: bytes, boot: int) -> bytes:
+def module_key(tables: Tables, module: Module, image: bytes, boot: int) -> bytes:
     """The key that a node has, at one of its boots, for a module with this image."""
-    node = plan.named("node", module.get("node", "n")) or {}
-    at = plan.bounds(module)
-    if at is None:
-        raise Ended(BAD_TEXT, f"the sections of {module['name']} aren't known here")
-    layout = b"".join(low_first(it, 2) for it in (at.text, at.text_end, at.data, at.data_end))
+    node, text, data = tables.named("node", module.node) or {}, module.text, module.data
+    layout = b"".join(low_first(it, 2) for it in (text.start, text.stop, data.start, data.stop))
     key = bytes.fromhex(str(node["key"]))
-    for text in (low_first(boot, 4), low_first(int(module["provider"]), 2), image + layout):
-        key = derived(key, text)
+    for part in (low_first(boot, 4), low_first(module.provider, 2), image + layout):
+        key = derived(key, part)
     return key
 
 
@@ -74,8 +72,9 @@ class Holder:
 
     context: Context
     given: Given
-    head: bytes
-    plan: Plan
+    # the keys are in its text, and not in what was read of it
+    tables: Tables
+    deployment: Deployment
 
     def number(self, option: str, greatest: int) -> int:
         """The value of an option; absent, 0."""
@@ -85,41 +84,39 @@ class Holder:
             raise Usage(f"--{option} takes a number from 0 to {greatest:,}, and not `{word}`", self.given.command)
         return value
 
-    def named(self, kind: str, name: str) -> Entry:
-        found = self.plan.named(kind, name)
-        if not found:
-            known = self.plan.names(kind)
+    def index(self, kind: str, name: str) -> int:
+        """The number of what has a name."""
+        known = self.deployment.names(kind)
+        if name not in known:
             raise Ended(BAD_TEXT, f"there is no {kind} {name}{near(name, known)}: {' '.join(known)}")
-        return found
+        return known.index(name)
 
     def module_key(self, module: str) -> bytes:
-        output = self.context.program.ask(["run"], self.head + b"%%\n")
+        output = self.context.program.ask(["run"], self.deployment.head + b"%%\n")
         image = re.search(rb"(?m)^image " + module.encode() + rb" ([0-9a-f]+)$", output)
         if not image:
             raise Ended(BAD_TEXT, f"the program gives no image of {module}")
-        entry = self.named("module", module)
-        return module_key(self.plan, entry, bytes.fromhex(image[1].decode()), self.number("boot", 2**32 - 1))
-
-    def link(self, connection: str) -> int:
-        return self.plan.connections.index(self.named("connection", connection))
+        boot = self.number("boot", 2**32 - 1)
+        return module_key(self.tables, self.deployment.modules[module], bytes.fromhex(image[1].decode()), boot)
 
     def event(self, names: List[str]) -> bytes:
-        link, epoch = self.link(names[0]), self.number("epoch", 255)
+        link, epoch = self.index("connection", names[0]), self.number("epoch", 255)
         header = EVENT + field_of(link, epoch) + low_first(self.number("number", 65535), 2)
-        return wrapped(connection_key(self.plan, link, epoch), header, low_first(self.number("value", 65535), 2))
+        return wrapped(connection_key(self.tables, link, epoch), header, low_first(self.number("value", 65535), 2))
 
     def set_key(self, names: List[str]) -> bytes:
         connection, side = names
         if side not in SIDES:
             raise Usage(f"an end is `from` or `to`, and not `{side}`", self.given.command)
-        link, epoch = self.link(connection), self.number("epoch", 255)
-        module = (self.plan.sender if side == "from" else self.plan.receiver)(connection)
+        link, epoch = self.index("connection", connection), self.number("epoch", 255)
+        it = self.deployment.connections[connection]
+        module = it.sender if side == "from" else it.receiver
         header = SET_KEY + field_of(link, epoch) + low_first(SIDES.index(side), 2)
-        return wrapped(self.module_key(module), header, connection_key(self.plan, link, epoch))
+        return wrapped(self.module_key(module), header, connection_key(self.tables, link, epoch))
 
     def answer(self, names: List[str]) -> bytes:
         ask = ASK + low_first(self.number("challenge", 2**64 - 1), 16)
-        self.named("module", names[0])
+        self.index("module", names[0])
         return wrapped(self.module_key(names[0]), ask, b"")[len(ask) :]
 
 
@@ -140,13 +137,13 @@ PACKETS: Dict[str, Packet] = {
 OPTIONS = ("epoch", "number", "value", "boot", "challenge")
 
 
-def accepted_plan(context: Context, name: str) -> Tuple[bytes, Plan]:
-    """A deployment that the program accepts."""
+def holder_of(context: Context, given: Given, name: str) -> Holder:
+    """The holder of the keys of a deployment that the program accepts."""
     head = Input(read_all(name)).head
-    plan, answer = plan_of(head), context.program.ask(["check"], head + b"%%\n").decode(errors="replace").strip()
-    if plan is None or not answer.endswith("end"):
-        raise Ended(BAD_TEXT, f"{name} has no deployment that is accepted: {answer}; `sancus check` says why")
-    return head, plan
+    tables, made = tables_of(head), described(context.program, head)
+    if tables is None or not made.is_accepted:
+        raise Ended(BAD_TEXT, f"{name} has no deployment that is accepted: {made.last}; `sancus check` says why")
+    return Holder(context, given, tables, made)
 
 
 def answer(context: Context, given: Given) -> int:
@@ -159,6 +156,6 @@ def answer(context: Context, given: Given) -> int:
     idle = [it for it in OPTIONS if given.text(it) and it not in packet.options]
     if idle:
         raise Usage(f"`tag {what}` has no use for --{idle[0]}", given.command)
-    head, plan = accepted_plan(context, given.text("DEPLOYMENT"))
-    print_lines(f"forge {packet.make(Holder(context, given, head, plan), names).hex()}")
+    holder = holder_of(context, given, given.text("DEPLOYMENT"))
+    print_lines(f"forge {packet.make(holder, names).hex()}")
     return 0

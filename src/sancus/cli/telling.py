@@ -10,7 +10,6 @@ from sancus.cli.context import Context
 from sancus.cli.program import Ran
 from sancus.cli.reading import is_regular, open_file
 from sancus.model import forged, warnings
-from sancus.model.deployment import plan_of
 from sancus.model.described import Deployment, described
 from sancus.model.faults import Teller
 from sancus.model.lines import run_by_line
@@ -48,9 +47,9 @@ def words_of(words: Callable[[], List[str]]) -> List[str]:
 
 def warn_of(context: Context, kept: Kept) -> None:
     teller = Teller(kept, "check")
-    plan = teller.plan if len(teller.head) < MOST_HEAD else None
-    if plan:
-        known = plan
+    tables = teller.tables if len(teller.head) < MOST_HEAD else None
+    if tables:
+        known = tables
         context.voice.say(*words_of(lambda: warnings.of_deployment(known) + warnings.of_values(teller)))
 
 
@@ -67,11 +66,10 @@ def warn_after(context: Context, given: Given, ran: Ran) -> None:
 def about_forged(context: Context, kept: Kept) -> List[str]:
     """What the first `forged` of a run says, and the line that shows it."""
     data = Input(bytes(kept.first))
-    plan = plan_of(data.head)
-    if not kept.is_whole() or not plan or not context.program.is_fast:
+    if not kept.is_whole() or not context.program.is_fast:
         return [f"the trace has an item `forged`, and `sancus explain --words` says what was accepted; {forged.AFTER}"]
     pairs = [(line, text_of(item)) for line, item in run_by_line(data.data, context.program).items]
-    said, line = forged.notes(pairs, [text_of(it) for it in data.schedule], plan)
+    said, line = forged.notes(pairs, [text_of(it) for it in data.schedule], described(context.program, data.head))
     teller = Teller(kept, "run")
     return [said, *teller.shown(teller.mark + line), forged.AFTER]
 

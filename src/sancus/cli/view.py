@@ -15,7 +15,7 @@ from sancus.cli.question import Question, Refused
 from sancus.cli.reading import look_at, read_all
 from sancus.cli.writing import must_be_free, write_file
 from sancus.model.asking import Answer
-from sancus.model.deployment import plan_of
+from sancus.model.described import described
 from sancus.model.faults import Teller
 from sancus.model.inspection import are_readings
 from sancus.model.property import watched_of
@@ -59,12 +59,12 @@ def of_texts(texts: Texts) -> Drawn:
 def run_drawn(context: Context, given: Given, files: List[str]) -> Drawn:
     """A run that is made now; it ends here if there is nothing to draw."""
     kept, data = put_together(files, context)
-    plan = plan_of(data.head)
-    is_driven = given.has("drive") or bool(plan and are_readings(plan, data))
+    deployment = described(context.program, data.head)
+    is_driven = given.has("drive") or are_readings(deployment, data)
     if is_driven and not given.has("drive"):
         context.voice.say(f"{files[-1]} has readings: the honest run of them is drawn")
     refusal: Optional[Ended] = None
-    if plan and not is_driven:
+    if not is_driven:
         kept, data, refusal = as_schedule(kept, data, context)
     drawn = (of_readings if is_driven else of_run)(data, context.program)
     if drawn.last.startswith("fault "):

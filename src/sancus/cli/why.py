@@ -58,7 +58,7 @@ def files_and_item(given: Given) -> Tuple[List[str], str]:
 def explained_of(deployment: str, files: List[str], context: Context, given: Given) -> Explained:
     """What is asked about: a trace, which comes on standard input if no file is named, or a schedule, which may be behind
     the deployment's own mark."""
-    if len(files) > 1 or files and is_schedule(files[0], deployment):
+    if len(files) > 1 or files and is_schedule(files[0], deployment, context.program):
         return explain_run([deployment, *files], context)
     if not files and not look_at_standard_input():
         if is_file(deployment) and deployment != "-" and Input(look_at(deployment)).schedule:

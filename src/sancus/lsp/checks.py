@@ -16,7 +16,8 @@ from sancus.errors import Refused
 from sancus.lsp.documents import Document
 from sancus.lsp.text import Range
 from sancus.model import warnings
-from sancus.model.deployment import Plan
+from sancus.model.deployment import Tables
+from sancus.model.described import Deployment, described
 from sancus.model.faults import Teller
 from sancus.model.inspection import are_readings
 from sancus.model.kinds import Kind
@@ -95,14 +96,14 @@ def diagnostic(where: Range, message: str, severity: int, code: str = "") -> Dia
     return {**made, "code": code} if code else made
 
 
-def command_of(plan: Optional[Plan], data: Input) -> str:
+def command_of(deployment: Deployment, data: Input) -> str:
     """The command that an input is for, by what follows its mark."""
     if MARK in data.schedule:
         return "snap"
     first = next(filter(is_act, data.schedule), b"")
     if first_word(first) in (b"image", b"trace"):
         return "explain"
-    return "drive" if plan and are_readings(plan, data) else "run"
+    return "drive" if are_readings(deployment, data) else "run"
 
 
 @contextmanager
@@ -159,20 +160,20 @@ class Checker:
             mark = "//:" if it.kind is Kind.PROPERTY else "#:"
             words = f"no deployment is known: a line `{mark} deployment FILE` names one"
             return [diagnostic(it.text.span(1), words, INFORMATION)]
-        fault = self.last("check", it.head + MARK + b"\n")
-        if fault != "end" and it.kind is not Kind.DEPLOYMENT:
-            return [diagnostic(it.text.span(1), f"{it.deployment.name}: {fault}", ERROR)]
-        if fault != "end":
-            return self.of_fault(it, "check", fault) or [diagnostic(it.text.span(1), fault, ERROR)]
-        return self.warnings(it, it.plan) if it.kind is Kind.DEPLOYMENT and it.plan else []
+        made = it.deployment.read = described(self.program, it.head)
+        if not made.is_accepted and it.kind is not Kind.DEPLOYMENT:
+            return [diagnostic(it.text.span(1), f"{it.deployment.name}: {made.last}", ERROR)]
+        if not made.is_accepted:
+            return self.of_fault(it, "check", made.last) or [diagnostic(it.text.span(1), made.last, ERROR)]
+        return self.warnings(it, it.tables) if it.kind is Kind.DEPLOYMENT and it.tables else []
 
-    def warnings(self, it: Document, plan: Plan) -> List[Diagnostic]:
+    def warnings(self, it: Document, tables: Tables) -> List[Diagnostic]:
         teller, made = Placed(it.kept(), "check"), []
-        for about in (*warnings.about_keys(plan), *warnings.about_ports(plan)):
+        for about in (*warnings.about_keys(tables), *warnings.about_ports(tables)):
             line = teller.entry_line(about.kind, about.index) if about.kind else 1
             made.append(diagnostic(it.text.span(line or 1), about.what, WARNING))
-        for value in warnings.about_values(plan):
-            source = str(plan.modules[value.index]["source"])
+        for value in warnings.about_values(tables):
+            source = str(tables.modules[value.index]["source"])
             found = teller.source_place(value.index, *place_of(source, value.at))
             where = it.text.span(*found, value.length) if found else it.text.span(1)
             made.append(diagnostic(where, value.what, WARNING))
@@ -188,11 +189,11 @@ class Checker:
 
     def of_lines(self, it: Document) -> List[Diagnostic]:
         data = Input(it.whole)
-        if not it.deployment or not any(map(is_act, data.schedule)):
+        if not it.deployment or not it.deployment.read or not any(map(is_act, data.schedule)):
             return []
         if are_for_people(data):
             return self.of_people(it, data)
-        word = command_of(it.plan, data)
+        word = command_of(it.deployment.read, data)
         return self.of_fault(it, word, self.last(word, it.whole))
 
     def of_people(self, it: Document, data: Input) -> List[Diagnostic]:

@@ -9,7 +9,7 @@ from sancus.lsp.checks import Placed
 from sancus.lsp.documents import Document
 from sancus.lsp.names import OF_KEYS, Source, before, kinds_of, source_at, sources
 from sancus.model.acts import ACTS, fields_told
-from sancus.model.deployment import KINDS, Plan
+from sancus.model.deployment import KINDS, Tables, module_of
 from sancus.model.guesses import NEEDED
 from sancus.model.kinds import Kind
 from sancus.model.language import PROPERTY_WORDS, VALUED, WATCHED, WORDS
@@ -37,8 +37,8 @@ def offers(labels: Iterable[str], kind: int, detail: str = "") -> List[Offer]:
     return [{"label": it, "kind": kind, **({"detail": detail} if detail else {})} for it in labels]
 
 
-def entries(plan: Optional[Plan], kinds: Sequence[str]) -> List[Offer]:
-    return [it for kind in kinds for it in offers(plan.names(kind), VARIABLE, kind)] if plan else []
+def entries(tables: Optional[Tables], kinds: Sequence[str]) -> List[Offer]:
+    return [it for kind in kinds for it in offers(tables.names(kind), VARIABLE, kind)] if tables else []
 
 
 # --- Sources ----------------------------------------------------------------------------------------------------------
@@ -59,14 +59,14 @@ def in_source(source: Source, line: str) -> List[Offer]:
     return [*declared(source), *offers(sorted(WORDS), KEYWORD)]
 
 
-def watched(plan: Plan, kind: str) -> List[str]:
+def watched(tables: Tables, kind: str) -> List[str]:
     """What items of a kind can be of, as rule P3 of a property has it."""
     what, needed = WATCHED[kind], NEEDED.get(kind)
-    devices = [str(it.get("name")) for it in plan.devices if needed in (None, it.get("kind"))]
+    devices = [str(it.get("name")) for it in tables.devices if needed in (None, it.get("kind"))]
     if what == "device":
         return devices
-    drives = [str(it.get("name")) for it in plan.modules if it.get("device") in devices]
-    return drives if what == "module" and needed else plan.names(what)
+    drives = [str(it.get("name")) for it in tables.modules if it.get("device") in devices]
+    return drives if what == "module" and needed else tables.names(what)
 
 
 def in_property(it: Document, source: Source, line: str) -> List[Offer]:
@@ -86,8 +86,8 @@ def in_property(it: Document, source: Source, line: str) -> List[Offer]:
 
 def ports(it: Document, kind: str) -> List[Offer]:
     """The outputs, or the inputs, of all modules."""
-    plan = it.known
-    trees = [(name, plan.tree(name)) for name in plan.names("module")] if plan else []
+    tables = it.known
+    trees = [(name, tables.tree(name)) for name in tables.names("module")] if tables else []
     return offers((f"{name}.{port}" for name, tree in trees if tree for port in tree.names(kind)), FIELD, kind)
 
 
@@ -108,10 +108,10 @@ def in_head(it: Document, text: str, line: str) -> List[Offer]:
     return offers([*TYPES.get(table, {}), *OPTIONAL.get(table, {})], FIELD)
 
 
-def packets(plan: Plan) -> List[str]:
+def packets(tables: Tables) -> List[str]:
     """The names that `deploy` and `carry` give to packets."""
-    ways = [(plan.sender(it), plan.receiver(it)) for it in plan.names("connection")]
-    asked = [f"{what}.{it}" for it in plan.names("module") for what in ("ask", "answer")]
+    ways = [(module_of(it.get("from")), module_of(it.get("to"))) for it in tables.connections]
+    asked = [f"{what}.{it}" for it in tables.names("module") for what in ("ask", "answer")]
     return [*dict.fromkeys(f"event.{sender}.{receiver}" for sender, receiver in ways), *asked]
 
 
@@ -121,14 +121,14 @@ def in_line(it: Document, line: str) -> List[Offer]:
     if place == 0:
         acts = [{"label": act, "kind": FUNCTION, "detail": fields_told(act, ACTS)} for act in ACTS]
         return acts + [{"label": act, "kind": FUNCTION, "detail": form} for act, (_, _, form) in FORMS.items()]
-    plan, field = it.known, "".join(one.name for one in ACTS.get(words[0], [])[place - 1 : place])
-    if not plan or words[0] in ("#", "#:", "#>"):
+    tables, field = it.known, "".join(one.name for one in ACTS.get(words[0], [])[place - 1 : place])
+    if not tables or words[0] in ("#", "#:", "#>"):
         return []
     if field == "PACKET":
-        return offers(packets(plan), VALUE)
+        return offers(packets(tables), VALUE)
     if field == "DEVICE" or words[0] == "flow":
-        return offers((one["name"] for one in plan.devices if one.get("kind") == "sensor"), VARIABLE, "sensor")
-    return entries(plan, kinds_of(words, place) if words[0] in FORMS or words[0] in ACTS else [])
+        return offers(tables.sensors, VARIABLE, "sensor")
+    return entries(tables, kinds_of(words, place) if words[0] in FORMS or words[0] in ACTS else [])
 
 
 def completion(it: Document, at: int) -> List[Offer]:
@@ -154,9 +154,9 @@ def symbols(it: Document) -> List[Dict[str, Any]]:
         headings = [one.heading for one in (tree.handlers if tree else []) if one.heading]
         places = [(head, it.text.of_plain(head.at)) for head in headings]
         spans = [(f"on {head.words}", HANDLER, it.text.range(at, at + len(head.name))) for head, at in places]
-    elif it.kind is Kind.DEPLOYMENT and it.plan:
-        teller, plan = Placed(it.kept()), it.plan
-        named = [(kind, at, name) for kind in KINDS for at, name in enumerate(plan.names(kind)) if plan.toml.get(kind)]
+    elif it.kind is Kind.DEPLOYMENT and it.tables:
+        teller, tables = Placed(it.kept()), it.tables
+        named = [(kind, at, name) for kind in KINDS for at, name in enumerate(tables.names(kind)) if tables.toml.get(kind)]
         lines = [(name, SYMBOLS[kind], teller.entry_line(kind, at)) for kind, at, name in named]
         spans = [(name, kind, it.text.span(line)) for name, kind, line in lines if line]
     else:

@@ -10,7 +10,8 @@ from typing import Dict, Optional
 from urllib.parse import unquote, urlsplit
 
 from sancus.lsp.text import Text
-from sancus.model.deployment import Plan, plan_of
+from sancus.model import described
+from sancus.model.deployment import Tables, tables_of
 from sancus.model.kinds import Kind, kind_of
 from sancus.model.texts import MARK, Input, Kept, Origin
 
@@ -36,14 +37,16 @@ class Deployment:
 
     uri: str
     text: Text
+    # as the program read it, after a check
+    read: Optional[described.Deployment] = None
 
     @cached_property
     def head(self) -> bytes:
         return ended(Input(self.text.data).head)
 
     @cached_property
-    def plan(self) -> Optional[Plan]:
-        return plan_of(self.head)
+    def tables(self) -> Optional[Tables]:
+        return tables_of(self.head)
 
     @property
     def name(self) -> str:
@@ -59,15 +62,15 @@ class Document:
     kind: Kind
     deployment: Optional[Deployment]
     # the tables of its deployment as they could be read last: a text that is being written is often none
-    known: Optional[Plan] = None
+    known: Optional[Tables] = None
 
     @property
     def name(self) -> str:
         return unquote(self.uri.rpartition("/")[2])
 
     @property
-    def plan(self) -> Optional[Plan]:
-        return self.deployment.plan if self.deployment else None
+    def tables(self) -> Optional[Tables]:
+        return self.deployment.tables if self.deployment else None
 
     @property
     def head(self) -> bytes:
@@ -124,7 +127,7 @@ class Documents:
         found = Deployment(uri, text) if kind is Kind.DEPLOYMENT else self.deployment_of(uri, text)
         before = self.by_uri.get(uri)
         made = self.by_uri[uri] = Document(uri, text, kind, found)
-        made.known = made.plan or (before.known if before else None)
+        made.known = made.tables or (before.known if before else None)
         return made
 
     def deployment_of(self, uri: str, text: Text) -> Optional[Deployment]:
@@ -135,7 +138,7 @@ class Documents:
         if named:
             return self.read((path.parent / named[1].decode(errors="surrogateescape")).resolve())
         found = [it for it in map(self.read, sorted(path.parent.glob("*.toml"))) if it]
-        there = [it for it in found if it.plan and it.plan.modules] if len(found) > 1 else found
+        there = [it for it in found if it.tables and it.tables.modules] if len(found) > 1 else found
         return there[0] if len(there) == 1 else None
 
     def read(self, path: Path) -> Optional[Deployment]:

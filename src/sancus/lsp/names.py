@@ -7,13 +7,15 @@ from dataclasses import dataclass
 from typing import List, Optional, Sequence, Tuple
 
 from sancus.lsp.checks import Placed
-from sancus.lsp.documents import Document
+from sancus.lsp.documents import Deployment, Document
 from sancus.lsp.text import Range
 from sancus.model import language
 from sancus.model.acts import ACTS, fields_told, told
-from sancus.model.deployment import KINDS, Entry, Plan, module_of, port_of, source_start
+from sancus.model.deployment import KINDS, Entry, Tables, module_of, port_of, source_start
+from sancus.model.described import Module
 from sancus.model.kinds import Kind
-from sancus.model.language import VALUED, WATCHED, Let, Module, block_cost
+from sancus.model.language import VALUED, WATCHED, Let
+from sancus.model.language import Module as Tree
 from sancus.model.rules import a, handler_name, walk
 from sancus.model.schedule import FORMS
 from sancus.model.shown import text_of
@@ -32,7 +34,7 @@ class Source:
 
     start: int
     text: str
-    tree: Optional[Module]
+    tree: Optional[Tree]
     module: str = ""
 
 
@@ -69,7 +71,7 @@ def before(it: Document, at: int) -> bytes:
 # --- Sources ----------------------------------------------------------------------------------------------------------
 
 
-def parsed(text: str) -> Optional[Module]:
+def parsed(text: str) -> Optional[Tree]:
     try:
         return language.parse_property(text)
     except (language.NotInGrammar, ValueError, RecursionError):
@@ -81,12 +83,12 @@ def sources(it: Document) -> List[Source]:
     if it.kind is Kind.PROPERTY:
         text = text_of(it.text.plain)
         return [Source(0, text, parsed(text))]
-    plan = it.plan
-    if it.kind is not Kind.DEPLOYMENT or not plan:
+    tables = it.tables
+    if it.kind is not Kind.DEPLOYMENT or not tables:
         return []
-    starts = [(source_start(it.text.plain, plan, at), one) for at, one in enumerate(plan.modules)]
+    starts = [(source_start(it.text.plain, tables, at), one) for at, one in enumerate(tables.modules)]
     names = [(start, str(one.get("name")), str(one.get("source"))) for start, one in starts if start is not None]
-    return [Source(start, text, plan.tree(name), name) for start, name, text in names]
+    return [Source(start, text, tables.tree(name), name) for start, name, text in names]
 
 
 def source_at(it: Document, at: int) -> Optional[Source]:
@@ -101,25 +103,25 @@ def declaration(it: Document, source: Source, found: Tuple[str, int], name: str)
     return Meaning(words, it.uri, it.text.range(begin, begin + len(name)))
 
 
-def peers(plan: Plan, module: str, port: str) -> List[str]:
+def peers(tables: Tables, module: str, port: str) -> List[str]:
     """The connections of an input or output, each with its other end."""
     port = f"{module}.{port}"
-    sent = [f"{it.get('name')}: to {it.get('to')}" for it in plan.connections if it.get("from") == port]
-    return sent + [f"{it.get('name')}: from {it.get('from')}" for it in plan.connections if it.get("to") == port]
+    sent = [f"{it.get('name')}: to {it.get('to')}" for it in tables.connections if it.get("from") == port]
+    return sent + [f"{it.get('name')}: from {it.get('from')}" for it in tables.connections if it.get("to") == port]
 
 
-def declared(tree: Module, name: str, module: str, plan: Optional[Plan]) -> Optional[Tuple[str, int]]:
+def declared(tree: Tree, name: str, module: str, tables: Optional[Tables]) -> Optional[Tuple[str, int]]:
     """A declared name in words, and where it is."""
     found = tree.named(name)
     if not found:
         return None
     size = {"array": f"[{found.value}]", "var": f" = {found.value}"}.get(found.kind, "")
     of = f" of module {module}" if module else ""
-    ways = peers(plan, module, name) if plan and module else []
+    ways = peers(tables, module, name) if tables and module else []
     return "\n\n".join([f"`{found.kind} {name}{size}`{of}", *(f"connection {it}" for it in ways)]), found.at
 
 
-def local(tree: Module, name: str, at: int) -> Optional[Tuple[str, int]]:
+def local(tree: Tree, name: str, at: int) -> Optional[Tuple[str, int]]:
     """A local or a parameter of the handler at a place."""
     handler = next((it for it in reversed(tree.handlers) if it.at <= at), None)
     if not handler:
@@ -135,7 +137,7 @@ def in_source(it: Document, source: Source, word: Word) -> Optional[Meaning]:
     if not tree:
         return None
     at = it.text.in_plain(word.begin) - source.start
-    found = local(tree, word.text, at) or declared(tree, word.text, source.module, it.plan)
+    found = local(tree, word.text, at) or declared(tree, word.text, source.module, it.tables)
     if not found:
         return in_heading(it, word) if it.kind is Kind.PROPERTY else None
     return declaration(it, source, found, word.text)
@@ -153,43 +155,44 @@ def in_heading(it: Document, word: Word) -> Optional[Meaning]:
 # --- Entries of a deployment ------------------------------------------------------------------------------------------
 
 
-def of_module(plan: Plan, one: Entry) -> str:
+def of_module(tables: Tables, one: Entry, read: Optional[Module]) -> str:
+    """A module in words; its sections and its cost, if the program read it."""
     name = str(one.get("name"))
-    bounds, tree = plan.bounds(one), plan.tree(name)
+    tree = tables.tree(name)
     lines = [f"module {name} on node {one.get('node')}" + (f", drives {one['device']}" if "device" in one else "")]
-    if bounds:
-        lines.append(
-            f"text 0x{bounds.text:04x} to 0x{bounds.text_end:04x}, data 0x{bounds.data:04x} to 0x{bounds.data_end:04x}"
-        )
+    if read:
+        text, data = read.text, read.data
+        lines.append(f"text 0x{text.start:04x} to 0x{text.stop:04x}, data 0x{data.start:04x} to 0x{data.stop:04x}")
     if tree:
         lines += [f"{it}s: {' '.join(tree.names(it)) or 'none'}" for it in ("input", "output")]
-        lines.append(f"its dearest handler costs {max((block_cost(it.body) for it in tree.handlers), default=0):,}")
+    if read:
+        lines.append(f"its dearest handler costs {read.cost:,}")
     return "\n\n".join(lines)
 
 
-def of_entry(plan: Plan, kind: str, one: Entry) -> str:
+def of_entry(home: Deployment, tables: Tables, kind: str, one: Entry) -> str:
     name = one.get("name")
     if kind == "module":
-        return of_module(plan, one)
+        return of_module(tables, one, home.read.modules.get(str(name)) if home.read else None)
     if kind == "device":
-        driver = plan.driver_of(str(name))
+        driver = tables.driver_of(str(name))
         by = f", driven by {driver['name']}" if driver else ""
         at = f" at 0x{one['at']:04x}" if isinstance(one.get("at"), int) else ""
         return f"{one.get('kind')} {name} on node {one.get('node')}{at}{by}"
     if kind == "connection":
         return f"connection {name} from {one.get('from')} to {one.get('to')}"
-    modules = [it for it in plan.names("module") if plan.node_of(it) == name]
+    modules = [str(it.get("name")) for it in tables.modules if it.get("node") == name]
     return f"node {name}, with the modules {' '.join(modules) or '(none)'}"
 
 
 def entry(it: Document, name: str, kinds: Sequence[str]) -> Optional[Meaning]:
     """An entry of the deployment, of the first of these kinds that has it."""
-    plan, home = it.plan, it.deployment
-    kind = next((one for one in kinds if plan and plan.named(one, name)), None)
-    if not plan or not home or not kind:
+    tables, home = it.tables, it.deployment
+    kind = next((one for one in kinds if tables and tables.named(one, name)), None)
+    if not tables or not home or not kind:
         return None
-    line = Placed(it.kept()).entry_line(kind, plan.names(kind).index(name))
-    words = of_entry(plan, kind, plan.named(kind, name) or {})
+    line = Placed(it.kept()).entry_line(kind, tables.names(kind).index(name))
+    words = of_entry(home, tables, kind, tables.named(kind, name) or {})
     return Meaning(words, home.uri, home.text.span(line)) if line else Meaning(words)
 
 
@@ -201,7 +204,7 @@ def in_head(it: Document, word: Word) -> Optional[Meaning]:
     quoted = text_of(it.text.data[: word.begin].rpartition(b'"')[2]) + word.text
     module, port = module_of(quoted), port_of(quoted)
     source = next((one for one in sources(it) if one.module == module), None)
-    found = declared(source.tree, port, module, it.plan) if port and source and source.tree else None
+    found = declared(source.tree, port, module, it.tables) if port and source and source.tree else None
     if source and found:
         return declaration(it, source, found, port)
     return entry(it, word.text, OF_KEYS.get(text_of(key[1]), KINDS))
@@ -224,7 +227,7 @@ def of_act(it: Document, act: str) -> Optional[Meaning]:
         return Meaning(f"`{FORMS[act][2]}`: a line for people")
     if act not in ACTS:
         return None
-    fields = [f"{field.name}: {told(field, it.plan)}" for field in ACTS[act]]
+    fields = [f"{field.name}: {told(field, it.tables)}" for field in ACTS[act]]
     return Meaning("\n\n".join([f"`{fields_told(act, ACTS)}`", *fields]))
 
 

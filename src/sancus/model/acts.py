@@ -3,9 +3,8 @@
 from __future__ import annotations
 
 import re
-from typing import Dict, List, Optional
+from typing import Dict, List, Optional, Protocol
 
-from sancus.model.deployment import Plan
 from sancus.model.numbers import number
 from sancus.records import dataclass
 
@@ -61,6 +60,17 @@ QUERIES: Dict[str, List[Field]] = {
 }
 
 
+class Names(Protocol):
+    """The names of a deployment, accepted or not."""
+
+    @property
+    def sensors(self) -> List[str]:
+        """The names of its sensors."""
+
+    def names(self, kind: str) -> List[str]:
+        """The names of its nodes, devices, modules or connections."""
+
+
 @dataclass(frozen=True)
 class Word:
     """A word of a line, with its byte column from 1."""
@@ -73,7 +83,11 @@ def words_at(line: bytes) -> List[Word]:
     return [Word(it.group().decode(errors="surrogateescape"), it.start() + 1) for it in re.finditer(rb"[^ \t]+", line)]
 
 
-def suits(field: Field, text: str, plan: Optional[Plan]) -> bool:
+def names_for(field: Field, known: Names) -> List[str]:
+    return known.sensors if field is DEVICE else known.names(field.name.lower())
+
+
+def suits(field: Field, text: str, known: Optional[Names]) -> bool:
     """Whether a word suits a field."""
     if field.name == "HEX":
         return bool(re.fullmatch(r"([0-9A-Fa-f]{2})+", text)) and len(text) <= 2 * field.greatest
@@ -82,14 +96,10 @@ def suits(field: Field, text: str, plan: Optional[Plan]) -> bool:
         return value is not None and field.least <= value <= field.greatest
     if field is REGISTER:
         return text in REGISTERS
-    if field is TEXT or plan is None:
-        return True
-    if field is DEVICE:
-        return (plan.named("device", text) or {}).get("kind") == "sensor"
-    return text in plan.names(field.name.lower())
+    return field is TEXT or known is None or text in names_for(field, known)
 
 
-def told(field: Field, plan: Optional[Plan]) -> str:
+def told(field: Field, known: Optional[Names]) -> str:
     """What a field takes, in words."""
     if field.name == "HEX":
         return f"1 to {field.greatest:,} bytes, two hexadecimal digits each"
@@ -97,11 +107,8 @@ def told(field: Field, plan: Optional[Plan]) -> str:
         return f"{field.name}, a number from {field.least:,} to {field.greatest:,}"
     if field is REGISTER:
         return "a register: " + " ".join(REGISTERS)
-    if plan is None:
-        return f"a {field.name.lower()}"
-    if field is DEVICE:
-        return "a sensor: " + " ".join(str(it.get("name")) for it in plan.devices if it.get("kind") == "sensor")
-    return f"a {field.name.lower()}: " + " ".join(plan.names(field.name.lower()))
+    what = "sensor" if field is DEVICE else field.name.lower()
+    return f"a {what}: {' '.join(names_for(field, known))}" if known and field is not TEXT else f"a {field.name.lower()}"
 
 
 def fields_told(first: str, table: Dict[str, List[Field]]) -> str:

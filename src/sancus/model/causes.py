@@ -6,7 +6,7 @@ from typing import Dict, Iterator, List, Optional
 
 from sancus.model import forged, refusals
 from sancus.model.asking import Program
-from sancus.model.deployment import Plan, plan_of
+from sancus.model.described import Deployment, described
 from sancus.model.faults import Teller
 from sancus.model.inspection import Inspected
 from sancus.model.items import ITEMS, Item, say
@@ -35,6 +35,7 @@ class Explained:
     """A trace, and what the program says of it."""
 
     items: List[Item]
+    deployment: Deployment
     causes: Dict[int, int] = field(default_factory=dict)
     legal: Optional[int] = None
     illegal: Optional[int] = None
@@ -43,7 +44,6 @@ class Explained:
     # what a fault in `last` means
     about_fault: List[str] = field(default_factory=list)
     status: int = 0
-    plan: Optional[Plan] = None
     # the schedule, if the items come from a run of it, and for each item the line that gave it
     seen: Optional[Inspected] = None
     lines: List[int] = field(default_factory=list)
@@ -62,7 +62,7 @@ def items_of(lines: List[bytes]) -> List[Item]:
 def judged(kept: Kept, data: Input, program: Program) -> Explained:
     """Has the program judge a trace, and takes apart what it says."""
     answer = program.answer(["explain"], data.data)
-    made = Explained(items_of(data.schedule), status=answer.status, plan=plan_of(data.head))
+    made = Explained(items_of(data.schedule), described(program, data.head), status=answer.status)
     for line in map(text_of, answer.lines):
         words = line.split(" ")
         if words[0] == "because":
@@ -77,7 +77,7 @@ def judged(kept: Kept, data: Input, program: Program) -> Explained:
 
 def told(made: Explained, at: int) -> str:
     item = made.item(at)
-    said = forged.said(made.items, at, made.plan) if item.kind == "forged" else say(item, made.plan)
+    said = forged.said(made.items, at, made.deployment) if item.kind == "forged" else say(item, made.deployment)
     line = made.lines[at - 1] if made.lines else None
     where = f", at {made.seen.said(line)}" if made.seen and line else ""
     return f"{at} {item.text}: {said}{where}"
@@ -111,7 +111,7 @@ def why_illegal(made: Explained, at: int) -> Iterator[str]:
     for it in of_module(made, at):
         yield told(made, it)
     yield f"illegal: {told(made, at)}"
-    found = reason(made.plan, made.items, at) if made.plan else None
+    found = reason(made.deployment, made.items, at)
     yield f"  {found}" if found else "  the sources don't allow it after the items before it"
 
 
@@ -152,9 +152,9 @@ def others_named(made: Explained, words: str) -> List[str]:
 
 def others(made: Explained, words: List[str]) -> str:
     """What could have been meant by words with which no item begins."""
-    driver = made.plan.driver_of(words[1]) if made.plan and len(words) > 1 else None
-    if driver and words[0] in ("out", "read"):
-        return f": an item names the module, and {driver['name']} drives {words[1]}"
+    device = made.deployment.devices.get(words[1]) if len(words) > 1 else None
+    if device and device.driver and words[0] in ("out", "read"):
+        return f": an item names the module, and {device.driver} drives {device.name}"
     same = sorted({" ".join(it.words[:2]) for it in made.items if it.kind == words[0]})
     kinds = sorted({it.kind for it in made.items})
     return f"; the trace has: {', '.join(f'`{it}`' for it in (same or kinds)[:MOST_NAMED])}"

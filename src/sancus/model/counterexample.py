@@ -6,7 +6,7 @@ from __future__ import annotations
 import os
 from typing import Dict, Iterator, List, Optional, Set, Tuple, Union
 
-from sancus.model.deployment import End, Plan
+from sancus.model.described import Deployment, End
 from sancus.model.language import VALUED
 from sancus.model.meaning import first_cells, react
 from sancus.model.moves import Move
@@ -76,7 +76,7 @@ class Loaded:
 class Writer:
     """The lines so far, and what they have made of the deployment."""
 
-    plan: Plan
+    deployment: Deployment
     lines: List[Line] = field(default_factory=list)
     boots: Dict[str, int] = field(default_factory=dict)
     loaded: Dict[str, Loaded] = field(default_factory=dict)
@@ -100,17 +100,18 @@ class Writer:
 
     def begin_call(self, module: str, entry: int, kind: str) -> None:
         """A call that stops in the middle, after the module's item of a kind."""
-        node, text = self.plan.node_of(module), (self.plan.named("module", module) or {})["text"]
-        for register, value in (("r12", str(entry)), ("r13", IN), ("r14", OUT), ("r15", "0"), ("pc", hex(text))):
-            self.put("set", node, register, value)
-        self.run_until(node, kind, module)
+        it = self.deployment.modules[module]
+        pc = hex(it.text.start)
+        for register, value in (("r12", str(entry)), ("r13", IN), ("r14", OUT), ("r15", "0"), ("pc", pc)):
+            self.put("set", it.node, register, value)
+        self.run_until(it.node, kind, module)
 
     def run_until(self, node: str, kind: str, module: str) -> None:
         self.lines.append(Line(["run", node], [], (kind, module)))
 
     def give(self, packet: Packet, module: str) -> None:
         packet.is_needed = True
-        self.put("give", packet, self.plan.node_of(module), IN)
+        self.put("give", packet, self.deployment.node_of(module), IN)
 
     def open_end(self, key: Key) -> None:
         end = key.end
@@ -126,8 +127,7 @@ class Writer:
 
     def protect(self, module: str) -> None:
         self.put("load", module)
-        tree = self.plan.tree(module)
-        self.loaded[module] = Loaded(first_cells(tree) if tree else {})
+        self.loaded[module] = Loaded(first_cells(self.deployment.tree(module)))
 
     def asked(self, module: str) -> Packet:
         """The module's answer to a new challenge."""
@@ -135,16 +135,16 @@ class Writer:
         self.put("ask", module, makes=[ask])
         self.give(ask, module)
         self.call(module, ATTEST)
-        self.put("take", self.plan.node_of(module), OUT, str(ANSWER), makes=[answer])
+        self.put("take", self.deployment.node_of(module), OUT, str(ANSWER), makes=[answer])
         return answer
 
     def attest(self, module: str) -> None:
-        self.answer(module, self.asked(module), self.boot(self.plan.node_of(module)))
+        self.answer(module, self.asked(module), self.boot(self.deployment.node_of(module)))
 
     def answer(self, module: str, answer: Packet, boot: int) -> None:
         """The deployer gets an answer; its modules get the keys that it makes then."""
         is_again = module in self.attested
-        ends = self.plan.ends(module)
+        ends = self.deployment.modules[module].ends
         if is_again:
             for connection in dict.fromkeys(it.connection for it in ends):
                 self.epochs[connection] = self.epochs.get(connection, 0) + 1
@@ -158,12 +158,9 @@ class Writer:
 
     def other_ends(self, module: str) -> List[End]:
         """The ends of renewed connections in other modules that were attested."""
-        own = {it.connection for it in self.plan.ends(module)}
-        return [
-            it
-            for it in self.plan.all_ends()
-            if it.module != module and it.connection in own and it.module in self.attested
-        ]
+        own = {it.connection for it in self.deployment.modules[module].ends}
+        others = [it for it in self.deployment.ends if it.module != module and it.module in self.attested]
+        return [it for it in others if it.connection in own]
 
     def hand(self, key: Key, module: str) -> None:
         """Gives a key to its module at once; that of another module's receiving end only before the first event of its
@@ -171,7 +168,7 @@ class Writer:
         end = key.end
         assert end
         it = self.loaded.get(end.module)
-        if not it or self.attested.get(end.module) != self.boot(self.plan.node_of(end.module)):
+        if not it or self.attested.get(end.module) != self.boot(self.deployment.node_of(end.module)):
             return
         if end.module != module and end.side == "to":
             it.keys.setdefault(end.connection, []).append(key)
@@ -181,11 +178,11 @@ class Writer:
     def reset(self, node: str, late: List[str]) -> None:
         """`late` are the modules whose answer of this boot is accepted after it."""
         for module in late:
-            if module in self.loaded and self.plan.node_of(module) == node:
+            if module in self.loaded and self.deployment.node_of(module) == node:
                 self.kept[module] = (self.asked(module), self.boot(node))
         self.put("reset", node)
         self.boots[node] = self.boot(node) + 1
-        self.loaded = {name: it for name, it in self.loaded.items() if self.plan.node_of(name) != node}
+        self.loaded = {name: it for name, it in self.loaded.items() if self.deployment.node_of(name) != node}
 
     def late(self, module: str) -> None:
         if module not in self.kept:
@@ -196,19 +193,17 @@ class Writer:
 
     def reacted(self, module: str, event: Optional[str], value: int) -> None:
         """After a call: takes each piece from the out-window."""
-        tree, it = self.plan.tree(module), self.loaded[module]
-        assert tree
-        pieces = 0
-        for kind, output, word in react(tree, event, value, it.cells):
-            for connection in self.plan.connections if kind == "send" else []:
-                epoch = it.open_ends.get((str(connection["name"]), "from"))
-                if connection["from"] != f"{module}.{output}" or epoch is None:
+        it, pieces = self.loaded[module], 0
+        for kind, output, word in react(self.deployment.tree(module), event, value, it.cells):
+            for end in self.deployment.modules[module].ends if kind == "send" else []:
+                epoch = it.open_ends.get((end.connection, end.side))
+                if (end.side, end.port) != ("from", output) or epoch is None:
                     continue
-                events = self.sent.setdefault(str(connection["name"]), [])
+                events = self.sent.setdefault(end.connection, [])
                 made = Event(epoch=epoch, index=sum(old.epoch == epoch for old in events), value=word)
                 events.append(made)
                 at = hex(int(OUT, 16) + EVENT * pieces)
-                self.put("take", self.plan.node_of(module), at, str(EVENT), makes=[made])
+                self.put("take", self.deployment.node_of(module), at, str(EVENT), makes=[made])
                 pieces += 1
 
     def sense(self, sensor: str, value: int) -> None:
@@ -222,8 +217,8 @@ class Writer:
         self.reacted(module, None, value)
 
     def take(self, connection: str, value: int, is_begun: bool) -> None:
-        module = self.plan.receiver(connection)
-        it = self.loaded[module]
+        link = self.deployment.connections[connection]
+        module, it = link.receiver, self.loaded[link.receiver]
         event = self.next_event(connection, it, value)
         if event.epoch > it.next[connection][0]:
             key = next((key for key in it.keys.get(connection, []) if key.epoch == event.epoch), None)
@@ -236,8 +231,7 @@ class Writer:
             self.begin_call(module, EVENT_IN, "take")
         else:
             self.call(module, EVENT_IN)
-        port = str((self.plan.named("connection", connection) or {})["to"]).split(".")[1]
-        self.reacted(module, port, value)
+        self.reacted(module, link.input, value)
 
     def next_event(self, connection: str, it: Loaded, value: int) -> Event:
         least = it.next.get(connection)
@@ -249,13 +243,13 @@ class Writer:
     # --- Other code ---
 
     def other_code(self, device: str, text: str) -> None:
-        node = str((self.plan.named("device", device) or {})["node"])
+        node = self.deployment.devices[device].node
         self.put("asm", node, CODE, text)
         self.put("set", node, "pc", CODE)
         self.put("run", node, "1")
 
     def place(self, device: str) -> str:
-        return f"&{(self.plan.named('device', device) or {})['at']:#x}"
+        return f"&{self.deployment.devices[device].at:#x}"
 
 
 def said(move: Move, value: int) -> str:
@@ -317,8 +311,8 @@ class Telling:
             self.tell_call(at, value)
 
     def tell_call(self, at: int, value: int) -> None:
-        move, plan = self.moves[at], self.writer.plan
-        module = move.name if move.kind == "read" else plan.receiver(move.name)
+        move = self.moves[at]
+        module = move.name if move.kind == "read" else self.found.deployment.connections[move.name].receiver
         is_begun = self.stops_within(at, module)
         (self.writer.read if move.kind == "read" else self.writer.take)(move.name, value, is_begun)
 
@@ -345,7 +339,7 @@ class Telling:
         if at in self.done:
             return
         self.begun[module] -= 1
-        node = self.writer.plan.node_of(module)
+        node = self.found.deployment.node_of(module)
         if self.begun[module]:
             self.writer.run_until(node, "out", module)
         else:
@@ -354,7 +348,7 @@ class Telling:
 
 def lines_of(found: Found) -> List[Line]:
     """The lines of a schedule that shows a run, before each move a comment with it."""
-    telling = Telling(found, Writer(found.plan))
+    telling = Telling(found, Writer(found.deployment))
     name = os.path.basename(found.property.name)
     for at, move in enumerate(telling.moves):
         telling.writer.lines.append(Line([f"#= {name} {said(move, value_of(found, at))}"]))

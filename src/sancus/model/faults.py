@@ -10,7 +10,7 @@ from typing import Callable, Dict, List, Optional, Tuple
 
 from sancus.model import acts, assembly, guesses, language, rules, tables, toml
 from sancus.model.acts import ACTS, QUERIES, Field, Word, words_at
-from sancus.model.deployment import KINDS, Plan, plan_of, source_start
+from sancus.model.deployment import KINDS, Tables, source_start, tables_of
 from sancus.model.people import PEOPLE
 from sancus.model.shown import MOST_SHOWN, short, text_of
 from sancus.model.table import words as table_words
@@ -40,13 +40,13 @@ class Teller:
         self.head = first[: found[0]] if found else first
         # the number of the line `%%`
         self.mark = self.head.count(b"\n") + 1 if found else 0
-        self._plan: Optional[Plan] = None
+        self._tables: Optional[Tables] = None
 
     @property
-    def plan(self) -> Optional[Plan]:
-        if self._plan is None and self.command not in ("asm", "dis"):
-            self._plan = plan_of(self.head)
-        return self._plan
+    def tables(self) -> Optional[Tables]:
+        if self._tables is None and self.command not in ("asm", "dis"):
+            self._tables = tables_of(self.head)
+        return self._tables
 
     # --- Places ---
 
@@ -85,7 +85,7 @@ class Teller:
         headed = [at for at, it in enumerate(lines, 1) if re.match(rf"\s*\[\[\s*{kind}\s*\]\]", it)]
         if index < len(headed):
             return headed[index]
-        entries = self.plan.entries(kind) if self.plan else []
+        entries = self.tables.entries(kind) if self.tables else []
         if index >= len(entries):
             return None
         name = entries[index].get("name")
@@ -97,7 +97,7 @@ class Teller:
 
     def told_entry(self, kind: str, index: int) -> str:
         """An entry in words: what it is, its name, and where it begins."""
-        entries = self.plan.entries(kind) if self.plan else []
+        entries = self.tables.entries(kind) if self.tables else []
         name = entries[index].get("name") if index < len(entries) else None
         line = self.entry_line(kind, index)
         what = f"{kind} {name}" if isinstance(name, str) else f"{kind} number {index}, counted from 0"
@@ -107,7 +107,7 @@ class Teller:
         """The line of the input, and the byte column in it, of a place in a module's source; None if that isn't
         found."""
         head = self.head.replace(b"\r\n", b"\n")
-        at = source_start(head, self.plan, index) if self.plan else None
+        at = source_start(head, self.tables, index) if self.tables else None
         if at is None:
             return None
         first = head.count(b"\n", 0, at) + 1
@@ -120,7 +120,7 @@ class Teller:
     def grammar(self, index: int, line: int, column: int) -> Lines:
         """If a source isn't in the grammar: what was expected, and what the language has in place of what was tried."""
         lines = self.in_source(index, line, column)
-        modules = self.plan.modules if self.plan else []
+        modules = self.tables.modules if self.tables else []
         source = modules[index].get("source") if index < len(modules) else None
         if not isinstance(source, str):
             return lines
@@ -135,10 +135,10 @@ class Teller:
     def broken_rule(self, index: int, rule: str) -> Lines:
         """Which name breaks a rule of the language, and where."""
         lines = [f"rule {rule} of the language, {table_words()['language'].get(rule, '')}"]
-        modules = self.plan.modules if self.plan else []
-        if index >= len(modules) or not self.plan:
+        modules = self.tables.modules if self.tables else []
+        if index >= len(modules) or not self.tables:
             return lines
-        tree = self.plan.tree(str(modules[index].get("name")))
+        tree = self.tables.tree(str(modules[index].get("name")))
         for it in rules.places(tree, rule) if tree else []:
             line, column = language.place_of(modules[index]["source"], it.at)
             lines += [it.what] + (self.in_source(index, line, column, it.length) if it.at else [])
@@ -194,18 +194,18 @@ class Teller:
             return lines + (self.near_mark() or guesses.without_mark(self.command, name, self.kept.first))
         if rule == "D3":
             return lines + self.not_toml() + guesses.of_head(self.command, bytes(self.kept.first[:4096]))
-        if not self.plan:
+        if not self.tables:
             return lines
         if rule == "D6":
-            return lines + tables.counts(self.plan)
+            return lines + tables.counts(self.tables)
         if place == ["top"]:
-            return lines + tables.keys("top", self.plan.toml) + guesses.of_tables(self.plan.toml)
+            return lines + tables.keys("top", self.tables.toml) + guesses.of_tables(self.tables.toml)
         return lines + self.entry(rule, place)
 
     def entry(self, rule: str, place: List[str]) -> Lines:
         """What is wrong with an entry."""
         kind = place[0] if place else ""
-        if not self.plan or kind not in KINDS or len(place) < 2 or int(place[1]) >= len(self.plan.entries(kind)):
+        if not self.tables or kind not in KINDS or len(place) < 2 or int(place[1]) >= len(self.tables.entries(kind)):
             return []
         index = int(place[1])
         lines = [self.told_entry(kind, index)]
@@ -214,9 +214,9 @@ class Teller:
         if rule == "D8":
             return lines + self.broken_rule(index, place[2])
         if rule == "D4":
-            return lines + tables.keys(kind, self.plan.entries(kind)[index])
+            return lines + tables.keys(kind, self.tables.entries(kind)[index])
         found = {"D5": tables.names, "D9": tables.ties, "D10": tables.places}[rule]
-        return lines + found(kind, index, self.plan)
+        return lines + found(kind, index, self.tables)
 
     # --- Schedules, readings, queries and traces ---
 
@@ -233,14 +233,14 @@ class Teller:
     def bad_field(self, line: int, words: List[Word], fields: List[Field], only: str) -> Lines:
         """The first field that doesn't suit, with a caret."""
         for field, word in zip(fields, words[1:]):
-            if not acts.suits(field, word.text, self.plan):
+            if not acts.suits(field, word.text, self.tables):
                 lines = self.shown(line, word.column, len(word.text.encode(errors="surrogateescape")))
                 known = (
-                    self.plan.names(field.name.lower())
-                    if self.plan and field.name in ("NODE", "MODULE", "DEVICE")
+                    self.tables.names(field.name.lower())
+                    if self.tables and field.name in ("NODE", "MODULE", "DEVICE")
                     else []
                 )
-                return [*lines, f"expected: {acts.told(field, self.plan)}{rules.near(word.text, known)}"]
+                return [*lines, f"expected: {acts.told(field, self.tables)}{rules.near(word.text, known)}"]
         return self.shown(line)
 
     def schedule(self, rule: str, number: int) -> Lines:
@@ -251,7 +251,7 @@ class Teller:
         words = words_at(text)
         act = words[0].text if words else ""
         if rule == "S3" and words:
-            lines += self.shown(line, words[0].column, len(act)) + guesses.of_act(act, text, self.command, self.plan)
+            lines += self.shown(line, words[0].column, len(act)) + guesses.of_act(act, text, self.command, self.tables)
         elif rule in ("S4", "S5", "S6") and act in ACTS:
             lines += self.bad_field(line, words, ACTS[act], rule)
         elif rule == "S7":
@@ -295,15 +295,7 @@ class Teller:
     def reading(self, rule: str, number: int) -> Lines:
         lines, line = [f"{rule}: {table_words()['reading'][rule]}"], self.mark + number
         words = words_at(self.kept.line(line) or b"")
-        sensors = (
-            [
-                str(it.get("name"))
-                for it in self.plan.devices
-                if self.plan.driver_of(str(it.get("name"))) and it.get("kind") == "sensor"
-            ]
-            if self.plan
-            else []
-        )
+        sensors = [it for it in self.tables.sensors if self.tables.driver_of(it)] if self.tables else []
         if rule == "Q4" and words:
             more = f"sensors that a module drives: {' '.join(sensors) or 'none'}{rules.near(words[0].text, sensors)}"
             if words[0].text in ACTS:
@@ -375,7 +367,7 @@ class Teller:
             return lines + self.shown(self.mark + line, column) + self.property_grammar(line, column)
         words = self.heading(line, column)
         lines += self.shown(self.mark + line, column, len(words[1]) if words else 1)
-        return lines + (guesses.of_heading(*words, self.plan) if words and rule == "P3" and self.plan else [])
+        return lines + (guesses.of_heading(*words, self.tables) if words and rule == "P3" and self.tables else [])
 
     def property_grammar(self, line: int, column: int) -> Lines:
         source = self.property_text()
@@ -426,7 +418,7 @@ class Teller:
         if rule == "E1":
             lines += guesses.of_trace(text, bytes(self.kept.first[:4096]))
         if rule == "E2":
-            lines += guesses.of_item(text, self.plan)
+            lines += guesses.of_item(text, self.tables)
         return lines
 
     def illegal(self, number: int) -> Lines:

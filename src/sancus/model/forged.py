@@ -8,7 +8,7 @@ from __future__ import annotations
 
 from typing import List, Optional, Sequence, Tuple
 
-from sancus.model.deployment import Plan
+from sancus.model.described import Deployment
 from sancus.model.items import Item, connection_said
 from sancus.model.numbers import number
 
@@ -20,7 +20,7 @@ AFTER = (
 )
 
 
-def accepted(item: Item, following: Optional[Item], plan: Optional[Plan]) -> str:
+def accepted(item: Item, following: Optional[Item], deployment: Deployment) -> str:
     """Under whose key the accepted tag is, and who hadn't made it."""
     made = following.fields() if following else {}
     kind, module = (following.kind if following else ""), made.get("module")
@@ -31,23 +31,23 @@ def accepted(item: Item, following: Optional[Item], plan: Optional[Plan]) -> str
         )
     if kind == "open":
         return (
-            f"as a set-key packet for its end of {connection_said(made['connection'], plan)} in epoch {made['epoch']}, "
+            f"as a set-key packet for its end of {connection_said(made['connection'], deployment)} in epoch {made['epoch']}, "
             f"{module} accepts a tag under {module}'s key that the deployer hadn't made"
         )
     if kind == "take":
-        sender = plan.sender(made["connection"]) if plan else "its sender"
+        sender = deployment.connections[made["connection"]].sender
         return (
-            f"as event {made['event']} of {connection_said(made['connection'], plan)}, {module} accepts a tag under "
+            f"as event {made['event']} of {connection_said(made['connection'], deployment)}, {module} accepts a tag under "
             f"the key of {made['connection']} in its epoch {made['epoch']} that {sender} hadn't made"
         )
     return f"{item.fields()['module'] or 'the deployer'} accepts a tag that its rightful maker hadn't made"
 
 
-def said(items: Sequence[Item], at: int, plan: Optional[Plan], presented: str = "") -> str:
+def said(items: Sequence[Item], at: int, deployment: Deployment, presented: str = "") -> str:
     """What the `forged` of this number says, with the packet that was presented. Without that it is the last packet of
     its length before, since a trace doesn't tell."""
     following = items[at] if at < len(items) else None
-    text, length = accepted(items[at - 1], following, plan), LENGTHS.get(following.kind) if following else None
+    text, length = accepted(items[at - 1], following, deployment), LENGTHS.get(following.kind) if following else None
     if presented:
         return text + presented
     packets = [it.fields() for it in items[: at - 1] if it.kind == "packet"]
@@ -55,7 +55,7 @@ def said(items: Sequence[Item], at: int, plan: Optional[Plan], presented: str = 
     return f"{text}; the last packet of {length} bytes before it is packet {suited[-1]}" if suited else text
 
 
-def presented_by(lines: List[str], at: int, plan: Plan) -> str:
+def presented_by(lines: List[str], at: int, deployment: Deployment) -> str:
     """The packet that a line of a schedule presents: an answer's, or for a call the last that was given to its window
     since the last `reset` of the node."""
     words = lines[at - 1].split()
@@ -63,7 +63,7 @@ def presented_by(lines: List[str], at: int, plan: Plan) -> str:
         return f", in packet {words[3]}"
     if words[:1] != ["call"] or len(words) != 5:
         return ""
-    node, window = plan.node_of(words[1]), number(words[3])
+    node, window = deployment.node_of(words[1]), number(words[3])
     found = ""
     for it in (line.split() for line in lines[: at - 1]):
         if it == ["reset", node]:
@@ -73,10 +73,10 @@ def presented_by(lines: List[str], at: int, plan: Plan) -> str:
     return found
 
 
-def notes(pairs: List[Tuple[int, str]], lines: List[str], plan: Plan) -> Tuple[str, int]:
+def notes(pairs: List[Tuple[int, str]], lines: List[str], deployment: Deployment) -> Tuple[str, int]:
     """What the first `forged` of a run says, with the line that shows it; of the items, each with its line."""
     items = [Item(at, text) for at, (_, text) in enumerate(pairs, 1)]
     at = next(it.number for it in items if it.kind == "forged")
     line = pairs[at - 1][0]
-    presented = presented_by(lines, line, plan)
-    return f"item {at}, `{items[at - 1].text}`: {said(items, at, plan, presented)}", line
+    presented = presented_by(lines, line, deployment)
+    return f"item {at}, `{items[at - 1].text}`: {said(items, at, deployment, presented)}", line

@@ -76,6 +76,6 @@ def drawn(kinds: Kinds, count: int, random: Random) -> List[Act]:
 
 def values_of(layout: Layout) -> List[int]:
     """Readings to draw: small ones, and those about the numbers of the sources."""
-    numbers = [number for tree in layout.trees.values() if tree for number in constants(tree)]
+    numbers = [number for tree in layout.trees.values() for number in constants(tree)]
     found = {0, 1, 2, 3, *(number + by for number in numbers for by in (-1, 0, 1))}
     return sorted(it for it in found if 0 <= it <= GREATEST)

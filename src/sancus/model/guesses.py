@@ -6,7 +6,7 @@ import re
 from typing import Dict, List, Optional
 
 from sancus.model.acts import ACTS, QUERIES
-from sancus.model.deployment import KINDS, Plan
+from sancus.model.deployment import KINDS, Tables
 from sancus.model.items import ITEMS
 from sancus.model.language import COMPARED, END, MULTIPLIED, NAMED, NUMBER, SUMMED, UNARY, VALUED, WATCHED, NotInGrammar
 from sancus.model.people import PEOPLE
@@ -64,18 +64,18 @@ def in_property(error: NotInGrammar) -> List[str]:
 NEEDED = {"sense": "sensor", "drain": "sensor", "raw": "actuator", "read": "sensor", "out": "actuator"}
 
 
-def of_heading(kind: str, name: str, plan: Plan) -> List[str]:
+def of_heading(kind: str, name: str, tables: Tables) -> List[str]:
     """Why a deployment has no items of this kind and name."""
     from sancus.model.rules import a, near
 
     what, needed = WATCHED.get(kind, ""), NEEDED.get(kind)
     if not what:
         return []
-    entry = plan.named(what, name)
+    entry = tables.named(what, name)
     if not entry:
-        other = next((it for it in ("node", "device", "module", "connection") if plan.named(it, name)), None)
+        other = next((it for it in ("node", "device", "module", "connection") if tables.named(it, name)), None)
         more = f"; `{name}` is {a(other)}" if other else ""
-        known = plan.names(what)
+        known = tables.names(what)
         return [f"`{kind}` takes {a(what)}{more}: {' '.join(known) or 'there is none'}{near(name, known)}"]
     if what == "device":
         return [f"`{name}` is {a(str(entry.get('kind')))}, and `{kind}` is of {a(str(needed))}"]
@@ -176,7 +176,7 @@ def for_people(act: str) -> str:
     return f"`{act}` is a line for people: `sancus run DEPLOYMENT LINES` takes those from a file"
 
 
-def of_act(act: str, line: bytes, command: str, plan: Optional[Plan]) -> List[str]:
+def of_act(act: str, line: bytes, command: str, tables: Optional[Tables]) -> List[str]:
     """What a line is that is no line of a schedule."""
     from sancus.model.rules import near
 
@@ -191,7 +191,7 @@ def of_act(act: str, line: bytes, command: str, plan: Optional[Plan]) -> List[st
         return [f"`{act}` is a query of `sancus snap`: it comes after a second `%%`"]
     if act in ITEMS:
         return [f"`{act}` is an item of a trace, and no line of a schedule: the acts are {' '.join(ACTS)}"]
-    if plan and plan.named("device", act):
+    if tables and tables.named("device", act):
         return [
             "this looks like a reading: `sancus drive` takes those, and `sense DEVICE VALUE` is the line of a schedule"
         ]
@@ -201,14 +201,14 @@ def of_act(act: str, line: bytes, command: str, plan: Optional[Plan]) -> List[st
     return [f"{acts}{near(act, list(ACTS))}"]
 
 
-def of_item(line: bytes, plan: Optional[Plan]) -> List[str]:
+def of_item(line: bytes, tables: Optional[Tables]) -> List[str]:
     """Why a line is no item: its first word, or a name that the deployment doesn't have."""
     words = text_of(line).split(" ")
     if words[0] not in ITEMS:
         return [f"the items: {' '.join(ITEMS)}"]
     for kind, name in zip(ITEMS[words[0]], words[1:]):
         is_name = kind in ("node", "device", "module", "connection") and name not in ("-", "deployer")
-        if is_name and plan and not plan.named(kind, name):
+        if is_name and tables and not tables.named(kind, name):
             return [f"the deployment has no {kind} `{name}`: is this the trace of another deployment?"]
     return []
 

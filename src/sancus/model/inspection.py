@@ -7,7 +7,6 @@ import re
 from typing import List, Optional, Tuple
 
 from sancus.model.asking import Program
-from sancus.model.deployment import Plan
 from sancus.model.described import Deployment
 from sancus.model.faults import Teller
 from sancus.model.numbers import number
@@ -42,7 +41,6 @@ class Inspected:
 
     name: str
     head: bytes
-    plan: Plan
     deployment: Deployment
     lines: List[str]
     given: List[Line]
@@ -93,8 +91,8 @@ class Inspected:
         return [fault, *Teller(kept, "run", self.program.ask).told(fault)]
 
     def module(self, name: str) -> str:
-        if not self.plan.named("module", name):
-            known = self.plan.names("module")
+        known = self.deployment.names("module")
+        if name not in known:
             raise Ended(BAD_TEXT, f"there is no module {name}{near(name, known)}: {' '.join(known)}")
         return name
 
@@ -109,10 +107,10 @@ def marked_lines(lines: List[str]) -> List[Line]:
     return [Line(it[1], it[2], at, end) for (at, it), end in zip(found, ends)]
 
 
-def are_readings(plan: Plan, data: Input) -> bool:
+def are_readings(deployment: Deployment, data: Input) -> bool:
     """Whether the lines after the mark are readings, and not lines of a schedule."""
     first = next((it for it in data.schedule if is_act(it)), b"").split()
-    return len(first) == 2 and bool(plan.named("device", first[0].decode(errors="replace")))
+    return len(first) == 2 and first[0].decode(errors="replace") in deployment.devices
 
 
 def driven(kept: Kept, data: Input, program: Program) -> List[str]:

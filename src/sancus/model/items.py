@@ -4,7 +4,7 @@ from __future__ import annotations
 
 from typing import Any, Callable, Dict, List, Optional, Tuple
 
-from sancus.model.deployment import Plan
+from sancus.model.described import Deployment
 from sancus.model.table import words as table_words
 from sancus.records import dataclass
 
@@ -62,60 +62,60 @@ class Item:
         return made
 
 
-def node_of(item: Item, plan: Plan) -> Optional[str]:
+def node_of(item: Item, deployment: Deployment) -> Optional[str]:
     """The node on which an item came about; none for those of the deployer and the network."""
     made = item.fields()
     if "node" in made:
         return str(made["node"])
     if "device" in made:
-        return str((plan.named("device", made["device"]) or {}).get("node"))
+        return deployment.devices[made["device"]].node
     if item.kind in ("ask", "attested", "denied", "packet") or not made.get("module"):
         return None
-    return plan.node_of(made["module"])
+    return deployment.node_of(made["module"])
 
 
-def connection_said(name: str, plan: Optional[Plan]) -> str:
-    found = plan.named("connection", name) if plan else None
-    return f"{name} ({found['from']} to {found['to']})" if found else name
+def connection_said(name: str, deployment: Optional[Deployment]) -> str:
+    it = deployment.connections.get(name) if deployment else None
+    return f"{name} ({it.sender}.{it.output} to {it.receiver}.{it.input})" if it else name
 
 
-def say_open(made: Dict[str, Any], plan: Optional[Plan]) -> str:
+def say_open(made: Dict[str, Any], deployment: Optional[Deployment]) -> str:
     way = "send on" if made["side"] == "from" else "take from"
-    return f"{made['module']} can {way} {connection_said(made['connection'], plan)}, in epoch {made['epoch']}"
+    return f"{made['module']} can {way} {connection_said(made['connection'], deployment)}, in epoch {made['epoch']}"
 
 
-def say_take(made: Dict[str, Any], plan: Optional[Plan]) -> str:
+def say_take(made: Dict[str, Any], deployment: Optional[Deployment]) -> str:
     epoch = f" of epoch {made['epoch']}" if made["epoch"] else ""
     return (
-        f"{made['module']} took event {made['event']}{epoch} of {connection_said(made['connection'], plan)}, with "
+        f"{made['module']} took event {made['event']}{epoch} of {connection_said(made['connection'], deployment)}, with "
         f"the value {made['value']}"
     )
 
 
-def say_done(made: Dict[str, Any], _plan: Optional[Plan]) -> str:
+def say_done(made: Dict[str, Any], _deployment: Optional[Deployment]) -> str:
     status = table_words()["statuses"].get(str(made["status"]), ["?", "?"])[1]
     pieces = made["pieces"]
     sent = f", and wrote {pieces} piece{'' if pieces == 1 else 's'}" if pieces else ""
     return f"{made['module']} was left with status {made['status']}: {status}{sent}"
 
 
-def say_protect(made: Dict[str, Any], _plan: Optional[Plan]) -> str:
+def say_protect(made: Dict[str, Any], _deployment: Optional[Deployment]) -> str:
     if not made["module"]:
         return f"other code was protected on node {made['node']}"
     return f"{made['module']} was protected on node {made['node']}, with its first values and no key"
 
 
-def say_forged(made: Dict[str, Any], _plan: Optional[Plan]) -> str:
+def say_forged(made: Dict[str, Any], _deployment: Optional[Deployment]) -> str:
     who = made["module"] or "the deployer"
     return f"{who} accepts a tag that its rightful maker hadn't made"
 
 
-def say_reset(made: Dict[str, Any], _plan: Optional[Plan]) -> str:
+def say_reset(made: Dict[str, Any], _deployment: Optional[Deployment]) -> str:
     cause = table_words()["causes"].get(made["cause"], made["cause"])
     return f"node {made['node']} was reset: {cause}"
 
 
-SAID: Dict[str, Callable[[Dict[str, Any], Optional[Plan]], str]] = {
+SAID: Dict[str, Callable[[Dict[str, Any], Optional[Deployment]], str]] = {
     "protect": say_protect,
     "reset": say_reset,
     "open": say_open,
@@ -140,10 +140,10 @@ SAID: Dict[str, Callable[[Dict[str, Any], Optional[Plan]], str]] = {
 }
 
 
-def say(item: Item, plan: Optional[Plan] = None) -> str:
+def say(item: Item, deployment: Optional[Deployment] = None) -> str:
     """What an item says to people."""
     try:
-        return SAID[item.kind](item.fields(), plan)
+        return SAID[item.kind](item.fields(), deployment)
     except KeyError:
         # (words that are no item of a deployment)
         return item.text

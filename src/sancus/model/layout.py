@@ -7,7 +7,7 @@ from __future__ import annotations
 from typing import FrozenSet, List, Optional, Tuple
 
 from sancus.model import language, toml
-from sancus.model.deployment import Plan, plan_of, source_start
+from sancus.model.deployment import Tables, source_start, tables_of
 from sancus.model.language import END, NAMED, NUMBER, PROPERTY_WORDS, UNARY, WORDS, next_token
 from sancus.records import dataclass, replace
 
@@ -203,9 +203,9 @@ def laid_out(source: str, is_property: bool = False) -> str:
 # --- Deployments ------------------------------------------------------------------------------------------------------
 
 
-def block_source(head: bytes, plan: Plan, index: int) -> Optional[Tuple[int, int]]:
+def block_source(head: bytes, tables: Tables, index: int) -> Optional[Tuple[int, int]]:
     """Where a source between three quotes begins and ends in the text of a deployment; None if it has others."""
-    start, source = source_start(head, plan, index), plan.modules[index].get("source")
+    start, source = source_start(head, tables, index), tables.modules[index].get("source")
     if start is None or not isinstance(source, str):
         return None
     end = start + len(source.encode(errors="surrogateescape"))
@@ -213,10 +213,10 @@ def block_source(head: bytes, plan: Plan, index: int) -> Optional[Tuple[int, int
     return (start, end) if before in QUOTES and head[end : end + 3] == before else None
 
 
-def with_sources(head: bytes, plan: Plan) -> bytes:
+def with_sources(head: bytes, tables: Tables) -> bytes:
     """The text of a deployment with each source between three quotes laid out anew."""
     made, at = b"", 0
-    spans = (block_source(head, plan, index) for index in range(len(plan.modules)))
+    spans = (block_source(head, tables, index) for index in range(len(tables.modules)))
     for start, end in sorted(it for it in spans if it):
         text = laid_out(head[start:end].decode(errors="surrogateescape")).encode(errors="surrogateescape")
         made += head[at:start] + (b"" if head[:start].endswith(b"\n") else b"\n") + text
@@ -227,12 +227,12 @@ def with_sources(head: bytes, plan: Plan) -> bytes:
 def without_sources(text: bytes) -> object:
     """The tables of a deployment without the modules' sources."""
     document = toml.read(text.decode("utf-8-sig"))
-    modules = [{**it, "source": ""} if "source" in it else it for it in Plan(document).modules]
+    modules = [{**it, "source": ""} if "source" in it else it for it in Tables(document).modules]
     return {**document, "module": modules}
 
 
-def sources_of(plan: Plan) -> List[str]:
-    return [str(it.get("source", "")) for it in plan.modules]
+def sources_of(tables: Tables) -> List[str]:
+    return [str(it.get("source", "")) for it in tables.modules]
 
 
 def deployment(head: bytes) -> bytes:
@@ -241,13 +241,13 @@ def deployment(head: bytes) -> bytes:
     has_returns = plain != head
     if has_returns and plain.replace(b"\n", b"\r\n") != head:
         raise CantLayOut("some of its lines end in a carriage return, and others don't")
-    plan = plan_of(plain)
-    if plan is None:
+    tables = tables_of(plain)
+    if tables is None:
         raise CantLayOut("it is no TOML")
-    made = with_sources(plain, plan)
-    again = plan_of(made)
+    made = with_sources(plain, tables)
+    again = tables_of(made)
     if again is None or without_sources(made) != without_sources(plain):
         raise CantLayOut("its tables would change")
-    if not all(is_same(one, other, WORDS) for one, other in zip(sources_of(plan), sources_of(again))):
+    if not all(is_same(one, other, WORDS) for one, other in zip(sources_of(tables), sources_of(again))):
         raise CantLayOut("its tokens or comments would change")
     return made.replace(b"\n", b"\r\n") if has_returns else made

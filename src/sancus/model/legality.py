@@ -8,7 +8,7 @@ from __future__ import annotations
 
 from typing import Any, Callable, Dict, List, Optional, Tuple
 
-from sancus.model.deployment import Plan, port_of
+from sancus.model.described import Deployment
 from sancus.model.items import Item
 from sancus.model.meaning import first_cells, react
 from sancus.model.numbers import counted
@@ -68,7 +68,7 @@ class Attestation:
 class Model:
     """The state of the sources after some items."""
 
-    plan: Plan
+    deployment: Deployment
     boots: Dict[str, int] = field(default_factory=dict)
     readings: Dict[str, Reading] = field(default_factory=dict)
     present: Dict[str, Present] = field(default_factory=dict)
@@ -87,9 +87,13 @@ class Model:
 
     # --- Modules ---
 
+    def boot_of(self, module: str) -> int:
+        """How often the module's node was reset."""
+        return self.boots.get(self.deployment.node_of(module), 0)
+
     def protected(self, module: str) -> Present:
         if module not in self.present:
-            node = self.plan.node_of(module)
+            node = self.deployment.node_of(module)
             raise Fails(f"{module} isn't there: it wasn't protected since power-on or the last reset of {node}")
         return self.present[module]
 
@@ -103,10 +107,9 @@ class Model:
 
     def reacts(self, module: str, event: Optional[str], value: int, item: Item) -> None:
         """A module's handler runs: what it sends is sent, and it owes what it emits and a `done`."""
-        present, tree = self.protected(module), self.plan.tree(module)
-        emits, pieces = [], 0
+        present, emits, pieces = self.protected(module), [], 0
         said = []
-        for kind, output, it in react(tree, event, value, present.cells) if tree else []:
+        for kind, output, it in react(self.deployment.tree(module), event, value, present.cells):
             if kind == "emit":
                 emits.append(it)
                 said.append(f"emits {it}")
@@ -120,10 +123,9 @@ class Model:
 
     def send(self, module: str, output: str, value: int) -> int:
         pieces = 0
-        for end in self.plan.ends(module):
-            connection = self.plan.named("connection", end.connection) or {}
+        for end in self.deployment.modules[module].ends:
             view = self.present[module].ends[(end.connection, end.side)]
-            if end.side != "from" or port_of(connection.get("from")) != output or view.epoch is None:
+            if (end.side, end.port) != ("from", output) or view.epoch is None:
                 continue
             words = self.sent.setdefault((end.connection, view.epoch), [])
             if len(words) < MOST_SENT:
@@ -142,29 +144,29 @@ def protect(model: Model, _item: Item, made: Dict[str, Any]) -> None:
     module = made["module"]
     if not module:
         return
-    if model.plan.node_of(module) != made["node"]:
-        raise Fails(f"{module} is deployed on {model.plan.node_of(module)}, and not on {made['node']}")
+    it = model.deployment.modules[module]
+    if it.node != made["node"]:
+        raise Fails(f"{module} is deployed on {it.node}, and not on {made['node']}")
     if module in model.present:
         raise Fails(
             f"{module} is protected already: its section can't be protected twice without a reset of " f"{made['node']}"
         )
-    tree = model.plan.tree(module)
-    ends = {(it.connection, it.side): EndView() for it in model.plan.ends(module)}
-    model.present[module] = Present(first_cells(tree) if tree else {}, ends)
+    ends = {(end.connection, end.side): EndView() for end in it.ends}
+    model.present[module] = Present(first_cells(model.deployment.tree(module)), ends)
 
 
 def reset(model: Model, _item: Item, made: Dict[str, Any]) -> None:
     node = made["node"]
     model.boots[node] = model.boots.get(node, 0) + 1
-    for device in model.plan.devices:
-        if device.get("node") == node and device["name"] in model.readings:
-            model.readings[device["name"]].is_fresh = False
-    for module in [it for it in model.present if model.plan.node_of(it) == node]:
-        del model.present[module]
+    for device in model.deployment.devices.values():
+        if device.node == node and device.name in model.readings:
+            model.readings[device.name].is_fresh = False
+    for module in model.deployment.modules_of(node):
+        model.present.pop(module.name, None)
 
 
 def sense(model: Model, _item: Item, made: Dict[str, Any]) -> None:
-    if (model.plan.named("device", made["device"]) or {}).get("kind") != "sensor":
+    if made["device"] not in model.deployment.sensors:
         raise Fails(f"{made['device']} is no sensor")
     model.readings[made["device"]] = Reading(made["value"], True)
 
@@ -172,10 +174,10 @@ def sense(model: Model, _item: Item, made: Dict[str, Any]) -> None:
 def read(model: Model, item: Item, made: Dict[str, Any]) -> None:
     module = made["module"]
     model.idle(module)
-    device = (model.plan.named("module", module) or {}).get("device")
-    reading = model.readings.get(str(device), Reading())
-    if not device or (model.plan.named("device", device) or {}).get("kind") != "sensor":
+    device = model.deployment.modules[module].sensor
+    if not device:
         raise Fails(f"{module} drives no sensor")
+    reading = model.readings.get(device, Reading())
     if not reading.is_fresh:
         raise Fails(f"the sensor {device} has no new sample: the last was read, or a reset made it old")
     if reading.value != made["value"]:
@@ -185,9 +187,9 @@ def read(model: Model, item: Item, made: Dict[str, Any]) -> None:
 
 
 def undriven(model: Model, device: str) -> None:
-    driver = model.plan.driver_of(device)
-    if driver and driver.get("name") in model.present:
-        raise Fails(f"the driver of {device}, {driver['name']}, is protected: no other code reaches its device")
+    driver = model.deployment.devices[device].driver
+    if driver in model.present:
+        raise Fails(f"the driver of {device}, {driver}, is protected: no other code reaches its device")
 
 
 def drain(model: Model, _item: Item, made: Dict[str, Any]) -> None:
@@ -212,7 +214,7 @@ def ask(model: Model, _item: Item, made: Dict[str, Any]) -> None:
 def vouch(model: Model, item: Item, made: Dict[str, Any]) -> None:
     module = made["module"]
     present = model.idle(module)
-    model.vouched.append((module, made["challenge"], model.boots.get(model.plan.node_of(module), 0)))
+    model.vouched.append((module, made["challenge"], model.boot_of(module)))
     present.owed = Owed([], 1, item.number, "its answer, of one piece")
 
 
@@ -222,7 +224,7 @@ def attested(model: Model, _item: Item, made: Dict[str, Any]) -> None:
         raise Fails(f"no ask of {module} is open")
     if (module, model.asked[module], boot) not in model.vouched:
         raise Fails(f"{module} didn't vouch for challenge {model.asked[module]} at boot {boot}")
-    own = sorted({it.connection for it in model.plan.ends(module)})
+    own = sorted({it.connection for it in model.deployment.modules[module].ends})
     before = model.attested.get(module)
     if before and before.boot >= boot:
         raise Fails(f"{module} was attested at boot {before.boot} already, and this is boot {boot}")
@@ -240,7 +242,7 @@ def open_(model: Model, item: Item, made: Dict[str, Any]) -> None:
     view = model.end(present, module, connection, made["side"])
     if view.epoch is not None and view.epoch >= epoch:
         raise Fails(f"this end is open in epoch {view.epoch} already, and takes a key of a later one only")
-    boot, found = model.boots.get(model.plan.node_of(module), 0), model.attested.get(module)
+    boot, found = model.boot_of(module), model.attested.get(module)
     if not found or found.boot != boot:
         raise Fails(f"the deployer made no key for {module} at boot {boot}: it wasn't attested at it")
     if not found.floors.get(connection, 0) <= epoch <= model.epochs.get(connection, 0):
@@ -261,7 +263,7 @@ def take(model: Model, item: Item, made: Dict[str, Any]) -> None:
         raise Fails(f"{module}'s end of {connection} {is_open}")
     if event < view.next:
         raise Fails(f"event {event} of {connection} was taken before, or a later one was: the next is {view.next}")
-    words, sender = model.sent.get((connection, epoch), []), model.plan.sender(connection)
+    words, sender = model.sent.get((connection, epoch), []), model.deployment.connections[connection].sender
     if event >= len(words):
         raise Fails(
             f"{sender} sent {counted(len(words), 'event')} over {connection} in epoch {epoch}, so there is no event "
@@ -270,7 +272,7 @@ def take(model: Model, item: Item, made: Dict[str, Any]) -> None:
     if words[event] != made["value"]:
         raise Fails(f"{sender} sent the value {words[event]} as event {event} of {connection}, and not {made['value']}")
     view.next = event + 1
-    model.reacts(module, port_of((model.plan.named("connection", connection) or {}).get("to")), made["value"], item)
+    model.reacts(module, model.deployment.connections[connection].input, made["value"], item)
 
 
 def out(model: Model, _item: Item, made: Dict[str, Any]) -> None:
@@ -315,11 +317,8 @@ def done(model: Model, _item: Item, made: Dict[str, Any]) -> None:
             f"{module} is at {present.owed.what} (item {present.owed.item}), so it can't be refused with status "
             f"{status}"
         )
-    device = str((model.plan.named("module", module) or {}).get("device"))
-    if status == 8 and (
-        (model.plan.named("device", device) or {}).get("kind") != "sensor"
-        or model.readings.get(device, Reading()).is_fresh
-    ):
+    device = model.deployment.modules[module].sensor
+    if status == 8 and (not device or model.readings.get(device, Reading()).is_fresh):
         raise Fails(
             f"status 8 says that the sensor has no new sample, and {device} has one, or {module} drives no sensor"
         )
@@ -342,9 +341,9 @@ STEPS: Dict[str, Callable[[Model, Item, Dict[str, Any]], None]] = {
 }
 
 
-def reason(plan: Plan, items: List[Item], number: int) -> Optional[str]:
+def reason(deployment: Deployment, items: List[Item], number: int) -> Optional[str]:
     """Which condition the item of this number breaks after those before it; None if none is found here."""
-    model = Model(plan)
+    model = Model(deployment)
     for item in items[:number]:
         try:
             model.step(item)

@@ -8,7 +8,7 @@ from __future__ import annotations
 
 from typing import Callable, Dict, List, NamedTuple, Optional, Set, Tuple
 
-from sancus.model.deployment import Plan, module_of, port_of
+from sancus.model.described import Connection, Deployment
 from sancus.model.meaning import Act, first_cells, react
 from sancus.model.property import Cells, Property, Watched, frozen, thawed
 from sancus.records import dataclass, field
@@ -52,24 +52,6 @@ class Step(NamedTuple):
     items: Tuple[Watched, ...]
 
 
-@dataclass(frozen=True)
-class Link:
-    """A connection."""
-
-    name: str
-    sender: str
-    output: str
-    receiver: str
-    input: str
-
-
-def links_of(plan: Plan) -> List[Link]:
-    return [
-        Link(str(it["name"]), module_of(it["from"]), port_of(it["from"]), module_of(it["to"]), port_of(it["to"]))
-        for it in plan.connections
-    ]
-
-
 def put(some: tuple, at: int, value: object) -> tuple:  # type: ignore[type-arg]
     return (*some[:at], value, *some[at + 1 :])
 
@@ -79,26 +61,27 @@ class Moves:
     """The moves of a deployment, as far as a property can see their effect. `room` is the most words that a connection
     keeps; what is sent beyond is lost. If calls are whole, what a handler emits is written with it."""
 
-    plan: Plan
+    deployment: Deployment
     property: Property
     room: int = 3
     is_whole: bool = True
     known: Dict[Tuple[str, Optional[str], int, Cells], Tuple[Cells, List[Act]]] = field(default_factory=dict)
 
     def __post_init__(self) -> None:
-        self.drivers = {str(it.get("device")): str(it["name"]) for it in self.plan.modules if it.get("device")}
-        self.nodes = {str(it["name"]): str(it["node"]) for it in (*self.plan.modules, *self.plan.devices)}
-        sensors = [str(it["name"]) for it in self.plan.devices if it.get("kind") == "sensor"]
+        devices, modules = self.deployment.devices, self.deployment.modules
+        self.drivers = {it.name: it.driver for it in devices.values() if it.driver}
+        self.nodes = {name: modules[name].node for name in modules}
+        self.nodes.update((name, devices[name].node) for name in devices)
         # the sensor that a module drives
-        self.sensor_of = {module: device for device, module in self.drivers.items() if device in sensors}
-        self.links = links_of(self.plan)
+        self.sensor_of = {it.name: it.sensor for it in modules.values() if it.sensor}
         self.modules = self.relevant()
-        self.links = [it for it in self.links if it.sender in self.modules and it.receiver in self.modules]
+        links = self.deployment.connections.values()
+        self.links = [it for it in links if it.sender in self.modules and it.receiver in self.modules]
         self.index = {name: at for at, name in enumerate(self.modules)}
         self.link_index = {it.name: at for at, it in enumerate(self.links)}
-        self.trees = {it: self.plan.tree(it) for it in self.modules}
-        self.firsts = [frozen(first_cells(self.trees[it])) for it in self.modules]  # type: ignore[arg-type]
-        self.sensors = [it for it in sensors if self.is_used(it)]
+        self.trees = {it: self.deployment.tree(it) for it in self.modules}
+        self.firsts = [frozen(first_cells(self.trees[it])) for it in self.modules]
+        self.sensors = [it for it in self.deployment.sensors if self.is_used(it)]
         self.reading_index = {name: at for at, name in enumerate(self.sensors)}
 
     # --- What matters ---
@@ -114,13 +97,13 @@ class Moves:
             if kind in ("raw", "drain"):
                 found.add(self.drivers.get(name, ""))
             elif kind == "take":
-                found.add(self.plan.receiver(name))
+                found.add(self.deployment.connections[name].receiver)
             elif kind in ("read", "out", "protect", "attested"):
                 found.add(name)
         while True:
-            more = {it.sender for it in self.links if it.receiver in found} - found
+            more = {it.sender for it in self.deployment.connections.values() if it.receiver in found} - found
             if not more:
-                return [it for it in self.plan.names("module") if it in found]
+                return [it for it in self.deployment.modules if it in found]
             found |= more
 
     def attests(self, module: str) -> bool:
@@ -183,7 +166,6 @@ class Moves:
         found = self.known.get(key)
         if found is None:
             tree = self.trees[module]
-            assert tree
             now = thawed(tree, cells)
             acts = react(tree, event, value, now)
             found = self.known[key] = (frozen(now), acts)

@@ -3,11 +3,12 @@
 from __future__ import annotations
 
 import re
-from typing import Any, Dict, Iterator, List
+from typing import Dict, Iterator, List, Tuple
 
-from sancus.model.deployment import Entry, Plan
+from sancus.model.deployment import Entry, Tables
+from sancus.model.described import Deployment
 from sancus.model.shown import text_of
-from sancus.model.tables import HIGHEST, LOWEST, Range, free_place, sections, word_of
+from sancus.model.tables import HIGHEST, LOWEST, free_place, sizes, taken_on
 
 # Where a free place is looked for first.
 FIRST_TEXT, FIRST_DATA = 0x4000, 0x1000
@@ -25,40 +26,21 @@ def lacks(module: Entry) -> List[str]:
     return [it for it in keys if it not in module]
 
 
-def own_sections(plan: Plan, module: Entry) -> List[Range]:
-    """The public and the private section of a module, at 0 if it has no place yet."""
-    found = sections(plan, {**dict.fromkeys(lacks(module), 0), **module})
+def place(tables: Tables) -> List[Places]:
+    """Gives each module the places that it lacks, and returns them."""
+    return [dict(placed(tables, it)) for it in tables.modules]
+
+
+def placed(tables: Tables, module: Entry) -> Iterator[Tuple[str, int]]:
+    found = sizes(tables, module)
     if not found:
         raise NoPlace(f"the size of {module.get('name')} isn't known: `sancus check` says what is wrong with it")
-    return found
-
-
-def taken_on(plan: Plan, node: Any) -> List[Range]:
-    """What has its place on a node: sections, and words of devices that nobody drives."""
-    modules = [it for it in plan.modules if it.get("node") == node]
-    driven = [it.get("device") for it in modules]
-    words = [word_of(it) for it in plan.devices if it.get("node") == node and it.get("name") not in driven]
-    placed = [
-        section
-        for it in modules
-        for key, section in zip(("text", "data"), own_sections(plan, it))
-        if key not in lacks(it)
-    ]
-    return sorted([*words, *placed], key=lambda it: it.begin)
-
-
-def place(plan: Plan) -> List[Places]:
-    """Gives each module of a plan the places that it lacks, and returns them."""
-    return [dict(placed(plan, it)) for it in plan.modules]
-
-
-def placed(plan: Plan, module: Entry) -> Iterator[Any]:
     for key in lacks(module):
-        section = own_sections(plan, module)[key == "data"]
-        size = section.end - section.begin
-        at = free_place(size, taken_on(plan, module.get("node")), FIRST_TEXT if key == "text" else FIRST_DATA)
+        which, size, first = ("public", found[0], FIRST_TEXT) if key == "text" else ("private", found[1], FIRST_DATA)
+        at = free_place(size, taken_on(tables, module.get("node")), first)
         if at is None:
-            raise NoPlace(f"node {module.get('node')} has no room for {section.what}, {size:,} bytes")
+            node, name = module.get("node"), module.get("name")
+            raise NoPlace(f"node {node} has no room for the {which} section of {name}, {size:,} bytes")
         module[key] = at
         yield key, at
 
@@ -75,14 +57,14 @@ def filled_in(head: bytes, places: List[Places]) -> bytes:
     return b"\n".join(lines)
 
 
-def memory_map(plan: Plan) -> Iterator[str]:
+def memory_map(deployment: Deployment) -> Iterator[str]:
     """What is where on each node, and what is free between."""
-    for node in plan.names("node"):
+    for node in deployment.nodes:
         at = LOWEST
-        for it in taken_on(plan, node):
-            yield from free(node, at, it.begin)
-            yield f"{node} 0x{it.begin:04x} to 0x{it.end - 1:04x}: {it.what}"
-            at = it.end
+        for what, it in deployment.taken(node):
+            yield from free(node, at, it.start)
+            yield f"{node} 0x{it.start:04x} to 0x{it.stop - 1:04x}: {what}"
+            at = it.stop
         yield from free(node, at, HIGHEST)
 
 

@@ -50,7 +50,7 @@ class Moment:
 
     def __post_init__(self) -> None:
         self.words = self.seen.lines[self.at - 1].split()
-        self.model = Model(self.seen.plan)
+        self.model = Model(self.seen.deployment)
         for it in self.before:
             try:
                 self.model.step(it)
@@ -76,6 +76,11 @@ class Moment:
                 found.append(Place(f"the private section of {module}", it.data.start, it.data.stop, module, True))
         devices = [it for it in self.seen.deployment.devices.values() if it.node == node]
         return found + [Place(f"the word of the device {it.name}", it.at, it.at + 2) for it in devices]
+
+    def connection(self, number: int) -> str:
+        """The connection of a packet's number, if there is one."""
+        names = self.seen.deployment.names("connection")
+        return names[number] if number < len(names) else f"connection number {number}"
 
     def ask(self, queries: List[str]) -> List[str]:
         try:
@@ -197,11 +202,11 @@ def met(moment: Moment, node: str, own: Optional[str], addresses: List[int], cau
 def of_touch(moment: Moment) -> Iterator[str]:
     """By which instruction other code than its driver used a device."""
     device = moment.item.fields()["device"]
-    node = str((moment.seen.plan.named("device", device) or {}).get("node"))
-    found, driver = executed(moment, node), moment.seen.plan.driver_of(device)
+    it = moment.seen.deployment.devices[device]
+    found = executed(moment, it.node)
     yield f"by {moment.said()}" + (f", step {found.which}: {found.text}" if found else "")
-    if driver:
-        yield f"{driver['name']}, which drives {device}, isn't protected: until it is, any code can do this"
+    if it.driver:
+        yield f"{it.driver}, which drives {device}, isn't protected: until it is, any code can do this"
     else:
         yield f"no module drives {device}, so any code can do this"
 
@@ -262,7 +267,7 @@ def of_denied(moment: Moment) -> Iterator[str]:
     model, made = moment.model, sum(it.kind == "packet" for it in moment.before)
     challenge, attested = model.asked.get(module), model.attested.get(module)
     vouched = [it for it in model.vouched if it[:2] == (module, challenge)]
-    epochs = {it.connection: model.epochs.get(it.connection, 0) for it in moment.seen.plan.ends(module)}
+    epochs = [model.epochs.get(it.connection, 0) for it in moment.seen.deployment.modules[module].ends]
     if packet >= made:
         yield f"there is no packet {packet}: {made} were made before"
     elif challenge is None:
@@ -273,7 +278,7 @@ def of_denied(moment: Moment) -> Iterator[str]:
         yield f"{module} answered challenge {challenge} at boot {vouched[-1][2]}, and not at boot {boot}"
     elif attested and attested.boot >= boot:
         yield f"{module} was attested at boot {attested.boot} already, and an answer for boot {boot} comes too late"
-    elif attested and LAST_EPOCH in epochs.values():
+    elif attested and LAST_EPOCH in epochs:
         yield f"a connection of {module} is at its last epoch, {LAST_EPOCH}"
     else:
         yield f"packet {packet} isn't the answer that {module} made to its last ask, with challenge {challenge}"
@@ -292,8 +297,8 @@ class Header:
     number: int
 
 
-def header_of(moment: Moment, node: str, window: int) -> Header:
-    size = min(6, TOP - window)
+def header_of(moment: Moment, module: str, window: int) -> Header:
+    node, size = moment.seen.deployment.node_of(module), min(6, TOP - window)
     data = bytes.fromhex(moment.ask([f"bytes {node} 0x{window:x} {size} {moment.at - 1}"])[0].split(" ")[-1])
     words = [int.from_bytes(data[it : it + 2], "little") for it in (0, 2, 4)]
     return Header(words[0], words[1] & 255, words[1] >> 8, words[2])
@@ -306,14 +311,14 @@ def of_done(moment: Moment) -> Iterator[str]:
     if words[0] != "call" or words[1] != module:
         yield f"by other code, at {moment.said()}: `sancus steps` shows it"
         return
-    yield f"by {moment.said()}{presented_by(moment.seen.lines, moment.at, moment.seen.plan)}"
+    yield f"by {moment.said()}{presented_by(moment.seen.lines, moment.at, moment.seen.deployment)}"
     told = STATUSES.get(status)
     if told:
         yield from told(moment, module, number(words[2]) or 0, number(words[3]) or 0)
 
 
 def no_entry(moment: Moment, module: str, entry: int, _window: int) -> Iterator[str]:
-    known = "0 set-key, 1 attest, 2 input" + (", 3 sample" if sensor_of(moment, module) else "")
+    known = "0 set-key, 1 attest, 2 input" + (", 3 sample" if moment.seen.deployment.modules[module].sensor else "")
     yield f"{module} has no entry {entry}: {known}"
 
 
@@ -329,27 +334,26 @@ def no_window(moment: Moment, module: str, _entry: int, _window: int) -> Iterato
 
 
 def other_packet(moment: Moment, module: str, entry: int, window: int) -> Iterator[str]:
-    found = header_of(moment, moment.seen.plan.node_of(module), window)
+    found = header_of(moment, module, window)
     there = KINDS.get(found.kind, f"no packet: its first word is {found.kind}")
     yield f"entry {entry} takes {KINDS.get(entry + 1, '?')}, and in the in-window is {there}"
 
 
 def end_not_open(moment: Moment, module: str, entry: int, window: int) -> Iterator[str]:
-    found = header_of(moment, moment.seen.plan.node_of(module), window)
+    found = header_of(moment, module, window)
     side = "to" if entry == 2 else "to" if found.number else "from"
-    ends = [it for it in moment.seen.plan.ends(module) if it.link == found.link and it.side == side]
-    if not ends:
+    name = moment.connection(found.link)
+    if (name, side) not in [(it.connection, it.side) for it in moment.seen.deployment.modules[module].ends]:
         yield f"{module} has no {'receiving' if side == 'to' else 'sending'} end of connection number {found.link}"
         return
-    view = moment.model.present[module].ends[(ends[0].connection, side)] if module in moment.model.present else None
+    view = moment.model.present[module].ends[(name, side)] if module in moment.model.present else None
     is_open = "isn't open" if not view or view.epoch is None else f"is open in epoch {view.epoch}"
-    yield f"the packet is for {ends[0].connection} in epoch {found.epoch}, and {module}'s end of it {is_open}"
+    yield f"the packet is for {name} in epoch {found.epoch}, and {module}'s end of it {is_open}"
 
 
 def event_told(moment: Moment, module: str, window: int) -> str:
-    found = header_of(moment, moment.seen.plan.node_of(module), window)
-    names = moment.seen.plan.names("connection")
-    name = names[found.link] if found.link < len(names) else f"connection number {found.link}"
+    found = header_of(moment, module, window)
+    name = moment.connection(found.link)
     if found.kind == 1:
         return f"the packet is a key for {name} in epoch {found.epoch}"
     view = moment.model.present[module].ends.get((name, "to")) if module in moment.model.present else None
@@ -364,12 +368,12 @@ def old_number(moment: Moment, module: str, _entry: int, window: int) -> Iterato
 def other_tag(moment: Moment, module: str, entry: int, window: int) -> Iterator[str]:
     yield event_told(moment, module, window)
     if entry == 0:
-        node = moment.seen.plan.node_of(module)
-        yield f"a key is for one module at one boot, and {node} is at boot {moment.model.boots.get(node, 0)}"
+        node = moment.seen.deployment.node_of(module)
+        yield f"a key is for one module at one boot, and {node} is at boot {moment.model.boot_of(module)}"
 
 
 def no_sample(moment: Moment, module: str, _entry: int, _window: int) -> Iterator[str]:
-    device = sensor_of(moment, module)
+    device = moment.seen.deployment.modules[module].sensor
     for it in reversed(moment.before):
         made = it.fields()
         if it.kind == "read" and made["module"] == module or it.kind == "drain" and made["device"] == device:
@@ -379,13 +383,6 @@ def no_sample(moment: Moment, module: str, _entry: int, _window: int) -> Iterato
             yield f"a reset came after the last sample of {device}, item {it.number}"
             return
     yield f"{device} had no sample yet"
-
-
-def sensor_of(moment: Moment, module: str) -> str:
-    """The sensor that a module drives, or nothing."""
-    device = (moment.seen.plan.named("module", module) or {}).get("device")
-    kind = (moment.seen.plan.named("device", device) or {}).get("kind")
-    return str(device) if kind == "sensor" else ""
 
 
 STATUSES: Dict[int, Callable[[Moment, str, int, int], Iterator[str]]] = {

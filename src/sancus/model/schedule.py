@@ -10,7 +10,7 @@ from collections import deque
 from typing import Callable, Deque, Dict, List, Optional, Tuple
 
 from sancus.model.asking import Program
-from sancus.model.deployment import End, Plan, port_of
+from sancus.model.described import Deployment, End
 from sancus.model.items import Item, say
 from sancus.model.numbers import counted, number, within
 from sancus.model.rules import near
@@ -128,8 +128,8 @@ def times(count: int) -> str:
 class Writer:
     """The lines so far, and what they showed."""
 
-    def __init__(self, plan: Plan, head: bytes, session: Session, program: Program) -> None:
-        self.plan, self.head, self.session, self.program = plan, head, session, program
+    def __init__(self, deployment: Deployment, session: Session, program: Program) -> None:
+        self.deployment, self.session, self.program = deployment, session, program
         self.windows, self.state = Windows(), State()
         self.lines: List[str] = []
         self.notes: List[str] = []
@@ -164,7 +164,7 @@ class Writer:
         act, node, at, size = words[0], "", 0, 0
         if act == "call" and any(it.kind == "done" for it in items):
             pieces = sum(it.fields()["pieces"] for it in items if it.kind == "done")
-            node, at, size = self.plan.node_of(words[1]), number(words[4]) or 0, EVENT * pieces
+            node, at, size = self.deployment.node_of(words[1]), number(words[4]) or 0, EVENT * pieces
         elif act == "give" and not items:
             node, at, size = words[2], number(words[3]) or 0, self.state.lengths.get(number(words[1]) or 0, 0)
         elif act == "put" and not items:
@@ -182,11 +182,10 @@ class Writer:
             node = made["node"]
             state.boots[node] = state.boot(node) + 1
             state.writes.pop(node, None)
-            for module in self.plan.names("module"):
-                if self.plan.node_of(module) == node:
-                    state.loaded.pop(module, None)
-                    state.open_ends.pop(module, None)
-                    state.calls.pop(module, None)
+            for module in self.deployment.modules_of(node):
+                state.loaded.pop(module.name, None)
+                state.open_ends.pop(module.name, None)
+                state.calls.pop(module.name, None)
         elif item.kind == "protect" and made["module"]:
             state.loaded[made["module"]] = True
         elif item.kind == "attested":
@@ -197,7 +196,7 @@ class Writer:
             is_call = words[0] == "call" and words[1] == made["module"]
             window = number(words[4]) if is_call else None
             pieces = 0 if is_call and number(words[2]) == ATTEST else made["pieces"]
-            writes = len(state.writes.get(self.plan.node_of(made["module"]), []))
+            writes = len(state.writes.get(self.deployment.node_of(made["module"]), []))
             call = Call(window, pieces, len(self.session.lines), writes, [])
             call.sure = self.sure_pieces(made["module"], call)
             state.calls[made["module"]] = call
@@ -208,19 +207,18 @@ class Writer:
     # --- Names and numbers ---
 
     def module(self, name: str) -> str:
-        if not self.plan.named("module", name):
+        if name not in self.deployment.modules:
             raise Mistake(f"there is no module {name}{self.other(name)}")
-        return self.plan.node_of(name)
+        return self.deployment.node_of(name)
 
     def other(self, name: str) -> str:
         """What a name is that is none of a module, or which module it may have been."""
-        if self.plan.named("node", name):
-            there = [it for it in self.plan.names("module") if self.plan.node_of(it) == name]
+        if name in self.deployment.nodes:
+            there = [it.name for it in self.deployment.modules_of(name)]
             return f": {name} is a node, with the modules {' '.join(there)}" if there else f": {name} is a node"
-        if self.plan.named("device", name):
-            driver = self.plan.driver_of(name)
-            return f": {name} is a device, and {driver['name'] if driver else 'no module'} drives it"
-        return near(name, self.plan.names("module"))
+        if name in self.deployment.devices:
+            return f": {name} is a device, and {self.deployment.devices[name].driver or 'no module'} drives it"
+        return near(name, list(self.deployment.modules))
 
     def packet(self, word: str) -> str:
         """A packet's number, by its name or the number itself."""
@@ -245,7 +243,10 @@ class Writer:
         return str(made[0])
 
     def told(self, items: List[Item]) -> str:
-        return "; ".join(f"`{it.text}`: {say(it, self.plan)}" for it in items) or "it showed nothing"
+        return "; ".join(f"`{it.text}`: {say(it, self.deployment)}" for it in items) or "it showed nothing"
+
+    def receiver(self, connection: str) -> str:
+        return self.deployment.connections[connection].receiver
 
     # --- What lines for people are made of ---
 
@@ -264,7 +265,7 @@ class Writer:
             raise Mistake(f"{what} failed: {self.told(items)}")
 
     def deploy(self, *names: str) -> None:
-        modules = self.plan.names("module") if names == ("all",) else list(names)
+        modules = list(self.deployment.modules) if names == ("all",) else list(names)
         for name in modules:
             node = self.module(name)
             if self.state.loaded.get(name):
@@ -300,13 +301,13 @@ class Writer:
 
     def keys(self, name: str, was_attested: bool, items: List[Item]) -> List[Tuple[End, int]]:
         """Which end each set-key packet of an accepted answer is for, by docs/FORMATS.md."""
-        ends = self.plan.ends(name)
+        ends = self.deployment.modules[name].ends
         if was_attested:
             # Renewed connections get new keys at their other ends too, in modules that were attested.
             own = {it.connection for it in ends}
             ends = ends + [
                 it
-                for it in self.plan.all_ends()
+                for it in self.deployment.ends
                 if it.module != name and it.connection in own and it.module in self.state.attested
             ]
         packets = [it.fields()["packet"] for it in items if it.kind == "packet"]
@@ -320,7 +321,7 @@ class Writer:
         for end, packet in keys:
             # (a module that was attested at an earlier boot of its node is gone, and so is its end)
             is_here = self.state.loaded.get(end.module)
-            if is_here and self.state.attested.get(end.module) == self.state.boot(self.plan.node_of(end.module)):
+            if is_here and self.state.attested.get(end.module) == self.state.boot(self.deployment.node_of(end.module)):
                 self.must_be_done(
                     self.hand(str(packet), end.module, SET_KEY), end.module, f"opening {end.connection} in {end.module}"
                 )
@@ -331,13 +332,13 @@ class Writer:
     def sampled(self, name: str, value: str) -> List[Item]:
         """Gives a sensor a value, and calls its driver, whose items are returned."""
         self.module(name)
-        device = (self.plan.named("module", name) or {}).get("device")
-        if not device or (self.plan.named("device", device) or {}).get("kind") != "sensor":
+        sensor = self.deployment.modules[name].sensor
+        if not sensor:
             raise Mistake(f"{name} drives no sensor")
         if not within(value, 0, 32767):
             raise Mistake(f"{value} is no value of a sensor: 0 to 32,767")
         self.must_be_loaded(name)
-        items = self.put("sense", str(device), value)
+        items = self.put("sense", sensor, value)
         if not any(it.kind == "sense" for it in items):
             raise Mistake(f"the sample isn't taken: {self.told(items)}")
         called = self.call(name, SAMPLE)
@@ -350,7 +351,7 @@ class Writer:
 
     def absence(self, name: str) -> str:
         """Why a module isn't there."""
-        node = self.plan.node_of(name)
+        node = self.deployment.node_of(name)
         if not self.state.boot(node):
             return f"{name} isn't loaded on {node} yet: `deploy {name}` first"
         was_reset = f"{node} was reset {times(self.state.boot(node))}"
@@ -365,16 +366,17 @@ class Writer:
                     f"{name} answers with status {made['status']}: {table_words()['statuses'][str(made['status'])][1]}"
                 )
             elif it.kind in ("reset", "busy", "budget"):
-                self.note(f"`{it.text}`: {say(it, self.plan)}")
+                self.note(f"`{it.text}`: {say(it, self.deployment)}")
 
     # --- Carrying ---
 
     def carry(self, sender: str, receiver: str, which: str = "") -> None:
         self.module(sender)
         self.module(receiver)
-        between = self.plan.between(sender, receiver)
+        sending = [it for it in self.deployment.modules[sender].ends if it.side == "from"]
+        between = [it.connection for it in sending if it.peer == receiver]
         if not between:
-            to = sorted({self.plan.receiver(it.connection) for it in self.plan.ends(sender) if it.side == "from"})
+            to = sorted({it.peer for it in sending})
             raise Mistake(
                 f"no connection leads from {sender} to {receiver}; {sender} sends to: {' '.join(to) or 'nobody'}"
             )
@@ -384,9 +386,9 @@ class Writer:
 
     def taken(self, sender: str, piece: Piece) -> Sent:
         """Makes a packet of an event in a window."""
-        receiver = self.plan.receiver(piece.connection)
+        receiver = self.receiver(piece.connection)
         self.state.calls[sender].carried[piece.at] = piece.connection
-        items = self.put("take", self.plan.node_of(sender), f"0x{piece.at:x}", str(EVENT))
+        items = self.put("take", self.deployment.node_of(sender), f"0x{piece.at:x}", str(EVENT))
         return Sent(self.new_packet(items, "taking the event", f"event.{sender}.{receiver}"), sender, receiver)
 
     def flow(self, sensor: str, value: str) -> None:
@@ -405,15 +407,16 @@ class Writer:
 
     def driver(self, sensor: str) -> str:
         """The module that drives a sensor, by the sensor's name or by its own."""
-        if not self.plan.named("device", sensor):
-            if not self.plan.named("module", sensor):
-                known = [*self.plan.names("device"), *self.plan.names("module")]
-                raise Mistake(f"there is no sensor {sensor}, and no module of this name{near(sensor, known)}")
+        devices, modules = self.deployment.devices, self.deployment.modules
+        if sensor not in devices:
+            if sensor not in modules:
+                found = near(sensor, [*devices, *modules])
+                raise Mistake(f"there is no sensor {sensor}, and no module of this name{found}")
             return sensor
-        found = self.plan.driver_of(sensor)
-        if not found:
+        driver = devices[sensor].driver
+        if not driver:
             raise Mistake(f"no module drives {sensor}")
-        return str(found["name"])
+        return driver
 
     def on_the_way(self, sender: str) -> List[Sent]:
         """Takes the events of a module's last call that are in their window and weren't carried."""
@@ -479,7 +482,7 @@ class Writer:
         others = [it.at for it in call.sure if it.connection not in wanted]
         lost = [it for it in call.lost(pieces) if it not in others]
         if lost:
-            writer = self.written_over(sender, lost) or f"another call or line on {self.plan.node_of(sender)}"
+            writer = self.written_over(sender, lost) or f"another call or line on {self.deployment.node_of(sender)}"
             return (
                 f"no event for {receiver} is in the window of {sender} any more: {writer} wrote over what it sent; "
                 f"`carry {sender} {receiver}` before that, or set other `windows` for it"
@@ -489,12 +492,12 @@ class Writer:
                 f"what {sender} sent to {receiver} at its last call was carried; `give event.{sender}.{receiver} NODE` "
                 "gives it again"
             )
-        there = ", ".join(f"{it.connection} to {self.plan.receiver(it.connection)}" for it in pieces)
+        there = ", ".join(f"{it.connection} to {self.receiver(it.connection)}" for it in pieces)
         return f"no event for {receiver} is in the window: there is {there or 'none'}"
 
     def written_over(self, sender: str, places: List[int]) -> str:
         """What wrote last over one of some places since a module's last call, or nothing that is known."""
-        writes = self.state.writes.get(self.plan.node_of(sender), [])[self.state.calls[sender].writes :]
+        writes = self.state.writes.get(self.deployment.node_of(sender), [])[self.state.calls[sender].writes :]
         met = [it for it in writes if any(it.begin < at + EVENT and at < it.end for at in places)]
         return met[-1].what if met else ""
 
@@ -506,9 +509,9 @@ class Writer:
         if not found:
             writer = self.written_over(sender, [places[which]]) or "another call or line"
             raise Mistake(f"piece {which} isn't there any more: {writer} wrote over it")
-        if self.plan.receiver(found.connection) != receiver:
+        if self.receiver(found.connection) != receiver:
             raise Mistake(
-                f"piece {which} is for {self.plan.receiver(found.connection)}, by {found.connection}, and not for "
+                f"piece {which} is for {self.receiver(found.connection)}, by {found.connection}, and not for "
                 f"{receiver}"
             )
         return found
@@ -516,32 +519,28 @@ class Writer:
     def pieces(self, sender: str, call: Call) -> List[Piece]:
         """The events of the sender in the window, as they are there now; by what the packets say, and not by their
         places."""
-        node, now = self.plan.node_of(sender), len(self.session.lines)
+        node, now = self.deployment.node_of(sender), len(self.session.lines)
         if call.line == now and call.sure:
             return call.sure
         answers = snapped(
-            self.program, self.head, self.session.lines, [f"bytes {node} 0x{at:x} 6 {now}" for at in call.places]
+            self.program, self.deployment.head, self.session.lines, [f"bytes {node} 0x{at:x} 6 {now}" for at in call.places]
         )
-        found = []
+        found, connections = [], list(self.deployment.connections.values())
         for at, answer in zip(call.places, answers):
             data = bytes.fromhex(answer.split(" ")[-1])
             kind, link = int.from_bytes(data[:2], "little"), data[2]
-            if kind != EVENT_KIND or link >= len(self.plan.connections):
-                continue
-            name = str(self.plan.connections[link].get("name"))
-            if self.plan.sender(name) == sender:
-                found.append(Piece(at, name))
+            if kind == EVENT_KIND and link < len(connections) and connections[link].sender == sender:
+                found.append(Piece(at, connections[link].name))
         return found
 
     def sure_pieces(self, sender: str, call: Call) -> List[Piece]:
         """The events of a call that was just made, if all open ends are of one output: then each `send` made one for
         each of them, in this order."""
         opened = self.state.open_ends.get(sender, {})
-        ends = [it.connection for it in self.plan.ends(sender) if it.side == "from" and it.connection in opened]
-        outputs = {port_of((self.plan.named("connection", it) or {}).get("from")) for it in ends}
-        if len(outputs) != 1:
+        ends = [it for it in self.deployment.modules[sender].ends if it.side == "from" and it.connection in opened]
+        if len({it.port for it in ends}) != 1:
             return []
-        return [Piece(at, ends[which % len(ends)]) for which, at in enumerate(call.places)]
+        return [Piece(at, ends[which % len(ends)].connection) for which, at in enumerate(call.places)]
 
     # --- Plain lines ---
 

@@ -11,13 +11,12 @@ from functools import lru_cache
 from typing import Deque, Dict, Iterable, List, NamedTuple, Optional, Set, Tuple
 
 from sancus.model.campaign_acts import Act, Carry, Change, Fate, Hold, Reading, Replay, Reset, Sample, said
-from sancus.model.deployment import Plan, module_of, port_of
+from sancus.model.described import Deployment
 from sancus.model.meaning import Act as Reacted
 from sancus.model.meaning import first_cells, react
 from sancus.model.people import NAMING
 from sancus.model.property import Cells, frozen, thawed
 from sancus.model.schedule import ANSWER, ATTEST, EVENT, EVENT_IN, SAMPLE, SET_KEY
-from sancus.model.tables import Range, taken_on
 from sancus.records import dataclass, field
 
 # The bytes of an in-window and of an out-window, and the lowest place of one.
@@ -56,25 +55,24 @@ class Taken:
     event: Event
 
 
-def windows_of(plan: Plan, node: str) -> Iterable[Tuple[str, int, int]]:
+def windows_of(deployment: Deployment, node: str) -> Iterable[Tuple[str, int, int]]:
     """Windows for the modules of a node that meet nothing on it: one for all packets that are given, and one for what
     each module sends."""
-    taken = sorted(taken_on(plan, node), key=lambda it: it.begin)
+    taken = [it for _, it in deployment.taken(node)]
     inside = first_free(IN_SIZE, taken, LOWEST_WINDOW)
     at = inside + IN_SIZE
-    for module in plan.names("module"):
-        if plan.node_of(module) == node:
-            outside = first_free(OUT_SIZE, taken, at)
-            at = outside + OUT_SIZE
-            yield module, inside, outside
+    for module in deployment.modules_of(node):
+        outside = first_free(OUT_SIZE, taken, at)
+        at = outside + OUT_SIZE
+        yield module.name, inside, outside
 
 
-def first_free(size: int, taken: List[Range], begin: int) -> int:
+def first_free(size: int, taken: List[range], begin: int) -> int:
     """The first place from one on where so many bytes meet none of these ranges, which are in order."""
     for it in taken:
-        if begin + size <= it.begin:
+        if begin + size <= it.start:
             break
-        begin = max(begin, it.end + it.end % 2)
+        begin = max(begin, it.stop + it.stop % 2)
     return begin
 
 
@@ -82,27 +80,25 @@ class Layout:
     """What acts speak of in a deployment: its modules, the sensor of each driver, connections and nodes; and where the
     windows are."""
 
-    def __init__(self, plan: Plan) -> None:
-        self.plan = plan
-        self.modules, self.connections = plan.names("module"), plan.names("connection")
-        self.node_of = {it: plan.node_of(it) for it in self.modules}
-        self.nodes = [it for it in plan.names("node") if it in self.node_of.values()]
-        sensors = {str(it["name"]) for it in plan.devices if it.get("kind") == "sensor"}
-        self.sensors = {str(it["name"]): str(it["device"]) for it in plan.modules if it.get("device") in sensors}
-        self.ends = {it: plan.ends(it) for it in self.modules}
-        self.all_ends = plan.all_ends()
-        self.sender = {it: plan.sender(it) for it in self.connections}
-        self.receiver = {it: plan.receiver(it) for it in self.connections}
-        self.input = {str(it["name"]): port_of(it["to"]) for it in plan.connections}
+    def __init__(self, deployment: Deployment) -> None:
+        modules, connections = deployment.modules.values(), deployment.connections.values()
+        self.modules, self.connections = list(deployment.modules), list(deployment.connections)
+        self.node_of = {it.name: it.node for it in modules}
+        self.nodes = [it for it in deployment.nodes if it in self.node_of.values()]
+        self.sensors = {it.name: it.sensor for it in modules if it.sensor}
+        self.ends, self.all_ends = {it.name: it.ends for it in modules}, deployment.ends
+        self.sender = {it.name: it.sender for it in connections}
+        self.receiver = {it.name: it.receiver for it in connections}
+        self.input = {it.name: it.input for it in connections}
         # the connections that lead from each output of a module
         self.leading: Dict[Tuple[str, str], List[str]] = {}
-        for it in plan.connections:
-            self.leading.setdefault((module_of(it["from"]), port_of(it["from"])), []).append(str(it["name"]))
-        places = [it for node in self.nodes for it in windows_of(plan, node)]
+        for it in connections:
+            self.leading.setdefault((it.sender, it.output), []).append(it.name)
+        places = [it for node in self.nodes for it in windows_of(deployment, node)]
         self.inside = {module: inside for module, inside, _ in places}
         self.outside = {module: outside for module, _, outside in places}
-        self.trees = {it: plan.tree(it) for it in self.modules}
-        self.firsts = {name: frozen(first_cells(tree)) if tree else () for name, tree in self.trees.items()}
+        self.trees = {it: deployment.tree(it) for it in self.modules}
+        self.firsts = {name: frozen(first_cells(tree)) for name, tree in self.trees.items()}
         # (schedules of one deployment have many reactions in common)
         self.reaction = lru_cache(maxsize=MOST_KNOWN)(self.reacted)
         self.deployed = Scribe(self)
@@ -111,8 +107,6 @@ class Layout:
     def reacted(self, module: str, event: Optional[str], value: int, cells: Cells) -> Tuple[Cells, List[Reacted]]:
         """What a module's handler does at an event, or at a sample."""
         tree = self.trees[module]
-        if not tree:
-            return cells, []
         now = thawed(tree, cells)
         acts = react(tree, event, value, now)
         return frozen(now), acts

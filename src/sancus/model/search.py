@@ -7,8 +7,8 @@ import time
 from collections import deque
 from typing import Callable, Deque, Dict, Iterator, List, Optional, Tuple
 
-from sancus.model.deployment import Plan
-from sancus.model.moves import Link, Move, Moves, State, Step
+from sancus.model.described import Connection, Deployment
+from sancus.model.moves import Move, Moves, State, Step
 from sancus.model.property import Property
 from sancus.model.values import Values, of_actuator
 from sancus.records import dataclass, field, replace
@@ -59,7 +59,7 @@ KINDS = (
 class Found:
     """A run that breaks the property: the moves that deploy, those after them, and their steps."""
 
-    plan: Plan
+    deployment: Deployment
     property: Property
     # the modules of its states, and those whose attestation is a move of its own
     names: List[str]
@@ -99,10 +99,9 @@ class Frontier:
             self.left.append(state)
 
     def nodes_to_reset(self) -> List[str]:
-        plan = self.moves.plan
         nodes = {self.moves.nodes[it] for it in (*self.moves.modules, *self.moves.sensors)}
         nodes |= {name for kind, name in self.moves.property.watched if kind == "reset"}
-        return [it for it in plan.names("node") if it in nodes]
+        return [it for it in self.moves.deployment.nodes if it in nodes]
 
     # --- Strides ---
 
@@ -198,7 +197,7 @@ class Frontier:
                     break
                 yield Move("take", ready.name)
 
-    def is_ready(self, link: Link, state: State) -> bool:
+    def is_ready(self, link: Connection, state: State) -> bool:
         receiver = self.moves.standing(state, link.receiver)
         words = state.queues[self.moves.link_index[link.name]]
         return bool(words) and receiver.is_present and receiver.is_attested and not receiver.owed
@@ -269,17 +268,17 @@ class Shortening:
 class Search:
     """All kinds of search for one property, each a bit further in turn."""
 
-    plan: Plan
+    deployment: Deployment
     property: Property
     most_moves: int = 0
 
     def __post_init__(self) -> None:
-        moves = Moves(self.plan, self.property)
+        moves = Moves(self.deployment, self.property)
         self.values = Values(moves)
         self.readings = {it: self.values.of(it) for it in moves.sensors}
 
     def frontier(self, kind: Kind) -> Frontier:
-        moves = Moves(self.plan, self.property, is_whole=kind.is_whole)
+        moves = Moves(self.deployment, self.property, is_whole=kind.is_whole)
         few = {name: more if kind.has_more_values else some for name, (some, more) in self.readings.items()}
         return Frontier(kind, moves, few, of_actuator(moves), self.most_moves)
 
@@ -321,7 +320,7 @@ class Search:
         names = frontier.moves.modules
         attested = [it for it in names if frontier.moves.attests(it)]
         return Found(
-            self.plan, self.property, names, attested, frontier.kind.is_whole, frontier.deploying, run, steps
+            self.deployment, self.property, names, attested, frontier.kind.is_whole, frontier.deploying, run, steps
         )
 
 

@@ -16,7 +16,7 @@ from pathlib import Path
 from typing import Dict, Iterator, List, Optional, Tuple
 
 from sancus.model.circuits import TRUE, WIDTH, Bit, Circuit
-from sancus.model.deployment import Plan
+from sancus.model.described import Deployment
 from sancus.model.moves import Move, Moves, State
 from sancus.model.property import Property
 from sancus.model.search import Found, Shortening
@@ -189,8 +189,8 @@ class Proof:
         return f"it holds as long as at most {many} of each connection are on their way" if self.words else ""
 
 
-def tried(plan: Plan, property: Property, room: int, seed: int, deadline: Deadline) -> Proof:
-    system = System(Moves(plan, property, is_whole=False), room, seed)
+def tried(deployment: Deployment, property: Property, room: int, seed: int, deadline: Deadline) -> Proof:
+    system = System(Moves(deployment, property, is_whole=False), room, seed)
     with tempfile.TemporaryDirectory() as folder:
         (Path(folder) / "it.aig").write_bytes(system.circuit.aiger(system.bad))
         said = abc(f"read_aiger it.aig; strash; pdr -d -I inv.pla -T {deadline.left()}", folder, deadline.left())
@@ -205,11 +205,11 @@ def tried(plan: Plan, property: Property, room: int, seed: int, deadline: Deadli
     return Proof(invariant.is_of_any_length(deadline), len(invariant.cubes), room)
 
 
-def proof(plan: Plan, property: Property, seconds: float) -> Proof:
+def proof(deployment: Deployment, property: Property, seconds: float) -> Proof:
     """An invariant, if one is found in this time."""
     deadline, best = Deadline(seconds), Proof()
     for room, seed in TRIED:
-        made = tried(plan, property, room, seed, deadline)
+        made = tried(deployment, property, room, seed, deadline)
         if made.is_proved or made.is_broken:
             return made
         best = made if made.words > best.words else best
@@ -266,7 +266,7 @@ def started(system: System, state: State) -> Dict[Tuple[object, ...], int]:
 class Refuter:
     """Looks for a run with bmc3."""
 
-    plan: Plan
+    deployment: Deployment
     property: Property
     deadline: Deadline
 
@@ -278,7 +278,7 @@ class Refuter:
         return None
 
     def run(self, is_whole: bool, is_deployed: bool) -> Optional[Found]:
-        moves = Moves(self.plan, self.property, room=64, is_whole=is_whole)
+        moves = Moves(self.deployment, self.property, room=64, is_whole=is_whole)
         deploying = [it for m in moves.modules for it in moves.deploys(m)] if is_deployed else []
         state = moves.start()
         for it in deploying:
@@ -343,9 +343,9 @@ class Refuter:
         run = shortening.smaller(shortening.shorter(run))
         steps = moves.replay(moves.start(), [*deploying, *run]) or []
         attested = [it for it in moves.modules if moves.attests(it)]
-        return Found(self.plan, self.property, moves.modules, attested, moves.is_whole, deploying, run, steps)
+        return Found(self.deployment, self.property, moves.modules, attested, moves.is_whole, deploying, run, steps)
 
 
-def refutation(plan: Plan, property: Property, seconds: float) -> Optional[Found]:
+def refutation(deployment: Deployment, property: Property, seconds: float) -> Optional[Found]:
     """A run that breaks the property, if one is found in this time."""
-    return Refuter(plan, property, Deadline(seconds)).found()
+    return Refuter(deployment, property, Deadline(seconds)).found()

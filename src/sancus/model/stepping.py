@@ -86,7 +86,7 @@ def parts_of(seen: Inspected, line: str) -> Parts:
         ]
         return Parts(it.node, [f"set {it.node} {name} {value}" for name, value in sets], is_whole=True)
     if act == "load":
-        return Parts(seen.plan.node_of(words[1]), most=1)
+        return Parts(seen.deployment.modules[words[1]].node, most=1)
     return Parts("", note=NOTHING + (": an interrupt is no instruction" if act == "irq" else ""))
 
 
@@ -226,7 +226,7 @@ def is_in_form(seen: Inspected, line: str) -> bool:
     act, *words = line.split()
     fields = ACTS.get(act, [])
     is_long_enough = len(words) >= len(fields) if act == "asm" else len(words) == len(fields)
-    return bool(fields) and is_long_enough and all(suits(it, word, seen.plan) for it, word in zip(fields, words))
+    return bool(fields) and is_long_enough and all(suits(it, word, seen.deployment) for it, word in zip(fields, words))
 
 
 def must_be_an_act(seen: Inspected, line: str, at: int) -> None:

@@ -10,9 +10,10 @@ from typing import Dict, Iterator, List, NamedTuple, Optional, Tuple, Union
 
 from sancus.model.circuits import FALSE, TRUE, WIDTH, Bit, Circuit, Word, constant
 from sancus.model.handling import Cells, most_acts, reacted
-from sancus.model.language import Emit, Module, Send
+from sancus.model.described import Connection
+from sancus.model.language import Emit, Send
 from sancus.model.meaning import first_cells
-from sancus.model.moves import Link, Moves
+from sancus.model.moves import Moves
 from sancus.records import dataclass, field
 
 Key = Tuple[object, ...]
@@ -59,15 +60,10 @@ class System:
         self.firsts = {it.key: it.first for it in self.variables}
         self.build()
 
-    def tree(self, module: str) -> Module:
-        found = self.moves.trees[module]
-        assert found
-        return found
-
     def most_emits(self, module: str) -> int:
         if not self.moves.is_watched_out(module):
             return 0
-        return max([most_acts(it.body, Emit, False) for it in self.tree(module).handlers] + [0])
+        return max([most_acts(it.body, Emit, False) for it in self.moves.trees[module].handlers] + [0])
 
     # --- The state ---
 
@@ -78,7 +74,7 @@ class System:
                 yield from (Variable((it, m), 1, 0) for it in ("attested", "known"))
             if self.property.sees("attested", m):
                 yield Variable(("late", m), 1, 0)
-            for name, values in first_cells(self.tree(m)).items():
+            for name, values in first_cells(self.moves.trees[m]).items():
                 yield from (Variable(("cell", m, name, i), WIDTH, it) for i, it in enumerate(values))
             if not self.moves.is_whole:
                 yield from self.slots("owed", m, self.emits[m])
@@ -110,7 +106,7 @@ class System:
         yield from (it for it in sorted(self.property.watched) if it[0] in ("raw", "drain"))
         nodes = {moves.nodes[it] for it in (*moves.modules, *self.tracked)}
         nodes |= {name for kind, name in self.property.watched if kind == "reset"}
-        yield from (("reset", it) for it in moves.plan.names("node") if it in nodes)
+        yield from (("reset", it) for it in moves.deployment.nodes if it in nodes)
 
     # --- The circuit ---
 
@@ -121,7 +117,7 @@ class System:
         sends = [
             sum(most_acts(it.body, Send, True) for _ in self.moves.links)
             for m in self.moves.modules
-            for it in self.tree(m).handlers
+            for it in self.moves.trees[m].handlers
         ]
         self.lost = [c.input() for _ in range(max([0, *sends]))]
         self.state: Values = {}
@@ -228,9 +224,9 @@ class System:
         kind, name, value = item
         cells: Cells = {
             cell: [self.word(("cell", module, cell, i)) for i in range(len(values))]
-            for cell, values in first_cells(self.tree(module)).items()
+            for cell, values in first_cells(self.moves.trees[module]).items()
         }
-        after, acts = reacted(self.circuit, self.tree(module), event, value, cells)
+        after, acts = reacted(self.circuit, self.moves.trees[module], event, value, cells)
         changes.update({("cell", module, cell, i): it for cell, some in after.items() for i, it in enumerate(some)})
         items, lost = [(TRUE, kind, name, value)], iter(self.lost)
         for act in acts:
@@ -244,7 +240,7 @@ class System:
                 self.push(changes, "owed", module, self.emits[module], act.guard, act.value)
         return Effect(possible, changes, items)
 
-    def send(self, changes: Values, link: Link, guard: Bit, value: Word, is_lost: Bit) -> None:
+    def send(self, changes: Values, link: Connection, guard: Bit, value: Word, is_lost: Bit) -> None:
         c, to = self.circuit, link.receiver
         keyless = c.both(self.bit(("known", to)), self.bit(("attested", to)) ^ 1)
         own = self.bit(("attested", link.sender)) if ("attested", link.sender) in self.keys else TRUE

@@ -5,9 +5,10 @@ D9, D10).
 from __future__ import annotations
 
 import re
-from typing import Any, Dict, List, Optional
+from typing import Any, Dict, List, Optional, Tuple
 
-from sancus.model.deployment import KINDS, Entry, Plan, module_of, port_of
+from sancus.model import language
+from sancus.model.deployment import KINDS, Entry, Tables, module_of, port_of
 from sancus.model.rules import near
 from sancus.records import dataclass
 
@@ -67,19 +68,19 @@ def keys(kind: str, entry: Entry) -> List[str]:
     return lines
 
 
-def names(kind: str, index: int, plan: Plan) -> List[str]:
+def names(kind: str, index: int, tables: Tables) -> List[str]:
     """What is wrong with the names of an entry."""
-    entry, lines = plan.entries(kind)[index], []
+    entry, lines = tables.entries(kind)[index], []
     name = str(entry.get("name", ""))
     if not re.fullmatch(r"[a-z][a-z0-9_]{0,15}", name):
         lines.append(f"`{name}` is no name: a lower-case letter and up to 15 lower-case letters, digits or _")
-    if name in plan.names(kind)[:index]:
+    if name in tables.names(kind)[:index]:
         lines.append(f"the name `{name}` is taken by an earlier {kind}")
     if kind == "module" and name == "deployer":
         lines.append("no module may be named `deployer`")
     for key in ("node", "device"):
-        if kind in ("device", "module") and key in entry and entry[key] not in plan.names(key):
-            lines.append(f"there is no {key} `{entry[key]}`{near(str(entry[key]), plan.names(key))}")
+        if kind in ("device", "module") and key in entry and entry[key] not in tables.names(key):
+            lines.append(f"there is no {key} `{entry[key]}`{near(str(entry[key]), tables.names(key))}")
     return lines
 
 
@@ -87,14 +88,14 @@ def a(kind: str) -> str:
     return f"an {kind}" if kind == "actuator" else f"a {kind}"
 
 
-def ties_of_connection(entry: Entry, plan: Plan) -> List[str]:
+def ties_of_connection(entry: Entry, tables: Tables) -> List[str]:
     lines = []
     for key, word in (("from", "output"), ("to", "input")):
         module, port = module_of(entry[key]), port_of(entry[key])
-        if not plan.named("module", module):
-            lines.append(f"`{key}` names no module `{module}`{near(module, plan.names('module'))}")
+        if not tables.named("module", module):
+            lines.append(f"`{key}` names no module `{module}`{near(module, tables.names('module'))}")
             continue
-        tree = plan.tree(module)
+        tree = tables.tree(module)
         found = tree.names(word) if tree else []
         if port not in found:
             lines.append(
@@ -104,13 +105,13 @@ def ties_of_connection(entry: Entry, plan: Plan) -> List[str]:
     return lines
 
 
-def ties(kind: str, index: int, plan: Plan) -> List[str]:
+def ties(kind: str, index: int, tables: Tables) -> List[str]:
     """How a module and its device, or a connection and its modules, don't fit."""
-    entry = plan.entries(kind)[index]
+    entry = tables.entries(kind)[index]
     if kind == "connection":
-        return ties_of_connection(entry, plan)
-    tree = plan.tree(str(entry["name"]))
-    device = plan.named("device", entry.get("device"))
+        return ties_of_connection(entry, tables)
+    tree = tables.tree(str(entry["name"]))
+    device = tables.named("device", entry.get("device"))
     declared = next((it.kind for it in tree.declared if it.kind in ("sensor", "actuator")), None) if tree else None
     lines = []
     if device and device["node"] != entry["node"]:
@@ -123,7 +124,7 @@ def ties(kind: str, index: int, plan: Plan) -> List[str]:
         lines.append(f"its source declares {a(str(declared))}, and its device {device['name']} is {a(device['kind'])}")
     elif declared and not device:
         lines.append(f"its source declares {a(declared)}, and it has no `device`")
-    ends = len(plan.ends(entry["name"]))
+    ends = ends_of(tables, entry["name"])
     if ends > 16:
         lines.append(f"it has {ends} ends of connections, and at most 16 may be there")
     return lines or [
@@ -148,31 +149,43 @@ class Range:
         return f"share 0x{begin:04x} to 0x{end:04x}, {end - begin} bytes" if begin < end else ""
 
 
-def sections(plan: Plan, module: Entry) -> List[Range]:
-    it, name = plan.bounds(module), module.get("name")
-    if not it:
-        return []
+def ends_of(tables: Tables, module: Any) -> int:
+    """How many ends of connections a module has."""
+    return sum(module_of(it.get(side)) == module for it in tables.connections for side in ("from", "to"))
+
+
+def sizes(tables: Tables, module: Entry) -> Optional[Tuple[int, int]]:
+    """How long a module's sections are; None if its source doesn't tell."""
+    tree, ends = tables.tree(str(module.get("name"))), ends_of(tables, module.get("name"))
+    return (2048 + 192 * ends + 64 * language.nodes(tree), 512 + 24 * ends + 2 * language.cells(tree)) if tree else None
+
+
+def sections(tables: Tables, module: Entry) -> List[Range]:
+    """The public and the private section of a module, if they have a place and a size."""
+    device, name = tables.named("device", module.get("device")) or {}, module.get("name")
+    places = (("public", module.get("text")), ("private", module.get("data", device.get("at"))))
     return [
-        Range(f"the public section of {name}", it.text, it.text_end),
-        Range(f"the private section of {name}", it.data, it.data_end),
+        Range(f"the {which} section of {name}", at, at + size)
+        for (which, at), size in zip(places, sizes(tables, module) or ())
+        if isinstance(at, int)
     ]
 
 
-def section_places(plan: Plan, index: int) -> List[str]:
+def section_places(tables: Tables, index: int) -> List[str]:
     """What is wrong with the places of a module's sections, and where they have room."""
-    module, lines = plan.modules[index], []
-    own = sections(plan, module)
-    earlier = [it for it in plan.modules[:index] if it.get("node") == module.get("node")]
-    others = [it for other in earlier for it in sections(plan, other)]
+    module, lines = tables.modules[index], []
+    own = sections(tables, module)
+    earlier = [it for it in tables.modules[:index] if it.get("node") == module.get("node")]
+    others = [it for other in earlier for it in sections(tables, other)]
     wrong = []
     for it in own:
-        found = section_faults(plan, module, it, [*others, *([own[0]] if it is not own[0] else [])])
+        found = section_faults(tables, module, it, [*others, *([own[0]] if it is not own[0] else [])])
         lines += found
         wrong += [it] if found else []
-    return lines + rooms(plan, module, wrong)
+    return lines + rooms(tables, module, wrong)
 
 
-def section_faults(plan: Plan, module: Entry, it: Range, others: List[Range]) -> List[str]:
+def section_faults(tables: Tables, module: Entry, it: Range, others: List[Range]) -> List[str]:
     """What is wrong with the place of a section of a module, beside other sections."""
     lines = []
     if it.begin % 2:
@@ -182,7 +195,7 @@ def section_faults(plan: Plan, module: Entry, it: Range, others: List[Range]) ->
     if it.end > HIGHEST:
         lines.append(f"{it.told()} ends {it.end - HIGHEST} bytes above 0xffe0")
     lines += [f"{it.told()} and {other.told()} {it.shares(other)}" for other in others if it.shares(other)]
-    for device in plan.devices:
+    for device in tables.devices:
         drives = device["name"] == module.get("device") and it.what.startswith("the private")
         if device["node"] == module.get("node") and not drives and it.shares(word_of(device)):
             lines.append(f"{it.told()} holds the word of the device {device['name']}, 0x{device['at']:04x}")
@@ -193,12 +206,12 @@ def word_of(device: Entry) -> Range:
     return Range(f"the word of {device.get('name')}", device["at"], device["at"] + 2)
 
 
-def taken_on(plan: Plan, node: Any) -> List[Range]:
+def taken_on(tables: Tables, node: Any) -> List[Range]:
     """What a node has: sections and words of devices, those of a driver in its private section."""
-    modules = [it for it in plan.modules if it.get("node") == node]
+    modules = [it for it in tables.modules if it.get("node") == node]
     driven = [it.get("device") for it in modules]
-    words = [word_of(it) for it in plan.devices if it.get("node") == node and it.get("name") not in driven]
-    return [*words, *(it for module in modules for it in sections(plan, module))]
+    words = [word_of(it) for it in tables.devices if it.get("node") == node and it.get("name") not in driven]
+    return [*words, *(it for module in modules for it in sections(tables, module))]
 
 
 def free_place(size: int, taken: List[Range], begin: int) -> Optional[int]:
@@ -216,9 +229,9 @@ def free_place(size: int, taken: List[Range], begin: int) -> Optional[int]:
     return None
 
 
-def rooms(plan: Plan, module: Entry, wrong: List[Range]) -> List[str]:
+def rooms(tables: Tables, module: Entry, wrong: List[Range]) -> List[str]:
     """Where on its node sections of a module have room, one beside the other."""
-    taken, lines = [it for it in taken_on(plan, module.get("node")) if it not in wrong], []
+    taken, lines = [it for it in taken_on(tables, module.get("node")) if it not in wrong], []
     for it in wrong:
         at = free_place(it.end - it.begin, taken, it.begin)
         is_public = it.what.startswith("the public")
@@ -235,29 +248,29 @@ def room_told(it: Range, node: Any, key: str, at: Optional[int]) -> str:
     return f"the next free place on {node} for {it.what}: `{key} = 0x{at:04x}`"
 
 
-def places(kind: str, index: int, plan: Plan) -> List[str]:
-    return section_places(plan, index) if kind == "module" else device_places(plan, plan.devices[index])
+def places(kind: str, index: int, tables: Tables) -> List[str]:
+    return section_places(tables, index) if kind == "module" else device_places(tables, tables.devices[index])
 
 
-def device_places(plan: Plan, device: Entry) -> List[str]:
+def device_places(tables: Tables, device: Entry) -> List[str]:
     """What is wrong with the place of a device, and where it has room, with its driver's private section."""
     at, lines = device["at"], []
     if at % 2 or not LOWEST <= at < HIGHEST:
         lines.append(f"its place 0x{at:04x} is odd, below 0x0200, or 0xffe0 or above")
-    for other in plan.devices:
+    for other in tables.devices:
         if other is not device and (other["node"], other["at"]) == (device["node"], at):
             lines.append(f"the device {other['name']} is at 0x{at:04x} too")
-    own = (sections(plan, plan.driver_of(device["name"]) or {})[1:] or [word_of(device)])[0]
-    taken = [it for it in taken_on(plan, device["node"]) if it != own]
+    own = (sections(tables, tables.driver_of(device["name"]) or {})[1:] or [word_of(device)])[0]
+    taken = [it for it in taken_on(tables, device["node"]) if it != own]
     return [*lines, room_told(own, device["node"], "at", free_place(own.end - own.begin, taken, at))]
 
 
-def counts(plan: Plan) -> List[str]:
+def counts(tables: Tables) -> List[str]:
     """Which of the entries are too many."""
     lines = [
-        f"{len(plan.entries(it))} {it}s, and at most {MOST[it]}" for it in KINDS if len(plan.entries(it)) > MOST[it]
+        f"{len(tables.entries(it))} {it}s, and at most {MOST[it]}" for it in KINDS if len(tables.entries(it)) > MOST[it]
     ]
-    for node in plan.names("node"):
-        there = sum(it.get("node") == node for it in plan.modules)
+    for node in tables.names("node"):
+        there = sum(it.get("node") == node for it in tables.modules)
         lines += [f"{there} modules on node {node}, and at most 8"] if there > 8 else []
     return lines

@@ -55,7 +55,7 @@ class Values:
     numbers: List[int] = field(default_factory=list)
 
     def __post_init__(self) -> None:
-        modules = [self.moves.property.module, *(it for it in self.moves.trees.values() if it)]
+        modules = [self.moves.property.module, *self.moves.trees.values()]
         found: Set[int] = {0, 1, GREATEST}
         for number in (it for module in modules for it in constants(module)):
             found.update((number - 1, number, number + 1))
@@ -80,9 +80,7 @@ class Values:
             if not left:
                 break
             module, event, word = left.pop(0)
-            tree = self.moves.trees[module]
-            assert tree
-            made = self.traced(tree, event, word)
+            made = self.traced(self.moves.trees[module], event, word)
             noted += [module, *made.outcomes]
             for kind, output, sent in made.acts:
                 if kind == "emit":

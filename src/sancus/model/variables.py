@@ -185,7 +185,7 @@ def runs_on(seen: Inspected, node: str, line: str) -> bool:
     act, *fields = line.split()[:2] or [""]
     if act in ("run", "finish"):
         return fields == [node]
-    return act in ("call", "load") and seen.plan.node_of(fields[0] if fields else "") == node
+    return act in ("call", "load") and seen.deployment.node_of(fields[0] if fields else "") == node
 
 
 def cells_after(seen: Inspected, module: str, lines: List[int]) -> Iterator[Tuple[int, List[Cells]]]:
@@ -213,7 +213,7 @@ def protected_after(moments: List[int], met: Dict[int, Seen]) -> Iterator[int]:
 
 def changes(seen: Inspected, module: str, asked: Line) -> List[str]:
     """What changes in a module up to a line, a line for each word; and where the module comes and goes."""
-    node = seen.plan.node_of(module)
+    node = seen.deployment.modules[module].node
     met = dict(presence(seen, module, asked.last))
     moments = [at for at in range(1, asked.last + 1) if at in met or runs_on(seen, node, seen.lines[at - 1])]
     present = list(protected_after(moments, met))

@@ -5,7 +5,7 @@ from __future__ import annotations
 from typing import Dict, Iterator, List, Tuple
 
 from sancus.model import language
-from sancus.model.deployment import Plan, module_of, port_of
+from sancus.model.deployment import Tables, module_of, port_of
 from sancus.model.faults import Teller
 from sancus.model.language import Applied, Combined, Constant, Element, Expression, Module, Statement, Store, subexpressions
 from sancus.model.rules import walk
@@ -29,9 +29,9 @@ class About:
         return f"warning: {self.what}"
 
 
-def about_keys(plan: Plan) -> Iterator[About]:
+def about_keys(tables: Tables) -> Iterator[About]:
     seen: Dict[str, str] = {}
-    for index, node in enumerate(plan.nodes):
+    for index, node in enumerate(tables.nodes):
         key, name = str(node.get("key")).lower(), str(node.get("name"))
         if key in seen:
             yield About(
@@ -41,7 +41,7 @@ def about_keys(plan: Plan) -> Iterator[About]:
                 "for one another: an item `forged` may come without a tag that was guessed",
             )
         seen.setdefault(key, name)
-    if plan.connections and "secret" not in plan.toml:
+    if tables.connections and "secret" not in tables.toml:
         yield About(
             "",
             0,
@@ -50,12 +50,12 @@ def about_keys(plan: Plan) -> Iterator[About]:
         )
 
 
-def about_ports(plan: Plan) -> Iterator[About]:
+def about_ports(tables: Tables) -> Iterator[About]:
     """Inputs and outputs that lead nowhere: mostly a connection or a handler was forgotten."""
-    sent = {(module_of(it.get("from")), port_of(it.get("from"))) for it in plan.connections}
-    taken = {(module_of(it.get("to")), port_of(it.get("to"))) for it in plan.connections}
-    for index, name in enumerate(plan.names("module")):
-        tree = plan.tree(name)
+    sent = {(module_of(it.get("from")), port_of(it.get("from"))) for it in tables.connections}
+    taken = {(module_of(it.get("to")), port_of(it.get("to"))) for it in tables.connections}
+    for index, name in enumerate(tables.names("module")):
+        tree = tables.tree(name)
         if not tree:
             continue
         for port in tree.names("output"):
@@ -125,26 +125,26 @@ class InSource:
     what: str
 
 
-def about_values(plan: Plan) -> Iterator[InSource]:
+def about_values(tables: Tables) -> Iterator[InSource]:
     """Comparisons with a number below 0, those that are always or never true, and elements past an array's end."""
-    for index, name in enumerate(plan.names("module")):
-        tree = plan.tree(name)
+    for index, name in enumerate(tables.names("module")):
+        tree = tables.tree(name)
         statements = [it for handler in (tree.handlers if tree else []) for it in walk(handler.body)]
         found = [place for it in statements for place in of_statement(tree, it)] if tree else []
         yield from (InSource(index, *place) for place in found[:MOST_PLACES])
 
 
 def of_values(teller: Teller) -> List[str]:
-    plan, lines = teller.plan, []
-    for it in about_values(plan) if plan else ():
-        line, column = language.place_of(str(plan.modules[it.index]["source"]), it.at)  # type: ignore[union-attr]
+    tables, lines = teller.tables, []
+    for it in about_values(tables) if tables else ():
+        line, column = language.place_of(str(tables.modules[it.index]["source"]), it.at)  # type: ignore[union-attr]
         lines += [f"warning: {it.what}", *teller.in_source(it.index, line, column, it.length)]
     return lines
 
 
-def of_keys(plan: Plan) -> List[str]:
-    return list(map(str, about_keys(plan)))
+def of_keys(tables: Tables) -> List[str]:
+    return list(map(str, about_keys(tables)))
 
 
-def of_deployment(plan: Plan) -> List[str]:
-    return [*of_keys(plan), *map(str, about_ports(plan))]
+def of_deployment(tables: Tables) -> List[str]:
+    return [*of_keys(tables), *map(str, about_ports(tables))]

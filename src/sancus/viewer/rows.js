@@ -35,8 +35,8 @@ class Run {
 
   // The lines of the schedule, each with its items, and the line that breaks a rule; or one line of all items, if the output has them alone.
   lines() {
-    const {input, output, fault} = this;
-    if (output?.lines) return [...output.lines, ...(fault && input?.lines.slice(output.lines.length, fault[1]) || [])];
+    const {input, output, fault} = this, shown = output?.lines ?? (fault && !output.items.length ? [] : null);
+    if (shown) return [...shown, ...(fault && input?.lines.slice(shown.length, fault[1]) || [])];
     if (input && !output) {
       this.note("Only the schedule is here: open the output too.", false);
       return input.lines;
