@@ -29,6 +29,18 @@ BROWSER = next(
 )
 LIGHTING = LIGHTING_BYTES.decode()
 DEPLOYMENT = LIGHTING.partition("%%\n")[0] + "%%\n"
+# What the page reads of what `describe` prints of it (tests/rows/descriptions.rows has all).
+DESCRIBED = """node a
+node b
+device light node a kind sensor at 0x1000 driver eye
+device bulb node b kind actuator at 0x1000 driver lamp
+module eye node a
+module logic node a
+module lamp node b
+connection up from eye.level to logic.level
+connection down from logic.bright to lamp.show
+end
+"""
 # The lines of the example that come before its reading, which make ten packets.
 SET_UP = LIGHTING.partition("sense light")[0]
 PACKETS = 10
@@ -181,6 +193,7 @@ def run_of(rows, last="end"):
     return {
         "input": (DEPLOYMENT + "\n".join(lines_of(rows)) + "\n").encode(),
         "output": f"{output}{last}\n".encode(),
+        "described": DESCRIBED.encode(),
     }
 
 
@@ -330,21 +343,25 @@ class Viewer(unittest.TestCase):
         self.show(texts | {"input": texts["input"] + b"load ear\n"})
         self.assertEqual(self.texts("#notes div.bad"), ["fault schedule S4 4"])
         self.assertEqual(self.texts(".row.fault .text"), ["load ear", "  fault schedule S4 4"])
+        self.show(run_of([], "fault schedule S4 1") | {"input": DEPLOYMENT.encode() + b"load ear\n"})
+        self.assertEqual(self.texts("#notes div"), ["fault schedule S4 1"])
+        self.assertEqual(self.texts(".row.fault .text"), ["load ear", "  fault schedule S4 1"])
         self.show({"output": b"trace\nsense light 3\nread eye 3\n"})
-        self.assertEqual(self.texts("#notes div"), ["The output has no last line: it is cut."])
-        self.show({"input": b"node = [\n%%\nload eye\n", "output": b"trace\nprotect a eye\nend\n"})
-        self.assertIn("The deployment isn't read", self.texts("#notes div.bad")[0])
+        taken, cut = self.texts("#notes div")
+        self.assertIn("Names are taken from the trace", taken)
+        self.assertEqual(cut, "The output has no last line: it is cut.")
 
     def test_files_that_are_opened(self):
-        """A deployment, a schedule and an output, in any order."""
+        """A deployment, what `describe` prints of it, a schedule and an output, in any order."""
         rows = readings(1)
         schedule, output = "\n".join(lines_of(rows)) + "\n", run_of(rows)["output"].decode()
         self.show({})
         self.browser.value(f"page.open({json.dumps([DEPLOYMENT.partition('%%')[0]])})")
         self.assertIn("This is a part of a run", self.texts("#notes div")[0])
-        self.browser.value(f"page.open({json.dumps([output])})")
+        self.browser.value(f"page.open({json.dumps([output, DESCRIBED])})")
         self.assertEqual(self.texts("#notes div"), [])
         self.assertIn("▣ logic", self.texts("#heads text"))
+        self.assertIn("node b", self.texts("#heads text"))
         self.browser.value(f"page.open({json.dumps([schedule])})")
         self.assertEqual(self.texts("#notes div"), [])
         self.assertEqual(self.texts(".row .cell")[-1], "10done lamp 1 0")
@@ -553,7 +570,7 @@ class Viewer(unittest.TestCase):
         self.assertEqual(len(self.texts(".row.group")), 3)
 
 
-VALUED = ("toml", "texts", "language", "plan", "values", "rows", "words")
+VALUED = ("texts", "language", "plan", "values", "rows", "words")
 NODE = shutil.which("node") or shutil.which("nodejs")
 FORGED = """
 const run = new Run(JSON.parse(require("fs").readFileSync(0)));
@@ -597,7 +614,7 @@ class Words(unittest.TestCase):
 
     def test_the_other_kind(self):
         items = "trace\nforged lamp\nopen lamp down to 3\nend\n"
-        said = self.said({"output": items, "head": DEPLOYMENT.partition("%%")[0]})
+        said = self.said({"output": items, "described": DESCRIBED})
         self.assertIn("as a set-key packet for its end of logic.bright → lamp.show in epoch 3, lamp accepts", said)
 
 

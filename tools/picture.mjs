@@ -5,7 +5,7 @@ import {readFileSync} from "node:fs";
 import {runInNewContext} from "node:vm";
 
 const VIEWER = new URL("../src/sancus/viewer/", import.meta.url);
-const SCRIPTS = ["toml", "texts", "language", "plan", "values", "rows", "words", "draw"];
+const SCRIPTS = ["texts", "language", "plan", "values", "rows", "words", "draw"];
 const read = name => readFileSync(new URL(name, VIEWER), "utf8");
 // How wide the lines and items beside the picture are, in pixels and in letters, and how long a comment may be, which stands over the picture.
 const LEFT = 292, LETTERS = 36, COMMENT = 120;

@@ -5,12 +5,6 @@ const KINDS = ["node", "device", "module", "connection"];
 const moduleOf = port => String(port).split(".")[0];
 const portOf = port => String(port).split(".").slice(1).join(".");
 
-// The deployment of a text: its lines before the mark.
-function headOf(text) {
-  const lines = splitLines(text), mark = lines.indexOf("%%");
-  return lines.slice(0, mark < 0 ? lines.length : mark).map(line => `${line}\n`).join("");
-}
-
 // An entry may lack keys, as long as the program hasn't accepted the deployment.
 class Deployment {
   constructor(document) {

@@ -62,8 +62,8 @@ class Desk {
     const {open} = page;
     page.open = texts => this.open(texts, open);
     this.draw = texts => {
-      page.texts = {};
-      open.call(page, texts);
+      page.texts = texts;
+      page.show();
     };
   }
 
@@ -182,7 +182,7 @@ class Desk {
     if (lines.indexOf("%%", mark + 1) > 0) return "snap";
     const first = lines.slice(mark + 1).find(line => /^[ \t]*[^# \t]/.test(line)) ?? "";
     if (/^(image |trace$)/.test(first)) return "explain";
-    return new Plan(headOf(this.editor.text), null).devices.has(wordsOf(first)[0]) ? "drive" : "run";
+    return Deployment.of(this.editor.text)?.named("device", wordsOf(first)[0]) ? "drive" : "run";
   }
 
   // --- runs ---
@@ -201,7 +201,7 @@ class Desk {
     const texts = await job.drawn();
     if (!isNow()) return;
     if (job.run?.trace) this.last = job.run;
-    if (texts.length) this.drawn(texts);
+    if (texts) this.drawn(texts);
     if (word === "run" || word === "drive") await this.lesson.ran(text, ended);
     if (isNow() && word === "run") await this.live.ran(job.people);
     if (!isNow()) return;

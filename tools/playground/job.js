@@ -68,17 +68,22 @@ class Job {
     return `${headOf(this.text)}%%\n${trace}`;
   }
 
-  // The texts of the picture: the input, the output, and the causes if there are any. None if nothing is to be drawn.
+  // The texts of the picture, by name; null if nothing is to be drawn.
   async drawn() {
     const {word, text, ended} = this;
-    if (ended.error || word === "check") return [];
-    if (word === "explain" && !this.run) return [text, ended.text];
+    if (ended.error || word === "check") return null;
+    if (word === "explain" && !this.run) return {...sortText(text), causes: ended.text, ...await this.read()};
     if (word === "snap") this.run = await this.ran("run");
     this.run ??= this.withTrace(word, ended);
-    if (!this.run.trace) return [];
+    if (!this.run.trace) return null;
     const causes = word === "explain" ? ended : await this.start("explain", this.judged(this.run.trace));
-    const hasCauses = causes.text && !/^fault /.test(causes.text);
-    return [asSchedule(text), await this.byLine(), ...(hasCauses ? [causes.text] : [])];
+    return {input: asSchedule(text), output: await this.byLine(), causes: causes.text ?? "", ...await this.read()};
+  }
+
+  // What `describe` prints of the deployment, and the modules' sources.
+  async read() {
+    const {text} = await this.start("describe", this.judged("")), modules = Deployment.of(this.text)?.by.module ?? [];
+    return {described: text ?? "", sources: JSON.stringify(Object.fromEntries(modules.map(it => [it.name, it.source])))};
   }
 
   // The output with each line of the schedule before its items.

@@ -18,7 +18,7 @@ from pathlib import Path
 HERE = Path(__file__).resolve().parent
 TOP = HERE.parent.parent
 PAGE = TOP / "playground.html"
-WORDS = ("trees", "guesses", "acts", "assembly", "deployment", "rules", "tables", "faults", "warnings")
+WORDS = ("toml", "trees", "near", "guesses", "acts", "assembly", "deployment", "rules", "tables", "faults", "warnings")
 SCRIPTS = ("link", "editor", "drafts", *WORDS, "runner", "job", "judging", "lessons", "lesson", "property", "live", "desk")
 POLICY = (
     "default-src 'none'; script-src 'sha256-HASH' 'wasm-unsafe-eval'; style-src 'unsafe-inline'; img-src data:; "
@@ -78,8 +78,8 @@ def held(name, text):
 def worker():
     """What runs the program: its host, and what makes a schedule of lines for people."""
     host = (TOP / "tools" / "wasm" / "host.js").read_text()
-    shared = [(PACKAGE / "viewer" / f"{it}.js").read_text() for it in ("toml", "texts", "language")]
-    own = [part(f"{it}.js") for it in ("guesses", "deployment", "people", "network", "worker")]
+    shared = [(PACKAGE / "viewer" / f"{it}.js").read_text() for it in ("texts", "plan")]
+    own = [part(f"{it}.js") for it in ("near", "people", "network", "worker")]
     return "\n".join([VIEWER.words(), host, *shared, *own])
 
 

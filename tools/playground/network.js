@@ -39,7 +39,7 @@ class Network {
     this.next = Math.max(this.next, number + 1);
   }
 
-  receiver(connection) { return moduleOf(this.writer.plan.named("connection", connection).to); }
+  receiver(connection) { return this.writer.plan.connections.get(connection).receiver; }
 
   event(number, sender, connection) {
     const receiver = this.receiver(connection), node = this.writer.nodeOf(receiver);

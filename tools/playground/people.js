@@ -60,7 +60,7 @@ class Shown {
     if (kind === "reset") this.reset(first);
     if (kind !== "done") return;
     const isCall = act[0] === "call" && act[1] === first, isAnswer = isCall && numberOf(act[2]) === ATTEST;
-    const writes = this.writesTo(this.plan.named("module", first).node).length;
+    const writes = this.writesTo(this.plan.nodeOf(first)).length;
     this.calls.set(first, new Call(isCall ? numberOf(act[4]) : null, isAnswer ? 0 : Number(third), count, writes));
     this.calls.get(first).sure = this.surePieces(first, this.calls.get(first));
   }
@@ -71,7 +71,7 @@ class Shown {
   takeInWrite(items, [act, ...fields], place) {
     const done = items.filter(it => it.startsWith("done ")), pieces = done.reduce((count, it) => count + Number(it.split(" ")[3]), 0);
     const [node, at, size, what] = {
-      call: done.length && [this.plan.named("module", fields[0])?.node, fields[3], EVENT * pieces, `${fields[0]}'s call`],
+      call: done.length && [this.plan.nodeOf(fields[0]), fields[3], EVENT * pieces, `${fields[0]}'s call`],
       give: !items.length && [fields[1], fields[2], this.lengths.get(numberOf(fields[0])), "the `give`"],
       put: !items.length && [fields[0], fields[1], (fields[2] ?? "").length / 2, "the `put`"],
     }[act] || [];
@@ -89,7 +89,7 @@ class Shown {
   reset(node) {
     this.writes.delete(node);
     this.boots.set(node, this.boot(node) + 1);
-    for (const {name} of this.plan.by.module.filter(it => it.node === node)) {
+    for (const {name} of this.plan.modulesOf(node)) {
       this.loaded.delete(name);
       this.open.delete(name);
       this.calls.delete(name);
@@ -99,8 +99,8 @@ class Shown {
   // The events of a call that was just made, if all open ends are of one output: then each `send` made one for each of them, in this
   // order.
   surePieces(module, {places}) {
-    const open = this.plan.by.connection.filter(it => moduleOf(it.from) === module && this.open.get(module)?.has(it.name));
-    if (new Set(open.map(it => portOf(it.from))).size !== 1) return [];
+    const open = this.plan.from(module).filter(it => this.open.get(module)?.has(it.name));
+    if (new Set(open.map(it => it.output)).size !== 1) return [];
     return places.map((at, which) => ({at, connection: open[which % open.length].name}));
   }
 }
@@ -171,11 +171,10 @@ class Writer {
   // --- names and numbers ---
 
   nodeOf(name) {
-    const {plan} = this, found = plan.named("module", name);
-    if (found) return found.node;
-    const driver = plan.driverOf(name);
-    if (driver) throw new Mistake(`there is no module ${name}: ${name} is a device, and ${driver.name} drives it`);
-    throw new Mistake(`there is no module ${name}${near(name, plan.names("module"))}`);
+    const {plan} = this, driver = plan.devices.get(name)?.driver;
+    if (plan.modules.has(name)) return plan.nodeOf(name);
+    if (driver) throw new Mistake(`there is no module ${name}: ${name} is a device, and ${driver} drives it`);
+    throw new Mistake(`there is no module ${name}${near(name, [...plan.modules.keys()])}`);
   }
 
   packet(word) {
@@ -212,7 +211,7 @@ class Writer {
   }
 
   * deploy(...names) {
-    const modules = names.join() === "all" ? this.plan.names("module") : names, {loaded} = this.shown;
+    const modules = names.join() === "all" ? [...this.plan.modules.keys()] : names, {loaded} = this.shown;
     for (const name of modules) {
       const node = this.nodeOf(name);
       if (loaded.has(name)) throw new Mistake(`${name} is loaded already: \`reset ${node}\` first, or call it as it is`);
@@ -239,8 +238,10 @@ class Writer {
 
   // Which end each set-key packet of an accepted answer is for.
   keys(name, wasAttested, items) {
-    const all = this.plan.by.connection.flatMap(
-        it => ["from", "to"].map(side => ({module: moduleOf(it[side]), connection: it.name, side})));
+    const all = [...this.plan.connections.values()].flatMap(({name, sender, receiver}) => [
+      {module: sender, connection: name, side: "from"},
+      {module: receiver, connection: name, side: "to"},
+    ]);
     const own = all.filter(it => it.module === name), ties = new Set(own.map(it => it.connection));
     // (renewed connections get new keys at their other ends too, in modules that were attested)
     const isOther = it => it.module !== name && ties.has(it.connection) && this.shown.attested.has(it.module);
@@ -266,7 +267,7 @@ class Writer {
 
   * sample(name, value) {
     this.nodeOf(name);
-    const device = this.plan.named("device", this.plan.named("module", name).device);
+    const device = this.plan.deviceOf(name);
     if (device?.kind !== "sensor") throw new Mistake(`${name} drives no sensor`);
     if (!(numberOf(value) <= 32767)) throw new Mistake(`${value} is no value of a sensor: 0 to 32,767`);
     this.mustBeLoaded(name);
@@ -301,10 +302,9 @@ class Writer {
   * carry(sender, receiver, which = "") {
     this.nodeOf(sender);
     this.nodeOf(receiver);
-    const from = this.plan.by.connection.filter(it => moduleOf(it.from) === sender);
-    const between = from.filter(it => moduleOf(it.to) === receiver).map(it => it.name);
+    const from = this.plan.from(sender), between = from.filter(it => it.receiver === receiver).map(it => it.name);
     if (!between.length) {
-      const to = [...new Set(from.map(it => moduleOf(it.to)))].sort().join(" ");
+      const to = [...new Set(from.map(it => it.receiver))].sort().join(" ");
       throw new Mistake(`no connection leads from ${sender} to ${receiver}; ${sender} sends to: ${to || "nobody"}`);
     }
     const sent = yield* this.taken(sender, this.find(sender, receiver, between, which));
@@ -314,7 +314,7 @@ class Writer {
 
   // Makes a packet of an event in a window.
   * taken(sender, {at, connection}) {
-    const receiver = moduleOf(this.plan.named("connection", connection).to);
+    const {receiver} = this.plan.connections.get(connection);
     this.shown.calls.get(sender).carried.set(at, connection);
     const items = yield* this.put("take", this.nodeOf(sender), `0x${at.toString(16)}`, String(EVENT));
     return {packet: this.newPacket(items, "taking the event", `event.${sender}.${receiver}`), sender, receiver};
@@ -343,7 +343,7 @@ class Writer {
     const found = pieces.find(it => it.at === call.places[which]);
     const writer = this.shown.writtenOver(sender, this.nodeOf(sender), [call.places[which]]) ?? "another call or line";
     if (!found) throw new Mistake(`piece ${which} isn't there any more: ${writer} wrote over it`);
-    const to = moduleOf(this.plan.named("connection", found.connection).to);
+    const to = this.plan.connections.get(found.connection).receiver;
     if (to !== receiver) throw new Mistake(`piece ${which} is for ${to}, by ${found.connection}, and not for ${receiver}`);
     return found;
   }
@@ -361,26 +361,26 @@ class Writer {
     }
     if ([...call.carried.values()].some(it => wanted.includes(it)))
       return `what ${sender} sent to ${receiver} at its last call was carried; \`give event.${sender}.${receiver} NODE\` gives it again`;
-    const there = pieces.map(it => `${it.connection} to ${moduleOf(this.plan.named("connection", it.connection).to)}`);
+    const there = pieces.map(it => `${it.connection} to ${this.plan.connections.get(it.connection).receiver}`);
     return `no event for ${receiver} is in the window: there is ${there.join(", ") || "none"}`;
   }
 
   // The events of the sender in the window, as they are there now; by what the packets say, and not by their places.
   pieces(sender, call) {
     if (call.line === this.given.length && call.sure.length) return call.sure;
-    const found = this.read(this.nodeOf(sender), call.places, this.given);
+    const found = this.read(this.nodeOf(sender), call.places, this.given), connections = [...this.plan.connections.values()];
     return call.places.flatMap((at, k) => {
-      const [low, high, link] = found[k], connection = this.plan.by.connection[link];
-      const isEvent = low + 256 * high === EVENT_KIND && connection && moduleOf(connection.from) === sender;
+      const [low, high, link] = found[k], connection = connections[link];
+      const isEvent = low + 256 * high === EVENT_KIND && connection?.sender === sender;
       return isEvent ? [{at, connection: connection.name}] : [];
     });
   }
 
   // A reading, and then every event that follows, as `drive` delivers them.
   * flow(sensor, value) {
-    const driver = this.plan.driverOf(sensor)?.name ?? sensor;
-    if (!this.plan.named("module", driver)) {
-      const known = [...this.plan.names("device"), ...this.plan.names("module")];
+    const {devices, modules} = this.plan, driver = devices.get(sensor)?.driver ?? sensor;
+    if (!modules.has(driver)) {
+      const known = [...devices.keys(), ...modules.keys()];
       throw new Mistake(`there is no sensor ${sensor} that a module drives, and no module of this name${near(sensor, known)}`);
     }
     const items = yield* this.sample(driver, value);

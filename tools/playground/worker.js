@@ -25,8 +25,7 @@ class Session {
     this.head = headOf(text);
     this.lines = lines.slice(0, second < 0 ? lines.length : second).map((text, at) => ({text, number: at + 1})).slice(mark + 1);
     this.rest = second < 0 ? [] : lines.slice(second);
-    this.plan = Deployment.of(text);
-    this.writer = new Writer(this.plan, (...asked) => this.read(...asked));
+    this.writer = new Writer(new Plan(this.wrote("describe", `${this.head}%%\n`)), (...asked) => this.read(...asked));
     this.network = new Network(this.writer);
     this.output = "";
     this.notes = [];
@@ -70,12 +69,18 @@ class Session {
     return {notes: this.notes, wrong, events, parts: [[`${this.head}%%`, ...lines, ...this.rest, ""].join("\n")]};
   }
 
+  // What a command prints of a text.
+  wrote(word, text) {
+    const parts = [];
+    runOnce(this.module, [word], encoded(text), part => parts.push(new TextDecoder().decode(part)));
+    return parts.join("");
+  }
+
   // The first bytes at places of a node's memory after lines of a schedule.
   read(node, places, lines) {
-    const queries = places.map(at => `bytes ${node} ${at} 6 ${lines.length}`), answers = [];
-    const text = [`${this.head}%%`, ...lines, "%%", ...queries, ""].join("\n");
-    runOnce(this.module, ["snap"], encoded(text), part => answers.push(new TextDecoder().decode(part)));
-    const found = splitLines(answers.join("")).filter(it => it.startsWith("bytes "));
+    const queries = places.map(at => `bytes ${node} ${at} 6 ${lines.length}`);
+    const answers = this.wrote("snap", [`${this.head}%%`, ...lines, "%%", ...queries, ""].join("\n"));
+    const found = splitLines(answers).filter(it => it.startsWith("bytes "));
     return found.map(it => it.split(" ").at(-1).match(/../g).map(byte => parseInt(byte, 16)));
   }
 }

@@ -14,7 +14,7 @@ from sancus.cli.people import as_schedule
 from sancus.cli.question import Question, Refused
 from sancus.cli.reading import look_at, read_all
 from sancus.cli.writing import must_be_free, write_file
-from sancus.model.asking import Answer
+from sancus.model.asking import Answer, Program
 from sancus.model.described import described
 from sancus.model.faults import Teller
 from sancus.model.inspection import are_readings
@@ -23,7 +23,7 @@ from sancus.model.texts import MARK, Input, Origin, kept_of
 from sancus.model.traces import of_drive, trace_of
 from sancus.status import BAD_TEXT, Ended
 from sancus.viewer.join import joined
-from sancus.viewer.pages import Drawn, Texts, is_page, of_readings, of_run, page_of
+from sancus.viewer.pages import Drawn, Texts, is_page, of_readings, of_run, page_of, read_of
 
 # A line that only the output of `run` or `drive` has.
 OUTPUT = re.compile(rb"(?m)^(trace\r?$|image [a-z]|> )")
@@ -48,8 +48,9 @@ def given_texts(files: List[str]) -> Texts:
     return {name: read_all(it) for name, it in zip(names, files)}
 
 
-def of_texts(texts: Texts) -> Drawn:
+def of_texts(texts: Texts, program: Program) -> Drawn:
     """A run that was made before."""
+    texts.update(read_of(Input(texts["input"]).head, program))
     lines = texts["output"].split(b"\n")[:-1]
     if b"trace" not in lines:
         return Drawn(texts, trace=of_drive(Answer(0, texts["output"]))[1].output)
@@ -135,7 +136,7 @@ def answer(context: Context, given: Given) -> int:
     if has_output and len(files) > 3:
         raise Usage("after what `run` wrote `view` takes only what `explain` wrote of it", given.command)
     page = page_for(given, named[:2] if has_output else named, files)
-    drawn = of_texts(given_texts(files)) if has_output else run_drawn(context, given, files)
+    drawn = of_texts(given_texts(files), context.program) if has_output else run_drawn(context, given, files)
     if given.text("property"):
         mark_broken(context, given.text("property"), drawn)
     title = ", ".join(Path(it).name for it in dict.fromkeys([named[-1], named[0]]))

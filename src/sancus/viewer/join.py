@@ -9,7 +9,7 @@ from pathlib import Path
 
 HERE = Path(__file__).resolve().parent
 FAULTS = HERE.parent / "faults.json"
-SCRIPTS = ("toml", "texts", "language", "plan", "values", "rows", "words", "draw", "export", "page")
+SCRIPTS = ("texts", "language", "plan", "values", "rows", "words", "draw", "export", "page")
 SCRIPT = re.compile(r"<script>(.*?)</script>", re.S)
 SEAL = re.compile(r"'sha256-[^']*'")
 

@@ -3,9 +3,11 @@
 from __future__ import annotations
 
 import base64
+import json
 from typing import Dict
 
 from sancus.model.asking import Program
+from sancus.model.deployment import tables_of
 from sancus.model.texts import Input
 from sancus.model.traces import of_drive
 from sancus.records import dataclass
@@ -30,7 +32,16 @@ def drawn(data: Input, program: Program, command: str) -> Drawn:
     answer = program.answer([command], data.data)
     _, trace = of_drive(answer)
     texts = {"input": data.data, "output": answer.output, "causes": causes_of(program, data.head, trace.output)}
-    return Drawn(texts, answer.last, answer.status, trace.output)
+    return Drawn({**texts, **read_of(data.head, program)}, answer.last, answer.status, trace.output)
+
+
+def read_of(head: bytes, program: Program) -> Texts:
+    """What `describe` prints of a deployment, and the modules' sources; nothing of one that is refused."""
+    answer, tables = program.answer(["describe"], head + b"%%\n"), tables_of(head)
+    if answer.status or not tables:
+        return {}
+    sources = {str(it["name"]): it["source"] for it in tables.modules}
+    return {"described": answer.output, "sources": json.dumps(sources).encode()}
 
 
 def causes_of(program: Program, head: bytes, trace: bytes) -> bytes:

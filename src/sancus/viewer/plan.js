@@ -1,27 +1,22 @@
-// The deployment, as far as a picture needs it: nodes, modules, devices and connections by name.
+// The deployment, as far as a picture needs it: nodes, modules, devices and connections by name, from the lines that `describe` prints.
 
 class Plan {
-  constructor(head, output) {
+  constructor(described, output) {
     this.nodes = [];
     this.modules = new Map();
     this.devices = new Map();
     this.connections = new Map();
-    this.error = null;
-    try {
-      if (head !== null) this.read(Toml.read(head));
-    } catch (error) {
-      this.error = error.message;
-    }
+    for (const line of splitLines(described ?? "")) this.read(line.split(" "));
+    this.isRead = this.nodes.length > 0;
     for (const item of output?.items ?? []) this.learn(item);
   }
 
-  read(toml) {
-    const list = key => Array.isArray(toml[key]) ? toml[key] : [];
-    for (const node of list("node")) this.addNode(String(node.name));
-    if (!this.nodes.length) this.addNode("n");
-    for (const device of list("device")) this.addDevice(device);
-    for (const module of list("module")) this.addModule(module);
-    for (const connection of list("connection")) this.addConnection(connection);
+  read([kind, name, ...words]) {
+    const [, first, , second, , , , third] = words;
+    if (kind === "node") this.addNode(name);
+    if (kind === "device") this.addDevice({name, node: first, kind: second, driver: third === "-" ? null : third});
+    if (kind === "module") this.addModule({name, node: first});
+    if (kind === "connection") this.addConnection(name, first, second);
   }
 
   addNode(name) {
@@ -29,21 +24,18 @@ class Plan {
   }
 
   addDevice(device) {
-    this.devices.set(device.name, {...device, driver: null});
+    this.devices.set(device.name, device);
     this.addNode(device.node);
   }
 
   addModule(module) {
-    this.modules.set(module.name, {...module});
+    this.modules.set(module.name, module);
     this.addNode(module.node);
-    const device = this.devices.get(module.device);
-    if (device) device.driver = module.name;
   }
 
-  addConnection({name, from, to}) {
-    const connection =
-        {name, from: String(from).split(".")[0], to: String(to).split(".")[0], port: String(to).split(".")[1], text: `${from} → ${to}`};
-    this.connections.set(name, connection);
+  addConnection(name, from, to) {
+    const [sender, output] = from.split("."), [receiver, input] = to.split(".");
+    this.connections.set(name, {name, sender, output, receiver, input, text: `${from} → ${to}`});
   }
 
   // Takes names from an item that no deployment gave.
@@ -59,10 +51,15 @@ class Plan {
         !this.modules.has(words[1]))
       this.addModule({name: words[1], node: first()});
     if (["sense", "drain", "raw"].includes(kind) && !this.devices.has(words[1]))
-      this.addDevice({name: words[1], node: first(), kind: kind === "raw" ? "actuator" : "sensor"});
+      this.addDevice({name: words[1], node: first(), kind: kind === "raw" ? "actuator" : "sensor", driver: null});
   }
 
   nodeOf(module) { return this.modules.get(module)?.node; }
+
+  modulesOf(node) { return [...this.modules.values()].filter(module => module.node === node); }
+
+  // The connections that lead from a module.
+  from(module) { return [...this.connections.values()].filter(connection => connection.sender === module); }
 
   deviceOf(module) { return [...this.devices.values()].find(device => device.driver === module); }
 

@@ -13,7 +13,7 @@ class Run {
     this.output = texts.output ? readOutput(texts.output) : null;
     this.input = texts.input ? readInput(texts.input) : null;
     this.causes = texts.causes ? readCauses(texts.causes) : null;
-    this.plan = new Plan(this.input?.head ?? texts.head ?? null, this.output);
+    this.plan = new Plan(texts.described, this.output);
     this.rows = [];
     this.isMade = false;
     this.groups = [];
@@ -24,7 +24,7 @@ class Run {
     this.addRows(this.lines());
     this.findSpans();
     this.followPackets();
-    this.values = new Values(this);
+    this.values = new Values(this, JSON.parse(texts.sources ?? "{}"));
     this.say();
     for (const group of this.groups) group.isFolded = this.rows.length > FOLDED_FROM && group.rows.length > 1;
     this.foldSetUp();
@@ -47,8 +47,7 @@ class Run {
 
   say() {
     const {plan, output, causes} = this;
-    if (plan.error)
-      this.note(`The deployment isn't read (${plan.error}): names are taken from the trace.`, true);
+    if (output && !plan.isRead) this.note("Names are taken from the trace: what `describe` prints of the deployment has them all.", false);
     if (output && !output.last) this.note("The output has no last line: it is cut.", true);
     if (output?.last?.startsWith("fault")) this.note(output.last, true);
     if (output?.odd.length) this.note(`${output.odd.length} lines are no items: ${output.odd[0]}`, true);
@@ -214,8 +213,7 @@ class Run {
       if (item?.kind === "protect" && item.words[2] !== "-") open(this.sections, item.words[2], index);
       if (item?.kind === "done") close(this.turns, item.words[1], index);
       if (item?.kind !== "reset") continue;
-      for (const module of this.plan.modules.values()) {
-        if (module.node !== item.words[1]) continue;
+      for (const module of this.plan.modulesOf(item.words[1])) {
         close(this.sections, module.name, index);
         close(this.turns, module.name, index);
       }

@@ -21,11 +21,12 @@ function numberOf(word) {
 const ACTS = "run finish put asm set take give forge sense irq reset ask answer load call".split(" ");
 const PEOPLE = ["deploy", "sample", "carry", "flow", "settle", "windows", "packets", "boots"];
 
-// Which of the texts this is, as a part of {input, head, output, causes}, or of {deployment, schedule}, which an input is made of.
+// Which of the texts this is, as a part of {input, head, output, causes, described}, or of {deployment, schedule}, which an input is made of.
 function sortText(text) {
   text = text.replace(/^\uFEFF/, "");
   const lines = splitLines(text), mark = lines.indexOf("%%"), first = lines.find(line => line.trim()) ?? "";
   if (/^(because|legal|illegal|forged) |^fault trace /.test(first)) return {causes: text};
+  if (/^node \S+$/.test(first)) return {described: text};
   if (mark >= 0 && lines.slice(0, mark).every(line => !wordsOf(line).length)) return {schedule: lines.slice(mark + 1).join("\n")};
   if (mark < 0) return sortPart(text, lines);
   if (!/^(image |trace$|> |fault )/.test(lines[mark + 1] ?? "")) return {input: text};
@@ -47,6 +48,12 @@ function joinedInput({deployment, schedule}, head = "") {
   const ended = text => text.endsWith("\n") ? text : `${text}\n`;
   if (schedule === undefined) return deployment ?? null;
   return `${ended(deployment ?? head)}%%\n${schedule}`;
+}
+
+// The deployment of a text: its lines before the mark.
+function headOf(text) {
+  const lines = splitLines(text), mark = lines.indexOf("%%");
+  return lines.slice(0, mark < 0 ? lines.length : mark).map(line => `${line}\n`).join("");
 }
 
 // A line of a schedule; its kind is its first word, "#" for a comment, and empty for a blank line.

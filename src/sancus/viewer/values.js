@@ -84,11 +84,12 @@ class State {
 }
 
 class Values {
-  constructor(run) {
+  // sources: of each module.
+  constructor(run, sources) {
     this.plan = run.plan;
     this.trees = new Map();
     this.events = new Map();
-    for (const {name, source} of run.plan.modules.values()) {
+    for (const [name, source] of Object.entries(sources)) {
       const tree = treeOf(source);
       if (tree?.declared.some(({kind}) => kind === "var" || kind === "array")) {
         this.trees.set(name, tree);
@@ -103,11 +104,10 @@ class Values {
   note({kind, words}, index) {
     const add = (module, what) => this.events.get(module)?.push({index, ...what});
     if (kind === "protect") add(words[2], {kind});
-    if (kind === "take") add(words[1], {kind, input: this.plan.connections.get(words[2])?.port, value: Number(words[4])});
+    if (kind === "take") add(words[1], {kind, input: this.plan.connections.get(words[2])?.input, value: Number(words[4])});
     if (kind === "read") add(words[1], {kind, input: null, value: Number(words[2])});
     if (kind !== "reset") return;
-    for (const {name, node} of this.plan.modules.values())
-      if (node === words[1]) add(name, {kind});
+    for (const {name} of this.plan.modulesOf(words[1])) add(name, {kind});
   }
 
   // The module's variables after the row with this index; null if it isn't there, or has none.

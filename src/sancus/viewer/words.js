@@ -16,7 +16,7 @@ function sayForged(who, next, plan, presented) {
     open: () => `as a set-key packet for its end of ${connection(what)} in epoch ${epoch}, ${module} accepts a tag under ${
         module}'s key that the deployer hadn't made`,
     take: () => `as event ${Number(third) % 65536} of ${connection(what)}, ${module} accepts a tag under the key of ${what} in its epoch ${
-        epoch} that ${plan.connections.get(what)?.from ?? "its sender"} hadn't made`,
+        epoch} that ${plan.connections.get(what)?.sender ?? "its sender"} hadn't made`,
   }[kind] ?? (() => `${who === "deployer" ? "the deployer" : who} accepts a tag that its rightful maker hadn't made`);
   return `${said()}${presented}; up to here the trace is a legal run of the sources`;
 }
