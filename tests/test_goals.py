@@ -5,7 +5,6 @@ import unittest
 from support import PROGRAM, TOP, Room, needs_program, program, sancus
 
 from sancus.cli.goals import all_goals
-from sancus.model.judging import Watched
 
 GOALS = all_goals(TOP)
 REACHABLE = [it for it in GOALS if it.is_reachable]
@@ -87,25 +86,6 @@ class Goals(Room):
         made = sancus("goal", "late_ligth")
         self.assertEqual(made.status, 122)
         self.says(made, "there is no goal late_ligth; did you mean `late_light`?")
-
-
-class Judging(unittest.TestCase):
-    """A property that the front end judges itself."""
-
-    def broken(self, source, *items):
-        return Watched(source).broken_at(list(items))
-
-    def test_fail_and_assume(self):
-        source = "var n; // fail;\non reset b { assume 0; }\non take up(v) { n = n + v; if n > 2 { fail; } }"
-        taken = "take logic up 0 1"
-        self.assertEqual(self.broken(source, taken, "take lamp down 0 9", taken, taken, taken), 4)
-        self.assertIsNone(self.broken(source, taken, taken, "reset b asked", taken))
-        self.assertIsNone(self.broken(source, taken, "forged logic", taken, taken))
-        self.assertEqual(self.broken("on protect eye { fail; }", "protect a logic", "protect a eye"), 2)
-
-    def test_failing(self):
-        source = "on sense light(v) { assume v; }\non drain light { fail; }"
-        self.assertEqual(Watched(source).failing(), [("drain", "light")])
 
 
 if __name__ == "__main__":

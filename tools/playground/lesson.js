@@ -107,20 +107,18 @@ class Lesson {
     byId(isLast ? "lesson-close" : "lesson-next").focus();
   }
 
-  // What the program's `holds` says of the lesson's property, if it has that command.
+  // What the program's `holds` says of the lesson's property.
   async proof(head) {
-    const {status, text} = await this.desk.runner.start("holds", `${head}%%\n${this.now.proved}\n%%\n`);
-    if (status === 2) return "The program of this page has no command `holds` to show it.";
+    const {text} = await this.desk.runner.start("holds", `${head}%%\n${this.now.proved}\n%%\n`);
     return `The program's command \`holds\` answers here: \`${splitLines(text ?? "")[0] ?? "nothing"}\`.`;
   }
 
-  // The item by which the task is done. The program's `watch` tells, if it has that command.
+  // The item by which the task is done, as the program's `watch` tells.
   async reached(head, output) {
     const {items} = readOutput(output), {property, item} = this.now;
     if (item) return items.find(it => it.text === item);
     const trace = ["trace", ...items.map(it => it.text), "end", ""].join("\n");
-    const {status, text} = await this.desk.runner.start("watch", `${head}%%\n${property}\n%%\n${trace}`);
-    if (status !== 2) return items[Number(/^broken ([0-9]+)$/m.exec(text ?? "")?.[1]) - 1];
-    return items[new Watched(property).brokenAt(items) - 1];
+    const {text} = await this.desk.runner.start("watch", `${head}%%\n${property}\n%%\n${trace}`);
+    return items[Number(/^broken ([0-9]+)$/m.exec(text ?? "")?.[1]) - 1];
   }
 }

@@ -19,7 +19,7 @@ HERE = Path(__file__).resolve().parent
 TOP = HERE.parent.parent
 PAGE = TOP / "playground.html"
 WORDS = ("toml", "trees", "near", "guesses", "acts", "assembly", "deployment", "rules", "tables", "faults", "warnings")
-SCRIPTS = ("link", "editor", "drafts", *WORDS, "runner", "job", "judging", "lessons", "lesson", "property", "live", "desk")
+SCRIPTS = ("link", "editor", "drafts", *WORDS, "runner", "job", "lessons", "lesson", "property", "live", "desk")
 POLICY = (
     "default-src 'none'; script-src 'sha256-HASH' 'wasm-unsafe-eval'; style-src 'unsafe-inline'; img-src data:; "
     "worker-src blob:; form-action 'none'; base-uri 'none'"

@@ -11,15 +11,16 @@ from sancus.cli.context import Context
 from sancus.cli.inspecting import inspected
 from sancus.cli.output import print_lines
 from sancus.cli.program import Collected
+from sancus.cli.question import must_know
 from sancus.model import toml
 from sancus.model.deployment import tables_of
 from sancus.model.inspection import Inspected
-from sancus.model.judging import Watched, heading_of
 from sancus.model.numbers import counted, number
+from sancus.model.property import Property, watched_of
 from sancus.model.shown import text_of
 from sancus.model.texts import is_act
 from sancus.records import dataclass, field
-from sancus.status import BAD_TEXT, NOT_REACHED, USAGE, Ended
+from sancus.status import BAD_TEXT, NOT_REACHED, Ended
 
 FOLDER = "examples/goals"
 # The lines that every player has: the modules are loaded, called and attested, and packets are carried.
@@ -156,9 +157,7 @@ def broken_at(context: Context, head: bytes, source: str, items: List[str]) -> O
     """The first item of a trace that breaks a property."""
     sink, trace = Collected(), "".join(f"{it}\n" for it in ["trace", *items, "end"])
     ran = context.program.ran_of(["watch"], head + b"%%\n" + source.encode() + b"%%\n" + trace.encode(), sink)
-    if ran.status == USAGE:
-        context.voice.say("the program that is started has no command `watch`, so the front end itself judges")
-        return Watched(source).broken_at(items)
+    must_know(ran, "watch")
     if ran.last.startswith("fault "):
         raise Ended(BAD_TEXT, f"the goal can't be judged: {ran.last}")
     found = re.match(rb"broken ([0-9]+)\n", sink.data())
@@ -179,11 +178,11 @@ def missing(goal: Goal, made: Played) -> str:
     forged = next((it for it in made.items if it.startswith("forged ")), "")
     if forged:
         return f"`{forged}` came, and what follows a `forged` isn't judged"
-    came = [it for it in made.items if heading_of(it) in Watched(goal.source).failing()]
+    failing = Property(goal.name, goal.source).failing
+    came = [it for it in made.items if watched_of(it)[:2] in failing]
     if came:
         return f"{', '.join(f'`{it}`' for it in came[-3:])} came, and broke nothing"
-    wanted = " or ".join(f"`{' '.join(it)}`" for it in Watched(goal.source).failing())
-    return f"no {wanted} came"
+    return f"no {' or '.join(f'`{kind} {name}`' for kind, name in failing)} came"
 
 
 # --- Answers ---------------------------------------------------------------------------------------------------------
@@ -228,11 +227,9 @@ def never(context: Context, goal: Goal) -> int:
     head = Path(goal.deployment).read_bytes()
     text = head + b"%%\n" + goal.source.encode() + b"%%\n"
     ran = context.program.ran_of(["holds"], text, Collected()) if goal.source else None
-    is_proved = ran is not None and ran.status == 0
-    if ran is not None and ran.status == USAGE:
-        context.voice.say("the program that is started has no command `holds`, so the goal's own word is taken")
-        is_proved = not goal.is_reachable
-    if not is_proved:
+    if ran is not None:
+        must_know(ran, "holds")
+    if ran is None or ran.status:
         print_lines("not so: it can be reached")
         return NOT_REACHED
     print_lines("right: it can't be reached")

@@ -11,6 +11,7 @@ from typing import Dict, Iterable, List, NamedTuple, Optional, Tuple
 from sancus.model import language
 from sancus.model.language import Applied, Assume, Constant, Declared, Emit, Fail, If, Module, Repeat, Statement
 from sancus.model.meaning import first_cells, react
+from sancus.model.rules import walk
 from sancus.records import dataclass, field, replace
 
 # Cells that can't be changed, as a search keeps them: the values of each variable and array, in order.
@@ -75,6 +76,12 @@ class Property:
         self.module = plain(self.tree, self.source)
         self.headings = [it.heading for it in self.tree.handlers if it.heading]
         self.watched = {(it.kind, it.name) for it in self.headings}
+
+    @property
+    def failing(self) -> List[Tuple[str, str]]:
+        """The items at which it may be broken, by their kinds and names."""
+        handlers = [it for it in self.tree.handlers if any(isinstance(part, Fail) for part in walk(it.body))]
+        return [(it.heading.kind, it.heading.name) for it in handlers if it.heading]
 
     def sees(self, kind: str, name: str) -> bool:
         return (kind, name) in self.watched
