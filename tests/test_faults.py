@@ -122,6 +122,13 @@ CASES = [
         ["`providr` is unknown here; did you mean `provider`?", "`provider` is missing"],
     ),
     (
+        b"node = [ {",
+        b"node = [ 5, {",
+        "check",
+        "deployment D4 node 0",
+        ["node number 0, counted from 0", "it is 5, and must be a table"],
+    ),
+    (
         b'2d2e2f"',
         b'2d2e"',
         "check",

@@ -18,8 +18,9 @@ from test_rows import ROWS, rows_of
 from sancus.model import language, legality, rules, tables
 from sancus.model.deployment import Tables, tables_of
 from sancus.model.described import Deployment, described
+from sancus.model.faults import Teller
 from sancus.model.items import Item
-from sancus.model.texts import MOST_HEAD, Input
+from sancus.model.texts import MOST_HEAD, Input, kept_of
 from sancus.runner import Runner
 
 SEED = int(os.environ.get("SANCUS_SEED") or random.SystemRandom().randrange(10**6))
@@ -70,6 +71,10 @@ def in_deployment(head: bytes) -> Iterator[str]:
         yield from in_grammar(found, *map(int, place[4:]))
     elif place[2] == "D8":
         yield from in_rules(found, int(place[4]), place[5])
+    elif place[2] in ("D4", "D5", "D6", "D9", "D10"):
+        told = Teller(kept_of(head + b"%%\n", ""), "check").told(deployment.last)
+        if not [it for it in told[1:] if not it.startswith(f"{place[3]} ")]:
+            yield f"nothing is said of {deployment.last}"
 
 
 def in_accepted(found: Tables, deployment: Deployment) -> Iterator[str]:

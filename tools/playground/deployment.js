@@ -5,10 +5,13 @@ const KINDS = ["node", "device", "module", "connection"];
 const moduleOf = port => String(port).split(".")[0];
 const portOf = port => String(port).split(".").slice(1).join(".");
 
+const isTable = value => typeof value === "object" && value !== null && !Array.isArray(value);
+
 // An entry may lack keys, as long as the program hasn't accepted the deployment.
 class Deployment {
   constructor(document) {
-    const tables = key => Array.isArray(document[key]) ? document[key].filter(it => it && typeof it === "object") : [];
+    // (an entry that is no table has no keys)
+    const tables = key => Array.isArray(document[key]) ? document[key].map(it => isTable(it) ? it : {}) : [];
     this.toml = document;
     this.by = Object.fromEntries(KINDS.map(kind => [kind, tables(kind)]));
     if (!this.by.node.length) this.by.node = [{name: "n", key: "0".repeat(32)}];

@@ -76,14 +76,13 @@ class Faults {
 
   // What there is in place of a table of a kind of which there may be several.
   bareTables() {
-    const isTable = value => typeof value === "object" && value !== null && !Array.isArray(value);
     return KINDS.filter(kind => isTable(this.plan.toml[kind])).map(twoBrackets);
   }
 
   ofEntry(rule, kind, index, rest) {
     const {plan} = this;
     switch (rule) {
-      case "D4": return {notes: badKeys(kind, plan.by[kind][index])};
+      case "D4": return {notes: badKeys(kind, plan.toml[kind][index])};
       case "D5": return {notes: badNames(kind, index, plan)};
       case "D7": return this.grammar(index, Number(rest[0]), Number(rest[1]));
       case "D8": return this.brokenRule(index, rest[0]);

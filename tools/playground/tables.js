@@ -13,7 +13,7 @@ const TYPES = {
 const OPTIONAL = {module: {data: "word", device: "text"}};
 const FORMS = {
   "word": ["an integer from 0 to 65,535", it => Number.isInteger(it) && it >= 0 && it <= 65535],
-  "tables": ["an array of tables", it => Array.isArray(it) && it.every(entry => entry && typeof entry === "object")],
+  "tables": ["an array of tables", it => Array.isArray(it) && it.every(isTable)],
   "32 digits": ["32 hexadecimal digits", it => /^[0-9A-Fa-f]{32}$/.test(it)],
   "kind": ["`sensor` or `actuator`", it => /^(sensor|actuator)$/.test(it)],
   "port": ["`module.port`", it => /^[^.]*\.[^.]*$/.test(it)],
@@ -29,6 +29,7 @@ function givenValue(value, form) {
 }
 
 function badKeys(kind, entry) {
+  if (!isTable(entry)) return [`it is ${String(entry).slice(0, 40)}, and must be a table`];
   const wanted = TYPES[kind], forms = {...wanted, ...OPTIONAL[kind]}, known = Object.keys(forms);
   const lines = Object.keys(entry).filter(it => !known.includes(it)).map(it => `the key \`${it}\` is unknown here${near(it, known)}`);
   if (kind !== "top")

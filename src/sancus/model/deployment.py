@@ -31,8 +31,9 @@ class Tables:
         self.trees: Dict[str, Optional[language.Module]] = {}
 
     def rows(self, key: str) -> List[Entry]:
+        """The entries of a kind; one that is no table has no keys."""
         found = self.toml.get(key, [])
-        return [it for it in found if isinstance(it, dict)] if isinstance(found, list) else []
+        return [it if isinstance(it, dict) else {} for it in found] if isinstance(found, list) else []
 
     def entries(self, kind: str) -> List[Entry]:
         return {"node": self.nodes, "device": self.devices, "module": self.modules}.get(kind, self.connections)

@@ -214,7 +214,7 @@ class Teller:
         if rule == "D8":
             return lines + self.broken_rule(index, place[2])
         if rule == "D4":
-            return lines + tables.keys(kind, self.tables.entries(kind)[index])
+            return lines + tables.keys(kind, self.tables.toml[kind][index])
         found = {"D5": tables.names, "D9": tables.ties, "D10": tables.places}[rule]
         return lines + found(kind, index, self.tables)
 

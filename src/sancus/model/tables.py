@@ -9,7 +9,7 @@ from typing import Any, Dict, List, Optional, Tuple
 
 from sancus.model import language
 from sancus.model.deployment import KINDS, Entry, Tables, module_of, port_of
-from sancus.model.rules import near
+from sancus.model.rules import a, near
 from sancus.records import dataclass
 
 LOWEST, HIGHEST = 0x0200, 0xFFE0
@@ -53,8 +53,10 @@ def given(value: Any, wanted: str) -> str:
     return "is one table" if isinstance(value, dict) else f"is {str(value)[:40]}"
 
 
-def keys(kind: str, entry: Entry) -> List[str]:
+def keys(kind: str, entry: Any) -> List[str]:
     """What is wrong with the keys of an entry."""
+    if not isinstance(entry, dict):
+        return [f"it is {str(entry)[:40]}, and must be a table"]
     wanted, optional = TYPES[kind], OPTIONAL.get(kind, {})
     known = [*wanted, *optional]
     lines = [f"the key `{it}` is unknown here{near(it, known)}" for it in entry if it not in known]
@@ -82,10 +84,6 @@ def names(kind: str, index: int, tables: Tables) -> List[str]:
         if kind in ("device", "module") and key in entry and entry[key] not in tables.names(key):
             lines.append(f"there is no {key} `{entry[key]}`{near(str(entry[key]), tables.names(key))}")
     return lines
-
-
-def a(kind: str) -> str:
-    return f"an {kind}" if kind == "actuator" else f"a {kind}"
 
 
 def ties_of_connection(entry: Entry, tables: Tables) -> List[str]:
