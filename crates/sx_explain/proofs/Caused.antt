@@ -1,5 +1,5 @@
 -- Each item of a legal trace that has a cause has it before, and causes lead to a sensor's value.
-use Rattle.std.proofs.Common.{◌≡◌, ℕ, zero, suc, ◌+◌, ◌*◌, ◌/◌, ◌%◌, ◌<◌, ◌==◌, ◌&&◌, Bool, true, false, if◌then◌else◌, List, [], ◌∷◌, ◌++◌, length, replicate}
+use Rattle.std.proofs.Common.{◌≡◌, ℕ, zero, suc, ◌+◌, ◌*◌, ◌/◌, ◌%◌, ◌<◌, ◌==◌, ◌&&◌, Bool, true, false, if◌then◌else◌, List, [], ◌∷◌, ◌++◌, length}
 use Rattle.std.proofs.Common.{Option, Some, None, slice_get, append_assoc, add-zero, refl, sym, ap, ◌∙◌, subst, arith}
 use Rattle.std.specs.Prelude.{is_some, slice_set, IsSome}
 use Rattle.std.specs.List.{cons_option, list_any}
@@ -22,7 +22,6 @@ use Rattle.sx_trace.specs.declared.items.Item.{Item}
 use Rattle.sx_trace.specs.declared.items.Item.TheVariants.{Sense, Read, Take, Out}
 use Rattle.sx_model.specs.State.{EndView, FIELDS, Model, Present, Standing, power_on, contains}
 use Rattle.sx_model.specs.Step.{device_of, ◌>>?◌, changed_views, idle, state_if, step}
-use Rattle.sx_model.specs.Reaction.{field_at}
 use Rattle.sx_model.specs.Epochs.{open_epoch}
 use Rattle.sx_model.specs.Renewal.{takes}
 use Rattle.sx_model.specs.Legal.{Legal, after}
@@ -33,6 +32,8 @@ use Rattle.lemmas.proofs.Lists.{get_same}
 use Rattle.sx_model.proofs.ReadsAreSensed.{reads_are_sensed}
 use Rattle.sx_model.specs.Changes.{is_from}
 use Rattle.sx_model.proofs.Idle.{idle_is}
+use Rattle.sx_model.proofs.order.Owners.{field_low}
+use Rattle.sx_model.proofs.order.Unsent.{none_first}
 use Rattle.sx_explain.specs.Causes.{Among, CausedBy, HasCauses, IsCause, LeadsToSense, OutCaused, TakeCaused, appended, event_of, gives, latest, word_of}
 use Rattle.sx_explain.proofs.After.{some_next}
 use Rattle.sx_explain.proofs.Emitted.{outs_owed}
@@ -179,11 +180,6 @@ found app k j v n (i ∷ is) s t e none some =
           number = rw (here, w) (ap (λ (n : ℕ). Some n) (sym (add-zero n)));
         }
 
-none_first : (n k j : ℕ) → word_of (replicate n []) k j ≡ None
-none_first zero k j = refl
-none_first (suc n) zero j = refl
-none_first (suc n) (suc k) j = none_first n k j
-
 -- The connection of a sending end.
 
 pub record SendingLink (ls : List Link) (n p : ℕ) (e : End) : Type 0 where
@@ -217,11 +213,6 @@ sending_link (l ∷ ls) n p i e h f = go (l.from == p) (l.to == p) refl i h (λ 
     go true b t (suc i) h more = rest b i h more
     go false b t i h more = rest b i h more
 
--- its field has the connection in the low byte, and the epoch above it
-pub field_low : (c : ℕ) (o : Option ℕ) → is_some o ≡ true → (e : ℕ) × (field_at c o ≡ c + 256 * e) × (o ≡ Some e)
-field_low c None h = absurd cc
-field_low c (Some e) h = (e, refl, refl)
-
 -- the sending of a word at the field of a connection is over this connection
 sent_over_link : (app : AppTree) (p c epoch v : ℕ) (views : List EndView) (acts : List Act) (l : Link) → is_valid app ≡ true → slice_get app.links c ≡ Some l
     → SentBy (ends_of app p) views acts (c + 256 * epoch) v → (l.from ≡ p) × Among (Send l.output v) acts
@@ -243,7 +234,7 @@ sent_over_link app p c epoch v views acts l valid there h =
 
 -- What is there where a word is taken.
 
-word_is : (v : ℕ) (o : Option ℕ) → contains o v ≡ true → o ≡ Some v
+pub word_is : (v : ℕ) (o : Option ℕ) → contains o v ≡ true → o ≡ Some v
 word_is v None h = absurd cc
 word_is v (Some w) h = ap (λ (w : ℕ). Some w) (eqb-true w v h)
 

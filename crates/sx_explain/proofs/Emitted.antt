@@ -1,9 +1,9 @@
 -- The value of an output is what its module's latest event emits next.
-use Rattle.std.proofs.Common.{◌≡◌, ℕ, zero, suc, inl, inr, ◌==◌, Bool, true, false, if◌then◌else◌, List, [], ◌∷◌, ◌++◌}
+use Rattle.std.proofs.Common.{◌≡◌, ℕ, zero, suc, inl, inr, ◌==◌, true, false, List, [], ◌∷◌, ◌++◌}
 use Rattle.std.proofs.Common.{Option, Some, None, append_assoc, refl, sym, ap, ◌∙◌, subst}
 use Rattle.std.specs.Prelude.{slice_get, slice_set, map, is_none}
 use Rattle.std.specs.List.{list_any}
-use Rattle.std.proofs.lemmas.Bool.{cases_eq, eq-eqb, eqb-true, ne_eqb, or_from}
+use Rattle.std.proofs.lemmas.Bool.{cases_eq, eq-eqb, ne_eqb, or_from}
 use Rattle.std.proofs.lemmas.List.{append-nil}
 use Rattle.std.proofs.lemmas.List.Folds.{list_any-append}
 use Rattle.std.proofs.lemmas.Option.{same_Some}
@@ -18,7 +18,7 @@ use Rattle.sx_mean.specs.React.{react}
 use Rattle.sx_trace.specs.declared.items.Cause.{Cause}
 use Rattle.sx_trace.specs.declared.items.Item.{Item}
 use Rattle.sx_trace.specs.declared.items.Item.TheVariants.{Reset, Protect, Sense, Read, Drain, Ask, Attested, Denied, Vouch, Open, Take, Out, Raw, Done, Packet, Forged, Busy, Skip, Budget}
-use Rattle.sx_model.specs.State.{EndView, Model, Pending, Present, Standing, owing, power_on}
+use Rattle.sx_model.specs.State.{EndView, Model, Pending, Present, Standing, power_on}
 use Rattle.sx_model.specs.Step.{◌>>?◌, absent_at, first_present, step, without_first}
 use Rattle.sx_model.specs.Reaction.{Flow, all_done, sent_to}
 use Rattle.sx_model.specs.Legal.{Legal, after}
@@ -29,7 +29,7 @@ use Rattle.sx_model.proofs.Written.{at_set}
 use Rattle.sx_model.specs.Changes.{with_pending}
 use Rattle.sx_model.proofs.Emits.{emits_to}
 use Rattle.sx_model.proofs.Idle.{idle_is}
-use Rattle.sx_model.proofs.OutsAreCaused.{present_elsewhere}
+use Rattle.sx_model.proofs.OutsAreCaused.{first_owed, present_elsewhere}
 use Rattle.sx_explain.specs.Causes.{Reacts, emits_of, out_of, outs_of}
 use Rattle.sx_explain.proofs.After.{after_more}
 
@@ -42,7 +42,7 @@ emits_all es views (Emit v ∷ acts) f = emits_all es views acts (record f { emi
 
 -- What was put out, with one item more.
 
-outs_append : (m : ℕ) (xs ys : List Item) → outs_of m (xs ++ ys) ≡ outs_of m xs ++ outs_of m ys
+pub outs_append : (m : ℕ) (xs ys : List Item) → outs_of m (xs ++ ys) ≡ outs_of m xs ++ outs_of m ys
 outs_append m [] ys = refl
 outs_append m (x ∷ xs) ys = ap (λ (o : List ℕ). out_of m x ++ o) (outs_append m xs ys) ∙ sym (append_assoc (out_of m x) (outs_of m xs) (outs_of m ys))
 
@@ -114,17 +114,6 @@ none_owed v more e = cc
 nothing_owed : (o : Option Pending) → is_none o ≡ true → pending_owed o ≡ []
 nothing_owed None h = refl
 nothing_owed (Some owed) h = absurd cc
-
-first_owed : (v : ℕ) (emits : List ℕ) (k : ℕ) (left : Pending) → without_first v emits k ≡ Some left → emits ≡ v ∷ left.emits
-first_owed v [] k left e = absurd cc
-first_owed v (w ∷ ws) k left e = at (w == v) refl e
-  where
-    at : (b : Bool) → (w == v) ≡ b → (if b then owing ws k else None) ≡ Some left → w ∷ ws ≡ v ∷ left.emits
-    at true t h =
-        let same : w ≡ v = eqb-true w v t in
-        let rest : ws ≡ left.emits = ap (λ (p : Pending). p.emits) (same_Some (record { emits = ws; pieces = k }) left h) in
-        cc
-    at false t h = absurd cc
 
 owed_first : (x : Standing) (p : Present) (owed left : Pending) (v : ℕ) → x.present ≡ Some p → p.pending ≡ Some owed → without_first v owed.emits owed.pieces ≡ Some left
     → owed_of x.present ≡ v ∷ left.emits

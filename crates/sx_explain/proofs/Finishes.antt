@@ -2,7 +2,7 @@
 use Rattle.std.proofs.Common.{◌≡◌, ℕ, zero, suc, inl, inr, ◌==◌, ◌&&◌, ◌||◌, Bool, true, false, if◌then◌else◌, List, [], ◌∷◌, ◌++◌, Option, Some, None, refl, sym, ◌∙◌, ap, subst, append_assoc}
 use Rattle.std.specs.Prelude.{slice_get, slice_set, IsSome, is_none, nat_le, not}
 use Rattle.std.specs.List.{list_any}
-use Rattle.std.proofs.lemmas.Bool.{true≢false, and_parts, cases_eq, eq-eqb, eqb-true, ne_eqb, or_parts, cases_Bool}
+use Rattle.std.proofs.lemmas.Bool.{true≢false, and_parts, cases_eq, eq-eqb, eqb-true, ne_eqb, or_parts, cases_Bool, false≢true}
 use Rattle.std.proofs.lemmas.List.{append-nil}
 use Rattle.std.proofs.lemmas.Option.{same_Some, none-some}
 use Rattle.lemmas.proofs.Lists.{get_same}
@@ -30,8 +30,18 @@ use Rattle.sx_explain.specs.Finished.{resets}
 use Rattle.sx_explain.specs.Laws.{InOrderFinishes}
 use Rattle.sx_model.proofs.order.Idle.{idle_is}
 use Rattle.sx_model.proofs.order.Steps.{Cases, by_step}
+use Rattle.sx_model.proofs.Along.{some_of, next_of}
+use Rattle.sx_model.proofs.order.Sides.{nothing_is}
 use Rattle.sx_explain.proofs.Origins.{Holds, later_event, here, first_part, emitted, emits_append, outs_last}
-use Rattle.sx_explain.proofs.TakesBehind.{some_of, some_next, next_of, holds_first, holds_on}
+use Rattle.sx_explain.proofs.After.{some_next}
+use Rattle.sx_explain.proofs.TakesBehind.{holds_first, holds_on, if_state}
+
+-- a reset leaves what isn't at its node
+pub absent_other : (n : ℕ) (qs : List PartTree) (xs : List Standing) (m : ℕ) (x : Standing) → is_part_at n (slice_get qs m) ≡ false → slice_get xs m ≡ Some x → slice_get (absent_at n qs xs) m ≡ Some x
+absent_other n [] xs m x f e = e
+absent_other n (q ∷ qs) [] m x f e = absurd cc
+absent_other n (q ∷ qs) (y ∷ xs) zero x f e = ap (λ (b : Bool). Some (if b then record y { present = None } else y)) f ∙ e
+absent_other n (q ∷ qs) (y ∷ xs) (suc m) x f e = absent_other n qs xs m x f e
 
 module _ (app : AppTree) (m : ℕ) where
   -- an event of the module is pending, which began before these items and did so much
@@ -90,12 +100,6 @@ module _ (app : AppTree) (m : ℕ) where
           (q ∙ ap (λ (z : Standing). z.present) xm ∙ h.present) h.pending refl quiet
       | inr ne ↦ other t k y e ne quiet
     ]
-
-  absent_other : (n : ℕ) (qs : List PartTree) (xs : List Standing) (m : ℕ) (x : Standing) → is_part_at n (slice_get qs m) ≡ false → slice_get xs m ≡ Some x → slice_get (absent_at n qs xs) m ≡ Some x
-  absent_other n [] xs m x f e = e
-  absent_other n (q ∷ qs) [] m x f e = absurd cc
-  absent_other n (q ∷ qs) (y ∷ xs) zero x f e = ap (λ (b : Bool). Some (if b then record y { present = None } else y)) f ∙ e
-  absent_other n (q ∷ qs) (y ∷ xs) (suc m) x f e = absent_other n qs xs m x f e
 
   abbrev Stays : List Item → List Item → Item → Model → Type 0
   Stays items mid i t = ends app m i ≡ false → Track (items ++ i ∷ []) t (mid ++ i ∷ [])
@@ -160,32 +164,29 @@ module _ (app : AppTree) (m : ℕ) where
   abbrev Starts : List Item → Item → Model → Type 0
   Starts items i t = begins_event m i ≡ true → Track (items ++ i ∷ []) t []
 
-  false_true : {A : Type 0} → false ≡ true → A
-  false_true e = absurd (true≢false (sym e))
-
   starts : (items : List Item) (s : Model) → Holds app items s → Cases app s (λ i t. Starts items i t)
   starts items s h = record {
-    reset = λ n cause boot _ f. false_true f;
-    unknown = λ n f. false_true f;
-    protect = λ n k q x e none f. false_true f;
-    sense = λ d v f. false_true f;
+    reset = λ n cause boot _ f. absurd (false≢true f);
+    unknown = λ n f. absurd (false≢true f);
+    protect = λ n k q x e none f. absurd (false≢true f);
+    sense = λ d v f. absurd (false≢true f);
     read = λ k v q x p d r eq e j _ _ _ f. started (Read k v) k q x p p (event.Sample v) _ _ _ _ eq e (idle_is x p j) refl refl (λ z. refl) refl refl refl (eqb-true k m f) f;
-    drain = λ d r f. false_true f;
-    ask = λ k a x e f. false_true f;
-    attested = λ k b a x e _ f. false_true f;
-    denied = λ k f. false_true f;
-    vouch = λ k a q x p boot _ e i _ f. false_true f;
-    opened = λ k c side epoch q x p boot views _ e i _ _ _ f. false_true f;
+    drain = λ d r f. absurd (false≢true f);
+    ask = λ k a x e f. absurd (false≢true f);
+    attested = λ k b a x e _ f. absurd (false≢true f);
+    denied = λ k f. absurd (false≢true f);
+    vouch = λ k a q x p boot _ e i _ f. absurd (false≢true f);
+    opened = λ k c side epoch q x p boot views _ e i _ _ _ f. absurd (false≢true f);
     take = λ k c i v q x p l views eq e j el _ f. started (Take k c i v) k q x p (record p { ends = views }) (event.Input l.input v) _ _ _ _ eq e (idle_is x p j) refl (ap (λ o. o >>? (λ (l : Link). Some (event.Input l.input v))) el) (λ z. refl) refl refl refl (eqb-true k m f) f;
-    out = λ k v x p owed acts e ep eo ea f. false_true f;
-    raw = λ d v f. false_true f;
-    done = λ k status n x p e ep f. false_true f;
-    refused = λ k status n x p e ep none f. false_true f;
-    packet = λ k n f. false_true f;
-    forged = λ k f. false_true f;
-    busy = λ n f. false_true f;
-    skip = λ n f. false_true f;
-    budget = λ n f. false_true f;
+    out = λ k v x p owed acts e ep eo ea f. absurd (false≢true f);
+    raw = λ d v f. absurd (false≢true f);
+    done = λ k status n x p e ep f. absurd (false≢true f);
+    refused = λ k status n x p e ep none f. absurd (false≢true f);
+    packet = λ k n f. absurd (false≢true f);
+    forged = λ k f. absurd (false≢true f);
+    busy = λ n f. absurd (false≢true f);
+    skip = λ n f. absurd (false≢true f);
+    budget = λ n f. absurd (false≢true f);
   }
     where
       started : (i : Item) (k : ℕ) (q : PartTree) (x : Standing) (old p : Present) (ev : SourceEvent) (t : Model) (y : Standing) (r : Present) (pieces : ℕ)
@@ -213,17 +214,9 @@ module _ (app : AppTree) (m : ℕ) where
     abbrev Ends : Type 0
     Ends = (status ≡ 1) × (outs_of m mid ≡ emits_of (acts_of h.event))
 
-    nothing_left : (acts : List Act) → is_nothing acts ≡ true → acts ≡ []
-    nothing_left [] e = refl
-    nothing_left (a ∷ acts) e = absurd cc
-
-    if_state : (b : Bool) (s t : Model) → state_if b s ≡ Some t → b ≡ true
-    if_state true s t h = refl
-    if_state false s t h = absurd cc
-
     ended : (owed : Pending) → owed ≡ h.owed → is_nothing owed.acts ≡ true → outs_of m mid ≡ emits_of (acts_of h.event)
     ended owed same e =
-        let none : h.owed.acts ≡ [] = ap (λ (z : Pending). z.acts) (sym same) ∙ nothing_left owed.acts e in
+        let none : h.owed.acts ≡ [] = ap (λ (z : Pending). z.acts) (sym same) ∙ nothing_is owed.acts e in
         h.shown ∙ ap emits_of (sym (append-nil h.first) ∙ ap (λ z. h.first ++ z) (sym none) ∙ sym h.whole)
 
     by_status : (q : PartTree) (x : Standing) (p : Present) → p ≡ h.p → (b : Bool) → (status == 1) ≡ b
@@ -263,11 +256,11 @@ module _ (app : AppTree) (m : ℕ) where
   ending : (i : Item) → ends app m i ≡ true → resets app m i ≡ false → (status : ℕ) × (n : ℕ) × (i ≡ Done m status n)
   ending (Done k status n) e r = (status, n, ap (λ j. Done j status n) (eqb-true k m e))
   ending (Reset n cause) e r = absurd (true≢false (sym e ∙ r))
-  ending _ e r = false_true e
+  ending _ e r = absurd (false≢true e)
 
   finds : (before : List Item) (first : Item) (done between behind : List Item) (s : Model) → Track (before ++ first ∷ done) s done → IsSome (after app s (between ++ behind))
       → list_any (ends app m) between ≡ true → list_any (resets app m) between ≡ false → Found before first done between
-  finds before first done [] behind s h legal e r = false_true e
+  finds before first done [] behind s h legal e r = absurd (false≢true e)
   finds before first done (i ∷ between) behind s h legal e r =
       let n = next_of (step app s i) (λ t. after app t (between ++ behind)) legal in
       let rs = or_parts (resets app m i) (list_any (resets app m) between) r in

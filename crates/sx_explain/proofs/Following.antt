@@ -26,6 +26,7 @@ use Rattle.sx_model.proofs.Steps.{Cases, by_step}
 use Rattle.lemmas.proofs.Lists.{get_same, get_some}
 use Rattle.sx_model.proofs.Written.{get_other}
 use Rattle.sx_model.specs.Changes.{is_from}
+use Rattle.sx_model.proofs.order.Owners.{field_low}
 use Rattle.sx_explain.specs.Causes.{appended, cause, gives, latest, or_else, word_of}
 use Rattle.sx_explain.specs.Filling.{IsFullAt, at_field, full}
 use Rattle.sx_explain.specs.declared.judge.Judged.TheVariants as verdict
@@ -35,7 +36,7 @@ use Rattle.sx_explain.specs.Followed.{items_after}
 use Rattle.sx_explain.specs.Followed.{FillsFor, Follows, HasAll, IsFullFor, IsOf, Seen, Stands, answered, found, noted, numbers_of, taken_in, taken_of}
 use Rattle.sx_explain.proofs.Filled.{field_word, full_all, get_full, length_full, length_under, none_at}
 use Rattle.sx_explain.proofs.After.{after_more, some_next}
-use Rattle.sx_explain.proofs.Caused.{field_low, step_grows}
+use Rattle.sx_explain.proofs.Caused.{step_grows}
 use Rattle.sx_explain.specs.Wants.{IsBehindEvent}
 
 -- One item more.

@@ -24,6 +24,7 @@ use Rattle.sx_model.specs.order.Reaction.{sent_first, from_emit, flowing}
 use Rattle.sx_model.specs.order.Step.{absent_at, behind_emit}
 use Rattle.sx_model.specs.order.Legal.{after}
 use Rattle.sx_explain.specs.Sending.{EventOf, acts_of, SentBehind}
+use Rattle.sx_explain.proofs.Emitted.{outs_append}
 
 -- what is sent before the first emit
 pub record FirstSent (es : List End) (views : List EndView) (acts : List Act) (field v : ℕ) : Type 0 where
@@ -60,10 +61,6 @@ pub emits_append : (xs ys : List Act) → emits_of (xs ++ ys) ≡ emits_of xs ++
 emits_append [] ys = refl
 emits_append (Emit v ∷ xs) ys = ap (λ z. v ∷ z) (emits_append xs ys)
 emits_append (Send output v ∷ xs) ys = emits_append xs ys
-
-outs_append : (m : ℕ) (xs ys : List Item) → outs_of m (xs ++ ys) ≡ outs_of m xs ++ outs_of m ys
-outs_append m [] ys = refl
-outs_append m (x ∷ xs) ys = ap (λ z. out_of m x ++ z) (outs_append m xs ys) ∙ sym (append_assoc (out_of m x) (outs_of m xs) (outs_of m ys))
 
 pub outs_last : (m : ℕ) (xs : List Item) (i : Item) → outs_of m (xs ++ i ∷ []) ≡ outs_of m xs ++ out_of m i
 outs_last m xs i = outs_append m xs (i ∷ []) ∙ ap (λ z. outs_of m xs ++ z) (append-nil (out_of m i))

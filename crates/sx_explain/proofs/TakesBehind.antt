@@ -1,6 +1,6 @@
 -- What a handler emits before it sends was put out before the word is taken.
-use Rattle.std.proofs.Common.{◌≡◌, ℕ, zero, suc, ◌+◌, ◌*◌, ◌/◌, ◌%◌, ◌<◌, ◌≤◌, ◌==◌, ◌&&◌, Bool, true, false, List, [], ◌∷◌, ◌++◌, length, replicate, Option, Some, None, refl, sym, ◌∙◌, ap, subst, arith, append_assoc}
-use Rattle.std.specs.Prelude.{slice_get, is_some, IfSome, IsSome, map}
+use Rattle.std.proofs.Common.{◌≡◌, ℕ, zero, suc, ◌+◌, ◌*◌, ◌/◌, ◌%◌, ◌<◌, ◌≤◌, ◌==◌, ◌&&◌, Bool, true, false, List, [], ◌∷◌, ◌++◌, length, Option, Some, None, refl, sym, ◌∙◌, ap, subst, arith, append_assoc}
+use Rattle.std.specs.Prelude.{slice_get, is_some, IsSome, map}
 use Rattle.std.proofs.lemmas.Bool.{and_parts, eq-eqb, eqb-true}
 use Rattle.std.proofs.lemmas.List.{append-nil}
 use Rattle.std.proofs.lemmas.Option.{same_Some, slice_get_within, none-some}
@@ -14,7 +14,8 @@ use Rattle.sx_trace.specs.declared.items.Item.TheVariants.{Reset, Protect, Sense
 use Rattle.sx_model.specs.Changes.{is_from}
 use Rattle.sx_model.specs.Renewal.{takes}
 use Rattle.sx_explain.specs.Causes.{word_of, out_of}
-use Rattle.sx_explain.proofs.Caused.{sending_link, field_low}
+use Rattle.sx_explain.proofs.After.{some_next}
+use Rattle.sx_explain.proofs.Caused.{sending_link, word_is}
 use Rattle.sx_model.specs.State.{FIELDS, contains}
 use Rattle.sx_model.specs.order.State.{Model, Pending, Present, Standing, power_on}
 use Rattle.sx_model.specs.Step.{◌>>?◌, changed_views}
@@ -24,27 +25,14 @@ use Rattle.sx_explain.specs.Sending.{SentBehind}
 use Rattle.sx_explain.specs.Laws.{InOrderTakesBehind}
 use Rattle.sx_model.proofs.order.Idle.{idle_is}
 use Rattle.sx_model.proofs.order.Steps.{Cases, by_step}
+use Rattle.sx_model.proofs.Along.{some_of, next_of}
+use Rattle.sx_model.proofs.order.Owners.{field_low}
+use Rattle.sx_model.proofs.order.Unsent.{none_first}
 use Rattle.sx_explain.proofs.Origins.{Origin, Words, Owing, Holds, later_words, still, settled, kept, absent, begun_words, begun_owing, out_words, out_owing}
 
-pub some_of : {A : Type 0} → (o : Option A) (x : A) (Q : A → Type 0) → IfSome o Q → o ≡ Some x → Q x
-some_of None x Q h e = absurd cc
-some_of (Some y) x Q h e = subst Q (same_Some y x e) h
-
-pub some_next : {A B : Type 0} → (o : Option A) (f : A → Option B) (t : B) → (o >>? f) ≡ Some t → (x : A) × (o ≡ Some x) × (f x ≡ Some t)
-some_next None f t h = absurd cc
-some_next (Some x) f t h = (x, refl, h)
-
-pub next_of : {A B : Type 0} → (o : Option A) (f : A → Option B) → IsSome (o >>? f) → (x : A) × (o ≡ Some x) × IsSome (f x)
-next_of None f h = absurd cc
-next_of (Some x) f h = (x, refl, h)
-
-if_state : (b : Bool) (s t : Model) → state_if b s ≡ Some t → b ≡ true
+pub if_state : (b : Bool) (s t : Model) → state_if b s ≡ Some t → b ≡ true
 if_state true s t h = refl
 if_state false s t h = absurd cc
-
-word_is : (v : ℕ) (o : Option ℕ) → contains o v ≡ true → o ≡ Some v
-word_is v None h = absurd cc
-word_is v (Some w) h = ap (λ (w : ℕ). Some w) (eqb-true w v h)
 
 module _ (app : AppTree) where
   abbrev Kept : List Item → Item → Model → Type 0
@@ -102,11 +90,6 @@ module _ (app : AppTree) where
   holds_on items s h i t e =
       let k = some_of (step app s i) t (Kept items i) (by_step app s (λ i t. Kept items i t) (cases items s h) i) e in
       record { ran = after_last (power_on app) s t items i h.ran e; words = k.0; owing = k.1 }
-
-  none_first : (n k j : ℕ) → word_of (replicate n []) k j ≡ None
-  none_first zero k j = refl
-  none_first (suc n) zero j = refl
-  none_first (suc n) (suc k) j = none_first n k j
 
   absent_first : (qs : List PartTree) (m : ℕ) (x : Standing) → slice_get (map (λ p. record { present = None; asked = None; vouched = []; attested = None }) qs) m ≡ Some x → x.present ≡ None
   absent_first [] m x e = absurd cc

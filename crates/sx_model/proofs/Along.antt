@@ -28,7 +28,7 @@ pub record StepOf (app : AppTree) (P : List Item → Model → Type 0) (before :
   pub holds : P before from
   pub is : step app from item ≡ Some to
 
-pub next_of : {A : Type 0} → (o : Option A) (f : A → Option Model) → IsSome (o >>? f) → (x : A) × (o ≡ Some x) × IsSome (f x)
+pub next_of : {A B : Type 0} → (o : Option A) (f : A → Option B) → IsSome (o >>? f) → (x : A) × (o ≡ Some x) × IsSome (f x)
 next_of None f h = absurd cc
 next_of (Some x) f h = (x, refl, h)
 

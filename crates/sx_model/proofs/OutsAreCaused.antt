@@ -1,14 +1,14 @@
 -- Each output has its cause: emits are owed only while an event is under way.
 use Rattle.std.proofs.Common.{◌≡◌, ℕ, zero, suc, inl, inr, ◌==◌, Bool, true, false, List, [], ◌∷◌, ◌++◌, Option, Some, None, refl, sym, ap, ◌∙◌, subst, if◌then◌else◌}
 use Rattle.std.specs.Prelude.{slice_get, slice_set, map, not, is_none}
-use Rattle.std.proofs.lemmas.Bool.{cases_eq, eq-eqb, ne_eqb}
+use Rattle.std.proofs.lemmas.Bool.{cases_eq, eq-eqb, ne_eqb, eqb-true}
 use Rattle.std.proofs.lemmas.Option.{same_Some}
 use Rattle.sx_mean.specs.Application.{AppTree, PartTree}
 use Rattle.sx_mean.specs.Ends.{ends_of}
 use Rattle.sx_trace.specs.declared.items.Cause.{Cause}
 use Rattle.sx_trace.specs.declared.items.Item.{Item}
 use Rattle.sx_trace.specs.declared.items.Item.TheVariants.{Reset, Protect, Sense, Read, Drain, Ask, Attested, Denied, Vouch, Open, Take, Out, Raw, Done, Packet, Forged, Busy, Skip, Budget}
-use Rattle.sx_model.specs.State.{Model, Pending, Present, Standing, power_on}
+use Rattle.sx_model.specs.State.{Model, Pending, Present, Standing, owing, power_on}
 use Rattle.sx_model.specs.Step.{absent_at, first_present, is_nothing, step, without_first}
 use Rattle.sx_model.specs.Legal.{Legal}
 use Rattle.sx_model.specs.Consequences.{OutsAreCaused, Since, begins_event, ends_event, is_part_at}
@@ -46,9 +46,17 @@ nothing_owed : (o : Option Pending) → is_none o ≡ true → pending_owes o �
 nothing_owed None h = refl
 nothing_owed (Some owed) h = absurd cc
 
-first_owed : (v : ℕ) (emits : List ℕ) (k : ℕ) (left : Pending) → without_first v emits k ≡ Some left → not (is_nothing emits) ≡ true
+-- what is put out is the first that was owed
+pub first_owed : (v : ℕ) (emits : List ℕ) (k : ℕ) (left : Pending) → without_first v emits k ≡ Some left → emits ≡ v ∷ left.emits
 first_owed v [] k left e = absurd cc
-first_owed v (e ∷ es) k left h = refl
+first_owed v (w ∷ ws) k left e = at (w == v) refl e
+  where
+    at : (b : Bool) → (w == v) ≡ b → (if b then owing ws k else None) ≡ Some left → w ∷ ws ≡ v ∷ left.emits
+    at true t h =
+        let same : w ≡ v = eqb-true w v t in
+        let rest : ws ≡ left.emits = ap (λ (p : Pending). p.emits) (same_Some (record { emits = ws; pieces = k }) left h) in
+        cc
+    at false t h = absurd cc
 
 module _ (app : AppTree) (items : List Item) (xs : List Standing) (h : Caused app items xs) where
   -- the modules are left as they were
@@ -100,7 +108,7 @@ module _ (app : AppTree) (items : List Item) (xs : List Standing) (h : Caused ap
 
 owed_before : (x : Standing) (p : Present) (owed left : Pending) (v : ℕ) → x.present ≡ Some p → p.pending ≡ Some owed
     → without_first v owed.emits owed.pieces ≡ Some left → present_owes x.present ≡ true
-owed_before x p owed left v ep eo el = ap (λ o. present_owes o) ep ∙ ap (λ o. pending_owes o) eo ∙ first_owed v owed.emits owed.pieces left el
+owed_before x p owed left v ep eo el = ap (λ o. present_owes o) ep ∙ ap (λ o. pending_owes o) eo ∙ ap (λ (l : List ℕ). not (is_nothing l)) (first_owed v owed.emits owed.pieces left el)
 
 abbrev In : AppTree → List Item → Model → Type 0
 In app items s = Caused app items s.modules

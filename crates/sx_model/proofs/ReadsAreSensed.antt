@@ -22,7 +22,7 @@ abbrev Sensed : AppTree → List Item → List Reading → Type 0
 Sensed app items rs = (d : ℕ) (r : Reading) → slice_get rs d ≡ Some r → r.fresh ≡ true → Since (senses d r.value) (ends_reading app d) items
 
 -- a reset leaves fresh what isn't at its node
-fresh_elsewhere : (n : ℕ) (ds : List AppDevice) (rs : List Reading) (d : ℕ) (r : Reading) → slice_get (stale_at n ds rs) d ≡ Some r → r.fresh ≡ true
+pub fresh_elsewhere : (n : ℕ) (ds : List AppDevice) (rs : List Reading) (d : ℕ) (r : Reading) → slice_get (stale_at n ds rs) d ≡ Some r → r.fresh ≡ true
     → (is_device_at n (slice_get ds d) ≡ false) × (slice_get rs d ≡ Some r)
 fresh_elsewhere n [] rs d r e f = (refl, e)
 fresh_elsewhere n (x ∷ ds) [] d r e f = absurd cc

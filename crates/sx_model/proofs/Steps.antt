@@ -17,17 +17,20 @@ use Rattle.sx_model.specs.Step.{◌>>?◌, changed_views, first_present, state_i
 use Rattle.sx_model.specs.Step.{step, is_undriven, waits, with_device, with_present, with_standing, without_first}
 use Rattle.sx_model.specs.Changes.{is_fresh_with, with_pending}
 
-looked_up : {A B : Type 0} → (o : Option A) (f : A → Option B) (Q : B → Type 0) → ((x : A) → o ≡ Some x → IfSome (f x) Q) → IfSome (o >>? f) Q
+pub looked_up : {A B : Type 0} → (o : Option A) (f : A → Option B) (Q : B → Type 0) → ((x : A) → o ≡ Some x → IfSome (f x) Q) → IfSome (o >>? f) Q
 looked_up None f Q h = tt
 looked_up (Some x) f Q h = h x refl
 
-tested : (b : Bool) (s : Model) (Q : Model → Type 0) → (b ≡ true → Q s) → IfSome (state_if b s) Q
+pub tested : (b : Bool) (s : Model) (Q : Model → Type 0) → (b ≡ true → Q s) → IfSome (state_if b s) Q
 tested true s Q h = h refl
 tested false s Q h = tt
 
 chosen : (b : Bool) (o p : Option Model) (Q : Model → Type 0) → (b ≡ true → IfSome o Q) → (b ≡ false → IfSome p Q) → IfSome (if b then o else p) Q
 chosen true o p Q f g = f refl
 chosen false o p Q f g = g refl
+
+pub idle_then : (a b c d : Bool) → (a && (b && (c && d))) ≡ true → c ≡ true
+idle_then a b c d h = (and_parts c d (and_parts b (c && d) (and_parts a (b && (c && d)) h).1).1).0
 
 -- What holds after an item of these kinds, wherever it is allowed.
 
@@ -144,9 +147,6 @@ module _ (app : AppTree) (s : Model) (P : Item → Model → Type 0) (c : Cases 
       chosen (status == 1) _ _ _ (λ _. looked_up p.pending _ _ (λ owed _. tested (is_nothing owed.emits && (k == owed.pieces)) _ _ (λ _. c.done m status k x p ex ep)))
       (λ _. tested ((nat_le 2 status && nat_le status 8) && ((k == 0) && (is_none p.pending && (not (status == 8) || waits app s.devices q.device)))) _ _ (λ b.
       c.refused m status k x p ex ep (idle_then (nat_le 2 status && nat_le status 8) (k == 0) (is_none p.pending) (not (status == 8) || waits app s.devices q.device) b))))))
-    where
-      idle_then : (a b c d : Bool) → (a && (b && (c && d))) ≡ true → c ≡ true
-      idle_then a b c d h = (and_parts c d (and_parts b (c && d) (and_parts a (b && (c && d)) h).1).1).0
 
   pub by_step : (item : Item) → IfSome (step app s item) (P item)
   by_step (Reset n cause) = looked_up (slice_get s.boots n) _ _ (λ boot e. c.reset n cause boot e)

@@ -2,7 +2,7 @@
 use Rattle.std.proofs.Common.{◌≡◌, ℕ, zero, suc, ◌+◌, ◌*◌, ◌<◌, ◌≤◌, ◌==◌, ◌&&◌, Bool, true, false, if◌then◌else◌, List, [], ◌∷◌, length, Option, Some, None, slice_get, refl, sym, ap, ◌∙◌, arith}
 use Rattle.std.specs.Prelude.{is_some}
 use Rattle.std.specs.List.{cons_option}
-use Rattle.std.proofs.lemmas.Bool.{eq-eqb, ne_eqb}
+use Rattle.std.proofs.lemmas.Bool.{eq-eqb, ne_eqb, and_right}
 use Rattle.std.proofs.lemmas.Option.{same_Some, slice_get_within}
 use Rattle.sx_lang.specs.declared.sides.Side.TheVariants.{From, To}
 use Rattle.sx_mean.specs.declared.apps.Link.{Link}
@@ -13,10 +13,6 @@ use Rattle.sx_model.specs.State.{EndView}
 use Rattle.sx_model.specs.Reaction.{field_at}
 use Rattle.sx_model.proofs.EndViews.{link_of_end, view_at, same_side-true}
 use Rattle.sx_model.proofs.order.Fields.{OpenAt}
-
-and_no : (b : Bool) → (b && false) ≡ false
-and_no true = refl
-and_no false = refl
 
 high : (ls : List Link) (n p i : ℕ) (e : End) → slice_get (ends_after n p ls) i ≡ Some e → n ≤ e.link
 high [] n p i e h = absurd cc
@@ -52,7 +48,7 @@ found (l ∷ ls) n p i vs e v h g f = one (λ i vs h g. found ls (n + 1) p i vs 
         → view_at e.link From (cons_option (if b then Some (record { link = n; side = To; port = l.input }) else None) (ends_after (n + 1) p ls)) vs ≡ Some v
     two more true zero vs h g = absurd (let s : To ≡ e.side = ap (λ (e : End). e.side) (same_Some (record { link = n; side = To; port = l.input }) e h) in let z : To ≡ From = (s ∙ f) in cc)
     two more true (suc i) [] h g = absurd cc
-    two more true (suc i) (w ∷ vs) h g = skip ((n == e.link) && false) (Some w) _ (and_no (n == e.link)) (more i vs h g)
+    two more true (suc i) (w ∷ vs) h g = skip ((n == e.link) && false) (Some w) _ (and_right (n == e.link) false refl) (more i vs h g)
     two more false i vs h g = more i vs h g
 
     -- an end behind is of another connection, or the receiving one
@@ -88,7 +84,8 @@ pub record Own (app : AppTree) (m : ℕ) (views : List EndView) (f : ℕ) : Type
   pub view_is : view_at c From (ends_of app m) views ≡ Some view
   pub epoch_is : view.epoch ≡ Some epoch
 
-field_low : (c : ℕ) (o : Option ℕ) → is_some o ≡ true → (e : ℕ) × (field_at c o ≡ c + 256 * e) × (o ≡ Some e)
+-- the field of an end has the connection in the low byte, and the epoch above it
+pub field_low : (c : ℕ) (o : Option ℕ) → is_some o ≡ true → (e : ℕ) × (field_at c o ≡ c + 256 * e) × (o ≡ Some e)
 field_low c None h = absurd cc
 field_low c (Some e) h = (e, refl, refl)
 

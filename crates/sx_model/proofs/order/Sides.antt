@@ -110,7 +110,7 @@ none_owed (Some o) (Some u) n h = refl
 none_owed None (Some u) n h = absurd h
 none_owed (Some o) None n h = absurd h
 
-nothing_is : (acts : List Act) → is_nothing acts ≡ true → acts ≡ []
+pub nothing_is : (acts : List Act) → is_nothing acts ≡ true → acts ≡ []
 nothing_is [] h = refl
 nothing_is (a ∷ acts) h = absurd cc
 

@@ -14,19 +14,16 @@ use Rattle.sx_trace.specs.declared.items.Item.TheVariants.{Reset, Protect, Sense
 use Rattle.sx_model.specs.State.{EndView, Reading, contains}
 use Rattle.sx_model.specs.order.State.{Model, Pending, Present, Standing}
 use Rattle.sx_model.specs.Renewal.{boot_of, may_attest, may_open, opens, renewed, takes}
-use Rattle.sx_model.specs.Step.{◌>>?◌, changed_views, is_vouched, kind_is}
+use Rattle.sx_model.specs.Step.{changed_views, is_vouched, kind_is}
 use Rattle.sx_model.specs.order.Step.{first_present, state_if, idle, is_nothing, reacts, reset_at}
 use Rattle.sx_model.specs.Step.{waits}
 use Rattle.sx_model.specs.order.Step.{step, is_undriven, with_device, with_present, with_standing, behind_emit, goes_on}
 use Rattle.sx_model.specs.Changes.{is_fresh_with}
+use Rattle.sx_model.proofs.Steps.{looked_up, idle_then}
 use Rattle.sx_mean.specs.declared.events.Act.{Act}
 
 abbrev pub with_pending : Present → Option Pending → Present
 with_pending p o = record p { pending = o }
-
-looked_up : {A B : Type 0} → (o : Option A) (f : A → Option B) (Q : B → Type 0) → ((x : A) → o ≡ Some x → IfSome (f x) Q) → IfSome (o >>? f) Q
-looked_up None f Q h = tt
-looked_up (Some x) f Q h = h x refl
 
 tested : (b : Bool) (s : Model) (Q : Model → Type 0) → (b ≡ true → Q s) → IfSome (state_if b s) Q
 tested true s Q h = h refl
@@ -151,9 +148,6 @@ module _ (app : AppTree) (s : Model) (P : Item → Model → Type 0) (c : Cases 
       chosen (status == 1) _ _ _ (λ _. looked_up p.pending _ _ (λ owed _. tested (is_nothing owed.acts && (k == owed.pieces)) _ _ (λ _. c.done m status k x p ex ep)))
       (λ _. tested ((nat_le 2 status && nat_le status 8) && ((k == 0) && (is_none p.pending && (not (status == 8) || waits app s.devices q.device)))) _ _ (λ b.
       c.refused m status k x p ex ep (idle_then (nat_le 2 status && nat_le status 8) (k == 0) (is_none p.pending) (not (status == 8) || waits app s.devices q.device) b))))))
-    where
-      idle_then : (a b c d : Bool) → (a && (b && (c && d))) ≡ true → c ≡ true
-      idle_then a b c d h = (and_parts c d (and_parts b (c && d) (and_parts a (b && (c && d)) h).1).1).0
 
   pub by_step : (item : Item) → IfSome (step app s item) (P item)
   by_step (Reset n cause) = looked_up (slice_get s.boots n) _ _ (λ boot e. c.reset n cause boot e)

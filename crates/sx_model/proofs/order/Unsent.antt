@@ -35,7 +35,7 @@ AllUnsent app t = (m c : ℕ) (q : PartTree) (l : Link) → slice_get app.parts 
 
 -- at power-on
 
-none_first : (n k j : ℕ) → word_of (replicate n []) k j ≡ None
+pub none_first : (n k j : ℕ) → word_of (replicate n []) k j ≡ None
 none_first zero k j = refl
 none_first (suc n) zero j = refl
 none_first (suc n) (suc k) j = none_first n k j
