@@ -1,5 +1,5 @@
 -- Every plan ends in registers in range and stores words, given that it reads words.
-use Rattle.std.proofs.Common.{◌≡◌, ℕ, ◌+◌, ◌-◌, ◌*◌, ◌/◌, ◌%◌, ◌<◌, ◌==◌, ◌&&◌, not, Bool, true, false, cond, if◌then◌else◌, List, Option, Some, None, Result, Ok, Err, refl, ◌∙◌, arith, ℤ}
+use Rattle.std.proofs.Common.{◌≡◌, ℕ, ◌+◌, ◌-◌, ◌*◌, ◌/◌, ◌%◌, ◌<◌, ◌==◌, ◌&&◌, not, Bool, true, false, cond, if◌then◌else◌, List, [], ◌∷◌, Option, Some, None, Result, Ok, Err, refl, ◌∙◌, arith, ℤ}
 use Rattle.std.specs.Prelude.{slice_index, slice_set}
 use Rattle.std.proofs.lemmas.Nat.{xor_of_16, and_le_l, or_of_16}
 use Rattle.sx_isa.specs.declared.instruction.Instr.{Instr}
@@ -28,7 +28,7 @@ use Rattle.sx_bus.specs.declared.devices.Window.{Window}
 use Rattle.sx_bus.specs.Devices.{HaveSamples}
 use Rattle.spec_machine.specs.Memory.{bytes_from, put_bytes}
 use Rattle.spec_machine.specs.Plan.{Plan, Done, Tell, Stop, Fetch, Load, Store, Need, Writable, Bytes, Put}
-use Rattle.spec_machine.specs.Run.{Moment, Outcome, Finished, Violated, Module, may_at, may_range, may_each, device_of, sampled, read_device}
+use Rattle.spec_machine.specs.Run.{Moment, Outcome, Finished, Violated, Module, may_at, may_range, may_each, device_of, sampled, read_device, with_touch, untouched}
 use Rattle.spec_machine.specs.Run.{read_place, load, write_device, write_place, store, fetch_place, fetch, after_read, after_write, after_fetch, exec}
 use Rattle.spec_machine.specs.Registers.{cut_value, onward, reg, set_reg, at_pc, flags, set_flags, incremented}
 use Rattle.spec_machine.specs.Rows.{from_source, reads, writes, into_register, into_memory, on_memory, onto, lowered, pushed, in_memory, in_place, one, reti}
@@ -42,6 +42,8 @@ use Rattle.spec_machine.proofs.Registers.{Holds, holds_pc, holds_sp, holds_zero,
 use Rattle.spec_machine.proofs.Registers.{flags_registers, lowered_registers, incremented_registers, distance_even, word_small, read_small, write_bytes}
 use Rattle.spec_machine.proofs.Registers.{put_small}
 use Rattle.spec_machine.proofs.Devices.{device_there, sample_small, cleared_shapes, by_sample}
+use Rattle.spec_machine.specs.declared.kinds.Touch.{Touch}
+use Rattle.spec_machine.specs.declared.kinds.Touch.TheVariants.{Quiet, DeviceRead, DeviceWrite}
 use Rattle.lemmas.specs.Truth.{truth}
 
 -- every way that a plan goes on, when it reads words, stores words and ends in registers in range
@@ -59,11 +61,31 @@ Ranged (Put at bs k) = Ranged k
 
 -- The executor.
 
--- memory in range, and devices as they were but for their fresh marks
+-- what is written to a device is a word
+abbrev pub Word : Touch → Type 0
+Word Quiet = Unit {0}
+Word (DeviceRead k v) = Unit {0}
+Word (DeviceWrite k v) = v < 65536
+
+abbrev pub Words : List Touch → Type 0
+Words [] = Unit {0}
+Words (t ∷ ts) = Word t × Words ts
+
+with_touch_words : (ts : List Touch) (t : Touch) → Words ts → Word t → Words (with_touch ts t)
+with_touch_words [] t h w = tt
+with_touch_words (Quiet ∷ ts) t h w = (w, h.1)
+with_touch_words (DeviceRead k v ∷ ts) t h w = (h.0, with_touch_words ts t h.1 w)
+with_touch_words (DeviceWrite k v ∷ ts) t h w = (h.0, with_touch_words ts t h.1 w)
+
+pub no_words : Words untouched
+no_words = (tt, (tt, tt))
+
+-- memory in range, devices as they were but for their fresh marks, and words written to them
 pub record Steady (devices : List Window) (x : Moment) : Type 0 where
   pub memory : AreMemoryBytes x.mem
   pub shapes : shapes x.devices ≡ shapes devices
   pub samples : HaveSamples x.devices
+  pub words : Words x.touches
 
 abbrev pub RangedBy : List Window → Outcome → Type 0
 RangedBy devices (Finished regs x) = AreRegisters regs × Steady devices x
@@ -81,7 +103,7 @@ ReadRanged ds (Err v) = Unit {0}
 sampled_ranged : (ds : List Window) (k : ℕ) (w : Window) (x : Moment) → w.value < 32768 → Steady ds x → ReadRanged ds (Ok (sampled k w x))
 sampled_ranged ds k w x lt h =
     by_sample (λ r. (r.0 < 65536) × Steady ds r.1) k w x
-    (omega (arith, lt), record { memory = h.memory; shapes = cleared_shapes x.devices k ∙ h.shapes; samples = HaveSamples-cleared x.devices k h.samples }) (omega arith, h)
+    (omega (arith, lt), record { memory = h.memory; shapes = cleared_shapes x.devices k ∙ h.shapes; samples = HaveSamples-cleared x.devices k h.samples; words = with_touch_words x.touches (DeviceRead k w.value) h.words tt }) (omega arith, h)
 
 device_ranged : (ds : List Window) (wide : Bool) (k : ℕ) (w : Window) (kind : Kind) (x : Moment) → w.value < 32768 → Steady ds x → ReadRanged ds (read_device wide k w kind x)
 device_ranged ds true k w Sensor x lt h = sampled_ranged ds k w x lt h
@@ -104,15 +126,15 @@ abbrev WriteRanged : List Window → Result Moment Violation → Type 0
 WriteRanged ds (Ok x) = Steady ds x
 WriteRanged ds (Err v) = Unit {0}
 
-actuated_ranged : (ds : List Window) (wide : Bool) (k v : ℕ) (kind : Kind) (x : Moment) → Steady ds x → WriteRanged ds (write_device wide k v kind x)
-actuated_ranged ds true k v Actuator x h = record { memory = h.memory; shapes = h.shapes; samples = h.samples }
-actuated_ranged ds false k v Actuator x h = tt
-actuated_ranged ds true k v Sensor x h = tt
-actuated_ranged ds false k v Sensor x h = tt
+actuated_ranged : (ds : List Window) (wide : Bool) (k v : ℕ) (kind : Kind) (x : Moment) → v < 65536 → Steady ds x → WriteRanged ds (write_device wide k v kind x)
+actuated_ranged ds true k v Actuator x lt h = record { memory = h.memory; shapes = h.shapes; samples = h.samples; words = with_touch_words x.touches (DeviceWrite k v) h.words lt }
+actuated_ranged ds false k v Actuator x lt h = tt
+actuated_ranged ds true k v Sensor x lt h = tt
+actuated_ranged ds false k v Sensor x lt h = tt
 
 written_ranged : (ds : List Window) (wide : Bool) (at v : ℕ) (o : Option (ℕ × Window)) (x : Moment) → v < 65536 → Steady ds x → WriteRanged ds (write_place wide at v o x)
-written_ranged ds wide at v None x lt h = record { memory = write_bytes wide x.mem at v h.memory lt; shapes = h.shapes; samples = h.samples }
-written_ranged ds wide at v (Some d) x lt h = actuated_ranged ds wide d.0 v d.1.kind x h
+written_ranged ds wide at v None x lt h = record { memory = write_bytes wide x.mem at v h.memory lt; shapes = h.shapes; samples = h.samples; words = h.words }
+written_ranged ds wide at v (Some d) x lt h = actuated_ranged ds wide d.0 v d.1.kind x lt h
 
 store_ranged : (ds : List Window) (t : Sections) (own : ℕ) (wide : Bool) (at v : ℕ) (x : Moment) → v < 65536 → Steady ds x → WriteRanged ds (store t.live own wide at v x)
 store_ranged ds t own wide at v x lt h = by (may_at wide t.live own Write at)
@@ -164,7 +186,7 @@ exec_ranged t own ds (Bytes at n k) x r h = ranged_outcome ds (may_range t.live 
     (exec t own (k (bytes_from x.mem at n)) x) bad.Read (exec_ranged t own ds (k (bytes_from x.mem at n)) x (r (bytes_from x.mem at n)) h)
 exec_ranged t own ds (Put at bs k) x r h =
     ranged_outcome ds (may_each t.live own Write at bs) (exec t own k (record x { mem = put_bytes x.mem at bs })) bad.Write
-    (exec_ranged t own ds k (record x { mem = put_bytes x.mem at bs }) r (record { memory = put_small bs x.mem at h.memory; shapes = h.shapes; samples = h.samples }))
+    (exec_ranged t own ds k (record x { mem = put_bytes x.mem at bs }) r (record { memory = put_small bs x.mem at h.memory; shapes = h.shapes; samples = h.samples; words = h.words }))
 
 -- Calculations give words.
 

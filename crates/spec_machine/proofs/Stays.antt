@@ -42,7 +42,7 @@ use Rattle.spec_machine.proofs.Registers.{set_registers, set_reg_registers, conc
 use Rattle.spec_machine.proofs.Devices.{some_inj, sensed_shapes, stale_shapes, same_places}
 use Rattle.spec_machine.proofs.Events.{ToldBy, attempt_told}
 use Rattle.spec_machine.proofs.Apart.{apart_told}
-use Rattle.spec_machine.proofs.Ranged.{Ranged, Steady, RangedBy, ranged_outcome, exec_ranged, ranged_if, ranged_program, ranged_interrupt}
+use Rattle.spec_machine.proofs.Ranged.{Ranged, Words, no_words, Steady, RangedBy, ranged_outcome, exec_ranged, ranged_if, ranged_program, ranged_interrupt}
 
 -- Ids are words.
 
@@ -142,7 +142,7 @@ number_small Full = omega arith
 number_small Ids = omega arith
 
 with_bytes : (g : Given) (mem : List ℕ) → HaveSamples g.devices → AreMemoryBytes mem → Steady g.devices (untouched_with g mem)
-with_bytes g mem s h = record { memory = h; shapes = refl; samples = s }
+with_bytes g mem s h = record { memory = h; shapes = refl; samples = s; words = no_words }
 
 protected_ranged : (mac : Mac) (g : Given) (mem : List ℕ) (l : Layout) (o : Option Refusal)
     → refusal g.sections l (places_of g.devices) ≡ o → AreRegisters g.regs → HaveSamples g.devices
@@ -179,7 +179,7 @@ instruction_ranged mac s h =
     let g = given_at_pc mac s in
     let w = word s.mem (pc_of s) in
     let code = w - 0x1380 in
-    let moment : Steady s.devices (start s) = record { memory = h.memory; shapes = refl; samples = h.samples } in
+    let moment : Steady s.devices (start s) = record { memory = h.memory; shapes = refl; samples = h.samples; words = no_words } in
     either_ranged s.devices (is_module_word w) (module_instruction mac code g s.mem) (exec s.sections (own_of s) (program w s.regs) (start s))
     (either_ranged s.devices (code == 0) (unprotect g s.mem)
     (cond (code == 1) (protect mac g s.mem) (exec s.sections (own_of s) (module_row mac code g) (untouched_with g s.mem)))
@@ -325,7 +325,7 @@ sense_is_node s device v lt h = record {
 
 pub interrupt_ranged : (s : State) (line : ℕ) → IsNode s → RangedBy s.devices (exec s.sections 0 (interrupt line s.regs) (start s))
 interrupt_ranged s line h = exec_ranged s.sections 0 s.devices (interrupt line s.regs) (start s)
-    (ranged_interrupt line s.regs h.registers) (record { memory = h.memory; shapes = refl; samples = h.samples })
+    (ranged_interrupt line s.regs h.registers) (record { memory = h.memory; shapes = refl; samples = h.samples; words = no_words })
 
 pub interrupted_is_node : (s : State) (o : Outcome) → s.cur ≡ 0 → IsNode s → RangedBy s.devices o → IsNode (interrupted s o).state
 interrupted_is_node s (Finished regs x) idle h r = record {
@@ -422,3 +422,21 @@ acted_key mac (Interrupt line) s =
 pub keeps_key : KeepsKey
 keeps_key mac [] s = refl
 keeps_key mac (act ∷ acts) s = keeps_key mac acts (acted mac act s).state ∙ acted_key mac act s
+
+-- What is written to devices is words.
+
+settled_words : (s : State) (o : Outcome) → RangedBy s.devices o → Words (settled_step s o).shown.touch
+settled_words s (Finished regs x) r = r.1.words
+settled_words s (Violated v) r = no_words
+settled_words s (Module regs x t e c) r = r.1.words
+
+pub step_words : (mac : Mac) (s : State) → IsNode s → Words (step mac s).shown.touch
+step_words mac s h = settled_words s (attempt mac s) (attempt_ranged mac s h)
+
+interrupted_words : (s : State) (o : Outcome) → RangedBy s.devices o → Words (interrupted s o).shown.touch
+interrupted_words s (Finished regs x) r = r.1.words
+interrupted_words s (Violated v) r = no_words
+interrupted_words s (Module regs x t e c) r = no_words
+
+pub interrupt_words : (s : State) (line : ℕ) → IsNode s → Words (interrupted s (exec s.sections 0 (interrupt line s.regs) (start s))).shown.touch
+interrupt_words s line h = interrupted_words s (exec s.sections 0 (interrupt line s.regs) (start s)) (interrupt_ranged s line h)

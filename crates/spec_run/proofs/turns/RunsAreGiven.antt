@@ -17,6 +17,8 @@ use Rattle.spec_machine.specs.Acts.{irq, irq_refusal, sense as sense_on, busy, u
 use Rattle.spec_machine.specs.Run.{exec}
 use Rattle.spec_machine.specs.Step.{start, Shown}
 use Rattle.spec_machine.specs.Node.{IsNode}
+use Rattle.spec_machine.proofs.Ranged.{Words}
+use Rattle.spec_machine.proofs.Stays.{interrupt_words, step_words}
 use Rattle.sx_model.specs.order.State.{Model, power_on}
 use Rattle.sx_wire.specs.Headers.{challenge_in, is_ask, is_set_key_header, is_event_header}
 use Rattle.spec_run.specs.Setting.{Setting, module_of, device_number}
@@ -36,7 +38,6 @@ use Rattle.spec_run.proofs.acts.Walks.{all_before}
 use Rattle.spec_run.proofs.acts.Compose.{ActsWalk, keeps_run}
 use Rattle.spec_run.proofs.ActsKeep.{are_wordly}
 use Rattle.spec_run.proofs.ActsWalk.{Each, each_append, each_walks, Always, Easy, acts_walk, refused_each}
-use Rattle.spec_run.proofs.turns.Words.{Words, step_words, interrupt_words}
 
 abbrev Given : Setting → Model → Item → Type 0
 Given set s i = IsGiven i
