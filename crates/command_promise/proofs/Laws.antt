@@ -244,7 +244,7 @@ one-rose : (s0 s1 : SourceAt) → OneReadFault s0 s1 → Rose s0.faults s1.fault
 one-rose s0 s1 f = omega (arith, f.faults)
 
 -- of what was taken and what was left this holds, where no read failed
-decides-quiet : (left : Left) (tells : Bool) (limit : Limit) (s0 s1 : SourceAt) (taken : List ℕ) (P : List Answer → Type 0) → IsTrue tells → (Rose s0.faults s1.faults → ⊥)
+pub decides-quiet : (left : Left) (tells : Bool) (limit : Limit) (s0 s1 : SourceAt) (taken : List ℕ) (P : List Answer → Type 0) → IsTrue tells → (Rose s0.faults s1.faults → ⊥)
     → s0.rest ≡ taken ++ s1.rest → Decides left tells limit s0 s1 taken P → P (scan limit Ended [] s0.rest)
 decides-quiet AtEnd tells limit s0 s1 taken P t quiet e d =
     let Q : List ℕ → Type 0 = λ bytes. P (scan limit Ended [] bytes) in

@@ -495,6 +495,11 @@ reads-map {A} {B} {tells} {limit} {s0} {s1} {F} {due} {P} Q g h r = record {
   reach = record { before = r.reach.before; line = r.reach.line; ahead = r.reach.ahead; parts = r.reach.parts; one = r.reach.one; few = r.reach.few; short = r.reach.short; due = ap g r.reach.due; asked = r.reach.asked };
 }
 
+-- where nothing else is said of the answers
+pub alone : {A : Type 0} {tells : Bool} {limit : Limit} {s0 s1 : SourceAt} {F : List Answer → A} {due : A} {P : List Answer → Type 0}
+    → Reads tells limit s0 s1 F due (λ answers. P answers × anything answers) → Reads tells limit s0 s1 F due P
+alone {A} {tells} {limit} {s0} {s1} {F} {due} {P} r = reads-map P (λ a. a) (λ answers q. q.0) r
+
 -- what is due is said in other words
 pub reads-due : {A : Type 0} {tells : Bool} {limit : Limit} {s0 s1 : SourceAt} {F : List Answer → A} {due due' : A} {P : List Answer → Type 0} → due ≡ due'
     → Reads tells limit s0 s1 F due P → Reads tells limit s0 s1 F due' P

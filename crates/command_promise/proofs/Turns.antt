@@ -6,9 +6,9 @@ use Rattle.sx_io.specs.Next.{Ahead, Next}
 use Rattle.sx_io.specs.declared.lines.LineRead.TheVariants as read
 use Rattle.sx_io.specs.declared.lines.ReaderState.TheVariants.{Open}
 use Rattle.command_promise.specs.Parts.{Notes}
-use Rattle.command_promise.specs.Reads.{Reads, anything}
+use Rattle.command_promise.specs.Reads.{anything}
 use Rattle.command_promise.specs.Got.{Got}
-use Rattle.command_promise.proofs.Takings.{got-new, got-line, got-same, reads-map, reads-stop, reads-end, reads-too-long, reads-failed}
+use Rattle.command_promise.proofs.Takings.{got-new, got-line, got-same, reads-stop, reads-end, reads-too-long, reads-failed, alone}
 use Rattle.command_promise.specs.Head.{Head, Found, TooLong, NoMark, Unread, is_mark, most_bytes, head_behind, head, head_lines}
 use Rattle.command_promise.specs.HeadRead.{HeadRead, Noted, TextRead}
 use Rattle.command_promise.specs.declared.head.HeadFault.TheVariants as fault
@@ -101,10 +101,6 @@ came-starved text b x m = record {
   first = λ e. (text, comes-mark (λ h. h) text (b.first e) x m);
   further = λ limit s0 F g aside noted begun. (text, comes-mark g text (b.further limit s0 F g aside noted begun) x m);
 }
-
-alone : {A : Type 0} {tells : Bool} {limit : Limit} {s0 s1 : SourceAt} {F : List Answer → A} {due : A} {P : List Answer → Type 0}
-    → Reads tells limit s0 s1 F due (λ answers. P answers × anything answers) → Reads tells limit s0 s1 F due P
-alone {A} {tells} {limit} {s0} {s1} {F} {due} {P} r = reads-map P (λ a. a) (λ answers q. q.0) r
 
 pub came-too-long : {tells : Bool} {s0 s1 s2 : SourceAt} {first old new : Ahead} {into : List ℕ} {n : ℕ} (text : List ℕ)
     → Came tells s0 s1 first old text → Next longest tells s1 s2 old new into (read.Text n)

@@ -16,17 +16,11 @@ use Rattle.sx_image.specs.Image.{public_bytes}
 use Rattle.sx_mean.specs.Application.{PartTree}
 use Rattle.spec_run.specs.Setting.{Site, Setting, same_layout, is_at_site, deployed, module_of}
 use Rattle.spec_run.specs.Law.{IsSoundSetting}
-use Rattle.spec_run.proofs.steps.Entry.{at_site}
+use Rattle.spec_run.proofs.steps.Entry.{at_site, layout_self}
 use Rattle.spec_run.proofs.steps.Bystanders.{apart_self}
 use Rattle.spec_run.proofs.steps.Foreign.{position_some}
 use Rattle.spec_machine.proofs.Devices.{position_is}
 use Rattle.spec_run.proofs.steps.Steps.{bounds_of}
-
-layout_self : (l : Layout) → same_layout l l ≡ true
-layout_self l =
-    and_from (l.pub_from == l.pub_from) _ (eq-eqb l.pub_from l.pub_from refl)
-    (and_from (l.pub_to == l.pub_to) _ (eq-eqb l.pub_to l.pub_to refl)
-    (and_from (l.priv_from == l.priv_from) (l.priv_to == l.priv_to) (eq-eqb l.priv_from l.priv_from refl) (eq-eqb l.priv_to l.priv_to refl)))
 
 -- the section is at its site
 pub own_site : (site : Site) (mem : List ℕ) (sec : Section) → sec.layout ≡ site.layout → sec.provider ≡ site.provider → public_bytes sec.layout mem ≡ site.text

@@ -3,6 +3,7 @@ use Rattle.std.proofs.Common.{◌≡◌, ℕ, ◌+◌, ◌-◌, ◌*◌, ◌%◌
 use Rattle.std.proofs.Common.{drop, replicate, slice_index, Option, Some, None, Ok, refl, sym, ◌∙◌, ap, subst, arith}
 use Rattle.std.specs.Prelude.{slice_get, bytes_eq}
 use Rattle.std.proofs.lemmas.Bool.{true≢false, and_parts, eqb-true, and_from}
+use Rattle.std.proofs.lemmas.Slice.Eq.{bytes_eq-Decides}
 use Rattle.lemmas.proofs.Lists.{get_some}
 use Rattle.sx_trace.specs.declared.items.Item.TheVariants as item
 use Rattle.sx_lang.specs.declared.sides.Side.TheVariants.{To}
@@ -38,7 +39,7 @@ use Rattle.spec_run.specs.State.{World}
 use Rattle.spec_run.specs.Acts.{after_step}
 use Rattle.spec_run.specs.Law.{IsTagUnder, IsSoundSetting}
 use Rattle.spec_run.proofs.Tags.{crypt_twice}
-use Rattle.spec_run.proofs.tie.Entries.{bytes_same, made_in}
+use Rattle.spec_run.proofs.tie.Entries.{made_in}
 use Rattle.spec_run.proofs.tie.Lists.{get_within}
 use Rattle.spec_run.proofs.steps.Entry.{at_site}
 use Rattle.spec_run.proofs.steps.Machine.{onward}
@@ -80,7 +81,7 @@ opened_by mac key header cipher tag plain e = by (bytes_eq tag (take 16 (mac key
 
     by : (b : Bool) → bytes_eq tag (take 16 (mac key (0x54 ∷ length header ∷ (header ++ cipher)))) ≡ b
         → cond {A = Option (List ℕ)} b (Some (padded (crypt mac key header cipher))) None ≡ Some plain → Opened mac key header cipher tag plain
-    by true t e = record { whole = bytes_same tag _ t; is = some_same (padded (crypt mac key header cipher)) plain e }
+    by true t e = record { whole = (bytes_eq-Decides tag _).0 t; is = some_same (padded (crypt mac key header cipher)) plain e }
     by false t e = absurd cc
 
 -- what is unwrapped is the body whose cipher it is

@@ -4,6 +4,7 @@ use Rattle.std.specs.Prelude.{slice_get}
 use Rattle.std.proofs.lemmas.Bool.{and_parts}
 use Rattle.std.specs.Option.{option_flatten}
 use Rattle.std.specs.Prelude.{unwrap_or}
+use Rattle.std.proofs.lemmas.Slice.Eq.{bytes_eq-Decides}
 use Rattle.sx_lang.specs.declared.sides.Side.TheVariants.{To}
 use Rattle.sx_trace.specs.declared.items.Item.{Item}
 use Rattle.sx_trace.specs.declared.items.Item.TheVariants as item
@@ -25,7 +26,6 @@ use Rattle.spec_run.proofs.acts.Asking.{expected}
 use Rattle.spec_run.specs.Observation.{Observed, is_driver, read_item, write_item, touch_items, has_wrapped, unless_made, side_in, has_end, sender_of, has_unwrapped, event_seen}
 use Rattle.spec_run.specs.State.{World}
 use Rattle.spec_run.specs.Acts.{with_deployer, key_given, keys_given, attested, after_denial, after_verdict, after_answer}
-use Rattle.spec_run.proofs.tie.Entries.{bytes_same}
 use Rattle.law_forgery.specs.Moments.{IsAmong}
 
 pub among_append : (i : Item) (xs ys : List Item) → IsAmong i (xs ++ ys) → IsAmong i xs ⊎ IsAmong i ys
@@ -179,6 +179,6 @@ answers_forge set w m boot site answer who h = verdict (option_flatten (slice_ge
               | inl t ↦
                   let r = accepted made refl t in
                   let p = and_parts (bytes_eq answer (expected set site boot ask)) (may_attest m set.app.links w.deployer.epochs last boot) f in
-                  record { deployer = r.0; ask = ask; asked = e; whole = bytes_same answer (expected set site boot ask) p.0; unmade = r.1 }
+                  record { deployer = r.0; ask = ask; asked = e; whole = (bytes_eq-Decides answer (expected set site boot ask)).0 p.0; unmade = r.1 }
               | inr t ↦ absurd (packets_not who set (grants_after set.app d m boot last) (with_deployer w d w.ledger) t)
             ]

@@ -14,6 +14,7 @@ use Rattle.spec_machine.specs.Memory.{bytes_from}
 use Rattle.spec_run.specs.Setting.{Setting, Site, same_layout, is_at_site, deployed}
 use Rattle.spec_run.specs.Deployer.{list_at}
 use Rattle.spec_run.proofs.steps.Foreign.{position_some}
+use Rattle.spec_run.proofs.steps.Entry.{layout_self}
 use Rattle.law_forgery.specs.Named.{code, names, name_of, named}
 use Rattle.law_forgery.proofs.Tabling.{bytes_in, read_back}
 use Rattle.law_makers.specs.Impostors.{HasWords, identity_with, IdentitiesDiffer, ImpostorsHaveOtherNames, NamesAreUnlawful}
@@ -70,12 +71,6 @@ name_at (suc count) i n lt = by (n == 0) refl (name_at count (i + 1) (n - 1))
 
 pub code_told : (s t : List ℕ) → code s ≡ code t → s ≡ t
 code_told s t h = sym (read_back s) ∙ ap bytes_in h ∙ read_back t
-
-layout_self : (l : Layout) → same_layout l l ≡ true
-layout_self l =
-    and_from (l.pub_from == l.pub_from) _ (eq-eqb l.pub_from l.pub_from refl)
-    (and_from (l.pub_to == l.pub_to) _ (eq-eqb l.pub_to l.pub_to refl)
-    (and_from (l.priv_from == l.priv_from) (l.priv_to == l.priv_to) (eq-eqb l.priv_from l.priv_from refl) (eq-eqb l.priv_to l.priv_to refl)))
 
 pub impostors_have_other_names : ImpostorsHaveOtherNames
 impostors_have_other_names set n boot at mem x m site low low2 pr pr2 wx ws sited none same =

@@ -25,13 +25,14 @@ use Rattle.spec_run.specs.State.{World, Acted, switched_on}
 use Rattle.spec_run.specs.Acts.{at_node, after_step, with_deployer, attested, after_take, after_interrupt, after_denial, after_verdict, after_answer}
 use Rattle.spec_run.specs.Run.{sense_at, give}
 use Rattle.spec_run.proofs.tie.Lists.{some_inj}
+use Rattle.spec_run.proofs.tie.Entries.{made_before}
 use Rattle.law_isolation.specs.Happening.{Happening, Begin, Step, Put, Set, Take, Give, Forge, Sense, Irq, Reset, Ask, Answer, Show, done}
 use Rattle.law_isolation.specs.Script.{Script, End, Do, looks}
 use Rattle.law_isolation.specs.Lines.{script_of}
 use Rattle.law_forgery.specs.Moments.{Moment, moment_from}
 use Rattle.law_forgery.specs.Forgery.{KeyName, OfModule, WasWrapped, key_named, key_at}
 use Rattle.law_uses.specs.Fresh.{UnmadeWasNotGiven, ForgedWasNotGiven}
-use Rattle.law_uses.proofs.Logged.{made_more, all_given, given_are_logged}
+use Rattle.law_uses.proofs.Logged.{all_given, given_are_logged}
 
 -- An entry stays.
 
@@ -44,8 +45,8 @@ module _ (set : Setting) (e : Made) where
     where
       by : (c d : Bool) → Has (cond c (with_items (ledger ++ made_entry (maker.Module m) NO_TARGET boot header body ∷ []) (item.Vouch m (challenge_in header) ∷ []))
           (cond d (with_items (ledger ++ made_entry (maker.Module m) NO_TARGET 0 header body ∷ []) []) (with_items ledger []))).ledger
-      by true d = made_more ledger (made_entry (maker.Module m) NO_TARGET boot header body) e h
-      by false true = made_more ledger (made_entry (maker.Module m) NO_TARGET 0 header body) e h
+      by true d = made_before ledger (made_entry (maker.Module m) NO_TARGET boot header body) e h
+      by false true = made_before ledger (made_entry (maker.Module m) NO_TARGET 0 header body) e h
       by false false = h
 
   event_keeps : (n : ℕ) (runner : Option ℕ) (s : State) (ledger : List Made) (v : Event) → Has ledger → Has (event_seen set n runner s ledger v).ledger

@@ -2,7 +2,7 @@
 use Rattle.std.proofs.Common.{◌≡◌, ℕ, zero, suc, ◌-◌, ◌<◌, ◌==◌, ◌⊎◌, inl, inr, Bool, true, false, cond, List, [], ◌∷◌, ◌++◌, length, Option, Some, None, refl, sym, ◌∙◌, ap, subst, arith}
 use Rattle.std.specs.Prelude.{slice_get, option_and_then, bytes_eq, nat_le, nat_lt}
 use Rattle.std.specs.Option.{option_flatten}
-use Rattle.std.proofs.lemmas.Bool.{true≢false, and_parts, and_from, or_cases, or_left, or_right, eq-eqb, leb-true, ltb-true}
+use Rattle.std.proofs.lemmas.Bool.{true≢false, and_parts, and_from, or_cases, eq-eqb, leb-true, ltb-true}
 use Rattle.std.proofs.lemmas.List.{take_at}
 use Rattle.lemmas.proofs.Lists.{get_some}
 use Rattle.lemmas.proofs.Texts.{bytes_eq-same}
@@ -21,15 +21,15 @@ use Rattle.spec_machine.specs.State.{State}
 use Rattle.spec_machine.specs.Step.{own_of, settled_step, step}
 use Rattle.spec_run.specs.Setting.{Setting, Site, same_layout, is_at_site, deployed, module_of}
 use Rattle.sx_ledger.specs.Made.{Made, NO_TARGET}
-use Rattle.spec_run.specs.Ledger.{made_entry, same_entry, is_made, header_of, body_of}
+use Rattle.spec_run.specs.Ledger.{made_entry, is_made, header_of, body_of}
 use Rattle.spec_run.specs.State.{World, switched_on}
 use Rattle.sx_deployer.specs.Granting.{Grant, grants_after}
 use Rattle.spec_run.specs.Deployer.{accepts, after_acceptance, connection_key, grant_header, set_key_entry}
 use Rattle.spec_run.specs.Law.{IsSoundSetting, AreApartLayouts}
 use Rattle.spec_run.specs.Acts.{with_deployer, key_given, keys_given, attested, after_denial, after_verdict, after_answer}
-use Rattle.spec_run.proofs.tie.Entries.{made_in}
+use Rattle.spec_run.proofs.tie.Entries.{made_in, made_before}
 use Rattle.spec_run.proofs.tie.Lists.{get_within}
-use Rattle.spec_run.proofs.steps.Entry.{at_site}
+use Rattle.spec_run.proofs.steps.Entry.{at_site, layout_self}
 use Rattle.spec_run.proofs.steps.Foreign.{position_some}
 use Rattle.law_isolation.specs.Happening.{Happening, Step, Answer, done}
 use Rattle.law_isolation.specs.Script.{Script, End, Do, looks}
@@ -54,12 +54,6 @@ record Parts (n m b c p q : ℕ) (t u : List ℕ) (l k : Layout) : Type 0 where
 
 holder_parts : (n m b c p q : ℕ) (t u : List ℕ) (l k : Layout) → OfSection n b p t l ≡ OfSection m c q u k → Parts n m b c p q t u l k
 holder_parts n m b c p q t u l k e = record { node = cc; boot = cc; provider = cc; text = cc; layout = cc }
-
-layout_self : (l : Layout) → same_layout l l ≡ true
-layout_self l =
-    and_from (l.pub_from == l.pub_from) _ (eq-eqb l.pub_from l.pub_from refl)
-    (and_from (l.pub_to == l.pub_to) _ (eq-eqb l.pub_to l.pub_to refl)
-    (and_from (l.priv_from == l.priv_from) (l.priv_to == l.priv_to) (eq-eqb l.priv_from l.priv_from refl) (eq-eqb l.priv_to l.priv_to refl)))
 
 -- No two modules are of one node and layout.
 
@@ -94,13 +88,6 @@ runs_site set sound n s x m site found sited at = by (deployed set.sites n s.mem
 
 -- The deployer.
 
-pub made_more : (ledger : List Made) (x e : Made) → is_made ledger e ≡ true → is_made (ledger ++ x ∷ []) e ≡ true
-made_more [] x e h = absurd (true≢false (sym h))
-made_more (y ∷ ledger) x e h = elim (or_cases (same_entry e y) (is_made ledger e) h) [
-  | inl s ↦ or_left (same_entry e y) (is_made (ledger ++ x ∷ []) e) s
-  | inr r ↦ or_right (same_entry e y) (is_made (ledger ++ x ∷ []) e) (made_more ledger x e r)
-]
-
 is_use_parts : (u : Use) (us vs : List Use) → IsUse u (us ++ vs) → IsUse u us ⊎ IsUse u vs
 is_use_parts u [] vs h = inr h
 is_use_parts u (x ∷ us) vs (inl e) = inl (inl e)
@@ -119,7 +106,7 @@ gives_parts who who2 rest rest2 e = record { whose = cc; same = cc }
 
 more_given : (set : Setting) (w : World) (g : Grant) (o : Option Site) (e : Made) → is_made w.ledger e ≡ true → is_made (key_given set w g o).world.ledger e ≡ true
 more_given set w g None e h = h
-more_given set w g (Some site) e h = made_more w.ledger (set_key_entry set g) e h
+more_given set w g (Some site) e h = made_before w.ledger (set_key_entry set g) e h
 
 pub all_given : (set : Setting) (gs : List Grant) (w : World) (e : Made) → is_made w.ledger e ≡ true → is_made (keys_given set gs w).world.ledger e ≡ true
 all_given set [] w e h = h

@@ -7,6 +7,7 @@ pub mod Turns
 pub mod ValidApplications
 pub mod Ends
 pub mod LinkEnds
+pub mod Inputs
 pub mod Handlers
 pub mod Scope
 pub mod ActsGrow

@@ -2,14 +2,12 @@
 use Rattle.std.proofs.Common.{◌≡◌, ℕ, inl, inr, ◌-◌, true, Result, Ok, Err, OnOk, List, [], ◌∷◌, ◌++◌, length, take, replicate, sym, subst, ap, ◌∙◌}
 use Rattle.std.specs.List.{Contains}
 use Rattle.std.proofs.Math.Seq.{take-append_seam}
-use Rattle.std.proofs.lemmas.Bool.{or_left}
-use Rattle.std.proofs.lemmas.List.Folds.{list_any-append}
 use Rattle.sx_ledger.specs.declared.entry.Entry.{Entry}
 use Rattle.sx_ledger.specs.Made.{Made}
 use Rattle.sx_ledger.specs.Entries.{entry_of, made_of, AddsEntry}
-use Rattle.spec_run.specs.Ledger.{same_entry, is_made}
+use Rattle.spec_run.specs.Ledger.{is_made}
 use Rattle.sx_observe.specs.Observing.{IsShort, Records}
-use Rattle.spec_run.proofs.tie.Entries.{made_behind, made_in}
+use Rattle.spec_run.proofs.tie.Entries.{made_before, made_behind, made_in}
 
 tells : (m : Made) → made_of (entry_of m) ≡ m
 tells m =
@@ -19,9 +17,6 @@ tells m =
 
 one_entry : (a b : Made) → entry_of a ≡ entry_of b → a ≡ b
 one_entry a b e = sym (tells a) ∙ ap made_of e ∙ tells b
-
-made_before : (list : List Made) (new m : Made) → is_made list m ≡ true → is_made (list ++ new ∷ []) m ≡ true
-made_before list new m h = list_any-append (same_entry m) list (new ∷ []) ∙ or_left (is_made list m) (is_made (new ∷ []) m) h
 
 -- the set after the making of an entry
 pub recorded : (old new : List Entry) (list : List Made) (m : Made) → AddsEntry old new (entry_of m) → Records old list → Records new (list ++ m ∷ [])

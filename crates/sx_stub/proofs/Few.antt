@@ -1,5 +1,5 @@
 -- A module has at most 256 handlers: one for each input, and one of the samples.
-use Rattle.std.proofs.Common.{◌≡◌, ◌≢◌, ℕ, suc, ◌<◌, ◌≤◌, ◌⊎◌, inl, inr, Bool, true, false, ◌||◌, List, [], ◌∷◌, ◌++◌, length, get_or, map, count_by, Option, Some, None, refl, ap, ◌∙◌, arith}
+use Rattle.std.proofs.Common.{◌≡◌, ◌≢◌, ℕ, suc, ◌<◌, ◌≤◌, ◌⊎◌, inl, inr, Bool, true, false, ◌||◌, List, [], ◌∷◌, ◌++◌, length, get_or, map, Option, Some, None, refl, ap, ◌∙◌, arith}
 use Rattle.std.specs.Prelude.{All, AllPairs}
 use Rattle.std.specs.List.{list_any, AllByRecursion, IsDistinct}
 use Rattle.std.specs.Cmp.{IsEquivalence}
@@ -13,15 +13,15 @@ use Rattle.sx_lang.specs.declared.tree.Decl.{Decl}
 use Rattle.sx_lang.specs.declared.tree.Decl.TheVariants.{Device, Input, Output, Var, Array}
 use Rattle.sx_lang.specs.Tree.{HandlerTree, ModuleTree}
 use Rattle.sx_check.specs.Accepted.{IsProper}
-use Rattle.sx_check.specs.Bounds.{is_input}
 use Rattle.sx_check.specs.declared.declared.Role.TheVariants.{Handling}
 use Rattle.sx_check.specs.Names.{same, same_input}
 use Rattle.sx_check.specs.Rules.{first_broken}
 use Rattle.sx_check.specs.Uses.{Use, block_uses, declares_as, input_uses}
 use Rattle.sx_check.proofs.Accepted.{accepted, fine}
-use Rattle.sx_check.proofs.Distinct.{count_by-cons, same-true, same_input-refl}
+use Rattle.sx_check.proofs.Distinct.{same-true, same_input-refl}
 use Rattle.sx_check.proofs.Keeps.{In}
 use Rattle.sx_mean.specs.React.{input_names}
+use Rattle.sx_mean.proofs.Inputs.{length-names}
 
 -- being of the same input is an equivalence
 inputs_equiv : IsEquivalence same_input
@@ -103,14 +103,6 @@ members ys (x ∷ hs) f q h = go (or_cases (same_input q x.input) (is_member sam
     go : (same_input q x.input ≡ true) ⊎ (is_member same_input (inputs hs) q ≡ true) → (is_member same_input (inputs hs) q ≡ true → is_member same_input ys q ≡ true) → is_member same_input ys q ≡ true
     go (inl e) more = member_alike q x.input ys e ∙ f x (inl refl)
     go (inr e) more = more e
-
-length-names : (ds : List Decl) → length (input_names ds) ≡ count_by is_input ds
-length-names [] = refl
-length-names (Device kind ∷ ds) = let n = length-names ds in omega (arith, n, count_by-cons is_input (Device kind) ds)
-length-names (Input x ∷ ds) = let n = length-names ds in omega (arith, n, count_by-cons is_input (Input x) ds)
-length-names (Output x ∷ ds) = let n = length-names ds in omega (arith, n, count_by-cons is_input (Output x) ds)
-length-names (Var x n ∷ ds) = let more = length-names ds in omega (arith, more, count_by-cons is_input (Var x n) ds)
-length-names (Array x n ∷ ds) = let more = length-names ds in omega (arith, more, count_by-cons is_input (Array x n) ds)
 
 pub few_handlers : (m : ModuleTree) → first_broken m ≡ None → length m.handlers ≤ 256
 few_handlers m checked =

@@ -55,7 +55,7 @@ module _ (index : NameIndex) (names : List (List ℕ)) (name : List ℕ) (at : �
     sized = λ text i e. h.sized text i (sym (same text) ∙ e);
   }
 
-none_of : (o : Option ℕ) → is_some o ≡ false → o ≡ None
+pub none_of : (o : Option ℕ) → is_some o ≡ false → o ≡ None
 none_of None h = refl
 none_of (Some i) h = absurd (cc)
 

@@ -1,7 +1,8 @@
 -- A step of a deployed module's code while the module rests: it is refused, or it is the first of an invocation.
 use Rattle.std.proofs.Common.{◌≡◌, ◌≢◌, ℕ, inl, inr, ◌==◌, ◌||◌, not, Bool, true, false, cond, if◌then◌else◌, List, [], ◌∷◌, Option, Some, None, refl, sym, ◌∙◌, ap, subst}
 use Rattle.std.specs.Prelude.{slice_get}
-use Rattle.std.proofs.lemmas.Bool.{true≢false, and_parts, eqb-true, or_cases, not-true}
+use Rattle.std.proofs.lemmas.Bool.{true≢false, and_parts, eqb-true, or_cases, not-true, and_from, eq-eqb}
+use Rattle.std.proofs.lemmas.Slice.Eq.{bytes_eq-Decides}
 use Rattle.sx_lang.specs.declared.tree.DeviceKind.{DeviceKind}
 use Rattle.sx_lang.specs.declared.tree.DeviceKind.TheVariants as declared
 use Rattle.sx_mean.specs.Application.{declared_kind, PartTree}
@@ -34,7 +35,6 @@ use Rattle.sx_model.specs.order.State.{Present}
 use Rattle.spec_run.specs.Setting.{Site, Setting, same_layout, is_at_site, windows_at}
 use Rattle.spec_run.specs.Law.{image_at, devices_of, IsDeployedModule}
 use Rattle.spec_run.proofs.tie.Lists.{some_inj}
-use Rattle.spec_run.proofs.tie.Entries.{bytes_same}
 use Rattle.spec_run.proofs.tie.Tied.{SameState, Begun, Yet, IsUnderWay, shapes, NodeTied, IsModule}
 use Rattle.spec_machine.proofs.Devices.{device_at_same, window_same, device_of_parts}
 
@@ -73,6 +73,12 @@ pub record AtSite (n : ℕ) (mem : List ℕ) (sec : Section) (site : Site) : Typ
   pub provider : sec.provider ≡ site.provider
   pub text : public_bytes sec.layout mem ≡ site.text
 
+pub layout_self : (l : Layout) → same_layout l l ≡ true
+layout_self l =
+    and_from (l.pub_from == l.pub_from) _ (eq-eqb l.pub_from l.pub_from refl)
+    (and_from (l.pub_to == l.pub_to) _ (eq-eqb l.pub_to l.pub_to refl)
+    (and_from (l.priv_from == l.priv_from) (l.priv_to == l.priv_to) (eq-eqb l.priv_from l.priv_from refl) (eq-eqb l.priv_to l.priv_to refl)))
+
 layout_same : (a b : Layout) → same_layout a b ≡ true → a ≡ b
 layout_same a b e =
     let p = and_parts (a.pub_from == b.pub_from) _ e in
@@ -92,7 +98,7 @@ at_site n mem sec site e =
       node = eqb-true site.node n p.0;
       layout = layout_same sec.layout site.layout q.0;
       provider = eqb-true sec.provider site.provider r.0;
-      text = bytes_same _ site.text r.1;
+      text = (bytes_eq-Decides _ site.text).0 r.1;
     }
 
 -- The order of a step.

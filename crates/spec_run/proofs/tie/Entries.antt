@@ -2,6 +2,8 @@
 use Rattle.std.proofs.Common.{◌≡◌, ℕ, ◌⊎◌, inl, inr, ◌==◌, true, false, List, [], ◌∷◌, ◌++◌, refl, sym, ◌∙◌, ap}
 use Rattle.std.specs.Prelude.{bytes_eq}
 use Rattle.std.proofs.lemmas.Bool.{true≢false, and_parts, eqb-true, or_cases, or_left, or_right, and_from, eq-eqb}
+use Rattle.std.proofs.lemmas.Slice.Eq.{bytes_eq-Decides}
+use Rattle.std.proofs.lemmas.List.Folds.{list_any-append}
 use Rattle.sx_ledger.specs.declared.entry.Maker.{Maker}
 use Rattle.sx_ledger.specs.declared.entry.Maker.TheVariants.{Deployer, Module}
 use Rattle.spec_run.specs.Ledger.{Made, same_maker, same_entry, is_made}
@@ -13,16 +15,6 @@ maker_same Deployer (Module m) e = absurd (true≢false (sym e))
 maker_same (Module m) Deployer e = absurd (true≢false (sym e))
 maker_same (Module m) (Module k) e = ap Module (eqb-true m k e)
 
-pub bytes_same : (a b : List ℕ) → bytes_eq a b ≡ true → a ≡ b
-bytes_same [] [] e = refl
-bytes_same [] (y ∷ b) e = absurd (true≢false (sym e))
-bytes_same (x ∷ a) [] e = absurd (true≢false (sym e))
-bytes_same (x ∷ a) (y ∷ b) e =
-    let p = and_parts (x == y) (bytes_eq a b) e in
-    let h : x ≡ y = eqb-true x y p.0 in
-    let t = bytes_same a b p.1 in
-    ap (λ n. n ∷ a) h ∙ ap (λ l. y ∷ l) t
-
 pub entry_same : (a b : Made) → same_entry a b ≡ true → a ≡ b
 entry_same a b e =
     let p = and_parts (same_maker a.maker b.maker) _ e in
@@ -32,8 +24,12 @@ entry_same a b e =
     ap (λ (z : Maker). record { maker = z; target = a.target; boot = a.boot; header = a.header; body = a.body }) (maker_same a.maker b.maker p.0)
     ∙ ap (λ (z : ℕ). record { maker = b.maker; target = z; boot = a.boot; header = a.header; body = a.body }) (eqb-true a.target b.target q.0)
     ∙ ap (λ (z : ℕ). record { maker = b.maker; target = b.target; boot = z; header = a.header; body = a.body }) (eqb-true a.boot b.boot r.0)
-    ∙ ap (λ (z : List ℕ). record { maker = b.maker; target = b.target; boot = b.boot; header = z; body = a.body }) (bytes_same a.header b.header s.0)
-    ∙ ap (λ (z : List ℕ). record { maker = b.maker; target = b.target; boot = b.boot; header = b.header; body = z }) (bytes_same a.body b.body s.1)
+    ∙ ap (λ (z : List ℕ). record { maker = b.maker; target = b.target; boot = b.boot; header = z; body = a.body }) ((bytes_eq-Decides a.header b.header).0 s.0)
+    ∙ ap (λ (z : List ℕ). record { maker = b.maker; target = b.target; boot = b.boot; header = b.header; body = z }) ((bytes_eq-Decides a.body b.body).0 s.1)
+
+-- what was made was made in a longer ledger
+pub made_before : (list : List Made) (new m : Made) → is_made list m ≡ true → is_made (list ++ new ∷ []) m ≡ true
+made_before list new m h = list_any-append (same_entry m) list (new ∷ []) ∙ or_left (is_made list m) (is_made (new ∷ []) m) h
 
 -- an entry of a longer ledger is an old one or the new one
 pub made_behind : (ledger : List Made) (new e : Made) → is_made (ledger ++ new ∷ []) e ≡ true → (is_made ledger e ≡ true) ⊎ (e ≡ new)

@@ -64,7 +64,7 @@ flows_over P c v (Some words) f e p =
     flows_if P (nat_lt (length words) MOST_SENT) (record { sent = slice_set f.sent c (words ++ v ∷ []); emits = f.emits; pieces = f.pieces + 1 }) f f.sent
     (λ _. flows_set P f.sent c v words e p) (λ _. flows_same P f.sent)
 
-is_from-side : (s : Side) → is_from s ≡ true → s ≡ From
+pub is_from-side : (s : Side) → is_from s ≡ true → s ≡ From
 is_from-side From e = refl
 is_from-side To e = absurd (true≢false (sym e))
 

@@ -1,7 +1,7 @@
 -- What other modules send doesn't touch what is known of a module.
 use Rattle.std.proofs.Common.{◌≡◌, ◌≢◌, ℕ, ◌+◌, ◌==◌, ◌&&◌, inl, inr, Bool, true, false, if◌then◌else◌, List, [], ◌∷◌, ◌++◌, length, Option, Some, None, refl, sym, ◌∙◌, ap, subst, arith}
 use Rattle.std.specs.Prelude.{slice_get, slice_set, nat_lt, is_some}
-use Rattle.std.proofs.lemmas.Bool.{true≢false, cases_eq, and_parts}
+use Rattle.std.proofs.lemmas.Bool.{cases_eq, and_parts}
 use Rattle.std.proofs.lemmas.List.{append-nil}
 use Rattle.lemmas.proofs.Lists.{get_same}
 use Rattle.sx_mean.specs.declared.events.Act.{Act}
@@ -24,7 +24,7 @@ use Rattle.sx_model.specs.order.State.{Present, Standing}
 use Rattle.spec_run.specs.Setting.{Site, Setting}
 use Rattle.spec_run.proofs.tie.Lists.{get_before, get_other, some_inj}
 use Rattle.spec_run.proofs.tie.Ends.{has_link, EndOf}
-use Rattle.spec_run.proofs.tie.Flows.{Flows, AllSending, all_sending}
+use Rattle.spec_run.proofs.tie.Flows.{Flows, AllSending, all_sending, is_from-side}
 use Rattle.spec_run.proofs.tie.Moves.{IsOwn}
 use Rattle.spec_run.proofs.tie.Tied.{Counts, SameEnds, SameState, Settled, Settles, HasEnd, OwnOpen, OwnActs, own_acts, Owes, Yet, Now, ModuleTied, Absent, Rests, Runs}
 
@@ -102,10 +102,6 @@ module _ (app : AppTree) (m : ℕ) where
       → Twin (if b then sent_over (field_of e view) v (slice_get f.sent (field_of e view)) f else f) (if b then sent_over (field_of e view) v (slice_get g.sent (field_of e view)) g else g)
   twin_sends output v e view true f g own h = twin_at (field_of e view) v f g (own refl) h
   twin_sends output v e view false f g own h = h
-
-  is_from-side : (s : Side) → is_from s ≡ true → s ≡ From
-  is_from-side From e = refl
-  is_from-side To e = absurd (true≢false (sym e))
 
   twin_to : (es : List End) (vs : List EndView) (output v : ℕ) (f g : Flow) → AllSending (IsOwn app m) es vs → Twin f g → Twin (sent_to es vs output v f) (sent_to es vs output v g)
   twin_to [] vs output v f g a h = h

@@ -62,7 +62,7 @@ blank_sent : (n : ℕ) → length (replicate {A = List ℕ} n []) ≡ n
 blank_sent zero = refl
 blank_sent (suc n) = ap suc (blank_sent n)
 
-get_blank : (n k : ℕ) (words : List ℕ) → slice_get (replicate n []) k ≡ Some words → words ≡ []
+pub get_blank : (n k : ℕ) (words : List ℕ) → slice_get (replicate n []) k ≡ Some words → words ≡ []
 get_blank zero k words e = absurd cc
 get_blank (suc n) zero words e = sym (some_inj [] words e)
 get_blank (suc n) (suc k) words e = get_blank n k words e

@@ -1,7 +1,7 @@
 -- Every run shows one event of a node at a time.
 use Rattle.std.proofs.Common.{◌≡◌, ◌≢◌, ℕ, inl, inr, true, List, [], ◌∷◌, ◌++◌, Option, Some, None, refl, sym, ◌∙◌, ap, subst, arith}
 use Rattle.std.specs.Prelude.{slice_get, slice_set, slice_index}
-use Rattle.std.proofs.lemmas.Bool.{true≢false, eq-eqb}
+use Rattle.std.proofs.lemmas.Bool.{true≢false, eq-eqb, false≢true}
 use Rattle.std.proofs.lemmas.List.{append-nil}
 use Rattle.lemmas.proofs.Lists.{get_some}
 use Rattle.sx_trace.specs.declared.items.Item.{Item}
@@ -63,7 +63,7 @@ use Rattle.spec_run.proofs.acts.Compose.{ActsWalk, keeps_run}
 use Rattle.spec_run.proofs.ActsWalk.{each_walks, acts_walk, refused_each}
 use Rattle.spec_run.proofs.ActsKeep.{are_wordly}
 use Rattle.spec_run.proofs.turns.Turns.{InTurn, turning, one_at_a_time}
-use Rattle.spec_run.proofs.turns.TakingTurns.{Turn, easy, false_true, Alone, free_turn, own_turn, walk_one, device_only, part_only, foreign_turn, pends_runs, free_idle, free_stranger, marks_turn, alone_set}
+use Rattle.spec_run.proofs.turns.TakingTurns.{Turn, easy, Alone, free_turn, own_turn, walk_one, device_only, part_only, foreign_turn, pends_runs, free_idle, free_stranger, marks_turn, alone_set}
 
 module _ (set : Setting) (w : World) (mo : Model) (m : ℕ) (q : PartTree) (site : Site) (s : State)
     (sec : Section) (sound : IsSoundSetting set) (laws : MachineLaws set.mac) (fit : DriversFit set) (t : Tied set w mo)
@@ -221,7 +221,7 @@ module _ (set : Setting) (sound : IsSoundSetting set) where
           ap (λ z. record { touch = z; event = (step set.mac s).shown.event }) h.touch ∙ ap (λ z. record { touch = untouched; event = z }) h.event in
           let shows : observed set n runner (step set.mac s).state (step set.mac s).shown w.ledger ≡ record { items = item.Reset n (cause_of v) ∷ []; ledger = w.ledger } =
           ap (λ z. observed set n runner (step set.mac s).state z w.ledger) seen in
-          subst (λ (o : Observed). U mo o.items) (sym shows) (walk_one set.app mo (item.Reset n (cause_of v)) (λ m q e h at. false_true at))
+          subst (λ (o : Observed). U mo o.items) (sym shows) (walk_one set.app mo (item.Reset n (cause_of v)) (λ m q e h at. absurd (false≢true at)))
 
       by_runner : (o : Option ℕ) → module_of set.sites n s (own_of s) ≡ o → violation_of (step set.mac s).shown.event ≡ None → U mo (after_step set w n s).items
       by_runner None e quiet =

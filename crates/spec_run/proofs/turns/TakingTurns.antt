@@ -1,7 +1,7 @@
 -- In each act of a tied world each item is in turn.
 use Rattle.std.proofs.Common.{◌≡◌, ◌≢◌, ℕ, ◌+◌, ◌*◌, ◌<◌, ◌≤◌, ◌⊎◌, inl, inr, ◌==◌, ◌&&◌, Bool, true, false, if◌then◌else◌, List, [], ◌∷◌, ◌++◌, length, Option, Some, None, Result, Ok, Err, refl, sym, ◌∙◌, ap, subst, arith}
 use Rattle.std.specs.Prelude.{slice_get, slice_set, IfSome}
-use Rattle.std.proofs.lemmas.Bool.{true≢false, eqb-true, eq-eqb, ne_eqb, cases_eq}
+use Rattle.std.proofs.lemmas.Bool.{true≢false, eqb-true, eq-eqb, ne_eqb, cases_eq, false≢true}
 use Rattle.std.proofs.lemmas.Option.{none-some}
 use Rattle.lemmas.proofs.Lists.{get_some}
 use Rattle.sx_trace.specs.declared.items.Item.{Item}
@@ -54,20 +54,17 @@ use Rattle.spec_run.proofs.turns.Turns.{Pends, InTurn}
 abbrev pub Turn : Setting → Model → Item → Type 0
 Turn set s i = InTurn set.app s i
 
-pub false_true : {A : Type 0} → false ≡ true → A
-false_true e = absurd (true≢false (sym e))
-
 pub easy : (set : Setting) → Easy Turn set
 easy set = record {
-  reset = λ n c s m q e h at. false_true at;
-  ask = λ m a s k q e h at. false_true at;
-  attested = λ m b s k q e h at. false_true at;
-  denied = λ m s k q e h at. false_true at;
-  packet = λ k n s m q e h at. false_true at;
-  forged = λ m s k q e h at. false_true at;
-  busy = λ n s m q e h at. false_true at;
-  skip = λ n s m q e h at. false_true at;
-  budget = λ n s m q e h at. false_true at;
+  reset = λ n c s m q e h at. absurd (false≢true at);
+  ask = λ m a s k q e h at. absurd (false≢true at);
+  attested = λ m b s k q e h at. absurd (false≢true at);
+  denied = λ m s k q e h at. absurd (false≢true at);
+  packet = λ k n s m q e h at. absurd (false≢true at);
+  forged = λ m s k q e h at. absurd (false≢true at);
+  busy = λ n s m q e h at. absurd (false≢true at);
+  skip = λ n s m q e h at. absurd (false≢true at);
+  budget = λ n s m q e h at. absurd (false≢true at);
 }
 
 -- no event is pending at the node
@@ -148,7 +145,7 @@ module _ (set : Setting) (sound : IsSoundSetting set) (n : ℕ) where
 
   event_turn : (s : State) (ledger : List Made) (e : Event) (mo : Model) → Free set.app mo.modules n → W mo (event_seen set n None s ledger e).items
   event_turn s ledger event.Quiet mo free = tt
-  event_turn s ledger (event.Reset v) mo free = walk_one set.app mo (item.Reset n (cause_of v)) (λ m q e h at. false_true at)
+  event_turn s ledger (event.Reset v) mo free = walk_one set.app mo (item.Reset n (cause_of v)) (λ m q e h at. absurd (false≢true at))
   event_turn s ledger (event.Protected id) mo free =
       walk_one set.app mo (item.Protect n (module_of set.sites n s id)) (free_turn set.app mo n (item.Protect n (module_of set.sites n s id)) free (λ k h. sym (eqb-true n k h)))
   event_turn s ledger (event.Removed id) mo free = tt

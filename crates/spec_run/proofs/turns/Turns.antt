@@ -1,22 +1,22 @@
 -- The source's states while an event is pending.
-use Rattle.std.proofs.Common.{◌≡◌, ℕ, zero, suc, inl, inr, ◌==◌, Bool, true, false, if◌then◌else◌, List, [], ◌∷◌, ◌++◌, Option, Some, None, refl, sym, ◌∙◌, ap, subst}
+use Rattle.std.proofs.Common.{◌≡◌, ℕ, inl, inr, ◌==◌, Bool, true, false, if◌then◌else◌, List, [], ◌∷◌, ◌++◌, Option, Some, None, refl, sym, ◌∙◌, ap, subst}
 use Rattle.std.specs.Prelude.{slice_get, slice_set, IfSome, is_none}
 use Rattle.std.specs.List.{list_any}
-use Rattle.std.proofs.lemmas.Bool.{true≢false, cases_eq, eqb-true, eq-eqb, or_parts}
+use Rattle.std.proofs.lemmas.Bool.{true≢false, cases_eq, eqb-true, eq-eqb, or_parts, false≢true}
 use Rattle.std.proofs.lemmas.Option.{same_Some}
 use Rattle.lemmas.proofs.Lists.{get_same}
 use Rattle.sx_trace.specs.declared.items.Item.{Item}
 use Rattle.sx_mean.specs.Application.{AppTree, PartTree}
 use Rattle.sx_model.specs.order.State.{Model, Pending, Present, Standing}
-use Rattle.sx_model.specs.order.Step.{step, absent_at, idle}
+use Rattle.sx_model.specs.order.Step.{step, idle}
 use Rattle.sx_model.specs.Legal.{before, is_forged}
-use Rattle.sx_model.specs.Consequences.{is_part_at}
 use Rattle.sx_model.proofs.order.Steps.{Cases, by_step}
 use Rattle.sx_model.proofs.Along.{some_of}
 use Rattle.spec_run.proofs.tie.Lists.{get_other}
 use Rattle.spec_run.proofs.tie.Verdicts.{Verdict, Over, judge_on, judge, Fares}
 use Rattle.sx_model.specs.order.Turns.{is_at_node, begins, ends, goes_on, OneAtATime}
 use Rattle.spec_run.proofs.acts.Walks.{Unless, Walks}
+use Rattle.sx_explain.proofs.Finishes.{absent_other}
 
 -- an event of the module is pending
 pub record Pends (xs : List Standing) (m : ℕ) : Type 0 where
@@ -65,12 +65,6 @@ module _ (xs : List Standing) (m : ℕ) (h : Pends xs m) where
 
   kept_present : (k : ℕ) (x y : Standing) → slice_get xs k ≡ Some x → y.present ≡ x.present → Pends (slice_set xs k y) m
   kept_present k x y e same = set_pends k x y e (λ xe. (h.p, h.owed, same ∙ ap (λ (z : Standing). z.present) xe ∙ h.present, h.pending))
-
-absent_other : (n : ℕ) (qs : List PartTree) (xs : List Standing) (m : ℕ) (x : Standing) → is_part_at n (slice_get qs m) ≡ false → slice_get xs m ≡ Some x → slice_get (absent_at n qs xs) m ≡ Some x
-absent_other n [] xs m x f e = e
-absent_other n (q ∷ qs) [] m x f e = absurd cc
-absent_other n (q ∷ qs) (y ∷ xs) zero x f e = ap (λ (b : Bool). Some (if b then record y { present = None } else y)) f ∙ e
-absent_other n (q ∷ qs) (y ∷ xs) (suc m) x f e = absent_other n qs xs m x f e
 
 module _ (app : AppTree) (m : ℕ) where
   -- an event stays pending until its end
@@ -126,31 +120,28 @@ module _ (app : AppTree) (m : ℕ) where
 
   starts : (s : Model) → Cases app s Starts
   starts s = record {
-    reset = λ n cause boot _ f. absurd (false_true f);
-    unknown = λ n f. absurd (false_true f);
-    protect = λ n k q x e none f. absurd (false_true f);
-    sense = λ d v f. absurd (false_true f);
+    reset = λ n cause boot _ f. absurd (false≢true f);
+    unknown = λ n f. absurd (false≢true f);
+    protect = λ n k q x e none f. absurd (false≢true f);
+    sense = λ d v f. absurd (false≢true f);
     read = λ k v q x p d r _ e i _ _ _ f. started s.modules k x _ _ _ e refl refl f;
-    drain = λ d r f. absurd (false_true f);
-    ask = λ k a x e f. absurd (false_true f);
-    attested = λ k b a x e _ f. absurd (false_true f);
-    denied = λ k f. absurd (false_true f);
+    drain = λ d r f. absurd (false≢true f);
+    ask = λ k a x e f. absurd (false≢true f);
+    attested = λ k b a x e _ f. absurd (false≢true f);
+    denied = λ k f. absurd (false≢true f);
     vouch = λ k a q x p boot _ e i _ f. started s.modules k x _ _ _ e refl refl f;
     opened = λ k c side epoch q x p boot views _ e i _ _ _ f. started s.modules k x _ _ _ e refl refl f;
     take = λ k c i v q x p l views _ e j _ _ f. started s.modules k x _ _ _ e refl refl f;
-    out = λ k v x p owed left e ep eo el f. absurd (false_true f);
-    raw = λ d v f. absurd (false_true f);
-    done = λ k status n x p e ep f. absurd (false_true f);
-    refused = λ k status n x p e ep none f. absurd (false_true f);
-    packet = λ k n f. absurd (false_true f);
-    forged = λ k f. absurd (false_true f);
-    busy = λ n f. absurd (false_true f);
-    skip = λ n f. absurd (false_true f);
-    budget = λ n f. absurd (false_true f);
+    out = λ k v x p owed left e ep eo el f. absurd (false≢true f);
+    raw = λ d v f. absurd (false≢true f);
+    done = λ k status n x p e ep f. absurd (false≢true f);
+    refused = λ k status n x p e ep none f. absurd (false≢true f);
+    packet = λ k n f. absurd (false≢true f);
+    forged = λ k f. absurd (false≢true f);
+    busy = λ n f. absurd (false≢true f);
+    skip = λ n f. absurd (false≢true f);
+    budget = λ n f. absurd (false≢true f);
   }
-    where
-      false_true : false ≡ true → ⊥
-      false_true e = cc
 
 -- items that are allowed, each in its turn
 abbrev pub Turning : AppTree → Model → List Item → Type 0

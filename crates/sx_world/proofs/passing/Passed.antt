@@ -5,7 +5,7 @@ use Rattle.std.proofs.Common.{length, refl, sym, subst, ap, ◌∙◌, arith}
 use Rattle.std.specs.Prelude.{slice_get, slice_set}
 use Rattle.std.proofs.lemmas.List.{append-nil, set-set}
 use Rattle.std.proofs.lemmas.Option.{get_or_from_slice_get}
-use Rattle.std.proofs.lemmas.Bool.{or_parts}
+use Rattle.std.proofs.lemmas.Bool.{or_parts, and_right}
 use Rattle.sx_tag.specs.Mac.{Mac}
 use Rattle.sx_rules.specs.declared.access.Violation.{Violation}
 use Rattle.sx_trace.specs.declared.items.Item.{Item}
@@ -50,15 +50,11 @@ quiet_boot mac idle (suc k) s q =
     let shown : (step mac t).shown.event ≡ Quiet = ap (λ (z : Seen). z.event) q.1 in
     step_quiet mac t (λ v e. quiet_event (step mac t).shown.event v shown e) ∙ quiet_boot mac idle k s q.0
 
-beside : (a b : Bool) → b ≡ false → (a && b) ≡ false
-beside true b h = h
-beside false b h = refl
-
 -- steps that leave a module running are quiet, whether that was asked for or not
 pub quiet_either : (mac : Mac) (idle : Bool) (k : ℕ) (s : State) → AreQuiet mac true k s → AreQuiet mac idle k s
 quiet_either mac idle zero s q = q
 quiet_either mac idle (suc k) s q =
-    (quiet_either mac idle k s q.0, q.1, beside idle ((after_steps mac (suc k) s).cur == 0) q.2)
+    (quiet_either mac idle k s q.0, q.1, and_right idle ((after_steps mac (suc k) s).cur == 0) q.2)
 
 -- the node after none is the node, and what is kept stays
 stepped_none : (mac : Mac) (n : ℕ) (s : State) (now : Running) → slice_get now.nodes n ≡ Some s → stepped mac n 0 s now ≡ now
