@@ -84,7 +84,8 @@ fn no_numbers(alloc: Global) -> Numbers
     }
 }
 
-/// How many connection fields there are.
+/// How many connection fields there are. This is a function, and no constant, so that a proof sees no
+/// number: with the number, a list of so many is written out.
 #[tactic(auto, unfolding(sx_model::specs::State::FIELDS))]
 fn fields() -> usize
     ensures { result ≡ FIELDS }

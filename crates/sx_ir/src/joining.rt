@@ -48,8 +48,8 @@ fn put_moved_parts(
 
 /// One code: the operations of the entry protocol, and then those of the handlers' parts, whose
 /// jumps and parts are moved after them. What each `Handler` of the first does is then what its
-/// part of the second does. The code is the same for every tag. It fails only where memory runs
-/// out.
+/// part of the second does. The tag is taken as by `sx_lower::lower`. It fails only where memory
+/// runs out.
 pub fn join<T: Tag>(
     alloc: Global,
     _tag: &T,

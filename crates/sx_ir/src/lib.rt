@@ -18,5 +18,7 @@ mod soundness;
 
 pub use ir::{Code, Ir, IrOp};
 pub use joining::join;
-pub use sizes::{bytes, has_routine, offset, op_bytes, turn_size};
+pub use sizes::{
+    ENTRY, EXIT, PACKET_ROUTINE, SLOT_ROUTINE, bytes, has_routine, offset, op_bytes, turn_size,
+};
 pub use soundness::sound;

@@ -6,15 +6,20 @@ ghost use Rattle.sx_ir.specs.Sizes.{operator_bytes, ops_bytes, routines, turn_si
 
 use crate::ir::{Code, Ir, IrOp};
 
-const ENTRY: u64 = 24;
+/// The bytes of the entry of a text.
+pub const ENTRY: u16 = 24;
 
-const EXIT: u64 = 34;
+/// The bytes of the exit.
+pub const EXIT: u16 = 34;
 
-const SLOT: u64 = 64;
+/// The bytes of the routine that opens a slot.
+pub const SLOT_ROUTINE: u16 = 64;
 
-const PACKET: u64 = 140;
+/// The bytes of an end's packet routine.
+pub const PACKET_ROUTINE: u16 = 140;
 
-const LAST: u64 = 2;
+/// The bytes of the word of zeros in which a text ends.
+const LAST: u16 = 2;
 
 fn operator_bytes(op: IrOp) -> u16
     ensures { result ≡ operator_bytes op }
@@ -115,7 +120,12 @@ pub fn bytes(code: &Code) -> u64
     requires { length code.now.ops.items < 65536 }
     ensures { result ≡ bytes code.now.ops.items }
 {
-    ENTRY + ops_bytes(&code.ops) + EXIT + SLOT + PACKET * all_routines(&code.ops) + LAST
+    u64::from(ENTRY)
+        + ops_bytes(&code.ops)
+        + u64::from(EXIT)
+        + u64::from(SLOT_ROUTINE)
+        + u64::from(PACKET_ROUTINE) * all_routines(&code.ops)
+        + u64::from(LAST)
 }
 
 /// Where in that text the instructions of the operation at this place begin.
@@ -123,5 +133,5 @@ pub fn offset(code: &Code, place: u16) -> u64
     requires { place < length code.now.ops.items }
     ensures { result ≡ offset code.now.ops.items place }
 {
-    ENTRY + ops_bytes(&code.ops[..usize::from(place)])
+    u64::from(ENTRY) + ops_bytes(&code.ops[..usize::from(place)])
 }

@@ -114,8 +114,9 @@ fn facts_of(m: &Checked)
     words(m.module());
 }
 
-/// The stack code of a module's handlers, where no handler makes more than 16 packets. What it does
-/// is the same for every tag. It fails only where memory runs out.
+/// The stack code of a module's handlers, where no handler makes more than 16 packets. It fails only
+/// where memory runs out. The tag isn't needed, since what the code does is the same for every tag;
+/// it is taken so that all parts of the compiler, from here to `emit`, are called alike.
 pub fn lower<T: Tag>(alloc: Global, _tag: &T, m: &Checked, ends: &[End]) -> Result<Code, AllocError>
     requires few { length ends.now ≤ 16 }
     requires packets { SendFew (senders ends.now) (source_tree m.now) (source_tree m.now).handlers }

@@ -63,7 +63,8 @@ fn no_words(alloc: Global) -> Words
     }
 }
 
-/// How many connection fields there are.
+/// How many connection fields there are. This is a function, and no constant, so that a proof sees no
+/// number: with the number, a list of so many is written out.
 #[tactic(auto, unfolding(crate::specs::State::FIELDS))]
 fn fields() -> usize
     ensures { result ≡ FIELDS }

@@ -7,13 +7,19 @@ ghost use Rattle.sx_stub.specs.Stub.{find_any, found_code, named_end, search_cod
 
 use crate::inputs::{behind_input_found, put_input_found};
 use crate::keys::put_key_found;
-use crate::pieces::{INDEX, WANTED, put_all, put_choice, put_returns};
+use crate::pieces::{INDEX, RETURN_LENGTH, SLOT_WORDS, WANTED, put_all, put_choice, put_returns};
 use spec_invocation::protocol::{ENTRY_REGISTER, NO_END};
 use std::alloc::AllocError;
 use sx_ir::Ir;
 use sx_lang::sides::Side;
 use sx_lang::tree::Module;
 use sx_mean::events::End;
+
+/// The number of operations that look whether an end is the one that is searched for.
+const FIND_LENGTH: u16 = 4;
+
+/// The number of operations that keep the end that was found and part set-key from input.
+const KEEP_LENGTH: u16 = 3;
 
 fn named_end(e: &End) -> u16
     ensures { result ≡ named_end 0 e.now }
@@ -31,7 +37,10 @@ fn put_find_case(code: &mut Vec<Ir>, k: u8, e: &End, found: u16) -> Result<(), A
 {
     let next = (code.len() + 4) as u16;
     put_choice(code, WANTED, named_end(e), next)?;
-    put_all(code, &[Ir::Push(12 * u16::from(k)), Ir::Jump(found)])
+    put_all(
+        code,
+        &[Ir::Push(SLOT_WORDS * u16::from(k)), Ir::Jump(found)],
+    )
 }
 
 fn put_find_cases(code: &mut Vec<Ir>, ends: &[End], found: u16) -> Result<(), AllocError>
@@ -67,7 +76,7 @@ fn put_found(code: &mut Vec<Ir>, tree: &Module, ends: &[End]) -> Result<(), Allo
     ensures { OnOk result
         (PutsAt (found_code (module_of tree.now) ends.now) code.old.items code.new.items) }
 {
-    let input = code.len() as u16 + 3;
+    let input = code.len() as u16 + KEEP_LENGTH;
     let key = behind_input_found(tree, ends, input);
     put_kept(code, key)?;
     put_input_found(code, tree, ends)?;
@@ -83,7 +92,7 @@ pub fn put_search(code: &mut Vec<Ir>, tree: &Module, ends: &[End]) -> Result<(),
     ensures { OnOk result
         (PutsAt (search_code (module_of tree.now) ends.now) code.old.items code.new.items) }
 {
-    let found = code.len() as u16 + 4 * ends.len() as u16 + 3;
+    let found = code.len() as u16 + FIND_LENGTH * ends.len() as u16 + RETURN_LENGTH;
     put_find_cases(code, ends, found)?;
     put_returns(code, NO_END)?;
     put_found(code, tree, ends)

@@ -11,8 +11,8 @@ ghost use Rattle.sx_stub.specs.Puts.{behind_cases, kept};
 
 use crate::handled::{handled_len, input_handler, put_handled};
 use crate::pieces::{
-    FIELD, INDEX, SECOND, SLOTS, WANTED, put, put_all, put_choice, put_refuse, put_refuse_kind,
-    put_refuse_unless,
+    CHOICE_LENGTH, FIELD, INDEX, SECOND, SLOT_WORDS, SLOTS, WANTED, put, put_all, put_choice,
+    put_refuse, put_refuse_kind, put_refuse_unless,
 };
 use spec_invocation::protocol::{
     EVENT_KIND, EVENT_SIZE, HEADER_SIZE, LAST_NUMBER, NO_END, OTHER_TAG, PAST_NUMBER, VALUE_SIZE,
@@ -26,6 +26,12 @@ use sx_mean::offsets::{EVENT, PACKET, end_key_at, end_number_at};
 
 /// The number of operations of the entry of input.
 pub const INPUT_LENGTH: u16 = 11;
+
+/// The number of operations of the tests of the end that was found.
+const TESTS_LENGTH: u16 = 41;
+
+/// The number of operations that open an event's packet, before those of its handler.
+const OPEN_LENGTH: u16 = 10;
 
 fn put_wanted_receiving(code: &mut Vec<Ir>) -> Result<(), AllocError>
     ensures { OnOk result (Puts (wanted_receiving ++ kept) code.old.items code.new.items) }
@@ -95,7 +101,7 @@ fn take_len(tree: &Module, e: &End) -> u16
     ensures len { result ≡ length (take_event (module_of tree.now) 0 0 e.now) }
     ensures small { result ≤ 16 }
 {
-    10 + handled_len(input_handler(tree, e.port))
+    OPEN_LENGTH + handled_len(input_handler(tree, e.port))
 }
 
 fn case_len(tree: &Module, e: &End) -> u16
@@ -104,7 +110,7 @@ fn case_len(tree: &Module, e: &End) -> u16
     ensures small { result ≤ 18 }
 {
     if is_receiving(e) {
-        2 + take_len(tree, e)
+        CHOICE_LENGTH + take_len(tree, e)
     } else {
         0
     }
@@ -119,8 +125,8 @@ fn put_take_case(code: &mut Vec<Ir>, tree: &Module, k: u8, e: &End) -> Result<()
     ensures small { OnOk result (length code.new.items ≤ length code.old.items + 18) }
 {
     if is_receiving(e) {
-        let next = code.len() as u16 + 2 + take_len(tree, e);
-        put_choice(code, INDEX, 12 * u16::from(k), next)?;
+        let next = code.len() as u16 + CHOICE_LENGTH + take_len(tree, e);
+        put_choice(code, INDEX, SLOT_WORDS * u16::from(k), next)?;
         put_take(code, tree, k, e)
     } else {
         Ok(())
@@ -165,7 +171,7 @@ pub fn behind_input_found(tree: &Module, ends: &[End], place: u16) -> u16
     ensures place { result ≡ place + length (input_found (module_of tree.now) ends.now place) }
     ensures small { result ≤ place + 329 }
 {
-    behind_takes(tree, ends, place + 41)
+    behind_takes(tree, ends, place + TESTS_LENGTH)
 }
 
 fn put_open_test(code: &mut Vec<Ir>, ends: u16) -> Result<(), AllocError>
@@ -177,7 +183,7 @@ fn put_open_test(code: &mut Vec<Ir>, ends: u16) -> Result<(), AllocError>
         Ir::Load(INDEX),
         Ir::Push(2),
         Ir::Op(IrOp::Add),
-        Ir::LoadAt(SLOTS, 12 * ends),
+        Ir::LoadAt(SLOTS, SLOT_WORDS * ends),
     ];
     put_refuse_unless(code, &test, NO_END)
 }
@@ -191,7 +197,7 @@ fn put_epoch_test(code: &mut Vec<Ir>, ends: u16) -> Result<(), AllocError>
         Ir::Load(INDEX),
         Ir::Push(0),
         Ir::Op(IrOp::Add),
-        Ir::LoadAt(SLOTS, 12 * ends),
+        Ir::LoadAt(SLOTS, SLOT_WORDS * ends),
         Ir::Push(0xFF00),
         Ir::Op(IrOp::And),
         Ir::Load(FIELD),
@@ -212,7 +218,7 @@ fn put_past_test(code: &mut Vec<Ir>, ends: u16) -> Result<(), AllocError>
         Ir::Load(INDEX),
         Ir::Push(1),
         Ir::Op(IrOp::Add),
-        Ir::LoadAt(SLOTS, 12 * ends),
+        Ir::LoadAt(SLOTS, SLOT_WORDS * ends),
         Ir::Op(IrOp::Lt),
     ];
     put_refuse(code, &test, PAST_NUMBER)

@@ -5,8 +5,8 @@ ghost use Rattle.sx_stub.specs.Puts.{Puts, PutsAt, PutsCase, PutsCases, RefusesW
 ghost use Rattle.sx_stub.specs.Stub.{is_keyed_code, key_found, open_any, set_key_code, wanted_end};
 
 use crate::pieces::{
-    FIELD, INDEX, SECOND, SLOTS, WANTED, put, put_all, put_choice, put_refuse, put_refuse_kind,
-    put_refuse_unless,
+    FIELD, INDEX, SECOND, SLOT_WORDS, SLOTS, WANTED, put, put_all, put_choice, put_refuse,
+    put_refuse_kind, put_refuse_unless,
 };
 use spec_invocation::protocol::{
     ALL_DONE, HEADER_SIZE, KEY_SIZE, NO_END, OTHER_TAG, SET_KEY_KIND, SET_KEY_SIZE,
@@ -57,7 +57,7 @@ fn put_keyed_test(code: &mut Vec<Ir>, ends: u16) -> Result<(), AllocError>
     requires few { ends ≤ 16 }
     ensures { OnOk result (RefusesWith (is_keyed_code ends) 5 code.old.items code.new.items) }
 {
-    let words = 12 * ends;
+    let words = SLOT_WORDS * ends;
     let test = [
         Ir::Load(INDEX),
         Ir::Push(2),
@@ -88,7 +88,7 @@ fn put_open_case(code: &mut Vec<Ir>, k: u8, e: &End) -> Result<(), AllocError>
     ensures { OnOk result (PutsCase open_any k e.now code.old.items code.new.items) }
 {
     let next = (code.len() + 6) as u16;
-    put_choice(code, INDEX, 12 * u16::from(k), next)?;
+    put_choice(code, INDEX, SLOT_WORDS * u16::from(k), next)?;
     put_all(
         code,
         &[Ir::SetEnd(k), Ir::Push(ALL_DONE), Ir::Push(0), Ir::Leave],

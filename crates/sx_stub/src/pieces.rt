@@ -12,7 +12,7 @@ use sx_mean::offsets::saved_at;
 /// The word by which an end is searched for.
 pub const WANTED: u16 = 72;
 
-/// The word of 12 times the place of the end that was found.
+/// The word of where the slot of the end that was found begins, counted in words of the slots.
 pub const INDEX: u16 = 74;
 
 /// The word of a copied packet's kind.
@@ -26,6 +26,15 @@ pub const SECOND: u16 = 20;
 
 /// The first word of the slots.
 pub const SLOTS: u16 = 512;
+
+/// The words of a slot.
+pub const SLOT_WORDS: u16 = 12;
+
+/// The number of operations of a return.
+pub const RETURN_LENGTH: u16 = 3;
+
+/// The number of operations of a choice.
+pub const CHOICE_LENGTH: u16 = 2;
 
 /// Appends an operation. The error says that memory ran out.
 pub fn put(code: &mut Vec<Ir>, op: Ir) -> Result<(), AllocError>

@@ -114,7 +114,8 @@ fn link_fits(e: &End)
     let _link = e.link;
 }
 
-/// The number of each connection is a byte, as its type says.
+/// The number of each connection is a byte, as its type says. It does nothing, and is called for
+/// what it says.
 pub fn links_fit(ends: &[End])
     ensures { All (λ e. e.link < 256) ends.now }
 {
@@ -125,8 +126,8 @@ pub fn links_fit(ends: &[End])
 
 /// The stack code of a module's entry protocol, where it has these ends of connections, 16 at most.
 /// Its `Handler`s name the module's handlers by their places; it has at most 1,024 operations, and
-/// no parts of its own. The code is the same for every tag and every layout. It fails only where
-/// memory runs out.
+/// no parts of its own. It fails only where memory runs out. The code is the same for every tag and
+/// every layout, which are taken as by `sx_tmpl::emit`.
 pub fn stub<T: Tag>(
     alloc: Global,
     _tag: &T,

@@ -16,13 +16,16 @@ use sx_mean::offsets::EVENT;
 /// The place where the entry of a sample begins, behind the tests and the ways to the others.
 pub const SAMPLE_PLACE: u16 = 21;
 
+/// The number of operations of the entry of a sample, before those of its handler.
+const SAMPLE_LENGTH: u16 = 12;
+
 /// The number of operations of the entry of a sample.
 pub fn sample_len(tree: &Module) -> u16
     requires few { length tree.now.handlers.items ≤ 256 }
     ensures len { result ≡ length (sample_code (module_of tree.now) sample_place) }
     ensures small { result ≤ 16 }
 {
-    12 + handled_len(sample_handler(tree))
+    SAMPLE_LENGTH + handled_len(sample_handler(tree))
 }
 
 fn put_sampled(code: &mut Vec<Ir>, tree: &Module) -> Result<(), AllocError>

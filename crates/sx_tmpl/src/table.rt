@@ -8,23 +8,11 @@ ghost use Rattle.sx_tmpl.specs.Fits.{with_notes};
 ghost use Rattle.sx_tmpl.specs.Text.{places_from};
 
 use std::alloc::{AllocError as OutOfMemory, Global};
-use sx_ir::{Code, Ir, op_bytes};
+use sx_ir::{Code, ENTRY, Ir, op_bytes};
 use sx_rules::Layout;
 
-/// The bytes of the entry.
-const ENTRY: u16 = 24;
-
-/// The bytes of the exit.
-pub const EXIT: u16 = 34;
-
-/// The bytes of the routine that opens a slot.
-pub const SLOT_ROUTINE: u16 = 64;
-
-/// Where in that routine a word of zeros stands: the index 0 of its first instruction.
+/// Where in the routine that opens a slot a word of zeros is: the index 0 of its first instruction.
 pub const ZERO: u16 = 4;
-
-/// The bytes of an end's packet routine.
-pub const PACKET_ROUTINE: u16 = 140;
 
 /// As many ends as a byte names.
 pub const END_COUNT: usize = 256;

@@ -13,9 +13,9 @@ ghost use Rattle.sx_tmpl.specs.Text.{addresses, part_place, PutsWords};
 
 use crate::put::{put, put_words};
 use crate::scratch::{CALLER, IN_WINDOW, OUT_WINDOW, RETURN};
-use crate::table::{EXIT, PACKET_ROUTINE, SLOT_ROUTINE, Table, ZERO};
+use crate::table::{Table, ZERO};
 use std::alloc::AllocError as OutOfMemory;
-use sx_ir::{Code, Ir, IrOp, turn_size};
+use sx_ir::{Code, EXIT, Ir, IrOp, PACKET_ROUTINE, SLOT_ROUTINE, turn_size};
 use sx_isa::Operand::{Absolute, Const, Immediate, Increment, Indexed, Indirect};
 use sx_isa::assembly::{POPPED, R9, R10, R11, R12, R13, R14, R15, SP, TOP};
 use sx_mean::offsets::{PIECES, end_at, saved_at};

@@ -5,7 +5,7 @@ ghost use Rattle.std.specs.Prelude.{◌≡◌, ◌↔◌, IfSome, IsSome, IsTrue
 ghost use Rattle.sx_wire.specs.Headers.{ask_of, is_ask};
 ghost use Rattle.sx_wire.specs.Packets.{event_packet, is_event, is_set_key, set_key_packet};
 
-use crate::headers::{EVENT, SET_KEY, begins, is_ask};
+use crate::headers::{EVENT, EVENT_SIZE, SET_KEY, SET_KEY_SIZE, begins, is_ask};
 use crate::packets::{EventPacket, SetKeyPacket};
 use byteorder::{ByteOrder, LittleEndian};
 
@@ -15,7 +15,7 @@ pub fn read_event(bytes: &[u8]) -> Option<EventPacket>
     ensures packet { IfSome result (λ p. event_packet p ≡ bytes.now) }
     ensures some { IsSome result ↔ IsTrue (is_event bytes.now) }
 {
-    if bytes.len() != 24 || !begins(EVENT, bytes) {
+    if bytes.len() != EVENT_SIZE || !begins(EVENT, bytes) {
         return None;
     }
     let mut p = EventPacket {
@@ -35,7 +35,7 @@ pub fn read_set_key(bytes: &[u8]) -> Option<SetKeyPacket>
     ensures packet { IfSome result (λ p. set_key_packet p ≡ bytes.now) }
     ensures some { IsSome result ↔ IsTrue (is_set_key bytes.now) }
 {
-    if bytes.len() != 38 || !begins(SET_KEY, bytes) {
+    if bytes.len() != SET_KEY_SIZE || !begins(SET_KEY, bytes) {
         return None;
     }
     let mut p = SetKeyPacket {
