@@ -1,4 +1,5 @@
-//! The numbers of the entry protocol, as `specs/Protocol.antt` has them.
+//! The numbers of the entry protocol, as `specs/Protocol.antt` has them. They are no enums: a caller
+//! and a module pass them in registers and packets, so code computes with them.
 
 /// The entry that takes a set-key packet.
 pub const SET_KEY_ENTRY: u16 = 0;
