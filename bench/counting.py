@@ -16,10 +16,11 @@ TUNABLES = ":".join(f"glibc.cpu.x86_rep_{it}_threshold={NEVER}" for it in ("movs
 ENVIRONMENT = {**os.environ, "GLIBC_TUNABLES": TUNABLES}
 
 
-def counted(words, text=b"", options=(), program=PROGRAM):
-    """The processor's instructions of a call, which must end with status 0."""
+def counted(words, text=b"", options=(), program=PROGRAM, status=0):
+    """The processor's instructions of a call, which must end with this status."""
     command = ["valgrind", "--tool=callgrind", "--callgrind-out-file=/dev/null", *options, program, *words]
-    ran = subprocess.run(command, input=text, env=ENVIRONMENT, stdout=subprocess.DEVNULL, stderr=subprocess.PIPE, check=True)
+    ran = subprocess.run(command, input=text, env=ENVIRONMENT, stdout=subprocess.DEVNULL, stderr=subprocess.PIPE, check=False)
+    assert ran.returncode == status, f"{words}: status {ran.returncode} in place of {status}"
     return int(re.search(rb"Collected : (\d+)", ran.stderr)[1])
 
 

@@ -13,7 +13,8 @@ use Rattle.sx_mean.specs.Application.{AppTree, PartTree}
 use Rattle.sx_mean.specs.Validity.{same_device}
 use Rattle.sx_mean.specs.declared.apps.Part.{Part}
 use Rattle.sx_mean.specs.View.{part_as}
-use Rattle.sx_trace.specs.Names.{NameLists, if_sensor, place_of, sensor_place}
+use Rattle.sx_index.specs.Places.{place_of}
+use Rattle.sx_trace.specs.Names.{NameLists, if_sensor, sensor_place}
 use Rattle.sx_sched.specs.Reading.{is_comment}
 use Rattle.sx_sched.specs.Words.{one_word, words_of}
 use Rattle.sx_sched.proofs.Form.{number_within, sensor_get}

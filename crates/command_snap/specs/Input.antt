@@ -3,7 +3,8 @@ use Rattle.std.specs.Prelude.{ℕ, ◌+◌, nat_lt, if◌then◌else◌, List, [
 use Rattle.std.specs.Prelude.{ok_or}
 use Rattle.std.specs.Str.{bytes_eq}
 use Rattle.sx_io.specs.Numbers.{number_of}
-use Rattle.sx_trace.specs.Names.{NameLists, place_of}
+use Rattle.sx_index.specs.Places.{place_of}
+use Rattle.sx_trace.specs.Names.{NameLists}
 use Rattle.sx_sched.specs.Words.{words_of, one_word, two_words, four_words}
 use Rattle.sx_sched.specs.Reading.{at_least, is_comment}
 use Rattle.command_snap.specs.declared.queries.Query.{Query}

@@ -2,6 +2,7 @@
 -- holds of a module that breaks none; Source and Scopes are what contracts see.
 pub mod Names
 pub mod Uses
+pub mod Listed
 pub mod Scopes
 pub mod Bounds
 pub mod Rules

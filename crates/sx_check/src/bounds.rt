@@ -117,6 +117,13 @@ fn lets_in_block(block: &Vec<Stmt>) -> u64
     total
 }
 
+/// How many locals the handler defines, cut at 65,536.
+pub fn lets_in_handler(h: &Handler) -> usize
+    ensures { result ≡ min (length (block_lets (handler_of h.now).body)) CUT }
+{
+    lets_in_block(&h.body) as usize
+}
+
 /// Whether a handler has more than 16 locals, its parameter among them.
 #[tactic(auto, unfolding(crate::specs::Rules::breaks))]
 pub fn breaks_locals(m: &Module) -> bool

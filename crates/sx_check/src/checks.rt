@@ -11,6 +11,7 @@ use crate::bounds::{
     breaks_repeat,
 };
 use crate::checked::Checked;
+use crate::indexed::Declared;
 use crate::locals::breaks_duplicate;
 use crate::rules::{RULES, Rule};
 use crate::uses::{breaks_kind, breaks_unknown};
@@ -27,13 +28,14 @@ impl Checked {
 }
 
 #[tactic(auto, unfolding(crate::specs::Rules::breaks))]
-fn is_broken(rule: Rule, m: &Module) -> bool
+fn is_broken(rule: Rule, m: &Module, decls: &Declared<'_>) -> bool
+    requires { decls.now ≡ m.now.decls.items }
     ensures { result ≡ breaks (module_of m.now) rule }
 {
     match rule {
-        Rule::Duplicate => breaks_duplicate(m),
-        Rule::Unknown => breaks_unknown(m),
-        Rule::Kind => breaks_kind(m),
+        Rule::Duplicate => breaks_duplicate(m, decls),
+        Rule::Unknown => breaks_unknown(m, decls),
+        Rule::Kind => breaks_kind(m, decls),
         Rule::Depth => breaks_depth(m),
         Rule::Locals => breaks_locals(m),
         Rule::Repeat => breaks_repeat(m),
@@ -44,11 +46,12 @@ fn is_broken(rule: Rule, m: &Module) -> bool
     }
 }
 
-fn first_in(rules: &[Rule], m: &Module) -> Option<Rule>
+fn first_in(rules: &[Rule], m: &Module, decls: &Declared<'_>) -> Option<Rule>
+    requires { decls.now ≡ m.now.decls.items }
     ensures { result ≡ find (breaks (module_of m.now)) rules.now }
 {
     for rule in rules {
-        if is_broken(*rule, m) {
+        if is_broken(*rule, m, decls) {
             return Some(*rule);
         }
     }
@@ -58,11 +61,12 @@ fn first_in(rules: &[Rule], m: &Module) -> Option<Rule>
 fn first_broken(m: &Module) -> Option<Rule>
     ensures { result ≡ first_broken (module_of m.now) }
 {
-    first_in(&RULES, m)
+    let decls = Declared::new(*m.decls.allocator(), &m.decls);
+    first_in(&RULES, m, &decls)
 }
 
-/// The module, checked; or the first of the rules that it breaks, with the module unchanged.
-/// No memory is taken.
+/// The module, checked; or the first of the rules that it breaks, with the module unchanged. It
+/// needs no memory: many names are found by an index, and without memory for one by looking at each.
 pub fn check(m: Module) -> Result<Checked, (Rule, Module)>
     ensures checked { IfOk result (λ c. (source c ≡ m)) }
     ensures keeps { IfOk result (λ c. first_broken (module_of m) ≡ None) }

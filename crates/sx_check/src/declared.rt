@@ -45,8 +45,8 @@ fn is_of_role(d: &Decl, role: Role, x: &Name) -> bool
     }
 }
 
-/// Whether a declaration gives this name to something.
-pub fn has_name(decls: &[Decl], x: &Name) -> bool
+/// Whether a declaration gives this name to something, looked for in all of them.
+pub fn lists_name(decls: &[Decl], x: &Name) -> bool
     ensures { result ≡ is_declared decls.now x.now }
 {
     for d in decls {
@@ -57,8 +57,9 @@ pub fn has_name(decls: &[Decl], x: &Name) -> bool
     false
 }
 
-/// Whether a declaration gives this name to something that can be used so.
-pub fn has_role(decls: &[Decl], role: Role, x: &Name) -> bool
+/// Whether a declaration gives this name to something that can be used so, looked for in all of
+/// them.
+pub fn lists_role(decls: &[Decl], role: Role, x: &Name) -> bool
     ensures { result ≡ list_any (declares_as role x.now) decls.now }
 {
     for d in decls {
@@ -87,7 +88,8 @@ fn is_a_device(d: &Decl) -> bool
     matches!(d, Decl::Device(_))
 }
 
-fn devices(decls: &[Decl]) -> usize
+/// The number of declarations of devices.
+pub fn devices(decls: &[Decl]) -> usize
     ensures { result ≡ count_by is_device decls.now }
 {
     let mut times = 0;
@@ -110,8 +112,8 @@ fn is_there_twice(decls: &[Decl], d: &Decl) -> bool
     }
 }
 
-/// Whether a name, or a device, is declared twice.
-pub fn has_repeated(decls: &[Decl]) -> bool
+/// Whether a name, or a device, is declared twice, with each name looked for in all declarations.
+pub fn lists_repeated(decls: &[Decl]) -> bool
     ensures { result ≡ list_any (is_repeated decls.now) decls.now }
 {
     for d in decls {

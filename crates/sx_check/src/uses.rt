@@ -13,10 +13,11 @@ ghost use Rattle.sx_check.specs.Uses.{used};
 ghost use Rattle.sx_check.specs.declared.rules.Rule.TheVariants.{Kind, Unknown};
 
 use crate::bounds::has_emit;
-use crate::declared::{Role, has_actuator, has_name, has_role, has_sensor};
+use crate::declared::{Role, has_actuator, has_sensor};
+use crate::indexed::Declared;
 use crate::scopes::{Scope, sees};
 use sx_lang::names::Name;
-use sx_lang::tree::{Decl, Expr, Handler, Module, Stmt};
+use sx_lang::tree::{Expr, Handler, Module, Stmt};
 
 /// What can be wrong with the use of a name.
 #[derive(Clone, Copy)]
@@ -37,17 +38,17 @@ fn is_word(role: Role, x: &Name, scope: &Scope<'_>) -> bool
 }
 
 #[tactic(auto, unfolding(crate::specs::Scopes::is_flawed))]
-fn has_flaw(flaw: Flaw, decls: &[Decl], role: Role, x: &Name, scope: &Scope<'_>) -> bool
+fn has_flaw(flaw: Flaw, decls: &Declared<'_>, role: Role, x: &Name, scope: &Scope<'_>) -> bool
     ensures { result ≡ is_flawed flaw decls.now (used role x.now (seen_in scope.now)) }
 {
-    let known = has_name(decls, x) || sees(scope, x);
+    let known = decls.has_name(x) || sees(scope, x);
     match flaw {
         Flaw::Unknown => !known,
-        Flaw::Misused => known && !(has_role(decls, role, x) || is_word(role, x, scope)),
+        Flaw::Misused => known && !(decls.has_role(role, x) || is_word(role, x, scope)),
     }
 }
 
-fn in_expression(flaw: Flaw, decls: &[Decl], e: &Expr, scope: &Scope<'_>) -> bool
+fn in_expression(flaw: Flaw, decls: &Declared<'_>, e: &Expr, scope: &Scope<'_>) -> bool
     ensures { result ≡ list_any (is_flawed flaw decls.now)
         (expression_uses (seen_in scope.now) (expression_of e.now)) }
 {
@@ -66,7 +67,7 @@ fn in_expression(flaw: Flaw, decls: &[Decl], e: &Expr, scope: &Scope<'_>) -> boo
 }
 
 #[cycle(uses)]
-fn in_statement<'a>(flaw: Flaw, decls: &[Decl], s: &'a Stmt, scope: &'a Scope<'a>) -> bool
+fn in_statement<'a>(flaw: Flaw, decls: &Declared<'_>, s: &'a Stmt, scope: &'a Scope<'a>) -> bool
     ensures { result ≡ list_any (is_flawed flaw decls.now)
         (statement_uses (seen_in scope.now) (statement_of s.now)) }
 {
@@ -93,7 +94,12 @@ fn in_statement<'a>(flaw: Flaw, decls: &[Decl], s: &'a Stmt, scope: &'a Scope<'a
 }
 
 #[cycle(uses)]
-fn in_block<'a>(flaw: Flaw, decls: &[Decl], block: &'a Vec<Stmt>, scope: &'a Scope<'a>) -> bool
+fn in_block<'a>(
+    flaw: Flaw,
+    decls: &Declared<'_>,
+    block: &'a Vec<Stmt>,
+    scope: &'a Scope<'a>,
+) -> bool
     ensures { result ≡ list_any (is_flawed flaw decls.now)
         (block_uses (seen_in scope.now) (block_of block.now.items)) }
 {
@@ -106,7 +112,7 @@ fn in_block<'a>(flaw: Flaw, decls: &[Decl], block: &'a Vec<Stmt>, scope: &'a Sco
     false
 }
 
-fn in_input(flaw: Flaw, decls: &[Decl], input: &Option<Name>) -> bool
+fn in_input(flaw: Flaw, decls: &Declared<'_>, input: &Option<Name>) -> bool
     ensures { result ≡ list_any (is_flawed flaw decls.now) (input_uses input.now) }
 {
     match input {
@@ -115,13 +121,13 @@ fn in_input(flaw: Flaw, decls: &[Decl], input: &Option<Name>) -> bool
     }
 }
 
-fn in_handler(flaw: Flaw, decls: &[Decl], h: &Handler) -> bool
+fn in_handler(flaw: Flaw, decls: &Declared<'_>, h: &Handler) -> bool
     ensures { result ≡ list_any (is_flawed flaw decls.now) (handler_uses (handler_of h.now)) }
 {
     in_input(flaw, decls, &h.input) || in_block(flaw, decls, &h.body, &Scope::Handler(&h.param))
 }
 
-fn in_handlers(flaw: Flaw, decls: &[Decl], handlers: &[Handler]) -> bool
+fn in_handlers(flaw: Flaw, decls: &Declared<'_>, handlers: &[Handler]) -> bool
     ensures { result ≡ list_any (is_flawed flaw decls.now)
         (handlers_uses (map handler_of handlers.now)) }
 {
@@ -134,27 +140,30 @@ fn in_handlers(flaw: Flaw, decls: &[Decl], handlers: &[Handler]) -> bool
 }
 
 #[tactic(auto, unfolding(crate::specs::Scopes::is_flawed))]
-fn has_unknown(m: &Module) -> bool
+fn has_unknown(m: &Module, decls: &Declared<'_>) -> bool
+    requires { decls.now ≡ m.now.decls.items }
     ensures { result ≡ list_any (is_unknown (module_of m.now).decls)
         (handlers_uses (module_of m.now).handlers) }
 {
-    in_handlers(Flaw::Unknown, &m.decls, &m.handlers)
+    in_handlers(Flaw::Unknown, decls, &m.handlers)
 }
 
 #[tactic(auto, unfolding(crate::specs::Scopes::is_flawed))]
-fn has_misused(m: &Module) -> bool
+fn has_misused(m: &Module, decls: &Declared<'_>) -> bool
+    requires { decls.now ≡ m.now.decls.items }
     ensures { result ≡ list_any (is_misused (module_of m.now).decls)
         (handlers_uses (module_of m.now).handlers) }
 {
-    in_handlers(Flaw::Misused, &m.decls, &m.handlers)
+    in_handlers(Flaw::Misused, decls, &m.handlers)
 }
 
 /// Whether a name that is used isn't known where it is used.
 #[tactic(auto, unfolding(crate::specs::Rules::breaks))]
-pub fn breaks_unknown(m: &Module) -> bool
+pub fn breaks_unknown(m: &Module, decls: &Declared<'_>) -> bool
+    requires { decls.now ≡ m.now.decls.items }
     ensures { result ≡ breaks (module_of m.now) Unknown }
 {
-    has_unknown(m)
+    has_unknown(m, decls)
 }
 
 fn has_sample(handlers: &[Handler]) -> bool
@@ -186,8 +195,9 @@ fn emits_nowhere(m: &Module) -> bool
 
 /// Whether a name is used as another kind, or the module samples or emits without a device for it.
 #[tactic(auto, unfolding(crate::specs::Rules::breaks))]
-pub fn breaks_kind(m: &Module) -> bool
+pub fn breaks_kind(m: &Module, decls: &Declared<'_>) -> bool
+    requires { decls.now ≡ m.now.decls.items }
     ensures { result ≡ breaks (module_of m.now) Kind }
 {
-    has_misused(m) || samples_blindly(m) || emits_nowhere(m)
+    has_misused(m, decls) || samples_blindly(m) || emits_nowhere(m)
 }

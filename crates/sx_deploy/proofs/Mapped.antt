@@ -1,8 +1,8 @@
 -- Places in lists that are seen as others.
 use Rattle.std.proofs.Common.{◌≡◌, ℕ, List, map, Option, Some, None, refl, sym, ◌∙◌}
 use Rattle.std.specs.Str.{bytes_eq}
-use Rattle.sx_trace.specs.Names.{place_of}
-use Rattle.sx_trace.proofs.Indexed.{position-map}
+use Rattle.sx_index.specs.Places.{place_of}
+use Rattle.sx_index.proofs.Indexed.{position-map}
 use Rattle.sx_entries.specs.Entries.{place_among}
 
 module _ {A B : Type 0} (v : A → B) where

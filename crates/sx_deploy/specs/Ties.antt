@@ -8,7 +8,7 @@ use Rattle.sx_lang.specs.declared.tree.Decl.TheVariants as decl
 use Rattle.sx_mean.specs.Application.{declared_kind, is_driven, ends_from, ends_to, sends_too_much}
 use Rattle.sx_mean.specs.declared.apps.AppDevice.{AppDevice}
 use Rattle.sx_mean.specs.declared.apps.Link.{Link}
-use Rattle.sx_trace.specs.Names.{place_of}
+use Rattle.sx_index.specs.Places.{place_of}
 use Rattle.sx_entries.specs.Fault.{◌>>=◌, passes}
 use Rattle.sx_entries.specs.Stage.{in_entry, made_after}
 use Rattle.sx_entries.specs.Lines.{entries}

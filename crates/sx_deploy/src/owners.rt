@@ -1,15 +1,15 @@
 //! The modules that connections go between, each found by its name.
 ghost use Rattle.std.specs.Prelude.{◌≡◌, map, option_map, slice_get, IfOk};
 ghost use Rattle.sx_entries.specs.Entries.{place_among};
-ghost use Rattle.sx_trace.specs.Index.{IsNameIndex};
-ghost use Rattle.sx_trace.specs.Names.{place_of};
+ghost use Rattle.sx_index.specs.Index.{IsNameIndex};
+ghost use Rattle.sx_index.specs.Places.{place_of};
 ghost use Rattle.sx_deploy.specs.Seen.{checked_as};
 
 use crate::checks::CheckedModule;
 use std::alloc::{AllocError, Global};
 use std::marker::Model;
+use sx_index::index::NameIndex;
 use sx_lang::names::Name;
-use sx_trace::index::NameIndex;
 
 /// Modules with an index of their names. Contracts see the list of the modules.
 #[derive(Drop)]
@@ -21,7 +21,7 @@ pub struct Owners<'a> {
 impl<'a> Model for Owners<'a> {
     ghost use Rattle.std.specs.Coded.{coded_list};
     ghost use Rattle.std.specs.Prelude.{List, map};
-    ghost use Rattle.sx_trace.specs.Index.{IsNameIndex};
+    ghost use Rattle.sx_index.specs.Index.{IsNameIndex};
     ghost use Rattle.sx_deploy.specs.contracts.checks.CheckedModule.{the_row};
     ghost use Rattle.sx_deploy.specs.declared.checks.CheckedModule.{CheckedModule};
 

@@ -7,7 +7,7 @@ ghost use Rattle.sx_entries.specs.Gives.{Gives};
 ghost use Rattle.sx_entries.specs.Lines.{entries};
 ghost use Rattle.sx_entries.specs.Stage.{made_after};
 ghost use Rattle.sx_entries.specs.declared.fault.Sort.TheVariants.{Module};
-ghost use Rattle.sx_trace.specs.Names.{place_of};
+ghost use Rattle.sx_index.specs.Places.{place_of};
 ghost use Rattle.sx_deploy.specs.Seen.{checked_as};
 ghost use Rattle.sx_deploy.specs.SeenPort.{port_as};
 ghost use Rattle.sx_deploy.specs.Ties.{byte, start_device, has_many_ends, is_mismatched, link_of};

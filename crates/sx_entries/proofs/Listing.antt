@@ -3,8 +3,8 @@ use Rattle.std.proofs.Common.{◌≡◌, ℕ, suc, ◌+◌, cond, nat_lt, arith,
 use Rattle.std.specs.List.{position, position_or_len, list_any}
 use Rattle.std.specs.Str.{bytes_eq}
 use Rattle.std.proofs.lemmas.Bool.Decides.{nat_tests}
-use Rattle.sx_trace.specs.Names.{place_of}
-use Rattle.sx_trace.proofs.Indexed.{position-map}
+use Rattle.sx_index.specs.Places.{place_of}
+use Rattle.sx_index.proofs.Indexed.{position-map}
 use Rattle.lemmas.proofs.Numbers.{less_by_one}
 
 -- the place of a name among the names is the place of its entry

@@ -9,8 +9,8 @@ ghost use Rattle.sx_entries.specs.Entries.{has_entry, place_among};
 use crate::fault::DeployError;
 use std::alloc::{AllocError, Global};
 use std::marker::Model;
+use sx_index::index::NameIndex;
 use sx_lang::names::Name;
-use sx_trace::index::NameIndex;
 
 /// A type of entry with a name.
 pub trait HasName {
@@ -30,7 +30,7 @@ pub struct Listed<T: HasName> {
 
 impl<T: HasName> Model for Listed<T> {
     ghost use Rattle.std.specs.Prelude.{List, map};
-    ghost use Rattle.sx_trace.specs.Index.{IsNameIndex};
+    ghost use Rattle.sx_index.specs.Index.{IsNameIndex};
 
     ghost Value = { List T };
 

@@ -14,7 +14,8 @@ use Rattle.sx_asm.specs.Assembled.{assembled}
 use Rattle.sx_asm.proofs.Bytes.{assembled_bytes}
 use Rattle.sx_asm.proofs.Listings.{byte_at}
 use Rattle.sx_io.specs.Numbers.{number_of, written_number, up_to}
-use Rattle.sx_trace.specs.Names.{NameLists, place_of, if_sensor, sensor_place}
+use Rattle.sx_index.specs.Places.{place_of}
+use Rattle.sx_trace.specs.Names.{NameLists, if_sensor, sensor_place}
 use Rattle.sx_sched.specs.declared.lines.Line.{Line as Read}
 use Rattle.sx_sched.specs.declared.lines.LineError.{LineError}
 use Rattle.sx_sched.specs.Lines.{Line, Blank, Run, Finish, Put, Set, Take, Give, Forge, Sense, Irq, Reset, Ask, Answer, Load, Call}

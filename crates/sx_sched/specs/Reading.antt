@@ -6,7 +6,8 @@ use Rattle.hex.specs.Hex.{decode_of}
 use Rattle.hex.specs.declared.error.FromHexError.{FromHexError}
 use Rattle.sx_asm.specs.declared.error.AsmError.{AsmError}
 use Rattle.sx_io.specs.Numbers.{number_of}
-use Rattle.sx_trace.specs.Names.{NameLists, place_of, sensor_place}
+use Rattle.sx_index.specs.Places.{place_of}
+use Rattle.sx_trace.specs.Names.{NameLists, sensor_place}
 use Rattle.sx_sched.specs.declared.lines.LineError.{LineError}
 use Rattle.sx_sched.specs.declared.lines.LineError.TheVariants.{Fault}
 use Rattle.sx_sched.specs.Lines.{Line, Blank, Run, Finish, Put, Set, Take, Give, Forge, Sense, Irq}

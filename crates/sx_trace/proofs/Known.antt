@@ -5,7 +5,8 @@ use Rattle.std.specs.Str.{bytes_eq}
 use Rattle.std.proofs.lemmas.Bool.Decides.{nat_tests}
 use Rattle.std.proofs.lemmas.Slice.Eq.{bytes_eq-Decides}
 use Rattle.std.proofs.lemmas.Bool.{and_parts, or_parts, not-true}
-use Rattle.sx_trace.specs.Names.{NameLists, deployer, place_of}
+use Rattle.sx_index.specs.Places.{place_of}
+use Rattle.sx_trace.specs.Names.{NameLists, deployer}
 use Rattle.sx_trace.specs.ValidNames.{are_valid, are_names, has_name, no_repeat}
 use Rattle.sx_lang.specs.Form.{is_lower, is_name, is_name_byte}
 use Rattle.sx_trace.specs.Items.{name_at}

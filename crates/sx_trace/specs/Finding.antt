@@ -6,7 +6,8 @@ use Rattle.std.specs.Prelude.{codes, Option, Some, None}
 use Rattle.std.specs.Str.{bytes_eq}
 use Rattle.sx_lang.specs.declared.sides.Side.{Side}
 use Rattle.sx_lang.specs.declared.sides.Side.TheVariants.{From, To}
-use Rattle.sx_trace.specs.Names.{NameLists, deployer, place_of}
+use Rattle.sx_index.specs.Places.{place_of}
+use Rattle.sx_trace.specs.Names.{NameLists, deployer}
 use Rattle.sx_trace.specs.declared.items.Cause.{Cause}
 use Rattle.sx_trace.specs.declared.items.Cause.TheVariants as cause
 use Rattle.sx_trace.specs.declared.items.Item.{Item}

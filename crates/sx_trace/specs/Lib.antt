@@ -1,7 +1,6 @@
 -- Begin with Items: the lines of items, over Names. KnownItems and ValidNames say which there can
--- be, Index and Seen how names are kept. Finding and Written are for contracts of functions.
+-- be, Seen how names are kept. Finding and Written are for contracts of functions.
 pub mod Finding
-pub mod Index
 pub mod Items
 pub mod KnownItems
 pub mod Written

@@ -1,7 +1,7 @@
--- The names of a deployment, and where a name stands.
-use Rattle.std.specs.Prelude.{ℕ, Bool, false, codes, if◌then◌else◌, List, position, Option, Some}
-use Rattle.std.specs.Prelude.{None, option_and_then, unwrap_or, slice_get}
-use Rattle.std.specs.Str.{bytes_eq}
+-- The names of a deployment, and where a sensor's stands.
+use Rattle.std.specs.Prelude.{ℕ, Bool, false, codes, if◌then◌else◌, List, Option, Some, None}
+use Rattle.std.specs.Prelude.{option_and_then, unwrap_or, slice_get}
+use Rattle.sx_index.specs.Places.{place_of}
 
 -- the names of the nodes, devices, modules and connections, and whether each device is a sensor
 pub record NameLists : Type 0 where
@@ -14,10 +14,6 @@ pub record NameLists : Type 0 where
 -- the deployer's own name, which no module has
 abbrev pub deployer : List ℕ
 deployer = codes "deployer"
-
--- the place of a name in its list
-abbrev pub place_of : List (List ℕ) → List ℕ → Option ℕ
-place_of names text = position (λ name. bytes_eq name text) names
 
 -- the device of this index, where it is a sensor
 abbrev pub if_sensor : List Bool → ℕ → Option ℕ

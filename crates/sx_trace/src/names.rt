@@ -5,16 +5,17 @@ ghost use Rattle.std.specs.Prelude.{OnOk};
 ghost use Rattle.std.specs.List.{list_all};
 ghost use Rattle.std.specs.Str.{bytes_eq};
 ghost use Rattle.sx_lang.specs.Form.{is_name};
-ghost use Rattle.sx_trace.specs.Index.{IsNameIndex};
+ghost use Rattle.sx_index.specs.Index.{IsNameIndex};
 ghost use Rattle.sx_trace.specs.Names.{deployer, if_sensor};
 ghost use Rattle.sx_trace.specs.ValidNames.{are_names, are_valid, has_name, no_repeat};
-ghost use Rattle.sx_trace.specs.Names.{place_of, sensor_place};
+ghost use Rattle.sx_index.specs.Places.{place_of};
+ghost use Rattle.sx_trace.specs.Names.{sensor_place};
 ghost use Rattle.sx_trace.specs.Seen.{name_lists};
 
 use crate::guesses::{Guesses, guessed, guesses_of};
-use crate::index::NameIndex;
 use std::alloc::{AllocError, Global};
 use std::marker::Model;
+use sx_index::index::NameIndex;
 use sx_lang::names::{Name, has_form};
 
 /// The name of the deployer, which no module has.
@@ -45,7 +46,7 @@ pub struct Names {
 }
 
 impl Model for Names {
-    ghost use Rattle.sx_trace.specs.Index.{IsNameIndex};
+    ghost use Rattle.sx_index.specs.Index.{IsNameIndex};
     ghost use Rattle.sx_trace.specs.Names.{NameLists};
 
     ghost Value = { NameLists };

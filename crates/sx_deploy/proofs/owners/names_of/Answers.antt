@@ -1,6 +1,6 @@
 use Rattle.std.proofs.Common.{List, map, subst}
 use Rattle.std.proofs.lemmas.List.{take_all}
-use Rattle.sx_trace.specs.Index.{IsNameIndex}
+use Rattle.sx_index.specs.Index.{IsNameIndex}
 use Rattle.sx_deploy.specs.declared.checks.CheckedModule.{CheckedModule}
 use Rattle.sx_deploy.proofs.owners.names_of.Goals as goal
 

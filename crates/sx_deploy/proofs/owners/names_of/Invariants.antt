@@ -1,5 +1,5 @@
 use Rattle.std.proofs.Common.{map, take}
-use Rattle.sx_trace.specs.Index.{IsNameIndex}
+use Rattle.sx_index.specs.Index.{IsNameIndex}
 use Rattle.sx_deploy.specs.declared.checks.CheckedModule.{CheckedModule}
 use Rattle.sx_deploy.proofs.owners.names_of.Given as goal
 

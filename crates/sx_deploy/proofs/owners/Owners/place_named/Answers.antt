@@ -1,6 +1,6 @@
 use Rattle.std.proofs.Common.{List, map, ap, ◌∙◌}
-use Rattle.sx_trace.specs.Names.{place_of}
-use Rattle.sx_trace.proofs.Indexed.{place_is}
+use Rattle.sx_index.specs.Places.{place_of}
+use Rattle.sx_index.proofs.Indexed.{place_is}
 use Rattle.sx_deploy.specs.declared.checks.CheckedModule.{CheckedModule}
 use Rattle.sx_deploy.proofs.owners.Owners.place_named.Goals as goal
 

@@ -1,6 +1,6 @@
 use Rattle.std.proofs.Common.{map, ap, ◌∙◌}
-use Rattle.sx_trace.specs.Names.{place_of}
-use Rattle.sx_trace.proofs.Indexed.{place_is}
+use Rattle.sx_index.specs.Places.{place_of}
+use Rattle.sx_index.proofs.Indexed.{place_is}
 use Rattle.sx_entries.proofs.Listing.{place_entry}
 use Rattle.sx_entries.proofs.listed.Listed.place_named.Goals as goal
 

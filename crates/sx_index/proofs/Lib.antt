@@ -1,0 +1,2 @@
+-- Indexed: an index after one more name.
+pub mod Indexed

@@ -1,6 +1,0 @@
-use Rattle.std.proofs.Common.{take}
-use Rattle.sx_trace.specs.Index.{IsNameIndex}
-use Rattle.sx_trace.proofs.index.NameIndex.fill.Given as goal
-
-abbrev pub invariant-loop-place : goal.invariant-loop-place
-invariant-loop-place l = IsNameIndex l.self (take l.place l.names)
