@@ -30,13 +30,27 @@ use sx_executor::registers::{SP, cut};
 use sx_isa::{Op1, Op2, Operand};
 use sx_rules::Violation;
 
-/// The word at a place, or in byte form the byte, if the place is at hand.
+/// The word at a place, or in byte form the byte, if the place is at hand or in the running
+/// module's own text.
 #[inline(always)]
 pub fn load_at_hand<B: Bus>(executor: &Executor<B>, wide: bool, at: u16) -> Option<u16>
     ensures run { IfSome result (λ v. Loads wide at executor.now (Ok v) executor.now) }
     ensures below { IfSome result (λ v. v < limit wide) }
 {
     if executor.is_at_hand(at) {
+        return Some(executor.read(wide, at));
+    }
+    load_own_text(executor, wide, at)
+}
+
+/// The same if the place is in the running module's own text. This code stays out of the way of
+/// what most loads do.
+#[inline(never)]
+fn load_own_text<B: Bus>(executor: &Executor<B>, wide: bool, at: u16) -> Option<u16>
+    ensures run { IfSome result (λ v. Loads wide at executor.now (Ok v) executor.now) }
+    ensures below { IfSome result (λ v. v < limit wide) }
+{
+    if executor.is_own_text(at) {
         return Some(executor.read(wide, at));
     }
     None
