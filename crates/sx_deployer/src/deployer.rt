@@ -100,8 +100,8 @@ impl Deployer {
         let index = usize::from(module);
         let last = self.attested[index];
         let target = &self.targets[index];
-        if !is_answer(tag, target, boot, mac, self.open_asks[index])
-            || !may_attest(&target.ends, &self.epochs, last, boot)
+        if !may_attest(&target.ends, &self.epochs, last, boot)
+            || !is_answer(tag, target, boot, mac, self.open_asks[index])
         {
             return Verdict::Denied;
         }
