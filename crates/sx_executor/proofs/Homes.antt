@@ -10,9 +10,10 @@ use Rattle.sx_rules.specs.declared.section.Layout.{Layout}
 use Rattle.sx_rules.specs.Access.{may, allows, in_public, in_private, holder, outside_private, in_order, extends, section_of}
 use Rattle.sx_rules.specs.Admission.{apart, is_even}
 use Rattle.spec_machine.specs.Memory.{even}
-use Rattle.spec_machine.specs.Run.{may_at}
+use Rattle.spec_machine.specs.Run.{may_at, may_range}
 use Rattle.sx_executor.specs.declared.home.Home.{Home}
-use Rattle.sx_executor.specs.Homes.{within, has_code, has_data, leaves, is_even_home, IsCode, IsData, KeepsHome}
+use Rattle.sx_executor.specs.Homes.{within, has_code, has_data, has_data_range, leaves, is_even_home, IsCode, IsData, KeepsHome}
+use Rattle.sx_executor.proofs.Reach.{all_open}
 use Rattle.sx_executor.proofs.Rights.{all_weaker}
 
 -- both bytes of a word lie in a part with even bounds
@@ -179,3 +180,21 @@ pub known_data : (h : Home) (live : List Section) (id at : ℕ) (b : Bool) → K
 known_data h live id at b k e t =
     let parts = and_parts (id == h.id) (within h.layout.priv_from h.layout.priv_to at) (sym e ∙ t) in
     subst (λ (i : ℕ). IsData live i at) (sym (eqb-true id h.id parts.0)) (k.private at parts.1)
+
+-- bytes of which the first and the last are known to be its data
+pub known_range : (h : Home) (live : List Section) (id at n : ℕ) (b : Bool) → KeepsHome h live → b ≡ has_data_range h id at n → b ≡ true
+    → (may_range live id Read at n ≡ true) × (may_range live id Write at n ≡ true)
+known_range h live id at n b k e t =
+    let from = h.layout.priv_from in let to = h.layout.priv_to in
+    let some = and_parts (nat_lt 0 n) (has_data h id at && has_data h id (at + (n - 1))) (sym e ∙ t) in
+    let ends = and_parts (has_data h id at) (has_data h id (at + (n - 1))) some.1 in
+    let first = and_parts (id == h.id) (within from to at) ends.0 in
+    let last = and_parts (id == h.id) (within from to (at + (n - 1))) ends.1 in
+    let low = leb-true from at (and_parts (nat_le from at) (nat_lt at to) first.1).0 in
+    let high = ltb-true (at + (n - 1)) to (and_parts (nat_le from (at + (n - 1))) (nat_lt (at + (n - 1)) to) last.1).1 in
+    let each : (i : ℕ) → i < n → IsData live id (at + i) = λ i below.
+    let above : from ≤ at + i = omega arith in
+    let under : at + i < to = omega arith in
+    let inside = and_from (nat_le from (at + i)) (nat_lt (at + i) to) (le-leb from (at + i) above) (lt-ltb (at + i) to under) in
+    known_data h live id (at + i) true k (sym (and_from (id == h.id) (within from to (at + i)) first.0 inside)) refl in
+    (all_open live id Read at n (λ i below. (each i below).readable false), all_open live id Write at n (λ i below. (each i below).writable false))

@@ -1,11 +1,12 @@
 -- The home of a module: its two parts, where its own code needs no look at the sections.
 --     within      a byte lies in a part
 --     has_code, has_data      it lies in the home's public part, or in its private one
+--     has_data_range      so many bytes lie in its private part
 --     leaves      a section leaves the home to its module
 --     is_even_home      the home's bounds are even
 --     IsCode, IsData      what holds of the places of the two parts
 --     KeepsHome      beside these sections all places of the home are such
-use Rattle.std.specs.Prelude.{◌≡◌, ℕ, ◌+◌, ◌==◌, nat_lt, nat_le, Bool, true, ◌&&◌, ◌||◌, List}
+use Rattle.std.specs.Prelude.{◌≡◌, ℕ, ◌+◌, ◌-◌, ◌==◌, nat_lt, nat_le, Bool, true, ◌&&◌, ◌||◌, List}
 use Rattle.sx_rules.specs.declared.access.Access.TheVariants.{Read, Write}
 use Rattle.sx_rules.specs.declared.section.Section.{Section}
 use Rattle.sx_rules.specs.Access.{holder, in_order, extends}
@@ -25,6 +26,10 @@ has_code h id at = (id == h.id) && within h.layout.pub_from h.layout.pub_to at
 
 abbrev pub has_data : Home → ℕ → ℕ → Bool
 has_data h id at = (id == h.id) && within h.layout.priv_from h.layout.priv_to at
+
+-- so many bytes from an address on lie in its private part
+abbrev pub has_data_range : Home → ℕ → ℕ → ℕ → Bool
+has_data_range h id at n = nat_lt 0 n && (has_data h id at && has_data h id (at + (n - 1)))
 
 -- No private part meets the home's public one, no public part its private one, and no part of
 -- another module's section meets it at all.

@@ -1,5 +1,6 @@
 //! Reads and writes of whole buffers: the access table is asked for each byte before the first is
-//! touched, unless the buffer as a whole stands apart from all that it guards.
+//! touched, unless the buffer as a whole stands apart from all that it guards, or is known to be
+//! the running module's own data.
 
 ghost use Rattle.std.specs.Prelude.{◌≡◌, ◌+◌, ◌≤◌, true, false, length, IfErr, IsTrue, OnOk};
 ghost use Rattle.sx_rules.specs.declared.access.Access.TheVariants.{Read, Write};
@@ -22,6 +23,26 @@ impl<B: Bus> Executor<B> {
         !Range::of_buffer(buffer).meets_private(self.table().live())
     }
 
+    /// Whether the buffer meets no section. Then any code may write it.
+    #[tactic(auto, using(crate::proofs::Rights::apart_writable))]
+    fn is_outside(&self, buffer: Buffer) -> bool
+        ensures { IsTrue result → reaches self.now Write buffer.at buffer.count ≡ true }
+    {
+        let range = Range::of_buffer(buffer);
+        let live = self.table().live();
+        !range.meets_public(live) && !range.meets_private(live)
+    }
+
+    /// Whether the buffer is known to be the running module's own data, which it may read and
+    /// write.
+    fn is_own_data(&self, buffer: Buffer) -> bool
+        ensures read { IsTrue result → reaches self.now Read buffer.at buffer.count ≡ true }
+        ensures write { IsTrue result → reaches self.now Write buffer.at buffer.count ≡ true }
+    {
+        self.protection()
+            .has_data_range(self.own(), buffer.at, buffer.count)
+    }
+
     /// Whether the running code may reach each byte of the buffer.
     #[tactic(auto, using(crate::proofs::Reach::one_closed))]
     fn may_range(&self, access: Access, buffer: Buffer) -> bool
@@ -41,7 +62,10 @@ impl<B: Bus> Executor<B> {
             × (reaches self.now Read buffer.at buffer.count ≡ false)) }
         ensures open { OnOk result (reaches self.now Read buffer.at buffer.count ≡ true) }
     {
-        if self.is_public(buffer) || self.may_range(Access::Read, buffer) {
+        if self.is_own_data(buffer)
+            || self.is_public(buffer)
+            || self.may_range(Access::Read, buffer)
+        {
             return Ok(());
         }
         Err(Violation::Read)
@@ -53,10 +77,13 @@ impl<B: Bus> Executor<B> {
             × (reaches self.now Write buffer.at buffer.count ≡ false)) }
         ensures open { OnOk result (reaches self.now Write buffer.at buffer.count ≡ true) }
     {
-        if !self.may_range(Access::Write, buffer) {
-            return Err(Violation::Write);
+        if self.is_own_data(buffer)
+            || self.is_outside(buffer)
+            || self.may_range(Access::Write, buffer)
+        {
+            return Ok(());
         }
-        Ok(())
+        Err(Violation::Write)
     }
 
     /// Copies the bytes from an address on. They may be read, and no device meets them.

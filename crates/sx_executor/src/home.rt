@@ -1,10 +1,11 @@
 //! The home of a module: its two parts, where its own code needs no look at the sections.
 
-ghost use Rattle.std.specs.Prelude.{◌≡◌, List};
+ghost use Rattle.std.specs.Prelude.{◌≡◌, ◌+◌, ◌≤◌, List};
 ghost use Rattle.std.specs.List.{list_all};
 ghost use Rattle.sx_rules.specs.declared.section.Section.{Section};
 ghost use Rattle.sx_rules.specs.Admission.{apart, is_even};
-ghost use Rattle.sx_executor.specs.Homes.{has_code, has_data, leaves, is_even_home, KeepsHome};
+ghost use Rattle.sx_executor.specs.Homes.{has_code, has_data, has_data_range, leaves};
+ghost use Rattle.sx_executor.specs.Homes.{is_even_home, KeepsHome};
 
 use sx_rules::{Layout, Section, Table};
 
@@ -75,6 +76,14 @@ impl Home {
         ensures { result ≡ has_data self.now id at }
     {
         id == self.id && self.layout.priv_from <= at && at < self.layout.priv_to
+    }
+
+    /// The same of each of so many bytes from an address on. At least one is asked for.
+    pub(crate) fn has_data_range(&self, id: u16, at: u16, count: u16) -> bool
+        requires { at + count ≤ 65536 }
+        ensures { result ≡ has_data_range self.now id at count }
+    {
+        count > 0 && self.has_data(id, at) && self.has_data(id, at + (count - 1))
     }
 
     fn is_even(&self) -> bool

@@ -8,7 +8,7 @@ ghost use Rattle.sx_rules.specs.Access.{holder, in_order, extends};
 ghost use Rattle.sx_rules.specs.Admission.{admitted, removed};
 ghost use Rattle.spec_machine.specs.Memory.{even};
 ghost use Rattle.spec_machine.specs.State.{no_sections};
-ghost use Rattle.spec_machine.specs.Run.{may_at};
+ghost use Rattle.spec_machine.specs.Run.{may_at, may_range};
 ghost use Rattle.spec_machine.specs.Step.{word_outside};
 
 use crate::gap::{Gap, Gaps};
@@ -84,6 +84,16 @@ impl Protection {
             → (wide : Bool) → may_at wide self.now.live id Write at ≡ true }
     {
         self.home.has_data(id, at)
+    }
+
+    /// Whether so many bytes from an address on, at least one, are known to be the module's own
+    /// data.
+    pub(crate) fn has_data_range(&self, id: u16, at: u16, count: u16) -> bool
+        requires { at + count ≤ 65536 }
+        ensures read { IsTrue result → may_range self.now.live id Read at count ≡ true }
+        ensures write { IsTrue result → may_range self.now.live id Write at count ≡ true }
+    {
+        self.home.has_data_range(id, at, count)
     }
 
     /// Whether the word at an address is known to lie in a gap: no live section has a byte of it.
