@@ -51,8 +51,8 @@ fn run_plan<B: Bus, T: Tag>(
 
 /// Executes the module instruction whose word is 0x1380 + `code`, as code of the module whose turn
 /// the executor began, if any. `caller` is the module that entered it, `node_key` the node's own
-/// key, and `boot` its boot count. After a violation the caller resets, and nothing is said of what was changed. What
-/// the instructions do is Sancus 2.0; their words and registers are our own.
+/// key, and `boot` its boot count. After a violation the caller resets, and nothing is said of what
+/// was changed. What the instructions do is Sancus 2.0; their words and registers are our own.
 pub fn step_sancus<B: Bus, T: Tag>(
     executor: &mut Executor<B>,
     code: u8,
