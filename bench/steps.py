@@ -5,6 +5,7 @@
     bench/steps.py programs    the C programs of bench/c as clang compiles them: each runs to its end, and its result is compared
     bench/steps.py forms       straight-line code of one form of instruction, on words and on bytes
     bench/steps.py shapes      code of odd shapes: words that repeat, computed jumps, small modules, many sections, devices
+    bench/steps.py dear        what one module instruction takes, and one line of a schedule, where that is much
 
 The module isn't deployed: its text is the code and its data what the code uses. A module of a deployment is compiled code, on words but for packets
 (`bench/compare.py --instructions`). It takes valgrind, and for the programs clang with the target msp430, lld and llvm.
@@ -204,6 +205,63 @@ SHAPES = {
 }
 
 
+# --- Instructions and lines that take much ------------------------------------------------------------------------------
+
+TEXT = 59392
+# A module's data, with the places of a tag, a header and a text, and of what is written.
+DATA = {"r9": 0, "r10": 0x0400, "r11": 32, "r12": 0x0440, "r13": 32, "r14": 0x0480, "r15": 0x04C0}
+
+
+def repeated(word, length=0x0400, **registers):
+    """The code of a module is this instruction, over and over."""
+    begin, end = 0x1000, 0x1000 + length
+    code = bytes.fromhex(word) * ((length - 4) // 2) + bytes.fromhex("3040") + begin.to_bytes(2, "little")
+    put = [f"put n {begin + at:#x} {code[at : at + 1024].hex()}" for at in range(0, length, 1024)]
+    settings = [f"set n {name} {value:#x}" for name, value in (DATA | registers).items()]
+    return Loop([*put, *protected(begin, end, 0x0400, 0x0800, by=0x0100), *settings], begin=begin)
+
+
+def large_module():
+    """The lines of a deployment with one module, whose text is 30 KB."""
+    declared = [f"var v{k};" for k in range(40)] + ["array a[300];", "array b[300];"]
+    work = [f"if v > {k * 37} {{ v{k} = v{k + 1} + a[v{k} & 255]; }}" for k in range(36)]
+    return [
+        'secret = "000102030405060708090a0b0c0d0e0f"',
+        'node = [ { name = "n", key = "101112131415161718191a1b1c1d1e1f" } ]',
+        'connection = [ { name = "up", from = "m.level", to = "m.given" } ]',
+        "[[module]]",
+        'name = "m"',
+        'node = "n"',
+        "provider = 7",
+        "text = 0x4000",
+        "data = 0x0a00",
+        "source = '''",
+        "input given; output level;",
+        *declared,
+        "on given(v) {",
+        *work,
+        "b[v & 127] = v1; send level(v); }",
+        "'''",
+    ]
+
+
+def cost_of_line(line):
+    """What the line takes after the set-up of that module, in which it was attested at boot 0."""
+    setup = ["load m", "ask m", "give 0 n 0x300", "call m 1 0x300 0x400", "take n 0x400 16", "answer m 0 1", "ask m"]
+    few, many = (counted(["run"], joined([*large_module(), "%%", *setup, *[line] * count])) for count in (4, 12))
+    return (many - few) / 8
+
+
+DEAR = {
+    "attest, a byte of a text of 58 KB": lambda: repeated("8213", TEXT, r9=0x1000).cost(5) / TEXT,
+    "wrap of 32 bytes": lambda: repeated("8413").cost(20),
+    "unwrap of 32 bytes, with a wrong tag": lambda: repeated("8513").cost(20),
+    "a refused protect": lambda: SHAPES["a refused protect"].cost() * 2 - SHAPES["two words"].cost(),
+    "an answer of a module of 30 KB, refused by its tag": lambda: cost_of_line("answer m 1 0"),
+    "the same, refused by its boot": lambda: cost_of_line("answer m 0 0"),
+}
+
+
 # --- Tables -------------------------------------------------------------------------------------------------------------
 
 
@@ -228,7 +286,13 @@ def shapes(pool):
         print(f"{name:<50}{cost:>8.0f}", flush=True)
 
 
-TABLES = {"programs": programs, "forms": forms, "shapes": shapes}
+def dear(pool):
+    print(f"{'what':<50}{'takes':>12}")
+    for name, cost in zip(DEAR, pool.map(lambda it: it(), DEAR.values())):
+        print(f"{name:<50}{cost:>12,.0f}", flush=True)
+
+
+TABLES = {"programs": programs, "forms": forms, "shapes": shapes, "dear": dear}
 
 
 def main():
