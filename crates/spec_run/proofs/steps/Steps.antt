@@ -10,6 +10,7 @@ use Rattle.sx_rules.specs.declared.section.Layout.{Layout}
 use Rattle.sx_rules.specs.Access.{Sections, Lives, section_of}
 use Rattle.sx_rules.specs.Admission.{good_bounds, apart}
 use Rattle.sx_rules.proofs.Placing.{placed_found}
+use Rattle.sx_rules.specs.Placed.{Placed}
 use Rattle.sx_bus.specs.declared.devices.Window.{Window}
 use Rattle.sx_mean.specs.declared.apps.AppDevice.{AppDevice}
 use Rattle.sx_mean.specs.declared.events.SourceEvent.{SourceEvent}
@@ -155,6 +156,22 @@ violation_fares set w mo n s v sound t here q =
 pub bounds_of : (l : Layout) → good_bounds l ≡ true → Rattle.std.specs.Prelude.nat_lt l.pub_from l.pub_to ≡ true
 bounds_of l h = (and_parts (Rattle.std.specs.Prelude.nat_lt l.pub_from l.pub_to) _ h).0
 
+-- a section at another module's site is another section
+pub other_section : (set : Setting) (m : ℕ) (q : PartTree) (site : Site) (s : State) (sec : Section) → IsSoundSetting set → Placed s.sections → slice_get set.app.parts m ≡ Some q
+    → slice_get set.sites m ≡ Some site → IsModule q.node site s sec → (k : ℕ) (site2 : Site) (sec2 : Section) → k ≢ m → slice_get set.sites k ≡ Some site2
+    → Lives s.sections.live sec2 → is_at_site q.node s.mem sec2 site2 ≡ true → sec.id ≢ sec2.id
+other_section set m q site s sec sound placed part sited is k site2 sec2 ne sk l at same =
+    let a = at_site q.node s.mem sec site is.here in
+    let b = at_site q.node s.mem sec2 site2 at in
+    let one : sec ≡ sec2 = some_inj sec sec2 (sym (placed_found s.sections sec placed is.lives)
+    ∙ subst (λ i. section_of s.sections.live i ≡ Some sec2) (sym same) (placed_found s.sections sec2 placed l)) in
+    let layouts : site.layout ≡ site2.layout = sym a.layout ∙ ap (λ (z : Section). z.layout) one ∙ b.layout in
+    elim (sound.apart m k site site2 sited sk (a.node ∙ sym b.node)) [
+      | inl e ↦ absurd (ne (sym e))
+      | inr p ↦ absurd (Rattle.spec_run.proofs.steps.Bystanders.apart_self site.layout.pub_from site.layout.pub_to (bounds_of site.layout (sound.deployed m q site part sited).bounds)
+          (subst (λ (z : Layout). apart site.layout.pub_from site.layout.pub_to z.pub_from z.pub_to ≡ true) (sym layouts) p.0))
+    ]
+
 module _ (set : Setting) (w : World) (mo : Model) (m : ℕ) (q : PartTree) (site : Site) (s : State)
     (sec : Section) (sound : IsSoundSetting set) (laws : MachineLaws set.mac) (fit : DriversFit set) (t : Tied set w mo)
     (part : slice_get set.app.parts m ≡ Some q) (sited : slice_get set.sites m ≡ Some site) (here : slice_get w.nodes q.node ≡ Some s) (is : IsModule q.node site s sec) (own : own_of s ≡ sec.id)
@@ -177,28 +194,13 @@ module _ (set : Setting) (w : World) (mo : Model) (m : ℕ) (q : PartTree) (site
   on : Onward s r.state
   on = onward set.mac s quiet
 
-  -- a section at another module's site is another section
-  other_section : (k : ℕ) (q2 : PartTree) (site2 : Site) (sec2 : Section) → k ≢ m → slice_get set.sites k ≡ Some site2
-      → Lives s.sections.live sec2 → is_at_site q.node s.mem sec2 site2 ≡ true → sec.id ≢ sec2.id
-  other_section k q2 site2 sec2 ne sk l at same =
-      let a = at_site q.node s.mem sec site is.here in
-      let b = at_site q.node s.mem sec2 site2 at in
-      let one : sec ≡ sec2 = some_inj sec sec2 (sym (placed_found s.sections sec node.node.placed is.lives)
-      ∙ subst (λ i. section_of s.sections.live i ≡ Some sec2) (sym same) (placed_found s.sections sec2 node.node.placed l)) in
-      let layouts : site.layout ≡ site2.layout = sym a.layout ∙ ap (λ (z : Section). z.layout) one ∙ b.layout in
-      elim (sound.apart m k site site2 sited sk (a.node ∙ sym b.node)) [
-        | inl e ↦ absurd (ne (sym e))
-        | inr p ↦ absurd (Rattle.spec_run.proofs.steps.Bystanders.apart_self site.layout.pub_from site.layout.pub_to (bounds_of site.layout deployed.bounds)
-            (subst (λ (z : Layout). apart site.layout.pub_from site.layout.pub_to z.pub_from z.pub_to ≡ true) (sym layouts) p.0))
-      ]
-
   module_part : (k : ℕ) (q2 : PartTree) (site2 : Site) (z : Standing) (y : Standing) (sent : List (List ℕ)) (cur : (s.cur ≡ 0) ⊎ (s.cur ≡ sec.id))
       → r.state.sections ≡ s.sections → k ≢ m → slice_get set.sites k ≡ Some site2
       → ModuleTied set q.node k q2 site2 s z sent → ModuleTied set q.node k q2 site2 r.state z sent
   module_part k q2 site2 z y sent cur same ne sk h =
       bystander set q.node k q2 site2 s z sent laws node.node quiet same
       (λ sec2 l at.
-      let away = other_section k q2 site2 sec2 ne sk l at in
+      let away = other_section set m q site s sec sound node.node.placed part sited is k site2 sec2 ne sk l at in
       (nonzero s sec2 node.node l, (λ e. away (sym own ∙ e)), λ e. elim cur [ inl z0 ↦ absurd (nonzero s sec2 node.node l (sym e ∙ z0)) | inr c ↦ absurd (away (sym c ∙ e)) ])) h
 
   devices_here_tied : DevicesTied set.app q.node s.devices mo.devices

@@ -9,9 +9,6 @@ use Rattle.sx_trace.specs.declared.items.Item.TheVariants as item
 use Rattle.sx_rules.specs.declared.access.Violation.{Violation}
 use Rattle.sx_rules.specs.declared.section.Section.{Section}
 use Rattle.sx_rules.specs.declared.section.Layout.{Layout}
-use Rattle.sx_rules.specs.Access.{Lives, section_of}
-use Rattle.sx_rules.specs.Admission.{apart}
-use Rattle.sx_rules.proofs.Placing.{placed_found}
 use Rattle.sx_bus.specs.declared.devices.Window.{Window}
 use Rattle.sx_mean.specs.declared.apps.AppDevice.{AppDevice}
 use Rattle.sx_mean.specs.Application.{PartTree}
@@ -36,13 +33,13 @@ use Rattle.sx_image.specs.Image.{private_bytes, setup_at, call_at}
 use Rattle.sx_image.specs.Realizes.{Exited}
 use Rattle.sx_model.specs.State.{Reading}
 use Rattle.sx_model.specs.order.State.{Model, Standing, Present, power_on}
-use Rattle.spec_run.specs.Setting.{Site, Setting, module_of, device_number, is_at_site}
+use Rattle.spec_run.specs.Setting.{Site, Setting, module_of, device_number}
 use Rattle.spec_run.specs.State.{World, switched_on}
 use Rattle.spec_run.specs.Observation.{Observed, observed, cause_of}
 use Rattle.spec_run.specs.Acts.{after_step, after_interrupt, done_on}
 use Rattle.spec_run.specs.Run.{run, place_at}
 use Rattle.spec_run.specs.Law.{IsSoundSetting, IsDeployedModule}
-use Rattle.spec_run.proofs.tie.Lists.{get_within, some_inj}
+use Rattle.spec_run.proofs.tie.Lists.{get_within}
 use Rattle.spec_run.proofs.tie.Tied.{SameState, NodeTied, IsModule, IsUnderWay, ModuleTied, Absent, Rests, Runs, Tied, Owes}
 use Rattle.spec_run.proofs.tie.Start.{starts_tied}
 use Rattle.spec_run.proofs.acts.Counting.{counts_lines}
@@ -51,10 +48,10 @@ use Rattle.spec_run.proofs.steps.Judged.{Readings}
 use Rattle.spec_run.proofs.steps.Stretch.{marks_seen, Nexts, marks_fares, done_items, seen_as_marks}
 use Rattle.spec_run.proofs.steps.Events.{plain_events}
 use Rattle.spec_run.proofs.steps.Entry.{at_site, under_way_at_entry}
-use Rattle.spec_run.proofs.steps.Bystanders.{one_section, apart_self}
+use Rattle.spec_run.proofs.steps.Bystanders.{one_section}
 use Rattle.spec_run.proofs.steps.Story.{story}
 use Rattle.spec_run.proofs.steps.Nodes.{device_here}
-use Rattle.spec_run.proofs.steps.Steps.{DriversFit, nonzero, bounds_of, runner_of}
+use Rattle.spec_run.proofs.steps.Steps.{DriversFit, nonzero, bounds_of, other_section, runner_of}
 use Rattle.spec_run.proofs.steps.Fits.{drivers_fit}
 use Rattle.spec_run.proofs.steps.UnderWay.{Behind, Still, Out, watched_next, stepped_on, rest_of, under_way_sections}
 use Rattle.spec_run.specs.OrderLaw.{RunsTakeTurns}
@@ -84,27 +81,12 @@ module _ (set : Setting) (w : World) (mo : Model) (m : ℕ) (q : PartTree) (site
   deployed : IsDeployedModule set m q site
   deployed = sound.deployed m q site part sited
 
-  -- a section at another module's site is another section
-  other_section : (k : ℕ) (site2 : Site) (sec2 : Section) → k ≢ m → slice_get set.sites k ≡ Some site2
-      → Lives s.sections.live sec2 → is_at_site q.node s.mem sec2 site2 ≡ true → sec.id ≢ sec2.id
-  other_section k site2 sec2 ne sk l at same =
-      let a = at_site q.node s.mem sec site is.here in
-      let b = at_site q.node s.mem sec2 site2 at in
-      let one : sec ≡ sec2 = some_inj sec sec2 (sym (placed_found s.sections sec node.node.placed is.lives)
-      ∙ subst (λ i. section_of s.sections.live i ≡ Some sec2) (sym same) (placed_found s.sections sec2 node.node.placed l)) in
-      let layouts : site.layout ≡ site2.layout = sym a.layout ∙ ap (λ (z : Section). z.layout) one ∙ b.layout in
-      elim (sound.apart m k site site2 sited sk (a.node ∙ sym b.node)) [
-        | inl e ↦ absurd (ne (sym e))
-        | inr p ↦ absurd (apart_self site.layout.pub_from site.layout.pub_to (bounds_of site.layout deployed.bounds)
-            (subst (λ (z : Layout). apart site.layout.pub_from site.layout.pub_to z.pub_from z.pub_to ≡ true) (sym layouts) p.0))
-      ]
-
   alone : Alone set.app mo.modules q.node m
   alone k p e at ne h =
       let g = pends_runs set sound q.node w mo s t here k p e at h in
       elim node.runner [
         | inl z ↦ absurd (nonzero s g.1 node.node g.3.lives (sym g.4 ∙ z))
-        | inr c ↦ absurd (other_section k g.0 g.1 ne g.2 g.3.lives g.3.here (sym own ∙ c ∙ g.4))
+        | inr c ↦ absurd (other_section set m q site s sec sound node.node.placed part sited is k g.0 g.1 ne g.2 g.3.lives g.3.here (sym own ∙ c ∙ g.4))
       ]
 
   same_section : (sec2 : Section) → IsModule q.node site s sec2 → sec ≡ sec2
