@@ -17,10 +17,11 @@ use Rattle.command_world.specs.Images.{images_text}
 use Rattle.command_world.specs.Schedule.{Stop, AtEnd, Unread, Breaks}
 use Rattle.command_drive.specs.declared.readings.ReadingLine.{ReadingLine}
 use Rattle.command_drive.specs.declared.readings.ReadingLine.TheVariants as says
+use Rattle.command_drive.specs.declared.readings.ReadingRule.{ReadingRule}
 use Rattle.command_drive.specs.Output.{drive_deployed, drive_readings, ended_output, long_output, reading_fault, said_text, stop_output, told_run}
 use Rattle.command_drive.specs.Parts.{drive_from, part_output}
 use Rattle.command_drive.specs.Promise.{drive_part, left_out}
-use Rattle.command_drive.specs.Input.{judged_reading, readings_from}
+use Rattle.command_drive.specs.Input.{judged_reading, readings_from, rule_number}
 use Rattle.command_drive.proofs.Named.{are_there}
 use Rattle.command_drive.proofs.Playing.{follows_long, follows_short}
 use Rattle.command_drive.proofs.Statuses.{deployed_same, not_zero, not_four, not_two}
@@ -72,11 +73,11 @@ due_part d a left G ls true e same rest =
 due_part d a left G ls false e same rest =
     due-behind G (λ more. left a.honest (lines_then ls more)) (said_text d.names a.said) (λ more. same more ∙ follows_short d.names a left (lines_then ls more) e) (rest e)
 
-due_line : (d : Deployed) (set : Setting) (h : Honest) (number : ℕ) (l : List ℕ) (ls : List (List ℕ)) (r : Result ReadingLine ℕ) → AreThere d.names set → h.long ≡ false
+due_line : (d : Deployed) (set : Setting) (h : Honest) (number : ℕ) (l : List ℕ) (ls : List (List ℕ)) (r : Result ReadingLine ReadingRule) → AreThere d.names set → h.long ≡ false
     → judged_reading d number l ≡ r → ((g : Honest) → g.long ≡ false → Due (λ more. drive_from d set g (number + 1) (lines_then ls more)))
     → Due (λ more. drive_from d set h number (answer.Line l ∷ lines_then ls more))
 due_line d set h number l ls (Err rule) there short e f =
-    inl (reading_fault rule number, λ x. omega (arith, x), λ more. drive_breaks d set h number l rule (lines_then ls more) short e)
+    inl (reading_fault (rule_number rule) number, λ x. omega (arith, x), λ more. drive_breaks d set h number l rule (lines_then ls more) short e)
 due_line d set h number l ls (Ok says.Blank) there short e f =
     due-behind (λ more. drive_from d set h number (answer.Line l ∷ lines_then ls more)) (λ more. drive_from d set h (number + 1) (lines_then ls more)) []
     (λ more. drive_blank d set h number l (lines_then ls more) e) (f h short)

@@ -26,8 +26,10 @@ use Rattle.law_honest.proofs.Tracking.{drivers_same}
 use Rattle.sx_drive.specs.Driving.{IsDrivenSensor}
 use Rattle.command_drive.specs.declared.readings.ReadingLine.{ReadingLine}
 use Rattle.command_drive.specs.declared.readings.ReadingLine.TheVariants as says
+use Rattle.command_drive.specs.declared.readings.ReadingRule.{ReadingRule}
+use Rattle.command_drive.specs.declared.readings.ReadingRule.TheVariants.{TooMany, WrongCount, NoSensor, NoValue}
 use Rattle.command_drive.specs.Parts.{IsGiven, drives, is_driven}
-use Rattle.command_drive.specs.Input.{◌>>=◌, Readings, if_driven, judged_reading, no_sensor, no_value, on_line, reading_in, readings_from, said_in, sensor_in, value_in, wrong_count}
+use Rattle.command_drive.specs.Input.{◌>>=◌, Readings, if_driven, judged_reading, on_line, reading_in, readings_from, said_in, sensor_in, value_in}
 use Rattle.command_drive.proofs.Quiet.{AreReadings}
 
 -- ---- words
@@ -83,7 +85,7 @@ driven_by app e i (Some x) h f = (cc, ap (λ (o : Option Callee). is_some o) h)
 
 -- a sensor that is given is one that a module drives
 pub sensor_given : (d : Deployed) (word : List ℕ) (i : ℕ) → sensor_in d word ≡ Ok i → IsDrivenSensor d i
-sensor_given d word i h = by_place (sensor_place d.names word) refl (ok_some (option_and_then (if_driven d.app) (sensor_place d.names word)) no_sensor i h)
+sensor_given d word i h = by_place (sensor_place d.names word) refl (ok_some (option_and_then (if_driven d.app) (sensor_place d.names word)) NoSensor i h)
   where
     by_place : (o : Option ℕ) → sensor_place d.names word ≡ o → option_and_then (if_driven d.app) o ≡ Some i → IsDrivenSensor d i
     by_place None e f = absurd (cc f)
@@ -93,12 +95,12 @@ sensor_given d word i h = by_place (sensor_place d.names word) refl (ok_some (op
         subst (λ (n : ℕ). IsDrivenSensor d n) driven.0 (record { there = is.there; sensor = is.sensor; driven = driven.1 })
 
 value_given : (word : List ℕ) (value : ℕ) → value_in word ≡ Ok value → value < 32768
-value_given word value h = let few : value ≤ 32767 = number_within word 32767 value (ok_some (number_of word 32767) no_value value h) in omega (arith, few)
+value_given word value h = let few : value ≤ 32767 = number_within word 32767 value (ok_some (number_of word 32767) NoValue value h) in omega (arith, few)
 
 -- ---- lines
 
 reading_given : (d : Deployed) (first : List ℕ) (words : List (List ℕ)) (r : ReadingLine) → reading_in d first words ≡ Ok r → IsGiven d r
-reading_given d first words r h = by_word (ok_or (one_word words) wrong_count) h
+reading_given d first words r h = by_word (ok_or (one_word words) WrongCount) h
   where
     by_value : (device : ℕ) (v : Result ℕ ℕ) → IsDrivenSensor d device → ((value : ℕ) → v ≡ Ok value → value < 32768)
         → (v >>= (λ value. Ok (says.Reading device value))) ≡ Ok r → IsGiven d r
@@ -129,11 +131,11 @@ pub judged_given : (d : Deployed) (number : ℕ) (text : List ℕ) (r : ReadingL
 unfolding judged_reading
 judged_given d number text r h = by_number (nat_lt 65536 number) h
   where
-    by_number : (b : Bool) → (if b then Err 2 else said_in d (words_of text)) ≡ Ok r → IsGiven d r
+    by_number : (b : Bool) → (if b then Err TooMany else said_in d (words_of text)) ≡ Ok r → IsGiven d r
     by_number true e = absurd (cc e)
     by_number false e = said_given d (words_of text) r e
 
-line_given : (d : Deployed) (number : ℕ) (text : List ℕ) (r : Result ReadingLine ℕ) (rest : Readings) → judged_reading d number text ≡ r → AreReadings d rest.readings
+line_given : (d : Deployed) (number : ℕ) (text : List ℕ) (r : Result ReadingLine ReadingRule) (rest : Readings) → judged_reading d number text ≡ r → AreReadings d rest.readings
     → AreReadings d (on_line number r rest).readings
 line_given d number text (Err rule) rest e are = tt
 line_given d number text (Ok says.Blank) rest e are = are
@@ -202,8 +204,8 @@ not_driven_there d device h =
 -- a sensor of this name, which a module drives, or doesn't
 pub given_there : (d : Deployed) (word : List ℕ) (device : ℕ) → sensor_place d.names word ≡ Some device → if_driven d.app device ≡ Some device
     → ◌≡◌ {A = Result ℕ ℕ} (Ok device) (sensor_in d word)
-given_there d word device e f = sym (ap (λ (o : Option ℕ). ok_or (option_and_then (if_driven d.app) o) no_sensor) e ∙ ap (λ (o : Option ℕ). ok_or o no_sensor) f)
+given_there d word device e f = sym (ap (λ (o : Option ℕ). ok_or (option_and_then (if_driven d.app) o) NoSensor) e ∙ ap (λ (o : Option ℕ). ok_or o NoSensor) f)
 
 pub not_given : (d : Deployed) (word : List ℕ) (device : ℕ) → sensor_place d.names word ≡ Some device → if_driven d.app device ≡ None
-    → ◌≡◌ {A = Result ℕ ℕ} (Err no_sensor) (sensor_in d word)
-not_given d word device e f = sym (ap (λ (o : Option ℕ). ok_or (option_and_then (if_driven d.app) o) no_sensor) e ∙ ap (λ (o : Option ℕ). ok_or o no_sensor) f)
+    → ◌≡◌ {A = Result ℕ ReadingRule} (Err NoSensor) (sensor_in d word)
+not_given d word device e f = sym (ap (λ (o : Option ℕ). ok_or (option_and_then (if_driven d.app) o) NoSensor) e ∙ ap (λ (o : Option ℕ). ok_or o NoSensor) f)

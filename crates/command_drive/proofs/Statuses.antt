@@ -14,6 +14,7 @@ use Rattle.command_world.proofs.Stops.{stop_not_two}
 use Rattle.command_deploy.proofs.Owing.{CutOr}
 use Rattle.command_drive.specs.declared.readings.ReadingLine.{ReadingLine}
 use Rattle.command_drive.specs.declared.readings.ReadingLine.TheVariants as says
+use Rattle.command_drive.specs.declared.readings.ReadingRule.{ReadingRule}
 use Rattle.command_drive.specs.Output.{drive_deployed, drive_readings, long_output, stop_output}
 use Rattle.command_drive.specs.Promise.{drive_part}
 use Rattle.command_drive.specs.Input.{Readings, judged_reading, on_line, readings_from}
@@ -37,7 +38,7 @@ deployed_same mac d texts more =
 
 -- ---- statuses that answers of a kind don't give
 
-line_not : (n number : ℕ) (r : Result ReadingLine ℕ) (rest : Readings) → (3 ≡ n → ⊥) → (stop_status rest.stop ≡ n → ⊥) → stop_status (on_line number r rest).stop ≡ n → ⊥
+line_not : (n number : ℕ) (r : Result ReadingLine ReadingRule) (rest : Readings) → (3 ≡ n → ⊥) → (stop_status rest.stop ≡ n → ⊥) → stop_status (on_line number r rest).stop ≡ n → ⊥
 line_not n number (Err rule) rest three h e = three e
 line_not n number (Ok says.Blank) rest three h e = h e
 line_not n number (Ok (says.Reading device value)) rest three h e = h e

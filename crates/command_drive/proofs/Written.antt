@@ -12,9 +12,10 @@ use Rattle.sx_drive.specs.Driving.{reading}
 use Rattle.command_world.specs.Schedule.{Stop, AtEnd, Unread, Breaks}
 use Rattle.command_drive.specs.declared.readings.ReadingLine.{ReadingLine}
 use Rattle.command_drive.specs.declared.readings.ReadingLine.TheVariants as says
+use Rattle.command_drive.specs.declared.readings.ReadingRule.{ReadingRule}
 use Rattle.command_drive.specs.Output.{drive_readings, ended_output, long_output, reading_fault, said_text, steps_text, stop_output, told_run}
 use Rattle.command_drive.specs.Parts.{drive_from, readings_output, part_output}
-use Rattle.command_drive.specs.Input.{Readings, judged_reading, on_line, readings_from}
+use Rattle.command_drive.specs.Input.{Readings, judged_reading, on_line, readings_from, rule_number}
 use Rattle.command_drive.proofs.Quiet.{AreReadings, Quiet, quiet_readings}
 use Rattle.command_drive.proofs.Sensors.{readings_given}
 use Rattle.command_drive.proofs.Telling.{said_append}
@@ -49,10 +50,10 @@ part_rest d set a x true e there are =
     ∙ ap (λ (o : Output). behind (said_text d.names a.said) o) (quiet_rest d.names rest x.stop (quiet_readings d set there x.readings a.honest are e))
 
 module _ (d : Deployed) (set : Setting) (h : Honest) (number : ℕ) (text : List ℕ) where
-  on_text : (more : List Answer) (r : Result ReadingLine ℕ) → judged_reading d number text ≡ r
+  on_text : (more : List Answer) (r : Result ReadingLine ReadingRule) → judged_reading d number text ≡ r
       → drive_from d set h number (answer.Line text ∷ more) ≡ readings_output d.names set h (on_line number r (readings_from d (number + 1) more))
   unfolding drive_from
-  on_text more r e = ap (λ (r : Result ReadingLine ℕ). readings_output d.names set h (on_line number r (readings_from d (number + 1) more))) e
+  on_text more r e = ap (λ (r : Result ReadingLine ReadingRule). readings_output d.names set h (on_line number r (readings_from d (number + 1) more))) e
 
   -- a line without a reading
   pub drive_blank : (more : List Answer) → judged_reading d number text ≡ Ok says.Blank → drive_from d set h number (answer.Line text ∷ more) ≡ drive_from d set h (number + 1) more
@@ -69,9 +70,9 @@ module _ (d : Deployed) (set : Setting) (h : Honest) (number : ℕ) (text : List
       ∙ part_rest d set a (readings_from d (number + 1) more) a.honest.long refl there (readings_given d (number + 1) more)
 
   -- a line that breaks a rule
-  pub drive_breaks : (rule : ℕ) (more : List Answer) → h.long ≡ false → judged_reading d number text ≡ Err rule
-      → drive_from d set h number (answer.Line text ∷ more) ≡ reading_fault rule number
-  drive_breaks rule more short e = on_text more (Err rule) e ∙ ended_short h (Breaks rule number) short
+  pub drive_breaks : (rule : ReadingRule) (more : List Answer) → h.long ≡ false → judged_reading d number text ≡ Err rule
+      → drive_from d set h number (answer.Line text ∷ more) ≡ reading_fault (rule_number rule) number
+  drive_breaks rule more short e = on_text more (Err rule) e ∙ ended_short h (Breaks (rule_number rule) number) short
 
 -- ---- the last answer
 

@@ -15,10 +15,10 @@ ghost use Rattle.command_head.specs.Given.{RanOutSince};
 ghost use Rattle.command_drive.specs.Output.{drive_readings, reading_fault, steps_text};
 ghost use Rattle.command_drive.specs.Promise.{drive_may};
 ghost use Rattle.command_drive.specs.Parts.{drive_from, TellsSaid, TurnsFrom};
-ghost use Rattle.command_drive.specs.Input.{MayRunOut, judged_reading};
+ghost use Rattle.command_drive.specs.Input.{MayRunOut, judged_reading, rule_number};
 
 use crate::parts::{read, set_up};
-use crate::readings::{ReadingLine, TOO_LONG, judge_reading};
+use crate::readings::{ReadingLine, ReadingRule, judge_reading};
 use command_promise::{READ_FAILED, Turned, finish};
 use command_text::fault::finish_fault;
 use command_text::text::{Text, put};
@@ -35,12 +35,12 @@ use sx_tag::Tag;
 const BROKEN: u8 = 3;
 
 /// Writes which rule the line of this number breaks. It takes no memory.
-fn break_reading<K: Sink>(output: &mut K, rule: u8, number: u32) -> u8
+fn break_reading<K: Sink>(output: &mut K, rule: ReadingRule, number: u32) -> u8
     ensures ends { CommandEnds K.tells (K.at output.old) (K.at output.new) result
-        (reading_fault rule number) }
+        (reading_fault (rule_number rule) number) }
     ensures memory { result ≢ out_of_memory }
 {
-    finish_fault(output, b"fault reading Q", rule, number, BROKEN)
+    finish_fault(output, b"fault reading Q", rule.number(), number, BROKEN)
 }
 
 /// The last two lines: how many steps of nodes there were, and `end`.
@@ -127,7 +127,7 @@ fn read_lines<S: Source, K: Sink, B: Copied, T: Tag>(
     'lines: loop {
         match lines.next(input, &mut into) {
             LineRead::End => return end_run(output, honest.steps()),
-            LineRead::TooLong => return break_reading(output, TOO_LONG, number),
+            LineRead::TooLong => return break_reading(output, ReadingRule::TooLong, number),
             LineRead::Failed => return finish(output, b"fault read\n", READ_FAILED),
             LineRead::Text(n) => {
                 match turn(output, deployment, honest, said, &into[..n], number) {

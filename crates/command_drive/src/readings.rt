@@ -7,27 +7,37 @@ ghost use Rattle.sx_deploy.specs.Law.{IsSoundDeployment};
 ghost use Rattle.sx_deploy.specs.SeenDeployment.{deployed_as};
 ghost use Rattle.sx_drive.specs.Driving.{IsDrivenSensor};
 ghost use Rattle.command_drive.specs.Parts.{IsGiven, drives, is_driven};
-ghost use Rattle.command_drive.specs.Input.{judged_reading, reading_in, sensor_in, value_in};
+ghost use Rattle.command_drive.specs.Input.{judged_reading, reading_in, rule_number, sensor_in};
+ghost use Rattle.command_drive.specs.Input.{value_in};
 
 use sx_deploy::deployment::Deployment;
 use sx_io::number;
 use sx_mean::apps::Part;
 use sx_sched::words::{is_comment, one_word, split_word};
 
-/// A line has more than 4,096 bytes.
-pub(crate) const TOO_LONG: u8 = 1;
+/// The rules that a line of readings can break, by which it is refused.
+#[derive(Clone, Copy)]
+pub(crate) enum ReadingRule {
+    /// A line has more than 4,096 bytes.
+    TooLong = 1,
+    /// 65,536 lines come before it.
+    TooMany = 2,
+    /// The number of words is wrong.
+    WrongCount = 3,
+    /// The first word names no sensor that a module drives.
+    NoSensor = 4,
+    /// The second word is no number below 32,768.
+    NoValue = 5,
+}
 
-/// 65,536 lines come before it.
-const TOO_MANY: u8 = 2;
-
-/// The number of words is wrong.
-const WRONG_COUNT: u8 = 3;
-
-/// The first word names no sensor that a module drives.
-const NO_SENSOR: u8 = 4;
-
-/// The second word is no number below 32,768.
-const NO_VALUE: u8 = 5;
+impl ReadingRule {
+    /// The number that is printed.
+    pub(crate) fn number(self) -> u8
+        ensures { result ≡ rule_number self }
+    {
+        self as u8
+    }
+}
 
 /// There are at most this many lines of readings, blank ones counted.
 const MOST_LINES: u32 = 65_536;
@@ -58,8 +68,8 @@ fn is_driven(parts: &[Part], device: u8) -> bool
     parts.iter().any(|part| drives(part, device))
 }
 
-/// The sensor of this name, which a module drives. The error is rule 4.
-fn sensor_in(deployment: &Deployment, word: &[u8]) -> Result<u8, u8>
+/// The sensor of this name, which a module drives. The error is `NoSensor`.
+fn sensor_in(deployment: &Deployment, word: &[u8]) -> Result<u8, ReadingRule>
     requires sound { IsSoundDeployment (deployed_as deployment.now) }
     requires names { IsTrue (are_valid (deployed_as deployment.now).names) }
     ensures sensor { result ≡ sensor_in (deployed_as deployment.now) word.now }
@@ -67,35 +77,39 @@ fn sensor_in(deployment: &Deployment, word: &[u8]) -> Result<u8, u8>
         IsDrivenSensor (deployed_as deployment.now) device) }
 {
     let Some(device) = deployment.names.sensor(word) else {
-        return Err(NO_SENSOR);
+        return Err(ReadingRule::NoSensor);
     };
     if is_driven(&deployment.app.parts, device) {
         Ok(device)
     } else {
-        Err(NO_SENSOR)
+        Err(ReadingRule::NoSensor)
     }
 }
 
-/// A value that a sensor can have. The error is rule 5.
-fn value_in(word: &[u8]) -> Result<u16, u8>
+/// A value that a sensor can have. The error is `NoValue`.
+fn value_in(word: &[u8]) -> Result<u16, ReadingRule>
     ensures value { result ≡ value_in word.now }
     ensures few { IfOk result (λ value. value < 32768) }
 {
     match number(word, 32_767) {
         Some(value) => Ok(value as u16),
-        None => Err(NO_VALUE),
+        None => Err(ReadingRule::NoValue),
     }
 }
 
 /// A sensor and its value.
-fn reading_in(deployment: &Deployment, first: &[u8], words: &[u8]) -> Result<ReadingLine, u8>
+fn reading_in(
+    deployment: &Deployment,
+    first: &[u8],
+    words: &[u8],
+) -> Result<ReadingLine, ReadingRule>
     requires sound { IsSoundDeployment (deployed_as deployment.now) }
     requires names { IsTrue (are_valid (deployed_as deployment.now).names) }
     ensures reading { result
         ≡ reading_in (deployed_as deployment.now) first.now (words_of words.now) }
     ensures given { IfOk result (IsGiven (deployed_as deployment.now)) }
 {
-    let second = one_word(words).ok_or(WRONG_COUNT)?;
+    let second = one_word(words).ok_or(ReadingRule::WrongCount)?;
     let device = sensor_in(deployment, first)?;
     let value = value_in(second)?;
     Ok(ReadingLine::Reading { device, value })
@@ -107,7 +121,7 @@ pub(crate) fn judge_reading(
     deployment: &Deployment,
     number: u32,
     text: &[u8],
-) -> Result<ReadingLine, u8>
+) -> Result<ReadingLine, ReadingRule>
     requires sound { IsSoundDeployment (deployed_as deployment.now) }
     requires names { IsTrue (are_valid (deployed_as deployment.now).names) }
     ensures reading { result ≡ judged_reading (deployed_as deployment.now) number text.now }
@@ -115,7 +129,7 @@ pub(crate) fn judge_reading(
     ensures few { OnOk result (number ≤ 65536) }
 {
     if number > MOST_LINES {
-        return Err(TOO_MANY);
+        return Err(ReadingRule::TooMany);
     }
     let Some((first, words)) = split_word(text) else {
         return Ok(ReadingLine::Blank);

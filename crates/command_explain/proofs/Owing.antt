@@ -18,6 +18,8 @@ use Rattle.command_head.specs.Refused.{fault_output}
 use Rattle.command_explain.specs.declared.images.ImageLine.{ImageLine}
 use Rattle.command_explain.specs.declared.images.ImageLine.TheVariants as image
 use Rattle.command_explain.specs.declared.lines.TraceLine.{TraceLine}
+use Rattle.command_explain.specs.declared.lines.TraceRule.{TraceRule}
+use Rattle.command_explain.specs.declared.lines.TraceRule.TheVariants.{NoTrace}
 use Rattle.command_explain.specs.declared.lines.TraceLine.TheVariants as kind
 use Rattle.command_explain.specs.Meant.{Meanings}
 use Rattle.command_explain.specs.Output.{because_line, broken_output, explain_all, explain_found, explain_from, explain_head, explain_start, illegal_output, stop_output, told_item, told_items}
@@ -85,7 +87,7 @@ due_told number verdict.Forged G H e d = due-behind G H [] e d
 due_told number verdict.Unjudged G H e d = due-behind G H [] e d
 
 module _ (app : AppTree) (item : List ℕ → Option Item) where
-  due_line : (front : List Item) (l : List ℕ) (ls : List (List ℕ)) (r : Result TraceLine ℕ) → judged_line (length front + 1) (line_of item l) ≡ r
+  due_line : (front : List Item) (l : List ℕ) (ls : List (List ℕ)) (r : Result TraceLine TraceRule) → judged_line (length front + 1) (line_of item l) ≡ r
       → ((i : Item) → Due (λ more. explain_from app item (front ++ i ∷ []) (lines_then ls more))) → Due (λ more. explain_from app item front (Line l ∷ lines_then ls more))
   due_line front l ls (Err rule) e f =
       inl (broken_output rule (length front + 1), λ x. omega (arith, x), λ more. said_broken app item front l rule (lines_then ls more) e)
@@ -117,7 +119,7 @@ module _ (app : AppTree) (item : List ℕ → Option Item) where
       (λ more. ap (λ k. explain_start app item (on_image number k (lines_then ls more) (start (number + 1) (lines_then ls more)))) e) d
   due_image number l ls image.Other e d =
       inl (
-        broken_output 1 number,
+        broken_output NoTrace number,
         λ x. omega (arith, x),
         λ more. ap (λ k. explain_start app item (on_image number k (lines_then ls more) (start (number + 1) (lines_then ls more)))) e,
       )

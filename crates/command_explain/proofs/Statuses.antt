@@ -18,6 +18,8 @@ use Rattle.sx_explain.proofs.JudgesLegal.{judges_legal}
 use Rattle.command_explain.specs.declared.images.ImageLine.{ImageLine}
 use Rattle.command_explain.specs.declared.images.ImageLine.TheVariants as image
 use Rattle.command_explain.specs.declared.lines.TraceLine.{TraceLine}
+use Rattle.command_explain.specs.declared.lines.TraceRule.{TraceRule}
+use Rattle.command_explain.specs.declared.lines.TraceRule.TheVariants.{NoTrace, NoItem, NoEnd}
 use Rattle.command_explain.specs.declared.lines.TraceLine.TheVariants as kind
 use Rattle.command_explain.specs.Meant.{Meanings}
 use Rattle.command_explain.specs.Output.{explain_all, explain_found, explain_from, explain_head, explain_start, stop_output, told_item, told_items}
@@ -75,26 +77,26 @@ head_not_two means heads.Unread e = omega (arith, e)
 
 -- A stop, and its status, that no broken rule gives; and what answers keep so that it doesn't come.
 module _ (bad : Stop) (s : ℕ) (Kept : List Answer → Type 0) (is_bad : (items : List Item) (stop : Stop) → (stop_output items stop).status ≡ s → stop ≡ bad)
-    (breaks : (rule number : ℕ) → Breaks rule number ≡ bad → ⊥) (one : 1 ≡ s → ⊥) (eight : 8 ≡ s → ⊥)
+    (breaks : (rule : TraceRule) (number : ℕ) → Breaks rule number ≡ bad → ⊥) (one : 1 ≡ s → ⊥) (eight : 8 ≡ s → ⊥)
     (none : Kept [] → Whole ≡ bad → ⊥) (ended : (more : List Answer) → Kept (End ∷ more) → Whole ≡ bad → ⊥)
     (failed : (more : List Answer) → Kept (Fault ∷ more) → Unread ≡ bad → ⊥) (unread : (more : List Answer) → Kept (Fault ∷ more) → 4 ≡ s → ⊥)
     (behind : (text : List ℕ) (more : List Answer) → Kept (Line text ∷ more) → Kept more) where
   last_kept : (item : List ℕ → Option Item) (number : ℕ) (answers : List Answer) → Kept answers → stop_behind item number answers ≡ bad → ⊥
   last_kept item number [] k e = none k e
   last_kept item number (End ∷ more) k e = ended more k e
-  last_kept item number (Long ∷ more) k e = breaks 2 number e
+  last_kept item number (Long ∷ more) k e = breaks NoItem number e
   last_kept item number (Fault ∷ more) k e = failed more k e
   last_kept item number (Line text ∷ more) k e = breaks _ number e
 
-  line_kept : (number : ℕ) (r : Result TraceLine ℕ) (last : Stop) (rest : Trace) → (last ≡ bad → ⊥) → (rest.stop ≡ bad → ⊥) → (on_line number r last rest).stop ≡ bad → ⊥
+  line_kept : (number : ℕ) (r : Result TraceLine TraceRule) (last : Stop) (rest : Trace) → (last ≡ bad → ⊥) → (rest.stop ≡ bad → ⊥) → (on_line number r last rest).stop ≡ bad → ⊥
   line_kept number (Err rule) last rest a b e = breaks rule number e
   line_kept number (Ok kind.Last) last rest a b e = a e
   line_kept number (Ok (kind.Item i)) last rest a b e = b e
 
   trace_kept : (item : List ℕ → Option Item) (number : ℕ) (answers : List Answer) → Kept answers → (trace item number answers).stop ≡ bad → ⊥
-  trace_kept item number [] k e = breaks 3 number e
-  trace_kept item number (End ∷ more) k e = breaks 3 number e
-  trace_kept item number (Long ∷ more) k e = breaks 2 number e
+  trace_kept item number [] k e = breaks NoEnd number e
+  trace_kept item number (End ∷ more) k e = breaks NoEnd number e
+  trace_kept item number (Long ∷ more) k e = breaks NoItem number e
   trace_kept item number (Fault ∷ more) k e = failed more k e
   trace_kept item number (Line text ∷ more) k e =
       line_kept number (judged_line number (line_of item text)) (stop_behind item (number + 1) more) (trace item (number + 1) more)
@@ -111,12 +113,12 @@ module _ (bad : Stop) (s : ℕ) (Kept : List Answer → Type 0) (is_bad : (items
       → (explain_start app item (on_image number l more rest)).status ≡ s → ⊥
   image_kept app item number image.Trace more rest k next e = from_kept app item more k e
   image_kept app item number image.Image more rest k next e = next e
-  image_kept app item number image.Other more rest k next e = breaks 1 number (is_bad [] (Breaks 1 number) e)
+  image_kept app item number image.Other more rest k next e = breaks NoTrace number (is_bad [] (Breaks NoTrace number) e)
 
   start_kept : (app : AppTree) (item : List ℕ → Option Item) (number : ℕ) (answers : List Answer) → Kept answers → (explain_start app item (start number answers)).status ≡ s → ⊥
-  start_kept app item number [] k e = breaks 1 number (is_bad [] (Breaks 1 number) e)
-  start_kept app item number (End ∷ more) k e = breaks 1 number (is_bad [] (Breaks 1 number) e)
-  start_kept app item number (Long ∷ more) k e = breaks 1 number (is_bad [] (Breaks 1 number) e)
+  start_kept app item number [] k e = breaks NoTrace number (is_bad [] (Breaks NoTrace number) e)
+  start_kept app item number (End ∷ more) k e = breaks NoTrace number (is_bad [] (Breaks NoTrace number) e)
+  start_kept app item number (Long ∷ more) k e = breaks NoTrace number (is_bad [] (Breaks NoTrace number) e)
   start_kept app item number (Fault ∷ more) k e = failed more k (is_bad [] Unread e)
   start_kept app item number (Line text ∷ more) k e =
       image_kept app item number (image_line number text) more (start (number + 1) more) (behind text more k) (start_kept app item (number + 1) more (behind text more k)) e

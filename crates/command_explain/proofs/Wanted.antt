@@ -35,6 +35,7 @@ use Rattle.command_head.proofs.Given.{given_line, given_none, given_then, ran_ou
 use Rattle.command_explain.specs.declared.images.ImageLine.{ImageLine}
 use Rattle.command_explain.specs.declared.images.ImageLine.TheVariants as image
 use Rattle.command_explain.specs.declared.lines.TraceLine.{TraceLine}
+use Rattle.command_explain.specs.declared.lines.TraceRule.{TraceRule}
 use Rattle.command_explain.specs.declared.lines.TraceLine.TheVariants as kind
 use Rattle.command_explain.specs.Meant.{AreMeanings, Meanings}
 use Rattle.command_explain.specs.Trace.{Start, explain_lines, image_line, image_lines, is_trace, judged_line, line_of, on_image, on_line, start, stop_behind, trace, trace_lines}
@@ -131,7 +132,7 @@ trace_more {tells} {s1} {s2} {s3} {old} {now} {new} {names} {number} {items} int
       let item = means.item names in
       let rest = trace item (number + 1) more in
       ap (λ (all : List Answer). (trace item 1 all).items) (append_assoc g.lines (Line (take n into) ∷ []) more) ∙ g.traced means is (Line (take n into) ∷ more)
-      ∙ ap (λ (r : Result TraceLine ℕ). items ++ (on_line number r (stop_behind item (number + 1) more) rest).items) (has means is) ∙ sym (append_assoc items (i ∷ []) rest.items);
+      ∙ ap (λ (r : Result TraceLine TraceRule). items ++ (on_line number r (stop_behind item (number + 1) more) rest).items) (has means is) ∙ sym (append_assoc items (i ∷ []) rest.items);
 }
 
 by_either : (items : List Item) (a b : Bool) → (b ≡ true → IsBehindEvent items) → (a || b) ≡ true → (a ≡ true) ⊎ IsBehindEvent items
@@ -154,7 +155,7 @@ trace_wants {tells} {s1} {s2} {s3} {old} {now} {new} {names} {number} {items} {a
     (ap (λ (all : List Answer). (trace item 1 all).items) (sym (append-nil g.lines)) ∙ g.traced means is [] ∙ append-nil items) in
     let P : List Item → Type 0 = λ xs. (length xs ≡ length g.lines) × line_may xs (judged_line (length g.lines + 1) (line_of item text)) in
     let many : length items ≡ length g.lines = (let k = g.numbered in omega (arith, counted, k)) in
-    let Q : Result TraceLine ℕ → Type 0 = λ r. line_may items r in
+    let Q : Result TraceLine TraceRule → Type 0 = λ r. line_may items r in
     inr (
       g.lines ++ Line text ∷ [],
       given_came g.lines into n g.since came,

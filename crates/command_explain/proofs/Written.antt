@@ -7,18 +7,20 @@ use Rattle.sx_trace.specs.declared.items.Item.{Item}
 use Rattle.sx_mean.specs.Application.{AppTree}
 use Rattle.sx_explain.specs.Judging.{judged}
 use Rattle.command_explain.specs.declared.lines.TraceLine.{TraceLine}
+use Rattle.command_explain.specs.declared.lines.TraceRule.{TraceRule}
+use Rattle.command_explain.specs.declared.lines.TraceRule.TheVariants.{NoItem, NoEnd}
 use Rattle.command_explain.specs.declared.lines.TraceLine.TheVariants as kind
 use Rattle.command_explain.specs.Output.{broken_output, explain_from, stop_output, told_item, told_items}
 use Rattle.command_explain.specs.Trace.{judged_line, line_of, on_line, stop_behind, trace}
 
 module _ (app : AppTree) (item : List ℕ → Option Item) (front : List Item) where
   -- what is said of the trace that a line makes
-  abbrev said_by : Result TraceLine ℕ → List Answer → Output
+  abbrev said_by : Result TraceLine TraceRule → List Answer → Output
   said_by r more =
       let t = on_line (length front + 1) r (stop_behind item (length front + 1 + 1) more) (trace item (length front + 1 + 1) more) in
       told_items app front t.items (stop_output (front ++ t.items) t.stop)
 
-  abbrev from_line : List ℕ → Result TraceLine ℕ
+  abbrev from_line : List ℕ → Result TraceLine TraceRule
   from_line text = judged_line (length front + 1) (line_of item text)
 
   pub said_item : (text : List ℕ) (i : Item) (more : List Answer) → from_line text ≡ Ok (kind.Item i)
@@ -41,16 +43,16 @@ module _ (app : AppTree) (item : List ℕ → Option Item) (front : List Item) w
   said_last text more e =
       ap (λ r. said_by r more) e ∙ ap (λ (is : List Item). stop_output is (stop_behind item (length front + 1 + 1) more)) (append-nil front)
 
-  pub said_broken : (text : List ℕ) (rule : ℕ) (more : List Answer) → from_line text ≡ Err rule
+  pub said_broken : (text : List ℕ) (rule : TraceRule) (more : List Answer) → from_line text ≡ Err rule
       → explain_from app item front (Line text ∷ more) ≡ broken_output rule (length front + 1)
   unfolding explain_from
   said_broken text rule more e = ap (λ r. said_by r more) e
 
-  pub said_end : (more : List Answer) → explain_from app item front (End ∷ more) ≡ broken_output 3 (length front + 1)
+  pub said_end : (more : List Answer) → explain_from app item front (End ∷ more) ≡ broken_output NoEnd (length front + 1)
   unfolding explain_from
   said_end more = refl
 
-  pub said_long : (more : List Answer) → explain_from app item front (Long ∷ more) ≡ broken_output 2 (length front + 1)
+  pub said_long : (more : List Answer) → explain_from app item front (Long ∷ more) ≡ broken_output NoItem (length front + 1)
   unfolding explain_from
   said_long more = refl
 

@@ -20,9 +20,10 @@ use Rattle.sx_explain.specs.Judging.{judged, first_forged}
 use Rattle.command_text.specs.Refusals as refusals
 use Rattle.command_text.specs.Output.{line, end_line}
 use Rattle.command_head.specs.Refused.{fault_output}
+use Rattle.command_explain.specs.declared.lines.TraceRule.{TraceRule}
 use Rattle.command_explain.specs.Meant.{Meanings}
 use Rattle.command_explain.specs.Trace.{Start, Behind, Missing, Stop, Whole, Unread, Breaks}
-use Rattle.command_explain.specs.Trace.{start, trace}
+use Rattle.command_explain.specs.Trace.{rule_number, start, trace}
 
 -- which item caused an item
 abbrev pub because_line : ℕ → ℕ → List ℕ
@@ -44,8 +45,9 @@ legal_text items = line (codes "legal " ++ decimal (length (before items)))
     ++ forged_line (first_forged items) ++ end_line
 
 -- status 3: this line is the first that breaks a rule, and this is the first rule that it breaks
-abbrev pub broken_output : ℕ → ℕ → Output
-broken_output rule number = refusals.fault_output (codes "fault trace E") rule number 3
+abbrev pub broken_output : TraceRule → ℕ → Output
+broken_output rule number =
+    refusals.fault_output (codes "fault trace E") (rule_number rule) number 3
 
 -- the last lines, and the status
 abbrev pub stop_output : List Item → Stop → Output

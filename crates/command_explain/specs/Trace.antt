@@ -12,13 +12,24 @@ use Rattle.command_explain.specs.declared.images.ImageLine.{ImageLine}
 use Rattle.command_explain.specs.declared.images.ImageLine.TheVariants as image
 use Rattle.command_explain.specs.declared.lines.TraceLine.{TraceLine}
 use Rattle.command_explain.specs.declared.lines.TraceLine.TheVariants as kind
+use Rattle.command_explain.specs.declared.lines.TraceRule.{TraceRule}
+use Rattle.command_explain.specs.declared.lines.TraceRule.TheVariants.{NoTrace, NoItem, NoEnd}
+use Rattle.command_explain.specs.declared.lines.TraceRule.TheVariants.{PastEnd, TooMany}
+
+-- the number of a rule, as it is printed
+abbrev pub rule_number : TraceRule → ℕ
+rule_number NoTrace = 1
+rule_number NoItem = 2
+rule_number NoEnd = 3
+rule_number PastEnd = 4
+rule_number TooMany = 5
 
 -- where a trace ends: after its last line, at a read that failed, or at the first line that breaks
 -- a rule
 pub data Stop : Type 0 where
   Whole : Stop
   Unread : Stop
-  Breaks : (rule number : ℕ) → Stop
+  Breaks : (rule : TraceRule) (number : ℕ) → Stop
 
 -- ---- the lines before `trace`
 
@@ -49,13 +60,13 @@ pub data Start : Type 0 where
 abbrev pub on_image : ℕ → ImageLine → List Answer → Start → Start
 on_image number image.Trace more rest = Behind more
 on_image number image.Image more rest = rest
-on_image number image.Other more rest = Missing (Breaks 1 number)
+on_image number image.Other more rest = Missing (Breaks NoTrace number)
 
 -- the start, from the line with this number on
 abbrev pub start : ℕ → List Answer → Start
-start number [] = Missing (Breaks 1 number)
-start number (End ∷ more) = Missing (Breaks 1 number)
-start number (Long ∷ more) = Missing (Breaks 1 number)
+start number [] = Missing (Breaks NoTrace number)
+start number (End ∷ more) = Missing (Breaks NoTrace number)
+start number (Long ∷ more) = Missing (Breaks NoTrace number)
 start number (Fault ∷ more) = Missing Unread
 start number (answer.Line text ∷ more) =
     on_image number (image_line number text) more (start (number + 1) more)
@@ -80,20 +91,20 @@ most_lines = 4000000
 
 -- what a line of a trace says that has this number, counted from 1 after `trace`, or the first rule
 -- that it breaks
-abbrev pub judged_line : ℕ → Option TraceLine → Result TraceLine ℕ
-judged_line number None = Err 2
-judged_line number (Some l) = if nat_lt most_lines number then Err 5 else Ok l
+abbrev pub judged_line : ℕ → Option TraceLine → Result TraceLine TraceRule
+judged_line number None = Err NoItem
+judged_line number (Some l) = if nat_lt most_lines number then Err TooMany else Ok l
 
 -- the rule that a line breaks where none may come
-abbrev pub rule_behind : Option TraceLine → ℕ
-rule_behind None = 2
-rule_behind (Some l) = 4
+abbrev pub rule_behind : Option TraceLine → TraceRule
+rule_behind None = NoItem
+rule_behind (Some l) = PastEnd
 
 -- how a trace ends after its last line
 abbrev pub stop_behind : (List ℕ → Option Item) → ℕ → List Answer → Stop
 stop_behind item number [] = Whole
 stop_behind item number (End ∷ more) = Whole
-stop_behind item number (Long ∷ more) = Breaks 2 number
+stop_behind item number (Long ∷ more) = Breaks NoItem number
 stop_behind item number (Fault ∷ more) = Unread
 stop_behind item number (answer.Line text ∷ more) =
     Breaks (rule_behind (line_of item text)) number
@@ -108,7 +119,7 @@ abbrev pub stops : Stop → Trace
 stops stop = record { items = []; stop = stop }
 
 -- the trace that a line makes
-abbrev pub on_line : ℕ → Result TraceLine ℕ → Stop → Trace → Trace
+abbrev pub on_line : ℕ → Result TraceLine TraceRule → Stop → Trace → Trace
 on_line number (Err rule) last rest = stops (Breaks rule number)
 on_line number (Ok kind.Last) last rest = stops last
 on_line number (Ok (kind.Item i)) last rest =
@@ -116,9 +127,9 @@ on_line number (Ok (kind.Item i)) last rest =
 
 -- the trace, from the line with this number on
 abbrev pub trace : (List ℕ → Option Item) → ℕ → List Answer → Trace
-trace item number [] = stops (Breaks 3 number)
-trace item number (End ∷ more) = stops (Breaks 3 number)
-trace item number (Long ∷ more) = stops (Breaks 2 number)
+trace item number [] = stops (Breaks NoEnd number)
+trace item number (End ∷ more) = stops (Breaks NoEnd number)
+trace item number (Long ∷ more) = stops (Breaks NoItem number)
 trace item number (Fault ∷ more) = stops Unread
 trace item number (answer.Line text ∷ more) =
     on_line number (judged_line number (line_of item text)) (stop_behind item (number + 1) more)

@@ -5,13 +5,14 @@ use Rattle.sx_trace.specs.declared.items.Item.{Item}
 use Rattle.sx_deploy.specs.Deployment.{Deployed}
 use Rattle.sx_explain.specs.Wants.{item_may}
 use Rattle.command_explain.specs.declared.lines.TraceLine.{TraceLine}
+use Rattle.command_explain.specs.declared.lines.TraceRule.{TraceRule}
 use Rattle.command_explain.specs.declared.lines.TraceLine.TheVariants as kind
 use Rattle.command_explain.specs.Meant.{Meanings}
 use Rattle.command_explain.specs.Trace.{Start, Behind, Missing, is_trace, judged_line, line_of}
 use Rattle.command_explain.specs.Trace.{start, trace}
 
 -- a line of a trace may want memory for its item, after these
-abbrev pub line_may : List Item → Result TraceLine ℕ → Type 0
+abbrev pub line_may : List Item → Result TraceLine TraceRule → Type 0
 line_may items (Ok (kind.Item item)) = item_may items item
 line_may items (Ok kind.Last) = ⊥
 line_may items (Err rule) = ⊥

@@ -14,6 +14,7 @@ ghost use Rattle.command_explain.specs.Trace.{image_lines, trace_lines};
 ghost use Rattle.command_explain.specs.Turns.{front_line};
 ghost use Rattle.command_explain.specs.Wants.{explain_may};
 
+use crate::lines::TraceRule;
 use crate::text::break_off;
 use crate::trace::explain_trace;
 use command_promise::{READ_FAILED, finish};
@@ -34,9 +35,6 @@ pub enum ImageLine {
 
 /// At most this many lines of images come before a trace.
 const MOST_IMAGES: u32 = 32;
-
-/// The rule that the line `trace` comes after at most 32 lines of images.
-pub const NO_TRACE: u8 = 1;
 
 /// What the line of this number is, by its first bytes and how many it has.
 pub fn front_line(number: u32, front: &[u8; 8], count: u32) -> ImageLine
@@ -76,13 +74,13 @@ pub(crate) fn explain_images<S: Source, K: Sink>(
     let mut number: u32 = 1;
     'lines: loop {
         match lines.pass(input, &mut front) {
-            PassRead::End => return break_off(output, NO_TRACE, number),
-            PassRead::TooLong => return break_off(output, NO_TRACE, number),
+            PassRead::End => return break_off(output, TraceRule::NoTrace, number),
+            PassRead::TooLong => return break_off(output, TraceRule::NoTrace, number),
             PassRead::Failed => return finish(output, b"fault read\n", READ_FAILED),
             PassRead::Text(count) => match front_line(number, &front, count) {
                 ImageLine::Image => number += 1,
                 ImageLine::Trace => return explain_trace(alloc, lines, input, output, deployment),
-                ImageLine::Other => return break_off(output, NO_TRACE, number),
+                ImageLine::Other => return break_off(output, TraceRule::NoTrace, number),
             },
         }
     }

@@ -19,7 +19,6 @@ mod text;
 mod trace;
 
 pub use explain::explain_over;
-pub use images::{ImageLine, NO_TRACE, front_line};
-pub use lines::{NO_ITEM, TraceLine, judge_line, rule_behind};
+pub use images::{ImageLine, front_line};
+pub use lines::{TraceLine, TraceRule, judge_line, rule_behind};
 pub use text::{break_off, put_forged, put_number};
-pub use trace::NO_END;

@@ -4,6 +4,7 @@ ghost use Rattle.std.specs.Prelude.{◌≡◌, ◌≤◌, IsTrue, OnOk, option_m
 ghost use Rattle.sx_trace.specs.ValidNames.{are_valid};
 ghost use Rattle.command_explain.specs.Meant.{AreMeanings, Meanings};
 ghost use Rattle.command_explain.specs.Trace.{is_last, judged_line, line_of, rule_behind};
+ghost use Rattle.command_explain.specs.Trace.{rule_number};
 
 use sx_trace::items::Item;
 use sx_trace::names::Names;
@@ -21,14 +22,29 @@ pub enum TraceLine {
 /// A trace has at most this many lines.
 const MOST_LINES: u32 = 4_000_000;
 
-/// The rule that a line of a trace is `end`, the line of a fault, or an item's.
-pub const NO_ITEM: u8 = 2;
+/// The rules that a line after a deployment can break, by which it is refused.
+#[derive(Clone, Copy)]
+pub enum TraceRule {
+    /// It is no line `trace` after at most 32 lines of images.
+    NoTrace = 1,
+    /// It is neither `end`, nor the line of a fault, nor an item's.
+    NoItem = 2,
+    /// The input ends before the last line of the trace.
+    NoEnd = 3,
+    /// It comes after the last line of the trace.
+    PastEnd = 4,
+    /// 4,000,000 lines of the trace come before it.
+    TooMany = 5,
+}
 
-/// The rule that no line comes after the last one.
-const BEHIND: u8 = 4;
-
-/// The rule that there are at most 4,000,000 lines.
-const TOO_MANY: u8 = 5;
+impl TraceRule {
+    /// The number that is printed.
+    pub(crate) fn number(self) -> u8
+        ensures { result ≡ rule_number self }
+    {
+        self as u8
+    }
+}
 
 /// Whether a trace ends with this line.
 fn is_last(text: &[u8]) -> bool
@@ -60,15 +76,15 @@ fn line_of(names: &Names, text: &[u8]) -> Option<TraceLine>
 }
 
 /// What the line of this number says, counted from 1, or the first rule that it breaks.
-fn kept(line: Option<TraceLine>, number: u32) -> Result<TraceLine, u8>
+fn kept(line: Option<TraceLine>, number: u32) -> Result<TraceLine, TraceRule>
     ensures line { result ≡ judged_line number line }
     ensures few { OnOk result (number ≤ 4000000) }
 {
     match line {
-        None => Err(NO_ITEM),
+        None => Err(TraceRule::NoItem),
         Some(line) => {
             if number > MOST_LINES {
-                return Err(TOO_MANY);
+                return Err(TraceRule::TooMany);
             }
             Ok(line)
         }
@@ -76,7 +92,7 @@ fn kept(line: Option<TraceLine>, number: u32) -> Result<TraceLine, u8>
 }
 
 /// What this text as the line of this number says, or the first rule that it breaks.
-pub fn judge_line(names: &Names, text: &[u8], number: u32) -> Result<TraceLine, u8>
+pub fn judge_line(names: &Names, text: &[u8], number: u32) -> Result<TraceLine, TraceRule>
     requires { IsTrue (are_valid names.now) }
     ensures line { (means : Meanings) → AreMeanings means
         → result ≡ judged_line number (line_of (means.item names.now) text.now) }
@@ -86,17 +102,17 @@ pub fn judge_line(names: &Names, text: &[u8], number: u32) -> Result<TraceLine, 
 }
 
 /// The rule that a line breaks after the last one.
-fn broken_by(line: Option<TraceLine>) -> u8
+fn broken_by(line: Option<TraceLine>) -> TraceRule
     ensures { result ≡ rule_behind line }
 {
     match line {
-        None => NO_ITEM,
-        Some(_) => BEHIND,
+        None => TraceRule::NoItem,
+        Some(_) => TraceRule::PastEnd,
     }
 }
 
 /// The rule that this text breaks as a line after the last one.
-pub fn rule_behind(names: &Names, text: &[u8]) -> u8
+pub fn rule_behind(names: &Names, text: &[u8]) -> TraceRule
     requires { IsTrue (are_valid names.now) }
     ensures { (means : Meanings) → AreMeanings means
         → result ≡ rule_behind (line_of (means.item names.now) text.now) }

@@ -10,6 +10,7 @@ ghost use Rattle.command_explain.specs.Output.{because_line, broken_output, forg
 ghost use Rattle.command_explain.specs.Output.{illegal_output, legal_text};
 ghost use Rattle.command_explain.specs.Turns.{Puts, TellsItem};
 
+use crate::lines::TraceRule;
 use arrayvec::ArrayVec;
 use command_promise::{OUT_OF_MEMORY, Turned, WRITE_FAILED, finish};
 use command_text::fault::finish_fault;
@@ -171,16 +172,16 @@ pub(crate) fn finish_legal<K: Sink>(output: &mut K, judge: &Judge) -> u8
 }
 
 /// Writes which rule the line of this number breaks.
-pub fn break_off<K: Sink>(output: &mut K, rule: u8, number: u32) -> u8
+pub fn break_off<K: Sink>(output: &mut K, rule: TraceRule, number: u32) -> u8
     ensures ends { CommandEnds K.tells (K.at output.old) (K.at output.new) result
         (broken_output rule number) }
     ensures memory { result ≢ out_of_memory }
 {
-    finish_fault(output, b"fault trace E", rule, number, BROKEN)
+    finish_fault(output, b"fault trace E", rule.number(), number, BROKEN)
 }
 
 /// Writes all that is kept, and which rule the line of this number breaks.
-pub(crate) fn break_kept<K: Sink>(output: &mut K, kept: &Kept, rule: u8, number: u32) -> u8
+pub(crate) fn break_kept<K: Sink>(output: &mut K, kept: &Kept, rule: TraceRule, number: u32) -> u8
     ensures ends { CommandEnds K.tells (K.at output.old) (K.at output.new) result
         (behind kept.now.items (broken_output rule number)) }
     ensures memory { result ≢ out_of_memory }

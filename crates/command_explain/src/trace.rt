@@ -17,7 +17,7 @@ ghost use Rattle.command_explain.specs.Meant.{AreMeanings, Meanings};
 ghost use Rattle.command_explain.specs.Trace.{stop_behind, trace_lines};
 ghost use Rattle.command_explain.specs.Turns.{ComesNext, JudgesFrom, TraceWants};
 
-use crate::lines::{NO_ITEM, TraceLine, judge_line, rule_behind};
+use crate::lines::{TraceLine, TraceRule, judge_line, rule_behind};
 use crate::text::{
     Kept, break_kept, break_off, finish_legal, finish_wanted, has_room, keep_said, put_kept,
 };
@@ -28,9 +28,6 @@ use sx_explain::judge::Judge;
 use sx_io::{Failed, LineRead, Lines, Sink, Source};
 use sx_mean::apps::App;
 use sx_trace::items::Item;
-
-/// The rule that a trace ends with its last line.
-pub const NO_END: u8 = 3;
 
 /// The next line of a trace, where it is held and there is room for what is said of it.
 fn next_held(lines: &mut Lines, kept: &Kept, into: &mut [u8; 4096]) -> Option<usize>
@@ -114,7 +111,7 @@ fn explain_end<S: Source, K: Sink>(
     let mut into = [0; 4096];
     match lines.next(input, &mut into) {
         LineRead::End => finish_legal(output, judge),
-        LineRead::TooLong => break_off(output, NO_ITEM, number),
+        LineRead::TooLong => break_off(output, TraceRule::NoItem, number),
         LineRead::Failed => finish(output, b"fault read\n", READ_FAILED),
         LineRead::Text(n) => break_off(output, rule_behind(&deployment.names, &into[..n]), number),
     }
@@ -146,8 +143,8 @@ fn explain_lines<S: Source, K: Sink>(
     'lines: loop {
         match next_line(lines, input, output, &mut kept, &mut into) {
             Err(_) => return WRITE_FAILED,
-            Ok(LineRead::End) => return break_off(output, NO_END, number),
-            Ok(LineRead::TooLong) => return break_off(output, NO_ITEM, number),
+            Ok(LineRead::End) => return break_off(output, TraceRule::NoEnd, number),
+            Ok(LineRead::TooLong) => return break_off(output, TraceRule::NoItem, number),
             Ok(LineRead::Failed) => return finish(output, b"fault read\n", READ_FAILED),
             Ok(LineRead::Text(n)) => match judge_line(&deployment.names, &into[..n], number) {
                 Err(rule) => return break_kept(output, &kept, rule, number),

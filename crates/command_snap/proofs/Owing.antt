@@ -16,6 +16,7 @@ use Rattle.command_world.specs.Schedule.{judged_line}
 use Rattle.command_world.specs.Images.{images_text}
 use Rattle.command_world.specs.Broken.{broken_output}
 use Rattle.command_snap.specs.declared.queries.Query.{Query}
+use Rattle.command_snap.specs.declared.queries.QueryRule.{QueryRule}
 use Rattle.command_snap.specs.Input.{judged_query}
 use Rattle.command_snap.specs.Answers.{answer_text}
 use Rattle.command_snap.specs.Reading.{Asking, Asks, Breaks, Unread, asking}
@@ -26,7 +27,7 @@ use Rattle.command_snap.proofs.Written.{asks_breaks, asks_line, asks_mark, asks_
 
 -- ---- where a read failed, its line is the last
 
-query_ends : (names : NameLists) (set : Setting) (lines : List Line) (number : ℕ) (r : Result Query ℕ) (rest : Output) → EndsUnread rest → EndsUnread (on_query names set lines number r rest)
+query_ends : (names : NameLists) (set : Setting) (lines : List Line) (number : ℕ) (r : Result Query QueryRule) (rest : Output) → EndsUnread rest → EndsUnread (on_query names set lines number r rest)
 query_ends names set lines number (Err rule) rest f e = absurd (omega (arith, e))
 query_ends names set lines number (Ok query) rest f e = behind-ends (answer_text names set lines query) rest f e
 
@@ -50,7 +51,7 @@ snap_ends names set images before more e = asked_ends names set images (asking n
 
 -- ---- line by line
 
-due_query : (names : NameLists) (set : Setting) (lines : List Line) (number : ℕ) (l : List ℕ) (ls : List (List ℕ)) (r : Result Query ℕ) → judged_query names (length lines) number l ≡ r
+due_query : (names : NameLists) (set : Setting) (lines : List Line) (number : ℕ) (l : List ℕ) (ls : List (List ℕ)) (r : Result Query QueryRule) → judged_query names (length lines) number l ≡ r
     → Due (λ more. answers_from names set lines (number + 1) (lines_then ls more)) → Due (λ more. answers_from names set lines number (answer.Line l ∷ lines_then ls more))
 due_query names set lines number l ls (Err rule) e d =
     inl (query_fault rule number, λ x. omega (arith, x), λ more. query_line names set lines number l (Err rule) (lines_then ls more) e)

@@ -15,12 +15,13 @@ use Rattle.spec_run.specs.Accepted.{setting_of}
 use Rattle.command_world.specs.Schedule.{judged_line}
 use Rattle.command_world.specs.Images.{images_text}
 use Rattle.command_snap.specs.declared.queries.Query.{Query}
+use Rattle.command_snap.specs.declared.queries.QueryRule.{QueryRule}
 use Rattle.command_snap.specs.Input.{judged_query}
 use Rattle.command_snap.specs.Reading.{Asking, Asks, Breaks, Unread, asking, on_line}
 use Rattle.command_snap.specs.Output.{answers_from, asked_output, on_query, snap_deployed, snap_from}
 use Rattle.command_snap.specs.Status.{asking_status, queries_status, query_status, snap_status}
 
-query_same : (names : NameLists) (set : Setting) (lines : List Line) (number : ℕ) (r : Result Query ℕ) (rest : Output) (n : ℕ) → rest.status ≡ n
+query_same : (names : NameLists) (set : Setting) (lines : List Line) (number : ℕ) (r : Result Query QueryRule) (rest : Output) (n : ℕ) → rest.status ≡ n
     → (on_query names set lines number r rest).status ≡ query_status r n
 query_same names set lines number (Ok query) rest n e = e
 query_same names set lines number (Err rule) rest n e = refl
@@ -46,7 +47,7 @@ deployed_same mac d texts more = asked_same d.names (setting_of mac d texts) (im
 
 -- ---- statuses that answers of a kind don't give
 
-query_not : (n : ℕ) (r : Result Query ℕ) (rest : ℕ) → (11 ≡ n → ⊥) → (rest ≡ n → ⊥) → query_status r rest ≡ n → ⊥
+query_not : (n : ℕ) (r : Result Query QueryRule) (rest : ℕ) → (11 ≡ n → ⊥) → (rest ≡ n → ⊥) → query_status r rest ≡ n → ⊥
 query_not n (Err rule) rest eleven h e = eleven e
 query_not n (Ok query) rest eleven h e = h e
 

@@ -15,6 +15,7 @@ use Rattle.spec_run.specs.Setting.{Setting}
 use Rattle.command_world.specs.Schedule.{judged_line}
 use Rattle.command_world.specs.Broken.{broken_output}
 use Rattle.command_snap.specs.declared.queries.Query.{Query}
+use Rattle.command_snap.specs.declared.queries.QueryRule.{QueryRule}
 use Rattle.command_snap.specs.Input.{judged_query}
 use Rattle.spec_machine.specs.State.{State}
 use Rattle.sx_world.specs.Held.{Held}
@@ -66,9 +67,9 @@ of_found text set lines at node held s here e =
     ap (λ (o : Option State). of_node text o) (ap (λ (ns : List State). slice_get ns node) (sym here.stands.shows.nodes) ∙ e)
 
 -- a query is answered, and then those after it
-pub query_line : (names : NameLists) (set : Setting) (lines : List Line) (number : ℕ) (text : List ℕ) (r : Result Query ℕ) (more : List Answer) → judged_query names (length lines) number text ≡ r
+pub query_line : (names : NameLists) (set : Setting) (lines : List Line) (number : ℕ) (text : List ℕ) (r : Result Query QueryRule) (more : List Answer) → judged_query names (length lines) number text ≡ r
     → answers_from names set lines number (answer.Line text ∷ more) ≡ on_query names set lines number r (answers_from names set lines (number + 1) more)
-query_line names set lines number text r more e = ap (λ (r : Result Query ℕ). on_query names set lines number r (answers_from names set lines (number + 1) more)) e
+query_line names set lines number text r more e = ap (λ (r : Result Query QueryRule). on_query names set lines number r (answers_from names set lines (number + 1) more)) e
 
 -- a text was written, and after it the command ends
 pub put_and_end : (to_tell : Bool) (k0 k1 k2 : SinkAt) (text : List ℕ) (status : ℕ) (o : Output) → WroteSome to_tell k0 k1 (λ more. behind text o) (λ more. o)

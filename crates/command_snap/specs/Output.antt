@@ -15,7 +15,9 @@ use Rattle.command_text.specs.Refusals.{fault_output}
 use Rattle.command_world.specs.Images.{images_text}
 use Rattle.command_world.specs.Broken.{broken_output}
 use Rattle.command_snap.specs.declared.queries.Query.{Query}
-use Rattle.command_snap.specs.Input.{judged_query}
+use Rattle.command_snap.specs.declared.queries.QueryRule.{QueryRule}
+use Rattle.command_snap.specs.declared.queries.QueryRule.TheVariants.{TooLong}
+use Rattle.command_snap.specs.Input.{judged_query, rule_number}
 use Rattle.command_snap.specs.Answers.{answer_text}
 use Rattle.command_snap.specs.Reading.{Asking, Asks, Breaks, Unread, asking}
 
@@ -25,11 +27,11 @@ ended_output = record { text = end_line; status = 0 }
 
 -- status 11: this line is the first after the mark that breaks a rule, and this is the first rule
 -- that it breaks
-abbrev pub query_fault : ℕ → ℕ → Output
-query_fault rule number = fault_output (codes "fault query Y") rule number 11
+abbrev pub query_fault : QueryRule → ℕ → Output
+query_fault rule number = fault_output (codes "fault query Y") (rule_number rule) number 11
 
 -- the answer to a query before what follows, or the rule that its line breaks
-abbrev pub on_query : NameLists → Setting → List Line → ℕ → Result Query ℕ → Output → Output
+abbrev pub on_query : NameLists → Setting → List Line → ℕ → Result Query QueryRule → Output → Output
 on_query names set lines number (Err rule) rest = query_fault rule number
 on_query names set lines number (Ok query) rest = behind (answer_text names set lines query) rest
 
@@ -37,7 +39,7 @@ on_query names set lines number (Ok query) rest = behind (answer_text names set 
 abbrev pub answers_from : NameLists → Setting → List Line → ℕ → List Answer → Output
 answers_from names set lines number [] = ended_output
 answers_from names set lines number (End ∷ more) = ended_output
-answers_from names set lines number (Long ∷ more) = query_fault 1 number
+answers_from names set lines number (Long ∷ more) = query_fault TooLong number
 answers_from names set lines number (Fault ∷ more) = unread_output
 answers_from names set lines number (answer.Line text ∷ more) =
     on_query names set lines number (judged_query names (length lines) number text)

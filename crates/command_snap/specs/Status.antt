@@ -5,11 +5,12 @@ use Rattle.command_promise.specs.Told.{read_failed}
 use Rattle.sx_trace.specs.Names.{NameLists}
 use Rattle.sx_deploy.specs.Deployment.{Deployed}
 use Rattle.command_snap.specs.declared.queries.Query.{Query}
+use Rattle.command_snap.specs.declared.queries.QueryRule.{QueryRule}
 use Rattle.command_snap.specs.Input.{judged_query}
 use Rattle.command_snap.specs.Reading.{Asking, Asks, Breaks, Unread, asking}
 
 -- the status of a query and what follows
-abbrev pub query_status : Result Query ℕ → ℕ → ℕ
+abbrev pub query_status : Result Query QueryRule → ℕ → ℕ
 query_status (Ok query) rest = rest
 query_status (Err rule) rest = 11
 

@@ -20,7 +20,7 @@ ghost use Rattle.command_snap.specs.Answers.{answer_text};
 ghost use Rattle.command_snap.specs.Output.{answers_from, query_fault};
 
 use crate::answers::{Range, bytes_line, items_text, registers_line};
-use crate::queries::{Query, TOO_LONG, judge_query};
+use crate::queries::{Query, QueryRule, judge_query};
 use command_promise::{OUT_OF_MEMORY, READ_FAILED, Turned, finish, put_text};
 use command_text::fault::finish_fault;
 use std::alloc::{AllocError, Global};
@@ -34,12 +34,12 @@ use sx_tag::Tag;
 const BROKEN: u8 = 11;
 
 /// Writes which rule the query of this number breaks. It takes no memory.
-fn break_query<K: Sink>(output: &mut K, rule: u8, number: u32) -> u8
+fn break_query<K: Sink>(output: &mut K, rule: QueryRule, number: u32) -> u8
     ensures ends { CommandEnds K.tells (K.at output.old) (K.at output.new) result
         (query_fault rule number) }
     ensures memory { result ≢ out_of_memory }
 {
-    finish_fault(output, b"fault query Y", rule, number, BROKEN)
+    finish_fault(output, b"fault query Y", rule.number(), number, BROKEN)
 }
 
 /// The registers of a node after so many lines.
@@ -233,7 +233,7 @@ pub(crate) fn answer_queries<S: Source, K: Sink, B: Copied, T: Tag + Copy>(
     'queries: loop {
         match lines.next(input, &mut into) {
             LineRead::End => return finish(output, b"end\n", 0),
-            LineRead::TooLong => return break_query(output, TOO_LONG, number),
+            LineRead::TooLong => return break_query(output, QueryRule::TooLong, number),
             LineRead::Failed => return finish(output, b"fault read\n", READ_FAILED),
             LineRead::Text(n) => match turn(
                 alloc,

@@ -16,6 +16,8 @@ use Rattle.command_property.specs.Refused.{fault_words, refused_output}
 use Rattle.command_explain.specs.declared.images.ImageLine.{ImageLine}
 use Rattle.command_explain.specs.declared.images.ImageLine.TheVariants as image
 use Rattle.command_explain.specs.declared.lines.TraceLine.{TraceLine}
+use Rattle.command_explain.specs.declared.lines.TraceRule.{TraceRule}
+use Rattle.command_explain.specs.declared.lines.TraceRule.TheVariants.{NoTrace, NoItem}
 use Rattle.command_explain.specs.declared.lines.TraceLine.TheVariants as kind
 use Rattle.command_explain.specs.Output.{broken_output}
 use Rattle.command_explain.specs.Trace.{Behind, Breaks, Missing, Start, Stop, Unread, Whole, image_line, judged_line, line_of, on_image, rule_behind, start, stop_behind, trace}
@@ -83,11 +85,11 @@ module _ (p : PropertyTree) (item : List ℕ → Option Item) where
   unfolding watch_from
   from_long front e = at (broken_at p (before (front ++ []))) e
     where
-      at : (o : Option ℕ) → (unless_broken o (broken_output 2 (length front + 1))).status ≡ 4 → ⊥
+      at : (o : Option ℕ) → (unless_broken o (broken_output NoItem (length front + 1))).status ≡ 4 → ⊥
       at None e = omega (arith, e)
       at (Some n) e = omega (arith, e)
 
-  due_line : (front : List Item) (l : List ℕ) (ls : List (List ℕ)) (r : Result TraceLine ℕ) → broken_at p (before front) ≡ None → judged_line (length front + 1) (line_of item l) ≡ r
+  due_line : (front : List Item) (l : List ℕ) (ls : List (List ℕ)) (r : Result TraceLine TraceRule) → broken_at p (before front) ≡ None → judged_line (length front + 1) (line_of item l) ≡ r
       → ((i : Item) → Due (λ more. watch_from p item (front ++ i ∷ []) (lines_then ls more))) → Due (λ more. watch_from p item front (Line l ∷ lines_then ls more))
   due_line front l ls (Err rule) u e f =
       inl (broken_output rule (length front + 1), λ x. omega (arith, x), λ more. said_bad p item front u l rule (lines_then ls more) e)
@@ -124,7 +126,7 @@ module _ (p : PropertyTree) (item : List ℕ → Option Item) where
       (λ more. ap (λ k. watch_start p item (on_image number k (lines_then ls more) (start (number + 1) (lines_then ls more)))) e) d
   due_image number l ls image.Other e d =
       inl (
-        broken_output 1 number,
+        broken_output NoTrace number,
         λ x. omega (arith, x),
         λ more. ap (λ k. watch_start p item (on_image number k (lines_then ls more) (start (number + 1) (lines_then ls more)))) e,
       )

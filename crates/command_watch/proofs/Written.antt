@@ -7,6 +7,8 @@ use Rattle.sx_trace.specs.declared.items.Item.{Item}
 use Rattle.sx_model.specs.Legal.{before}
 use Rattle.sx_watch.specs.Watched.{PropertyTree, broken_at}
 use Rattle.command_explain.specs.declared.lines.TraceLine.{TraceLine}
+use Rattle.command_explain.specs.declared.lines.TraceRule.{TraceRule}
+use Rattle.command_explain.specs.declared.lines.TraceRule.TheVariants.{NoItem, NoEnd}
 use Rattle.command_explain.specs.declared.lines.TraceLine.TheVariants as kind
 use Rattle.command_explain.specs.Output.{broken_output}
 use Rattle.command_explain.specs.Trace.{Breaks, Trace, judged_line, line_of, on_line, stop_behind, trace}
@@ -19,10 +21,10 @@ module _ (p : PropertyTree) (item : List ℕ → Option Item) (front : List Item
   said t = unless_broken (broken_at p (before (front ++ t.items))) (stop_output (front ++ t.items) t.stop)
 
   -- and of that which a line makes
-  abbrev said_by : Result TraceLine ℕ → List Answer → Output
+  abbrev said_by : Result TraceLine TraceRule → List Answer → Output
   said_by r more = said (on_line (length front + 1) r (stop_behind item (length front + 1 + 1) more) (trace item (length front + 1 + 1) more))
 
-  abbrev from_line : List ℕ → Result TraceLine ℕ
+  abbrev from_line : List ℕ → Result TraceLine TraceRule
   from_line text = judged_line (length front + 1) (line_of item text)
 
   pub said_item : (text : List ℕ) (i : Item) (more : List Answer) → from_line text ≡ Ok (kind.Item i) → watch_from p item front (Line text ∷ more) ≡ watch_from p item (front ++ i ∷ []) more
@@ -51,15 +53,15 @@ module _ (p : PropertyTree) (item : List ℕ → Option Item) (front : List Item
     unfolding watch_from
     said_last text more e = ap (λ r. said_by r more) e ∙ said_stops (record { items = []; stop = stop_behind item (length front + 1 + 1) more }) refl
 
-    pub said_bad : (text : List ℕ) (rule : ℕ) (more : List Answer) → from_line text ≡ Err rule → watch_from p item front (Line text ∷ more) ≡ broken_output rule (length front + 1)
+    pub said_bad : (text : List ℕ) (rule : TraceRule) (more : List Answer) → from_line text ≡ Err rule → watch_from p item front (Line text ∷ more) ≡ broken_output rule (length front + 1)
     unfolding watch_from
     said_bad text rule more e = ap (λ r. said_by r more) e ∙ said_stops (record { items = []; stop = Breaks rule (length front + 1) }) refl
 
-    pub said_end : (more : List Answer) → watch_from p item front (End ∷ more) ≡ broken_output 3 (length front + 1)
+    pub said_end : (more : List Answer) → watch_from p item front (End ∷ more) ≡ broken_output NoEnd (length front + 1)
     unfolding watch_from
     said_end more = said_stops (trace item (length front + 1) (End ∷ more)) refl
 
-    pub said_long : (more : List Answer) → watch_from p item front (Long ∷ more) ≡ broken_output 2 (length front + 1)
+    pub said_long : (more : List Answer) → watch_from p item front (Long ∷ more) ≡ broken_output NoItem (length front + 1)
     unfolding watch_from
     said_long more = said_stops (trace item (length front + 1) (Long ∷ more)) refl
 

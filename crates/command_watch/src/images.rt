@@ -10,7 +10,7 @@ ghost use Rattle.command_explain.specs.Trace.{image_lines, start};
 ghost use Rattle.command_watch.specs.Output.{watch_start};
 
 use crate::trace::watch_trace;
-use command_explain::{ImageLine, NO_TRACE, break_off, front_line};
+use command_explain::{ImageLine, TraceRule, break_off, front_line};
 use command_promise::{READ_FAILED, finish};
 use std::alloc::Global;
 use sx_io::{Lines, PassRead, Sink, Source};
@@ -37,15 +37,15 @@ pub(crate) fn watch_images<S: Source, K: Sink>(
     let mut number: u32 = 1;
     'lines: loop {
         match lines.pass(input, &mut front) {
-            PassRead::End => return break_off(output, NO_TRACE, number),
-            PassRead::TooLong => return break_off(output, NO_TRACE, number),
+            PassRead::End => return break_off(output, TraceRule::NoTrace, number),
+            PassRead::TooLong => return break_off(output, TraceRule::NoTrace, number),
             PassRead::Failed => return finish(output, b"fault read\n", READ_FAILED),
             PassRead::Text(count) => match front_line(number, &front, count) {
                 ImageLine::Image => number += 1,
                 ImageLine::Trace => {
                     return watch_trace(alloc, lines, input, output, names, property);
                 }
-                ImageLine::Other => return break_off(output, NO_TRACE, number),
+                ImageLine::Other => return break_off(output, TraceRule::NoTrace, number),
             },
         }
     }

@@ -14,7 +14,7 @@ ghost use Rattle.command_watch.specs.Output.{stop_output, watch_from};
 
 use crate::following::Following;
 use crate::text::{finish_broken, finish_kept};
-use command_explain::{NO_END, NO_ITEM, TraceLine, break_off, judge_line, rule_behind};
+use command_explain::{TraceLine, TraceRule, break_off, judge_line, rule_behind};
 use command_promise::{OUT_OF_MEMORY, READ_FAILED, Turned, finish};
 use std::alloc::Global;
 use sx_io::{LineRead, Lines, Sink, Source};
@@ -62,7 +62,7 @@ fn watch_end<S: Source, K: Sink>(
     let number = count + 2;
     match lines.next(input, &mut into) {
         LineRead::End => finish_kept(output, following, count),
-        LineRead::TooLong => break_off(output, NO_ITEM, number),
+        LineRead::TooLong => break_off(output, TraceRule::NoItem, number),
         LineRead::Failed => finish(output, b"fault read\n", READ_FAILED),
         LineRead::Text(n) => break_off(output, rule_behind(names, &into[..n]), number),
     }
@@ -89,8 +89,8 @@ fn watch_lines<S: Source, K: Sink>(
     let mut number: u32 = 1;
     'lines: loop {
         match lines.next(input, &mut into) {
-            LineRead::End => return break_off(output, NO_END, number),
-            LineRead::TooLong => return break_off(output, NO_ITEM, number),
+            LineRead::End => return break_off(output, TraceRule::NoEnd, number),
+            LineRead::TooLong => return break_off(output, TraceRule::NoItem, number),
             LineRead::Failed => return finish(output, b"fault read\n", READ_FAILED),
             LineRead::Text(n) => match judge_line(names, &into[..n], number) {
                 Err(rule) => return break_off(output, rule, number),

@@ -5,6 +5,7 @@ use Rattle.sx_deploy.specs.SeenDeployment.{deployed_as}
 use Rattle.sx_drive.specs.Driving.{all_said, reading}
 use Rattle.command_drive.specs.declared.readings.ReadingLine.{ReadingLine}
 use Rattle.command_drive.specs.declared.readings.ReadingLine.TheVariants as says
+use Rattle.command_drive.specs.declared.readings.ReadingRule.{ReadingRule}
 use Rattle.command_drive.specs.Parts.{drive_from}
 use Rattle.command_drive.specs.Input.{MayRunOut, judged_reading}
 use Rattle.command_drive.proofs.Named.{are_there, same_app}
@@ -60,7 +61,7 @@ returns-in-Err-clause-turns g c = λ set h f s.
 pub returns-in-Ok-Reading-clause-certain : goal.returns-in-Ok-Reading-clause-certain
 returns-in-Ok-Reading-clause-certain g c = λ six.
     let d = deployed_as c.args.deployment.now in
-    let P : Result ReadingLine ℕ → Type 0 = MayRunOut in
+    let P : Result ReadingLine ReadingRule → Type 0 = MayRunOut in
     let judged : judged_reading d c.args.number c.args.text.now ≡ Ok (says.Reading c.in-Ok-Reading.device c.in-Ok-Reading.value) =
     sym c.judge_reading.ensures.reading ∙ c.in-Ok-Reading.is ∙ ap Ok c.in-Ok-Reading.field-0-is in
     subst P (sym judged) tt

@@ -11,6 +11,7 @@ use Rattle.command_promise.proofs.Laws.{ends-same, told-end, told-too-long, told
 use Rattle.std.proofs.lemmas.List.{length-append}
 use Rattle.sx_mean.specs.View.{app_as}
 use Rattle.sx_explain.proofs.Following.{few_taken}
+use Rattle.command_explain.specs.declared.lines.TraceRule.TheVariants.{NoItem, NoEnd}
 use Rattle.command_explain.specs.Output.{broken_output, explain_from, stop_output}
 use Rattle.command_explain.specs.Trace.{judged_line, line_of, stop_behind}
 use Rattle.command_explain.proofs.Keeping.{Waits, waits_asked, waits_failed, waits_more, waits_new, waits_stop, waits_text, waits_written}
@@ -56,7 +57,7 @@ returns-in-Ok-End-clause-rest g c = λ means is limit m0 defined aside noted b.
     let now = waits_asked (g.S.Source.at c.next_line.new.input) (g.K.Sink.at c.next_line.new.output) c.next_line.new.lines c.next_line.new.kept.items c.next_line.new.into read.End f
     c.next_line.result (c.in-Ok-End.is ∙ ap Ok c.in-Ok-End.field-0-is) (λ h. h) (said_unread _ _ st.items []) (st.waits means is limit m0 defined aside noted b) c.next_line.ensures.comes in
     told-end {f = f} (said_unread _ _ st.items []) now.0 now.1
-    (ends-same _ _ _ _ _ _ (said_end _ _ st.items [] ∙ ap (broken_output 3) (sym st.counted)) c.break_off.ensures.ends)
+    (ends-same _ _ _ _ _ _ (said_end _ _ st.items [] ∙ ap (broken_output NoEnd) (sym st.counted)) c.break_off.ensures.ends)
 
 pub returns-in-Ok-TooLong-clause-rest : goal.returns-in-Ok-TooLong-clause-rest
 returns-in-Ok-TooLong-clause-rest g c = λ means is limit m0 defined aside noted b.
@@ -65,7 +66,7 @@ returns-in-Ok-TooLong-clause-rest g c = λ means is limit m0 defined aside noted
     let now = waits_asked (g.S.Source.at c.next_line.new.input) (g.K.Sink.at c.next_line.new.output) c.next_line.new.lines c.next_line.new.kept.items c.next_line.new.into read.TooLong f
     c.next_line.result (c.in-Ok-TooLong.is ∙ ap Ok c.in-Ok-TooLong.field-0-is) (λ h. h) (said_unread _ _ st.items []) (st.waits means is limit m0 defined aside noted b) c.next_line.ensures.comes in
     told-too-long {f = f} (said_unread _ _ st.items []) now.0 now.1
-    (ends-same _ _ _ _ _ _ (said_long _ _ st.items [] ∙ ap (broken_output 2) (sym st.counted)) c.break_off-in-Ok-TooLong.ensures.ends)
+    (ends-same _ _ _ _ _ _ (said_long _ _ st.items [] ∙ ap (broken_output NoItem) (sym st.counted)) c.break_off-in-Ok-TooLong.ensures.ends)
 
 pub returns-in-Ok-Failed-clause-rest : goal.returns-in-Ok-Failed-clause-rest
 unfolding read_line

@@ -4,6 +4,7 @@ use Rattle.command_promise.proofs.Laws.{does-same, ends-same}
 use Rattle.sx_deploy.specs.SeenDeployment.{deployed_as}
 use Rattle.spec_run.specs.Accepted.{setting}
 use Rattle.command_snap.specs.declared.queries.Query.{Query}
+use Rattle.command_snap.specs.declared.queries.QueryRule.{QueryRule}
 use Rattle.command_snap.specs.Input.{judged_query}
 use Rattle.command_snap.specs.Asked.{IsAsked}
 use Rattle.command_snap.specs.Output.{answers_from}
@@ -39,7 +40,7 @@ returns-in-Err-clause-does g c = λ more.
 
 pub returns-in-Ok-clause-memory : goal.returns-in-Ok-clause-memory
 returns-in-Ok-clause-memory g c = λ six.
-    let P : Result Query ℕ → Type 0 = IsOk in
+    let P : Result Query QueryRule → Type 0 = IsOk in
     let d = deployed_as c.args.deployment.now in
     let judged : judged_query d.names (length c.args.timeline.now.lines) c.args.number c.args.said.now ≡ Ok c.in-Ok.query =
     ap (λ (k : ℕ). judged_query d.names k c.args.number c.args.said.now) (sym c.count.ensures) ∙ sym c.in-Ok.ensures.query in

@@ -6,6 +6,7 @@ use Rattle.sx_io.specs.Reading.{Answer}
 use Rattle.command_promise.specs.Told.{Output, command_at, read_line}
 use Rattle.command_promise.specs.Parts.{Begun, Notes}
 use Rattle.command_promise.proofs.Laws.{begun-line, begun-same, ends-same, told-end, told-failed, told-stop, told-too-long}
+use Rattle.command_explain.specs.declared.lines.TraceRule.TheVariants.{NoItem, NoEnd}
 use Rattle.command_explain.specs.Output.{broken_output}
 use Rattle.command_explain.specs.Trace.{judged_line, line_of, stop_behind, trace_lines}
 use Rattle.command_watch.specs.Output.{stop_output, watch_from}
@@ -25,7 +26,7 @@ returns-in-End g c = λ means p is s limit m0 defined aside noted b.
     let u = (st.stands p s).unbroken in
     let item = means.item c.args.names.now in
     told-end {f = watch_from p item st.items} (said_unread p item st.items u []) (st.begun means p is s limit m0 defined aside noted b) c.in-End.ensures.next
-    (ends-same _ _ _ _ _ _ (said_end p item st.items u [] ∙ ap (broken_output 3) (sym st.counted)) c.break_off.ensures.ends)
+    (ends-same _ _ _ _ _ _ (said_end p item st.items u [] ∙ ap (broken_output NoEnd) (sym st.counted)) c.break_off.ensures.ends)
 
 pub returns-in-TooLong : goal.returns-in-TooLong
 returns-in-TooLong g c = λ means p is s limit m0 defined aside noted b.
@@ -33,7 +34,7 @@ returns-in-TooLong g c = λ means p is s limit m0 defined aside noted b.
     let u = (st.stands p s).unbroken in
     let item = means.item c.args.names.now in
     told-too-long {f = watch_from p item st.items} (said_unread p item st.items u []) (st.begun means p is s limit m0 defined aside noted b) c.in-TooLong.ensures.next
-    (ends-same _ _ _ _ _ _ (said_long p item st.items u [] ∙ ap (broken_output 2) (sym st.counted)) c.break_off-in-TooLong.ensures.ends)
+    (ends-same _ _ _ _ _ _ (said_long p item st.items u [] ∙ ap (broken_output NoItem) (sym st.counted)) c.break_off-in-TooLong.ensures.ends)
 
 pub returns-in-Failed : goal.returns-in-Failed
 unfolding read_line
