@@ -8,10 +8,8 @@ ghost use Rattle.command_promise.specs.Parts.{DoesPart, Rest};
 ghost use Rattle.command_promise.specs.Told.{out_of_memory};
 ghost use Rattle.command_promise.specs.Head.{head_lines};
 ghost use Rattle.sx_trace.specs.ValidNames.{are_valid};
-ghost use Rattle.sx_deploy.specs.Law.{IsSoundDeployment};
 ghost use Rattle.sx_deploy.specs.SeenDeployment.{deployed_as};
 ghost use Rattle.spec_run.specs.Accepted.{setting};
-ghost use Rattle.spec_run.specs.Law.{IsSoundSetting};
 ghost use Rattle.sx_snap.specs.Checkpoints.{IsTimeline};
 ghost use Rattle.command_snap.specs.Input.{judged_query};
 ghost use Rattle.command_snap.specs.Asked.{IsAsked};
@@ -51,9 +49,6 @@ fn answer_registers<B: Copied, T: Tag + Copy>(
     node: u8,
     at: u32,
 ) -> Result<Vec<u8>, AllocError>
-    requires sound { IsSoundDeployment (deployed_as deployment.now) }
-    requires images { IsSoundSetting
-        (setting T.mac (deployed_as deployment.now) timeline.now.sites) }
     requires timeline { IsTimeline T.mac (deployed_as deployment.now) timeline.now }
     requires node { node < length (deployed_as deployment.now).names.nodes }
     requires within { at ≤ length timeline.now.lines }
@@ -74,9 +69,6 @@ fn answer_bytes<B: Copied, T: Tag + Copy>(
     range: Range,
     at: u32,
 ) -> Result<Vec<u8>, AllocError>
-    requires sound { IsSoundDeployment (deployed_as deployment.now) }
-    requires images { IsSoundSetting
-        (setting T.mac (deployed_as deployment.now) timeline.now.sites) }
     requires timeline { IsTimeline T.mac (deployed_as deployment.now) timeline.now }
     requires node { range.number < length (deployed_as deployment.now).names.nodes }
     requires memory { range.from + range.len ≤ 65536 }
@@ -103,9 +95,6 @@ fn answer_items<B: Copied, T: Tag + Copy>(
     timeline: &Timeline<B, T>,
     at: u32,
 ) -> Result<Vec<u8>, AllocError>
-    requires sound { IsSoundDeployment (deployed_as deployment.now) }
-    requires images { IsSoundSetting
-        (setting T.mac (deployed_as deployment.now) timeline.now.sites) }
     requires timeline { IsTimeline T.mac (deployed_as deployment.now) timeline.now }
     requires some { 1 ≤ at }
     requires within { at ≤ length timeline.now.lines }
@@ -125,9 +114,6 @@ fn answer<B: Copied, T: Tag + Copy>(
     timeline: &Timeline<B, T>,
     query: Query,
 ) -> Result<Vec<u8>, AllocError>
-    requires sound { IsSoundDeployment (deployed_as deployment.now) }
-    requires images { IsSoundSetting
-        (setting T.mac (deployed_as deployment.now) timeline.now.sites) }
     requires timeline { IsTimeline T.mac (deployed_as deployment.now) timeline.now }
     requires asked { IsAsked (deployed_as deployment.now).names (length timeline.now.lines) query }
     ensures { IfOk result (λ text. text.items ≡ answer_text (deployed_as deployment.now).names
@@ -161,9 +147,6 @@ fn tell<K: Sink, B: Copied, T: Tag + Copy>(
     timeline: &Timeline<B, T>,
     query: Query,
 ) -> Turned
-    requires sound { IsSoundDeployment (deployed_as deployment.now) }
-    requires images { IsSoundSetting
-        (setting T.mac (deployed_as deployment.now) timeline.now.sites) }
     requires timeline { IsTimeline T.mac (deployed_as deployment.now) timeline.now }
     requires asked { IsAsked (deployed_as deployment.now).names (length timeline.now.lines) query }
     ensures { (left : List Answer → Output) → DoesPart K.tells (K.at output.old)
@@ -186,9 +169,6 @@ fn turn<K: Sink, B: Copied, T: Tag + Copy>(
     said: &[u8],
     number: u32,
 ) -> Turned
-    requires sound { IsSoundDeployment (deployed_as deployment.now) }
-    requires images { IsSoundSetting
-        (setting T.mac (deployed_as deployment.now) timeline.now.sites) }
     requires names { IsTrue (are_valid (deployed_as deployment.now).names) }
     requires timeline { IsTimeline T.mac (deployed_as deployment.now) timeline.now }
     ensures does { let ask = answers_from (deployed_as deployment.now).names
@@ -214,9 +194,6 @@ pub(crate) fn answer_queries<S: Source, K: Sink, B: Copied, T: Tag + Copy>(
     deployment: &Deployment,
     timeline: &Timeline<B, T>,
 ) -> u8
-    requires sound { IsSoundDeployment (deployed_as deployment.now) }
-    requires images { IsSoundSetting
-        (setting T.mac (deployed_as deployment.now) timeline.now.sites) }
     requires names { IsTrue (are_valid (deployed_as deployment.now).names) }
     requires timeline { IsTimeline T.mac (deployed_as deployment.now) timeline.now }
     ensures rest { Rest S.tells K.tells head_lines lines.old

@@ -7,10 +7,8 @@ ghost use Rattle.command_promise.specs.Told.{CommandEnds, behind, command_at, ou
 ghost use Rattle.command_promise.specs.Parts.{Rest};
 ghost use Rattle.command_promise.specs.Head.{head_lines};
 ghost use Rattle.sx_trace.specs.ValidNames.{are_valid};
-ghost use Rattle.sx_deploy.specs.Law.{IsSoundDeployment};
 ghost use Rattle.sx_deploy.specs.SeenDeployment.{deployed_as};
 ghost use Rattle.spec_run.specs.Accepted.{setting};
-ghost use Rattle.spec_run.specs.Law.{IsSoundSetting};
 ghost use Rattle.sx_image.specs.InMemory.{texts_of};
 ghost use Rattle.sx_snap.specs.Checkpoints.{IsTimeline};
 ghost use Rattle.command_head.specs.Given.{RanOutSince};
@@ -43,9 +41,6 @@ fn keep<B: Copied, T: Tag + Copy>(
     said: &[u8],
     number: u32,
 ) -> Result<(), LineError>
-    requires sound { IsSoundDeployment (deployed_as deployment.now) }
-    requires images { IsSoundSetting
-        (setting T.mac (deployed_as deployment.now) timeline.old.sites) }
     requires names { IsTrue (are_valid (deployed_as deployment.now).names) }
     requires timeline { IsTimeline T.mac (deployed_as deployment.now) timeline.old }
     requires counted { length timeline.old.lines + 1 ≡ number }
@@ -88,9 +83,6 @@ fn answer_all<S: Source, K: Sink, B: Copied, T: Tag + Copy>(
     images: &[u8],
     timeline: &Timeline<B, T>,
 ) -> u8
-    requires sound { IsSoundDeployment (deployed_as deployment.now) }
-    requires images { IsSoundSetting
-        (setting T.mac (deployed_as deployment.now) timeline.now.sites) }
     requires names { IsTrue (are_valid (deployed_as deployment.now).names) }
     requires timeline { IsTimeline T.mac (deployed_as deployment.now) timeline.now }
     ensures rest { Rest S.tells K.tells head_lines lines.old
@@ -120,9 +112,6 @@ fn snap_lines<S: Source, K: Sink, B: Copied, T: Tag + Copy>(
     images: &[u8],
     timeline: &mut Timeline<B, T>,
 ) -> u8
-    requires sound { IsSoundDeployment (deployed_as deployment.now) }
-    requires images { IsSoundSetting
-        (setting T.mac (deployed_as deployment.now) timeline.old.sites) }
     requires names { IsTrue (are_valid (deployed_as deployment.now).names) }
     requires timeline { IsTimeline T.mac (deployed_as deployment.now) timeline.old }
     requires none { timeline.old.lines ≡ [] }
@@ -168,9 +157,6 @@ pub(crate) fn snap_built<S: Source, K: Sink, B: Copied, T: Tag + Copy>(
     images: &[Image],
     timeline: &mut Timeline<B, T>,
 ) -> u8
-    requires sound { IsSoundDeployment (deployed_as deployment.now) }
-    requires images { IsSoundSetting
-        (setting T.mac (deployed_as deployment.now) timeline.old.sites) }
     requires names { IsTrue (are_valid (deployed_as deployment.now).names) }
     requires timeline { IsTimeline T.mac (deployed_as deployment.now) timeline.old }
     requires none { timeline.old.lines ≡ [] }

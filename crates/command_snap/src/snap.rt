@@ -5,6 +5,8 @@ ghost use Rattle.std.specs.Prelude.{◌≡◌, IfOk, [], length};
 ghost use Rattle.command_promise.specs.Told.{command_at};
 ghost use Rattle.sx_deploy.specs.Law.{IsSoundDeployment};
 ghost use Rattle.sx_deploy.specs.SeenDeployment.{deployed_as};
+ghost use Rattle.spec_run.specs.Accepted.{AreImages};
+ghost use Rattle.sx_image.specs.InMemory.{texts_of};
 ghost use Rattle.sx_world.specs.InMemory.{image_setting};
 ghost use Rattle.sx_snap.specs.Checkpoints.{IsTimeline};
 ghost use Rattle.command_snap.specs.Promise.{SnapPromise};
@@ -33,6 +35,7 @@ fn new_timeline<T: Tag + Copy>(
 ) -> Result<Timeline<PagedBus, T>, AllocError>
     requires sound { IsSoundDeployment (deployed_as deployment.now) }
     requires many { length images.now ≡ length deployment.now.app.parts.items }
+    requires images { AreImages T.mac (deployed_as deployment.now) (texts_of images.now) }
     ensures timeline { IfOk result (λ t. IsTimeline T.mac (deployed_as deployment.now) t) }
     ensures sites { IfOk result (λ t.
         t.sites ≡ (image_setting T.mac deployment.now images.now).sites) }

@@ -9,9 +9,11 @@ use Rattle.sx_tag.specs.Mac.{Mac}
 use Rattle.sx_sched.specs.Lines.{Line}
 use Rattle.sx_sched.specs.InForm.{IsLine}
 use Rattle.sx_deploy.specs.Deployment.{Deployed}
+use Rattle.sx_deploy.specs.Law.{IsSoundDeployment}
 use Rattle.spec_run.specs.Setting.{Site}
 use Rattle.spec_run.specs.State.{switched_on}
 use Rattle.spec_run.specs.Accepted.{setting, setting_of}
+use Rattle.spec_run.specs.Law.{IsSoundSetting}
 use Rattle.sx_world.specs.Held.{Held}
 use Rattle.sx_world.specs.Standing.{Stands}
 use Rattle.sx_snap.specs.Kept.{Kept, first_sites}
@@ -48,18 +50,22 @@ at_end (y ∷ xs) x h (suc i) e = elim (at_end xs x h i e) [
 
 module _ (mac : Mac) (d : Deployed) where
   -- no line, and one checkpoint, where all is switched on
-  pub first_timeline : (texts : List (List ℕ)) (world : Held) (checkpoints : List Held) (every : ℕ) → 1 ≤ every → checkpoints ≡ world ∷ []
+  pub first_timeline : (texts : List (List ℕ)) (world : Held) (checkpoints : List Held) (every : ℕ) → IsSoundDeployment d → IsSoundSetting (setting_of mac d texts) → 1 ≤ every
+      → checkpoints ≡ world ∷ []
       → world.sites ≡ (setting_of mac d texts).sites → world.ran_out ≡ false → world.performed ≡ 0
       → Stands (setting_of mac d texts) world (switched_on (setting_of mac d texts))
       → IsTimeline mac d (record { sites = first_sites checkpoints; lines = []; every = every; checkpoints = checkpoints })
-  first_timeline texts world checkpoints every some one sites goes none stands =
+  first_timeline texts world checkpoints every sound images some one sites goes none stands =
       let long : length checkpoints ≡ 1 = ap length one in
       let all : length checkpoints * every ≡ every = ap (λ (n : ℕ). n * every) long ∙ omega arith in
       let set = setting mac d (first_sites checkpoints) in
       let P : List Site → Type 0 = λ s. Stands (setting mac d s) world (switched_on (setting mac d s)) in
       let its : first_sites checkpoints ≡ world.sites = ap first_sites one in
       let here : StandsAfter set [] world = record { sites = sym its; memory = goes; count = none; stands = subst P (sym (its ∙ sites)) stands } in
+      let Q : List Site → Type 0 = λ s. IsSoundSetting (setting mac d s) in
       record {
+        sound = sound;
+        images = subst Q (sym (its ∙ sites)) images;
         some = some;
         few = omega arith;
         formed = tt;
@@ -92,6 +98,8 @@ module _ (mac : Mac) (d : Deployed) where
       let long = length_push t.lines line in
       let last = is.last in
       record {
+        sound = is.sound;
+        images = is.images;
         some = is.some;
         few = omega (arith, long, few);
         formed = formed_more d.names t.lines line is.formed form;
@@ -111,6 +119,8 @@ module _ (mac : Mac) (d : Deployed) where
       ap (λ (n : ℕ). n * t.every) many ∙ add-mul (length t.checkpoints) 1 t.every in
       let some = is.some in
       record {
+        sound = is.sound;
+        images = is.images;
         some = is.some;
         few = omega (arith, long, few);
         formed = formed_more d.names t.lines line is.formed form;

@@ -4,9 +4,11 @@ use Rattle.std.specs.Prelude.{slice_get, Option, Some, None}
 use Rattle.sx_tag.specs.Mac.{Mac}
 use Rattle.sx_sched.specs.Lines.{Line}
 use Rattle.sx_deploy.specs.Deployment.{Deployed}
+use Rattle.sx_deploy.specs.Law.{IsSoundDeployment}
 use Rattle.spec_run.specs.Setting.{Setting}
 use Rattle.spec_run.specs.Accepted.{setting}
 use Rattle.spec_run.specs.AcceptedLaw.{AreLines}
+use Rattle.spec_run.specs.Law.{IsSoundSetting}
 use Rattle.sx_world.specs.Held.{Held}
 use Rattle.sx_world.specs.Whole.{next}
 use Rattle.sx_world.specs.Standing.{Stands}
@@ -27,9 +29,12 @@ NextCheckpoint mac d t line None = length t.lines + 1 < length t.checkpoints * t
 NextCheckpoint mac d t line (Some held) = (length t.lines + 1 ≡ length t.checkpoints * t.every)
     × StandsAfter (setting mac d t.sites) (t.lines ++ line ∷ []) held
 
--- A timeline of this deployment: its lines are in form, and each checkpoint stands after as many of
--- them as its place says. There are as many checkpoints as the lines have room for.
+-- A timeline of this deployment, which is sound and at whose sites its modules' images are: its
+-- lines are in form, and each checkpoint stands after as many of them as its place says. There are
+-- as many checkpoints as the lines have room for.
 pub record IsTimeline (mac : Mac) (d : Deployed) (t : Kept) : Type 0 where
+  pub sound : IsSoundDeployment d
+  pub images : IsSoundSetting (setting mac d t.sites)
   pub some : 1 ≤ t.every
   pub few : length t.lines ≤ 65536
   pub formed : AreLines d.names t.lines

@@ -6,7 +6,8 @@ ghost use Rattle.sx_deploy.specs.Law.{IsSoundDeployment};
 ghost use Rattle.sx_deploy.specs.SeenDeployment.{deployed_as};
 ghost use Rattle.sx_sched.specs.InForm.{IsLine};
 ghost use Rattle.sx_sched.specs.Seen.{line_of};
-ghost use Rattle.spec_run.specs.Accepted.{setting};
+ghost use Rattle.spec_run.specs.Accepted.{AreImages, setting};
+ghost use Rattle.sx_image.specs.InMemory.{texts_of};
 ghost use Rattle.spec_run.specs.AcceptedLaw.{AreLines};
 ghost use Rattle.spec_run.specs.Law.{IsSoundSetting};
 ghost use Rattle.spec_run.specs.State.{nodes_from};
@@ -94,7 +95,8 @@ impl<B: Copied, T: Tag + Copy> Timeline<B, T> {
         every: u32,
     ) -> Result<Timeline<B, T>, AllocError>
         requires sound { IsSoundDeployment (deployed_as plan.now) }
-        requires images { length images.now ≡ length plan.now.app.parts.items }
+        requires many { length images.now ≡ length plan.now.app.parts.items }
+        requires images { AreImages T.mac (deployed_as plan.now) (texts_of images.now) }
         requires nodes { nodes.items ≡ nodes_from (image_setting T.mac plan.now images.now) 0
             (deployed_as plan.now).keys }
         requires some { 1 ≤ every }
@@ -125,8 +127,6 @@ impl<B: Copied, T: Tag + Copy> Timeline<B, T> {
     /// The world after this many lines: a copy of the nearest checkpoint at or before them, in
     /// which the lines from there were performed, fewer than `every`.
     fn world_at(&self, plan: &Deployment, at: usize) -> Result<World<B, T>, AllocError>
-        requires sound { IsSoundDeployment (deployed_as plan.now) }
-        requires images { IsSoundSetting (setting T.mac (deployed_as plan.now) self.now.sites) }
         requires timeline { IsTimeline T.mac (deployed_as plan.now) self.now }
         requires within { at ≤ length self.now.lines }
         ensures { IfOk result (λ world. StandsAfter
@@ -146,8 +146,6 @@ impl<B: Copied, T: Tag + Copy> Timeline<B, T> {
         plan: &Deployment,
         line: &Line,
     ) -> Result<Option<World<B, T>>, AllocError>
-        requires sound { IsSoundDeployment (deployed_as plan.now) }
-        requires images { IsSoundSetting (setting T.mac (deployed_as plan.now) self.now.sites) }
         requires timeline { IsTimeline T.mac (deployed_as plan.now) self.now }
         requires few { length self.now.lines < 65536 }
         requires form { IsLine (deployed_as plan.now).names (line_of line.now) }
@@ -189,8 +187,6 @@ impl<B: Copied, T: Tag + Copy> Timeline<B, T> {
     /// Adds a line after the others, and a checkpoint where it is time for one. After an error,
     /// which says that memory ran out, the timeline is as before.
     pub fn push(&mut self, plan: &Deployment, line: Line) -> Result<(), AllocError>
-        requires sound { IsSoundDeployment (deployed_as plan.now) }
-        requires images { IsSoundSetting (setting T.mac (deployed_as plan.now) self.old.sites) }
         requires timeline { IsTimeline T.mac (deployed_as plan.now) self.old }
         requires few { length self.old.lines < 65536 }
         requires form { IsLine (deployed_as plan.now).names (line_of line) }
@@ -210,8 +206,6 @@ impl<B: Copied, T: Tag + Copy> Timeline<B, T> {
 
     /// The world after this many lines.
     pub fn seek(&self, plan: &Deployment, at: u32) -> Result<World<B, T>, AllocError>
-        requires sound { IsSoundDeployment (deployed_as plan.now) }
-        requires images { IsSoundSetting (setting T.mac (deployed_as plan.now) self.now.sites) }
         requires timeline { IsTimeline T.mac (deployed_as plan.now) self.now }
         requires within { at ≤ length self.now.lines }
         ensures world { IfOk result (λ world. StandsAfter
@@ -225,8 +219,6 @@ impl<B: Copied, T: Tag + Copy> Timeline<B, T> {
 
     /// The items of the line with this number, counted from 1.
     pub fn items(&self, plan: &Deployment, at: u32) -> Result<Vec<Item>, AllocError>
-        requires sound { IsSoundDeployment (deployed_as plan.now) }
-        requires images { IsSoundSetting (setting T.mac (deployed_as plan.now) self.now.sites) }
         requires timeline { IsTimeline T.mac (deployed_as plan.now) self.now }
         requires some { 1 ≤ at }
         requires within { at ≤ length self.now.lines }

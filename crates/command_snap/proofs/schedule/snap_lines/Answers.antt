@@ -6,7 +6,6 @@ use Rattle.command_promise.proofs.Laws.{begun-line, begun-same, ends-same, ends-
 use Rattle.sx_deploy.specs.SeenDeployment.{deployed_as}
 use Rattle.sx_sched.specs.Lines as lines
 use Rattle.spec_run.specs.Accepted.{setting}
-use Rattle.spec_run.specs.Law.{IsSoundSetting}
 use Rattle.spec_run.specs.Setting.{Site}
 use Rattle.command_world.specs.Schedule.{judged_line}
 use Rattle.command_world.specs.Broken.{broken_output}
@@ -60,11 +59,6 @@ returns-in-Failed-clause-rest g c = λ limit m0 defined aside noted b.
     told-failed {f = snap_from d.names set images before} (asks_unread d.names set images before) (c.lines.invariant.begun limit m0 defined aside noted b)
     c.in-Failed.ensures.next (ends-same _ _ _ _ _ _ (asks_unread d.names set images before) c.finish.ensures.ends)
 
-pub answer_all-requires-clause-images : goal.answer_all-requires-clause-images
-answer_all-requires-clause-images g c =
-    let P : List Site → Type 0 = λ sites. IsSoundSetting (setting g.T.Tag.mac (deployed_as c.args.deployment.now) sites) in
-    subst P (sym c.lines.invariant.sites) c.requires.images
-
 pub returns-then-is_mark-clause-rest : goal.returns-then-is_mark-clause-rest
 returns-then-is_mark-clause-rest g c = λ limit m0 defined aside noted b.
     let mac = g.T.Tag.mac in
@@ -78,11 +72,6 @@ returns-then-is_mark-clause-rest g c = λ limit m0 defined aside noted b.
     (begun-same (answers c.lines.timeline.sites)
     (λ more. asks_mark d.names set images before text more (sym c.is_mark.ensures ∙ c.if-is_mark.true) ∙ ap (λ (sites : List Site). answers sites more) (sym c.lines.invariant.sites))
     (begun-line (snap_from d.names set images before) (asks_unread d.names set images before) (c.lines.invariant.begun limit m0 defined aside noted b) c.in-Text.ensures.next))
-
-pub keep-requires-clause-images : goal.keep-requires-clause-images
-keep-requires-clause-images g c =
-    let P : List Site → Type 0 = λ sites. IsSoundSetting (setting g.T.Tag.mac (deployed_as c.args.deployment.now) sites) in
-    subst P (sym c.lines.invariant.sites) c.requires.images
 
 pub returns-in-Err-Fault-clause-rest : goal.returns-in-Err-Fault-clause-rest
 returns-in-Err-Fault-clause-rest g c = λ limit m0 defined aside noted b.

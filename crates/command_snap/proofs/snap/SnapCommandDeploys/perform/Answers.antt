@@ -2,20 +2,11 @@ use Rattle.std.proofs.Common.{List, [], inl, map, refl, subst, sym, ap}
 use Rattle.command_promise.proofs.Laws.{begun-same, told-stop, ends-out-of-memory, prefix-none}
 use Rattle.sx_deploy.specs.SeenDeployment.{deployed_as}
 use Rattle.spec_run.specs.Accepted.{setting}
-use Rattle.spec_run.specs.Law.{IsSoundSetting}
 use Rattle.spec_run.specs.Setting.{Site}
-use Rattle.spec_run.proofs.accepted.Settled.{settled}
 use Rattle.command_head.proofs.Given.{given_none}
 use Rattle.command_world.specs.Images.{images_text}
 use Rattle.command_snap.specs.Output.{snap_deployed, snap_from}
 use Rattle.command_snap.proofs.snap.SnapCommandDeploys.perform.Goals as goal
-
-pub snap_built-requires-clause-images : goal.snap_built-requires-clause-images
-snap_built-requires-clause-images g c =
-    let d = deployed_as c.args.deployment.now in
-    let texts = map (λ i. i.text.items) c.args.images.now in
-    let P : List Site → Type 0 = λ sites. IsSoundSetting (setting g.T.Tag.mac d sites) in
-    subst P (sym c.in-Ok.ensures.sites) (settled g.T.Tag.mac d texts c.requires.sound c.requires.images g.met.T.Tag.is_tag)
 
 pub returns-in-Ok-clause-rest : goal.returns-in-Ok-clause-rest
 returns-in-Ok-clause-rest g c = λ limit m0 defined aside noted b.

@@ -5,6 +5,7 @@ use Rattle.sx_deploy.specs.SeenDeployment.{deployed_as}
 use Rattle.sx_sched.specs.Lines.{Line}
 use Rattle.sx_sched.specs.Seen.{line_of}
 use Rattle.spec_run.specs.Accepted.{setting}
+use Rattle.spec_run.specs.Law.{IsSoundSetting}
 use Rattle.spec_run.specs.Setting.{Site}
 use Rattle.spec_run.specs.State.{World}
 use Rattle.sx_world.specs.Whole.{next}
@@ -13,6 +14,14 @@ use Rattle.sx_snap.specs.Kept.{Kept}
 use Rattle.sx_snap.specs.Checkpoints.{StandsAfter}
 use Rattle.sx_snap.proofs.Stretches.{one_more}
 use Rattle.sx_snap.proofs.timeline.Timeline.next_checkpoint.Goals as goal
+
+pub act-requires-clause-sound : goal.act-requires-clause-sound
+act-requires-clause-sound g c = c.requires.timeline.sound
+
+pub act-requires-clause-images : goal.act-requires-clause-images
+act-requires-clause-images g c =
+    let P : List Site → Type 0 = λ sites. IsSoundSetting (setting g.T.Tag.mac (deployed_as c.args.plan.now) sites) in
+    subst P (sym c.in_ok-world.ensures.sites) c.requires.timeline.images
 
 pub returns : goal.returns
 returns g c =

@@ -9,6 +9,9 @@ use Rattle.sx_snap.specs.Kept.{Kept}
 use Rattle.sx_snap.proofs.Stretches.{from_checkpoint, same_run}
 use Rattle.sx_snap.proofs.timeline.Timeline.world_at.Goals as goal
 
+pub replay-requires-clause-sound : goal.replay-requires-clause-sound
+replay-requires-clause-sound g c = c.requires.timeline.sound
+
 pub replay-requires-clause-images : goal.replay-requires-clause-images
 replay-requires-clause-images g c =
     let d = deployed_as c.args.plan.now in
@@ -16,7 +19,7 @@ replay-requires-clause-images g c =
     let here = from_checkpoint g.T.Tag.mac d t c.self.inside.checkpoints.items c.self.inside.every c.args.at c.index-checkpoint.result.now c.in_ok-world.world
     (ap (λ (k : Kept). k.checkpoints) c.self.view_is) (ap (λ (k : Kept). k.every) c.self.view_is) c.requires.timeline c.requires.within c.index-checkpoint.ensures c.in_ok-world.ensures in
     let P : List Site → Type 0 = λ sites. IsSoundSetting (setting g.T.Tag.mac d sites) in
-    subst P (sym here.sites) c.requires.images
+    subst P (sym here.sites) c.requires.timeline.images
 
 pub replay-requires-clause-stands : goal.replay-requires-clause-stands
 replay-requires-clause-stands g c =
