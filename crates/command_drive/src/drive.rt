@@ -58,7 +58,6 @@ fn drive_built<S: Source, K: Sink, B: Copied, T: Tag>(
     images: &[Image],
     honest: &mut Honest<B, T>,
 ) -> u8
-    requires sound { IsSoundDeployment (deployed_as deployment.now) }
     requires names { IsTrue (are_valid (deployed_as deployment.now).names) }
     requires going { GoesOn T.mac deployment.now honest.old }
     requires memory { honest.old.ran_out ≡ false }

@@ -6,7 +6,6 @@ ghost use Rattle.command_promise.specs.Told.{CommandEnds, command_at, out_of_mem
 ghost use Rattle.command_promise.specs.Parts.{Rest};
 ghost use Rattle.command_promise.specs.Head.{head_lines};
 ghost use Rattle.sx_trace.specs.ValidNames.{are_valid};
-ghost use Rattle.sx_deploy.specs.Law.{IsSoundDeployment};
 ghost use Rattle.sx_deploy.specs.SeenDeployment.{deployed_as};
 ghost use Rattle.spec_run.specs.Setting.{Setting};
 ghost use Rattle.sx_drive.specs.Driving.{Follows, GoesOn, LosesNothing, all_said};
@@ -74,7 +73,6 @@ fn turn<K: Sink, B: Copied, T: Tag>(
     text: &[u8],
     number: u32,
 ) -> Turned
-    requires sound { IsSoundDeployment (deployed_as deployment.now) }
     requires names { IsTrue (are_valid (deployed_as deployment.now).names) }
     requires going { GoesOn T.mac deployment.now honest.old }
     requires memory { honest.old.ran_out ≡ false }
@@ -109,7 +107,6 @@ fn read_lines<S: Source, K: Sink, B: Copied, T: Tag>(
     honest: &mut Honest<B, T>,
     said: &mut Vec<Said>,
 ) -> u8
-    requires sound { IsSoundDeployment (deployed_as deployment.now) }
     requires names { IsTrue (are_valid (deployed_as deployment.now).names) }
     requires going { GoesOn T.mac deployment.now honest.old }
     requires memory { honest.old.ran_out ≡ false }
@@ -148,7 +145,6 @@ pub(crate) fn drive_run<S: Source, K: Sink, B: Copied, T: Tag>(
     deployment: &Deployment,
     honest: &mut Honest<B, T>,
 ) -> u8
-    requires sound { IsSoundDeployment (deployed_as deployment.now) }
     requires names { IsTrue (are_valid (deployed_as deployment.now).names) }
     requires going { GoesOn T.mac deployment.now honest.old }
     requires memory { honest.old.ran_out ≡ false }

@@ -3,7 +3,6 @@
 ghost use Rattle.std.specs.Prelude.{◌≡◌, ◌<◌, [], false, IsErr, IsTrue, Ok};
 ghost use Rattle.command_promise.specs.Told.{out_of_memory};
 ghost use Rattle.sx_trace.specs.ValidNames.{are_valid};
-ghost use Rattle.sx_deploy.specs.Law.{IsSoundDeployment};
 ghost use Rattle.sx_deploy.specs.SeenDeployment.{deployed_as};
 ghost use Rattle.sx_drive.specs.Driving.{GoesOn, IsDrivenSensor, LosesNothing, all_said, reading};
 ghost use Rattle.sx_drive.specs.Honest.{Driven, setup};
@@ -66,7 +65,6 @@ pub(crate) fn set_up<K: Sink, B: Copied, T: Tag>(
     honest: &mut Honest<B, T>,
     said: &mut Vec<Said>,
 ) -> Turned
-    requires sound { IsSoundDeployment (deployed_as deployment.now) }
     requires names { IsTrue (are_valid (deployed_as deployment.now).names) }
     requires going { GoesOn T.mac deployment.now honest.old }
     requires memory { honest.old.ran_out ≡ false }
@@ -93,7 +91,6 @@ pub(crate) fn read<K: Sink, B: Copied, T: Tag>(
     value: u16,
     said: &mut Vec<Said>,
 ) -> Turned
-    requires sound { IsSoundDeployment (deployed_as deployment.now) }
     requires names { IsTrue (are_valid (deployed_as deployment.now).names) }
     requires going { GoesOn T.mac deployment.now honest.old }
     requires memory { honest.old.ran_out ≡ false }

@@ -177,6 +177,7 @@ goes_popped mac d now new ks is goes = subst (λ (k : Kept). GoesOn mac d k) (sy
   set = goes.set;
   honest = with_waiting goes.honest ks;
   follows = popped mac d now ks goes.set goes.honest goes.follows;
+  deployed = goes.deployed;
   sound = goes.sound;
 })
 

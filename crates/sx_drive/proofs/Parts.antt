@@ -109,6 +109,7 @@ queue_goes mac d (Ok x) old new goes is =
         room = f.room;
         memory = f.memory;
       };
+      deployed = goes.deployed;
       sound = goes.sound;
     })
 queue_goes mac d (Err e) old new goes is = tt

@@ -145,5 +145,6 @@ still_goes mac d old new before after act goes did = record {
   set = goes.set;
   honest = (act goes.set goes.honest).honest;
   follows = (did goes.set goes.honest goes.follows).0;
+  deployed = goes.deployed;
   sound = goes.sound;
 }

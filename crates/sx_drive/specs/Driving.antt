@@ -12,6 +12,8 @@ use Rattle.sx_sched.specs.Lines.{Line}
 use Rattle.sx_sched.specs.Seen.{line_of}
 use Rattle.sx_deploy.specs.declared.deployment.Deployment.{Deployment}
 use Rattle.sx_deploy.specs.Deployment.{Deployed}
+use Rattle.sx_deploy.specs.Law.{IsSoundDeployment}
+use Rattle.sx_deploy.specs.SeenDeployment.{deployed_as}
 use Rattle.spec_run.specs.Setting.{Setting}
 use Rattle.spec_run.specs.Law.{IsSoundSetting}
 use Rattle.sx_world.specs.Held.{Held}
@@ -87,11 +89,13 @@ pub record Follows (mac : Mac) (deployment : Deployment) (kept : Kept) (set : Se
   pub room : h.world.lines ≤ MOST_LINES
   pub memory : kept.world.ran_out ≡ false
 
--- It stands where some honest run does, with images that realize their modules.
+-- It stands where some honest run of a deployment that is sound does, with images that realize their
+-- modules.
 pub record GoesOn (mac : Mac) (deployment : Deployment) (kept : Kept) : Type 0 where
   pub set : Setting
   pub honest : Honest
   pub follows : Follows mac deployment kept set honest
+  pub deployed : IsSoundDeployment (deployed_as deployment)
   pub sound : IsSoundSetting set
 
 -- what was said is a prefix of what is due, behind what was said before

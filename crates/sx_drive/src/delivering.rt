@@ -107,7 +107,6 @@ impl<B: Copied, T: Tag> Honest<B, T> {
         callee: Callee,
         said: &mut Vec<Said>,
     ) -> Result<(), AllocError>
-        requires sound { IsSoundDeployment (deployed_as deployment.now) }
         requires going { GoesOn T.mac deployment.now self.old }
         requires there { IsCallee (deployed_as deployment.now) (callee_of callee) }
         ensures does { Does T.mac deployment.now result self.old self.new said.old.items
@@ -133,7 +132,6 @@ impl<B: Copied, T: Tag> Honest<B, T> {
         packet: u32,
         said: &mut Vec<Said>,
     ) -> Result<(), AllocError>
-        requires sound { IsSoundDeployment (deployed_as deployment.now) }
         requires going { GoesOn T.mac deployment.now self.old }
         requires there { IsCallee (deployed_as deployment.now) (callee_of callee) }
         ensures does { Does T.mac deployment.now result self.old self.new said.old.items
@@ -159,7 +157,6 @@ impl<B: Copied, T: Tag> Honest<B, T> {
         packets: &[u32],
         said: &mut Vec<Said>,
     ) -> Result<(), AllocError>
-        requires sound { IsSoundDeployment (deployed_as deployment.now) }
         requires going { GoesOn T.mac deployment.now self.old }
         requires there { IsCallee (deployed_as deployment.now) (callee_of callee) }
         ensures does { Does T.mac deployment.now result self.old self.new said.old.items
@@ -190,7 +187,6 @@ impl<B: Copied, T: Tag> Honest<B, T> {
         place: u16,
         said: &mut Vec<Said>,
     ) -> Result<(), AllocError>
-        requires sound { IsSoundDeployment (deployed_as deployment.now) }
         requires going { GoesOn T.mac deployment.now self.old }
         requires node { node < length (deployed_as deployment.now).names.nodes }
         requires few { place < 16 }
@@ -223,7 +219,6 @@ impl<B: Copied, T: Tag> Honest<B, T> {
         node: u8,
         said: &mut Vec<Said>,
     ) -> Result<(), AllocError>
-        requires sound { IsSoundDeployment (deployed_as deployment.now) }
         requires going { GoesOn T.mac deployment.now self.old }
         requires node { node < length (deployed_as deployment.now).names.nodes }
         ensures does { Does T.mac deployment.now result self.old self.new said.old.items
@@ -258,7 +253,6 @@ impl<B: Copied, T: Tag> Honest<B, T> {
         packet: u32,
         said: &mut Vec<Said>,
     ) -> Result<(), AllocError>
-        requires sound { IsSoundDeployment (deployed_as deployment.now) }
         requires going { GoesOn T.mac deployment.now self.old }
         ensures does { Does T.mac deployment.now result self.old self.new said.old.items
             said.new.items (λ set. honest.delivers set packet) }
@@ -288,7 +282,6 @@ impl<B: Copied, T: Tag> Honest<B, T> {
         deployment: &Deployment,
         said: &mut Vec<Said>,
     ) -> Result<(), AllocError>
-        requires sound { IsSoundDeployment (deployed_as deployment.now) }
         requires going { GoesOn T.mac deployment.now self.old }
         ensures does { Does T.mac deployment.now result self.old self.new said.old.items
             said.new.items (λ set. honest.settles set honest.MOST_LINES) }

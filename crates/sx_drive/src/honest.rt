@@ -96,7 +96,6 @@ impl<B: Copied, T: Tag> Honest<B, T> {
         deployment: &Deployment,
         said: &mut Vec<Said>,
     ) -> Result<Drove, AllocError>
-        requires sound { IsSoundDeployment (deployed_as deployment.now) }
         requires going { self.old.ran_out ≡ false → GoesOn T.mac deployment.now self.old }
         ensures does { Does T.mac deployment.now result self.old self.new said.old.items
             said.new.items setup }
@@ -130,7 +129,6 @@ impl<B: Copied, T: Tag> Honest<B, T> {
         value: u16,
         said: &mut Vec<Said>,
     ) -> Result<Drove, AllocError>
-        requires sound { IsSoundDeployment (deployed_as deployment.now) }
         requires going { self.old.ran_out ≡ false → GoesOn T.mac deployment.now self.old }
         requires driven { IsDrivenSensor (deployed_as deployment.now) device }
         requires value { value < 32768 }

@@ -2,7 +2,6 @@
 
 ghost use Rattle.std.specs.Prelude.{◌≡◌, ◌<◌, ◌+◌, ◌++◌, ◌∷◌, [], false, length, map, OnErr, OnOk};
 ghost use Rattle.std.specs.Prelude.{vec_capacity, vec_len};
-ghost use Rattle.sx_deploy.specs.Law.{IsSoundDeployment};
 ghost use Rattle.sx_deploy.specs.SeenDeployment.{deployed_as};
 ghost use Rattle.sx_sched.specs.InForm.{IsLine};
 ghost use Rattle.sx_sched.specs.Seen.{line_of};
@@ -42,7 +41,6 @@ impl<B: Copied, T: Tag> Honest<B, T> {
 
     /// Performs a line, and keeps what it showed.
     fn act(&mut self, deployment: &Deployment, line: &Line) -> Result<(), AllocError>
-        requires sound { IsSoundDeployment (deployed_as deployment.now) }
         requires going { GoesOn T.mac deployment.now self.old }
         requires form { IsLine (deployed_as deployment.now).names (line_of line.now) }
         requires room { self.old.world.performed < 65536 }
@@ -87,7 +85,6 @@ impl<B: Copied, T: Tag> Honest<B, T> {
         line: Line,
         said: &mut Vec<Said>,
     ) -> Result<(), AllocError>
-        requires sound { IsSoundDeployment (deployed_as deployment.now) }
         requires going { GoesOn T.mac deployment.now self.old }
         requires form { IsLine (deployed_as deployment.now).names (line_of line) }
         requires room { is_full self.old ≡ false }
@@ -109,7 +106,6 @@ impl<B: Copied, T: Tag> Honest<B, T> {
         line: Line,
         said: &mut Vec<Said>,
     ) -> Result<(), AllocError>
-        requires sound { IsSoundDeployment (deployed_as deployment.now) }
         requires going { GoesOn T.mac deployment.now self.old }
         requires form { IsLine (deployed_as deployment.now).names (line_of line) }
         ensures does { Does T.mac deployment.now result self.old self.new said.old.items

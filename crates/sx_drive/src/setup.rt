@@ -55,7 +55,6 @@ impl<B: Copied, T: Tag> Honest<B, T> {
         callee: Callee,
         said: &mut Vec<Said>,
     ) -> Result<(), AllocError>
-        requires sound { IsSoundDeployment (deployed_as deployment.now) }
         requires going { GoesOn T.mac deployment.now self.old }
         requires there { IsCallee (deployed_as deployment.now) (callee_of callee) }
         ensures does { Does T.mac deployment.now result self.old self.new said.old.items
@@ -75,7 +74,6 @@ impl<B: Copied, T: Tag> Honest<B, T> {
         callee: Callee,
         said: &mut Vec<Said>,
     ) -> Result<(), AllocError>
-        requires sound { IsSoundDeployment (deployed_as deployment.now) }
         requires going { GoesOn T.mac deployment.now self.old }
         requires there { IsCallee (deployed_as deployment.now) (callee_of callee) }
         ensures does { Does T.mac deployment.now result self.old self.new said.old.items
@@ -101,7 +99,6 @@ impl<B: Copied, T: Tag> Honest<B, T> {
         callee: Callee,
         said: &mut Vec<Said>,
     ) -> Result<(), AllocError>
-        requires sound { IsSoundDeployment (deployed_as deployment.now) }
         requires going { GoesOn T.mac deployment.now self.old }
         requires there { IsCallee (deployed_as deployment.now) (callee_of callee) }
         ensures does { Does T.mac deployment.now result self.old self.new said.old.items
@@ -127,7 +124,6 @@ impl<B: Copied, T: Tag> Honest<B, T> {
         packets: &[u32],
         said: &mut Vec<Said>,
     ) -> Result<(), AllocError>
-        requires sound { IsSoundDeployment (deployed_as deployment.now) }
         requires going { GoesOn T.mac deployment.now self.old }
         requires there { IsCallee (deployed_as deployment.now) (callee_of callee) }
         ensures does { Does T.mac deployment.now result self.old self.new said.old.items
@@ -153,7 +149,6 @@ impl<B: Copied, T: Tag> Honest<B, T> {
         callee: Callee,
         said: &mut Vec<Said>,
     ) -> Result<(), AllocError>
-        requires sound { IsSoundDeployment (deployed_as deployment.now) }
         requires going { GoesOn T.mac deployment.now self.old }
         requires there { IsCallee (deployed_as deployment.now) (callee_of callee) }
         ensures does { Does T.mac deployment.now result self.old self.new said.old.items
@@ -174,7 +169,6 @@ impl<B: Copied, T: Tag> Honest<B, T> {
         callee: Callee,
         said: &mut Vec<Said>,
     ) -> Result<(), AllocError>
-        requires sound { IsSoundDeployment (deployed_as deployment.now) }
         requires going { GoesOn T.mac deployment.now self.old }
         requires there { IsCallee (deployed_as deployment.now) (callee_of callee) }
         ensures does { Does T.mac deployment.now result self.old self.new said.old.items
@@ -199,7 +193,6 @@ impl<B: Copied, T: Tag> Honest<B, T> {
         callee: Callee,
         said: &mut Vec<Said>,
     ) -> Result<(), AllocError>
-        requires sound { IsSoundDeployment (deployed_as deployment.now) }
         requires going { GoesOn T.mac deployment.now self.old }
         requires there { IsCallee (deployed_as deployment.now) (callee_of callee) }
         ensures does { Does T.mac deployment.now result self.old self.new said.old.items
@@ -218,7 +211,6 @@ impl<B: Copied, T: Tag> Honest<B, T> {
         m: u8,
         said: &mut Vec<Said>,
     ) -> Result<(), AllocError>
-        requires sound { IsSoundDeployment (deployed_as deployment.now) }
         requires going { GoesOn T.mac deployment.now self.old }
         ensures does { Does T.mac deployment.now result self.old self.new said.old.items
             said.new.items
@@ -238,7 +230,6 @@ impl<B: Copied, T: Tag> Honest<B, T> {
         deployment: &Deployment,
         said: &mut Vec<Said>,
     ) -> Result<(), AllocError>
-        requires sound { IsSoundDeployment (deployed_as deployment.now) }
         requires going { GoesOn T.mac deployment.now self.old }
         ensures does { Does T.mac deployment.now result self.old self.new said.old.items
             said.new.items honest.setup }
@@ -258,7 +249,6 @@ impl<B: Copied, T: Tag> Honest<B, T> {
         device: u8,
         said: &mut Vec<Said>,
     ) -> Result<(), AllocError>
-        requires sound { IsSoundDeployment (deployed_as deployment.now) }
         requires going { GoesOn T.mac deployment.now self.old }
         ensures does { Does T.mac deployment.now result self.old self.new said.old.items
             said.new.items
@@ -283,7 +273,6 @@ impl<B: Copied, T: Tag> Honest<B, T> {
         value: u16,
         said: &mut Vec<Said>,
     ) -> Result<(), AllocError>
-        requires sound { IsSoundDeployment (deployed_as deployment.now) }
         requires going { GoesOn T.mac deployment.now self.old }
         requires driven { IsDrivenSensor (deployed_as deployment.now) device }
         requires value { value < 32768 }

@@ -15,7 +15,7 @@ use Rattle.command_drive.proofs.lines.drive_run.Goals as goal
 pub returns-in-Stop-clause-rest : goal.returns-in-Stop-clause-rest
 returns-in-Stop-clause-rest g c = λ set f limit m0 defined aside noted b.
     let d = deployed_as c.args.deployment.now in
-    let there = are_there d set c.requires.sound (same_app g.T.Tag.mac c.args.deployment.now c.args.honest.now set (start set) f) in
+    let there = are_there d set c.requires.going.deployed (same_app g.T.Tag.mac c.args.deployment.now c.args.honest.now set (start set) f) in
     told-stop b
     (λ more.
     ends-same _ _ _ _ _ _ (drive_set_up d set more there) ((c.in-Stop.ensures.plays set (start set) f).0 (λ k more. drive_from d set k 1 more) more))
@@ -23,7 +23,7 @@ returns-in-Stop-clause-rest g c = λ set f limit m0 defined aside noted b.
 pub returns-clause-rest : goal.returns-clause-rest
 returns-clause-rest g c = λ set f limit m0 defined aside noted b.
     let d = deployed_as c.args.deployment.now in
-    let there = are_there d set c.requires.sound (same_app g.T.Tag.mac c.args.deployment.now c.args.honest.now set (start set) f) in
+    let there = are_there d set c.requires.going.deployed (same_app g.T.Tag.mac c.args.deployment.now c.args.honest.now set (start set) f) in
     let a = setup set (start set) in
     let left : Honest → List Answer → Output = λ k more. drive_from d set k 1 more in
     let p = c.in-On.ensures.plays set (start set) f in

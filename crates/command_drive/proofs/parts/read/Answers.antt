@@ -16,7 +16,7 @@ tell-requires-clause-named g c =
     subst P (sym c.deref.ensures.value)
     (does_named mac d c.reading-drove.result c.args.honest.now c.reading-drove.new.self c.args.said.now.items c.reading-drove.new.said.items
     (reading c.args.device c.args.value) c.reading-drove.ensures.does going
-    c.requires.none (reading_named mac d c.args.honest.now going.set going.honest c.args.device c.args.value c.requires.sound c.requires.driven c.requires.value going.follows))
+    c.requires.none (reading_named mac d c.args.honest.now going.set going.honest c.args.device c.args.value c.requires.going.deployed c.requires.driven c.requires.value going.follows))
 
 pub returns-clause-plays : goal.returns-clause-plays
 returns-clause-plays g c = λ set h f.

@@ -15,7 +15,7 @@ tell-requires-clause-named g c =
     let P : List Told → Type 0 = λ xs. AreNamed d.names (all_said xs) in
     subst P (sym c.deref.ensures.value)
     (does_named mac d c.setup-drove.result c.args.honest.now c.setup-drove.new.self c.args.said.now.items c.setup-drove.new.said.items setup c.setup-drove.ensures.does going
-    c.requires.none (setup_named mac d c.args.honest.now going.set going.honest c.requires.sound going.follows))
+    c.requires.none (setup_named mac d c.args.honest.now going.set going.honest c.requires.going.deployed going.follows))
 
 pub returns-clause-plays : goal.returns-clause-plays
 returns-clause-plays g c = λ set h f.

@@ -16,6 +16,7 @@ drive_built-requires-clause-going g c =
       set = set;
       honest = start set;
       follows = c.in-Ok.ensures.starts;
+      deployed = c.requires.sound;
       sound = settled mac d (map (λ i. i.text.items) c.args.images.now) c.requires.sound c.requires.images g.met.T.Tag.is_tag;
     }
 

@@ -9,6 +9,9 @@ use Rattle.sx_drive.specs.Driving.{Kept}
 use Rattle.sx_drive.proofs.Performed.{goes_sound, goes_going}
 use Rattle.sx_drive.proofs.honest.Honest.act.Goals as goal
 
+pub act-requires-clause-sound : goal.act-requires-clause-sound
+act-requires-clause-sound g c = c.requires.going.deployed
+
 pub act-requires-clause-images : goal.act-requires-clause-images
 act-requires-clause-images g c = subst (λ (k : Kept). IsSoundSetting (world_setting g.T.Tag.mac c.args.deployment.now k.world)) (sym c.self.view_is)
     (goes_sound g.T.Tag.mac c.args.deployment.now c.args.self.now c.requires.going)

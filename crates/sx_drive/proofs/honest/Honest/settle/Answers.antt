@@ -5,8 +5,8 @@ use Rattle.sx_drive.proofs.Remains.{does_err}
 use Rattle.sx_drive.proofs.Loops.{settle_all, settle_first, settle_on, settle_wanted, settle_none, settle_done, goes_popped, below_most, above_most}
 use Rattle.sx_drive.proofs.honest.Honest.settle.Goals as goal
 
-pub deliver-requires-clause-going : goal.deliver-requires-clause-going
-deliver-requires-clause-going g c =
+pub deliver-requires : goal.deliver-requires
+deliver-requires g c =
     goes_popped g.T.Tag.mac c.args.deployment.now c.loop-turn.self c.next_waiting.new.self (drop 1 c.loop-turn.self.waiting) c.in-Some.ensures.rest c.loop-turn.invariant.goes
 
 pub returns-in_err-deliver-in-Some-clause-does : goal.returns-in_err-deliver-in-Some-clause-does
