@@ -11,6 +11,9 @@ use Rattle.sx_sched.specs.Lines.{Line, Take, Give, Sense, Ask, Answer, Load, Cal
 use Rattle.sx_mean.specs.declared.apps.Link.{Link}
 use Rattle.sx_mean.specs.Application.{AppTree, PartTree}
 use Rattle.sx_mean.specs.Validity.{same_device}
+use Rattle.spec_invocation.specs.declared.protocol.TheConstants.{TAG_SIZE}
+use Rattle.spec_invocation.specs.Protocol.{attest_entry, event_size, input_entry, sample_entry}
+use Rattle.spec_invocation.specs.Protocol.{set_key_entry}
 use Rattle.spec_run.specs.Setting.{Setting}
 use Rattle.spec_run.specs.State.{World, Acted, switched_on}
 use Rattle.sx_world.specs.Whole.{next}
@@ -125,7 +128,7 @@ queues h = still (record {
 
 -- a packet that a call made is taken, and waits
 abbrev pub takes_one : Setting → ℕ → ℕ → Honest → Driven
-takes_one set n i h = then_ (says set (Take n (OUT_WINDOW + 24 * i) 24) h) queues
+takes_one set n i h = then_ (says set (Take n (OUT_WINDOW + event_size * i) event_size) h) queues
 
 -- as many, from the i-th on
 abbrev pub takes : Setting → ℕ → ℕ → ℕ → Honest → Driven
@@ -144,14 +147,14 @@ answers set x k = says set (Answer x.part 0 k)
 abbrev pub asks : Setting → Callee → Honest → Driven
 asks set x h =
     then_ (says set (Load x.part) h) (λ h1.
-    then_ (says set (Ask x.part) h1) (λ h2. each (hands set 1 x) (packets_of h2.shown) h2))
+    then_ (says set (Ask x.part) h1) (λ h2. each (hands set attest_entry x) (packets_of h2.shown) h2))
 
 -- its answer is taken and given to the deployer, and it gets each set-key packet that is sent then
 abbrev pub opens : Setting → Callee → Honest → Driven
 opens set x h =
-    then_ (says set (Take x.node OUT_WINDOW 16) h) (λ h1.
+    then_ (says set (Take x.node OUT_WINDOW TAG_SIZE) h) (λ h1.
     then_ (each (answers set x) (packets_of h1.shown) h1) (λ h2.
-    each (hands set 0 x) (packets_of h2.shown) h2))
+    each (hands set set_key_entry x) (packets_of h2.shown) h2))
 
 -- a module is set up
 abbrev pub sets_up : Setting → Callee → Honest → Driven
@@ -177,7 +180,7 @@ receiver_of app packet = option_and_then (target_of app) (slice_get packet 2)
 
 -- a packet is handed to its receiver, and what that makes waits behind the others
 abbrev pub receives : Setting → ℕ → Callee → Honest → Driven
-receives set k x h = then_ (hands set 2 x k h) (collects set x.node)
+receives set k x h = then_ (hands set input_entry x k h) (collects set x.node)
 
 -- the packet is delivered
 abbrev pub delivers : Setting → ℕ → Honest → Driven
@@ -206,7 +209,7 @@ driver_of app d = option_and_then (callee_at app)
 -- a driver is called, and what it makes waits
 abbrev pub samples : Setting → Callee → Honest → Driven
 samples set x h =
-    then_ (calls set 3 x h) (collects set x.node)
+    then_ (calls set sample_entry x h) (collects set x.node)
 
 -- a reading: a sensor and its value
 pub record Reading : Type 0 where

@@ -13,6 +13,7 @@ use crate::callee::{Callee, receiver_of};
 use crate::honest::Honest;
 use crate::said::Said;
 use crate::saying::MOST_LINES;
+use spec_invocation::protocol::{EVENT_SIZE, INPUT_ENTRY};
 use std::alloc::{AllocError, Global};
 use std::collections::VecDeque;
 use sx_bus::Copied;
@@ -26,12 +27,6 @@ const IN_WINDOW: u16 = 0x40;
 
 /// Where a call leaves its pieces.
 pub(crate) const OUT_WINDOW: u16 = 0x80;
-
-/// The entry of a module that takes an event.
-const INPUT: u16 = 2;
-
-/// The bytes of an event's packet.
-const EVENT_PACKET: u16 = 24;
 
 /// The most packets that an event makes.
 const MOST_PACKETS: u16 = 16;
@@ -197,8 +192,8 @@ impl<B: Copied, T: Tag> Honest<B, T> {
     {
         let take = Line::Take {
             node,
-            at: OUT_WINDOW + EVENT_PACKET * place,
-            len: EVENT_PACKET,
+            at: OUT_WINDOW + EVENT_SIZE * place,
+            len: EVENT_SIZE,
         };
         self.say(deployment, take, said)?;
         self.queue()
@@ -261,7 +256,7 @@ impl<B: Copied, T: Tag> Honest<B, T> {
     {
         match self.receiver(deployment, packet) {
             Some(callee) => {
-                self.hand(deployment, INPUT, callee, packet, said)?;
+                self.hand(deployment, INPUT_ENTRY, callee, packet, said)?;
                 self.collect(deployment, callee.node, said)
             }
             None => Ok(()),

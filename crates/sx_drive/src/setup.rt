@@ -4,6 +4,7 @@ ghost use Rattle.std.specs.Prelude.{◌≡◌, ◌<◌, length, IfOk, OnOk};
 ghost use Rattle.sx_deploy.specs.Law.{IsSoundDeployment};
 ghost use Rattle.sx_deploy.specs.SeenDeployment.{deployed_as};
 ghost use Rattle.sx_sched.specs.Lines.{Ask};
+ghost use Rattle.spec_invocation.specs.Protocol.{attest_entry};
 ghost use Rattle.sx_drive.specs.Honest.{each, packets_of, says, then_};
 ghost use Rattle.sx_drive.specs.Honest as honest;
 ghost use Rattle.sx_drive.specs.Driving.{Does, GoesOn, IsCallee, IsDrivenSensor, callee_of};
@@ -13,23 +14,12 @@ use crate::callee::{Callee, callee_at, driver_of};
 use crate::delivering::{OUT_WINDOW, packets_of};
 use crate::honest::Honest;
 use crate::said::Said;
+use spec_invocation::protocol::{ATTEST_ENTRY, SAMPLE_ENTRY, SET_KEY_ENTRY, TAG_SIZE};
 use std::alloc::AllocError;
 use sx_bus::Copied;
 use sx_deploy::deployment::Deployment;
 use sx_sched::lines::Line;
 use sx_tag::Tag;
-
-/// The entry of a module that takes a set-key packet.
-const SET_KEY: u16 = 0;
-
-/// The entry of a module that attests it.
-const ATTEST: u16 = 1;
-
-/// The entry of a driver that takes its sensor's value.
-const SAMPLE: u16 = 3;
-
-/// The bytes of an answer.
-const ANSWER: u16 = 16;
 
 /// How many modules a deployment has.
 fn modules(deployment: &Deployment) -> u8
@@ -78,7 +68,7 @@ impl<B: Copied, T: Tag> Honest<B, T> {
         requires there { IsCallee (deployed_as deployment.now) (callee_of callee) }
         ensures does { Does T.mac deployment.now result self.old self.new said.old.items
             said.new.items (λ set h. then_ (says set (Ask callee.part) h) (λ h2.
-            each (honest.hands set 1 (callee_of callee)) (packets_of h2.shown) h2)) }
+            each (honest.hands set attest_entry (callee_of callee)) (packets_of h2.shown) h2)) }
         ensures goes_on { OnOk result (GoesOn T.mac deployment.now self.new) }
         ensures ran_out { self.new.ran_out ≡ self.old.ran_out }
     {
@@ -89,7 +79,7 @@ impl<B: Copied, T: Tag> Honest<B, T> {
             },
             said,
         )?;
-        self.hand_shown(deployment, ATTEST, callee, said)
+        self.hand_shown(deployment, ATTEST_ENTRY, callee, said)
     }
 
     /// Loads a module and asks it, and hands it the packet that it is sent: it attests itself.
@@ -179,11 +169,11 @@ impl<B: Copied, T: Tag> Honest<B, T> {
         let take = Line::Take {
             node: callee.node,
             at: OUT_WINDOW,
-            len: ANSWER,
+            len: TAG_SIZE,
         };
         self.say(deployment, take, said)?;
         self.answer_shown(deployment, callee, said)?;
-        self.hand_shown(deployment, SET_KEY, callee, said)
+        self.hand_shown(deployment, SET_KEY_ENTRY, callee, said)
     }
 
     /// Sets a module up.
@@ -258,7 +248,7 @@ impl<B: Copied, T: Tag> Honest<B, T> {
     {
         match driver_of(deployment, device) {
             Some(callee) => {
-                self.call(deployment, SAMPLE, callee, said)?;
+                self.call(deployment, SAMPLE_ENTRY, callee, said)?;
                 self.collect(deployment, callee.node, said)
             }
             None => Ok(()),
