@@ -52,9 +52,9 @@ impl From<AllocError> for GatherFault {
 
 /// Whether a text of this many bytes would be too long with this line.
 fn passes(count: usize, line: &[u8]) -> bool
-    requires { count ≤ 262144 }
+    requires { count ≤ MOST_BYTES }
     ensures value { result ≡ nat_lt most_bytes (count + (length line.now + 1)) }
-    ensures fits { result ≡ false → count + (length line.now + 1) ≤ 262144 }
+    ensures fits { result ≡ false → count + (length line.now + 1) ≤ MOST_BYTES }
 {
     line.len() >= MOST_BYTES - count
 }

@@ -96,7 +96,7 @@ fn take_line(code: &mut Code, number: u32, text: &[u8]) -> bool
     requires { length text.now ≤ 4096 }
     ensures taken { IsTrue result → (bytes : List ℕ) × (line_bytes number text.now ≡ Some bytes)
         × KeepsMore code.old code.new bytes }
-    ensures few { IsTrue result → number ≤ 65536 }
+    ensures few { IsTrue result → number ≤ MOST_LINES }
     ensures bad { result ≡ false → line_bytes number text.now ≡ None }
 {
     if number > MOST_LINES {
@@ -136,7 +136,7 @@ fn read_code<S: Source>(input: &mut S, code: &mut Code) -> Reading
 
 /// Whether this many bytes can be listed from this address on.
 fn is_listed(at: u16, count: usize) -> bool
-    requires { count ≤ 8192 }
+    requires { count ≤ MOST_CODE }
     ensures value { result ≡ is_listed at count }
     ensures even { IsTrue result → count % 2 ≡ 0 }
     ensures fits { IsTrue result → at + count ≤ 65536 }

@@ -17,7 +17,7 @@ ghost use Rattle.command_drive.specs.Parts.{drive_from, TellsSaid, TurnsFrom};
 ghost use Rattle.command_drive.specs.Input.{MayRunOut, judged_reading, rule_number};
 
 use crate::parts::{read, set_up};
-use crate::readings::{ReadingLine, ReadingRule, judge_reading};
+use crate::readings::{MOST_LINES, ReadingLine, ReadingRule, judge_reading};
 use command_promise::{READ_FAILED, Turned, finish};
 use command_text::fault::finish_fault;
 use command_text::text::{Text, put};
@@ -86,7 +86,7 @@ fn turn<K: Sink, B: Copied, T: Tag>(
         (all_said said.new.items) result }
     ensures lossless { LosesNothing honest.old.world honest.new.world []
         (all_said said.new.items) }
-    ensures few { result ≡ Turned.On → number ≤ 65536 }
+    ensures few { result ≡ Turned.On → number ≤ MOST_LINES }
 {
     said.clear();
     match judge_reading(deployment, number, text) {

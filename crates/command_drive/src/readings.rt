@@ -40,7 +40,7 @@ impl ReadingRule {
 }
 
 /// There are at most this many lines of readings, blank ones counted.
-const MOST_LINES: u32 = 65_536;
+pub(crate) const MOST_LINES: u32 = 65_536;
 
 /// What a line of readings says.
 #[derive(Clone, Copy)]
@@ -126,7 +126,7 @@ pub(crate) fn judge_reading(
     requires names { IsTrue (are_valid (deployed_as deployment.now).names) }
     ensures reading { result ≡ judged_reading (deployed_as deployment.now) number text.now }
     ensures given { IfOk result (IsGiven (deployed_as deployment.now)) }
-    ensures few { OnOk result (number ≤ 65536) }
+    ensures few { OnOk result (number ≤ MOST_LINES) }
 {
     if number > MOST_LINES {
         return Err(ReadingRule::TooMany);

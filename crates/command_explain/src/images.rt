@@ -39,7 +39,7 @@ const MOST_IMAGES: u32 = 32;
 /// What the line of this number is, by its first bytes and how many it has.
 pub fn front_line(number: u32, front: &[u8; 8], count: u32) -> ImageLine
     ensures line { result ≡ front_line number front.now count }
-    ensures few { result ≡ ImageLine.Image → number ≤ 32 }
+    ensures few { result ≡ ImageLine.Image → number ≤ MOST_IMAGES }
     ensures room { length front.now ≡ 8 }
 {
     if count == 5 && &front[..5] == b"trace".as_slice() {

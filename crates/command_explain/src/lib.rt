@@ -20,5 +20,5 @@ mod trace;
 
 pub use explain::explain_over;
 pub use images::{ImageLine, front_line};
-pub use lines::{TraceLine, TraceRule, judge_line, rule_behind};
+pub use lines::{MOST_LINES, TraceLine, TraceRule, judge_line, rule_behind};
 pub use text::{break_off, put_forged, put_number};

@@ -20,7 +20,7 @@ pub enum TraceLine {
 }
 
 /// A trace has at most this many lines.
-const MOST_LINES: u32 = 4_000_000;
+pub const MOST_LINES: u32 = 4_000_000;
 
 /// The rules that a line after a deployment can break, by which it is refused.
 #[derive(Clone, Copy)]
@@ -78,7 +78,7 @@ fn line_of(names: &Names, text: &[u8]) -> Option<TraceLine>
 /// What the line of this number says, counted from 1, or the first rule that it breaks.
 fn kept(line: Option<TraceLine>, number: u32) -> Result<TraceLine, TraceRule>
     ensures line { result ≡ judged_line number line }
-    ensures few { OnOk result (number ≤ 4000000) }
+    ensures few { OnOk result (number ≤ MOST_LINES) }
 {
     match line {
         None => Err(TraceRule::NoItem),
@@ -96,7 +96,7 @@ pub fn judge_line(names: &Names, text: &[u8], number: u32) -> Result<TraceLine, 
     requires { IsTrue (are_valid names.now) }
     ensures line { (means : Meanings) → AreMeanings means
         → result ≡ judged_line number (line_of (means.item names.now) text.now) }
-    ensures few { OnOk result (number ≤ 4000000) }
+    ensures few { OnOk result (number ≤ MOST_LINES) }
 {
     kept(line_of(names, text), number)
 }

@@ -26,19 +26,19 @@ const BROKEN: u8 = 3;
 const ILLEGAL: u8 = 8;
 
 /// The most bytes that are kept.
-const MOST: usize = 4096;
+pub(crate) const ROOM: usize = 4096;
 
 /// The most bytes that are said of an item.
-const LONGEST_LINE: usize = 96;
+pub(crate) const LONGEST_LINE: usize = 96;
 
 /// Lines that are kept, to be written together.
-pub(crate) type Kept = ArrayVec<u8, MOST>;
+pub(crate) type Kept = ArrayVec<u8, ROOM>;
 
 /// Whether there is room for what is said of one more item.
 pub(crate) fn has_room(kept: &Kept) -> bool
-    ensures { result ≡ true → length kept.now.items + 96 ≤ 4096 }
+    ensures { result ≡ true → length kept.now.items + LONGEST_LINE ≤ ROOM }
 {
-    kept.len() <= MOST - LONGEST_LINE
+    kept.len() <= ROOM - LONGEST_LINE
 }
 
 /// Writes all that is kept.
@@ -99,7 +99,7 @@ fn last_text(judge: &Judge) -> Text
 
 /// Keeps which item caused an item, which there is room for.
 fn keep_because(kept: &mut Kept, number: u32, cause: u64)
-    requires { length kept.old.items + 96 ≤ 4096 }
+    requires { length kept.old.items + LONGEST_LINE ≤ ROOM }
     ensures { kept.new.items ≡ kept.old.items ++ because_line number cause }
 {
     put(kept, b"because ");
@@ -140,7 +140,7 @@ pub(crate) fn keep_said<K: Sink>(
     number: u32,
     said: Judged,
 ) -> Turned
-    requires room { length kept.old.items + 96 ≤ 4096 }
+    requires room { length kept.old.items + LONGEST_LINE ≤ ROOM }
     ensures does { TellsItem K.tells (K.at output.old) (K.at output.new) kept.old.items
         kept.new.items number said result }
     ensures legal { result ≡ Turned.On → said ≢ Judged.Illegal }

@@ -17,9 +17,10 @@ ghost use Rattle.command_explain.specs.Meant.{AreMeanings, Meanings};
 ghost use Rattle.command_explain.specs.Trace.{stop_behind, trace_lines};
 ghost use Rattle.command_explain.specs.Turns.{ComesNext, JudgesFrom, TraceWants};
 
-use crate::lines::{TraceLine, TraceRule, judge_line, rule_behind};
+use crate::lines::{MOST_LINES, TraceLine, TraceRule, judge_line, rule_behind};
 use crate::text::{
-    Kept, break_kept, break_off, finish_legal, finish_wanted, has_room, keep_said, put_kept,
+    Kept, LONGEST_LINE, ROOM, break_kept, break_off, finish_legal, finish_wanted, has_room,
+    keep_said, put_kept,
 };
 use command_promise::{OUT_OF_MEMORY, READ_FAILED, Turned, WRITE_FAILED, finish};
 use std::alloc::Global;
@@ -32,7 +33,7 @@ use sx_trace::items::Item;
 /// The next line of a trace, where it is held and there is room for what is said of it.
 fn next_held(lines: &mut Lines, kept: &Kept, into: &mut [u8; 4096]) -> Option<usize>
     ensures held { IfSome result (λ n. GivesHeld lines.old lines.new into.new (Some n)) }
-    ensures room { IfSome result (λ n. length kept.now.items + 96 ≤ 4096) }
+    ensures room { IfSome result (λ n. length kept.now.items + LONGEST_LINE ≤ ROOM) }
     ensures none { result ≡ None → lines.new ≡ lines.old }
 {
     if !has_room(kept) {
@@ -53,7 +54,7 @@ fn next_line<S: Source, K: Sink>(
     ensures comes { ComesNext S.tells K.tells (command_at (S.at input.old) (K.at output.old))
         (command_at (S.at input.new) (K.at output.new)) kept.old.items kept.new.items lines.old
         lines.new into.new result }
-    ensures room { OnOk result (length kept.new.items + 96 ≤ 4096) }
+    ensures room { OnOk result (length kept.new.items + LONGEST_LINE ≤ ROOM) }
 {
     match next_held(lines, kept, into) {
         Some(count) => Ok(LineRead::Text(count)),
@@ -76,8 +77,8 @@ fn turn<K: Sink>(
     number: u32,
 ) -> Turned
     requires valid { is_valid (app_as app.now) ≡ true }
-    requires few { judge.old.taken < 4000000 }
-    requires room { length kept.old.items + 96 ≤ 4096 }
+    requires few { judge.old.taken < MOST_LINES }
+    requires room { length kept.old.items + LONGEST_LINE ≤ ROOM }
     ensures judges { JudgesFrom K.tells (K.at output.old) (K.at output.new) kept.old.items
         kept.new.items (app_as app.now) judge.old judge.new number item.now result }
     ensures memory { result ≡ Turned.Stop out_of_memory → judge.old.has_forged ≡ false }

@@ -35,9 +35,9 @@ pub fn is_mark(text: &[u8]) -> bool
 
 /// Whether a head of this many bytes would be too long with this line.
 fn passes(count: usize, line: &[u8]) -> bool
-    requires { count ≤ 262144 }
+    requires { count ≤ MOST_BYTES }
     ensures value { result ≡ nat_lt most_bytes (count + length line.now + 1) }
-    ensures fits { result ≡ false → count + length line.now + 1 ≤ 262144 }
+    ensures fits { result ≡ false → count + length line.now + 1 ≤ MOST_BYTES }
 {
     line.len() >= MOST_BYTES - count
 }

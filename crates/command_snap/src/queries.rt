@@ -39,7 +39,7 @@ impl QueryRule {
 }
 
 /// There are at most this many lines of queries, blank ones counted.
-const MOST_LINES: u32 = 64;
+pub(crate) const MOST_LINES: u32 = 64;
 
 /// What a line asks. `at` is how many lines of the schedule were performed.
 #[derive(Clone, Copy)]
@@ -156,7 +156,7 @@ pub(crate) fn judge_query(
     requires { IsTrue (are_valid names.now) }
     ensures query { result ≡ judged_query names.now last number text.now }
     ensures asked { IfOk result (IsAsked names.now last) }
-    ensures few { OnOk result (number ≤ 64) }
+    ensures few { OnOk result (number ≤ MOST_LINES) }
 {
     if number > MOST_LINES {
         return Err(QueryRule::TooMany);

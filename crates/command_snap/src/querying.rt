@@ -18,7 +18,7 @@ ghost use Rattle.command_snap.specs.Answers.{answer_text};
 ghost use Rattle.command_snap.specs.Output.{answers_from, query_fault};
 
 use crate::answers::{Range, bytes_line, items_text, registers_line};
-use crate::queries::{Query, QueryRule, judge_query};
+use crate::queries::{MOST_LINES, Query, QueryRule, judge_query};
 use command_promise::{OUT_OF_MEMORY, READ_FAILED, Turned, finish, put_text};
 use command_text::fault::finish_fault;
 use std::alloc::{AllocError, Global};
@@ -175,7 +175,7 @@ fn turn<K: Sink, B: Copied, T: Tag + Copy>(
         (setting T.mac (deployed_as deployment.now) timeline.now.sites) timeline.now.lines in
         DoesPart K.tells (K.at output.old) (K.at output.new)
         (λ more. ask number (Line said.now ∷ more)) result (ask (number + 1)) }
-    ensures few { result ≡ Turned.On → number ≤ 64 }
+    ensures few { result ≡ Turned.On → number ≤ MOST_LINES }
     ensures memory { result ≡ Turned.Stop out_of_memory → IsOk (judged_query
         (deployed_as deployment.now).names (length timeline.now.lines) number said.now) }
 {

@@ -40,7 +40,7 @@ fn new_timeline<T: Tag + Copy>(
     ensures sites { IfOk result (λ t.
         t.sites ≡ (image_setting T.mac deployment.now images.now).sites) }
     ensures lines { IfOk result (λ t. t.lines ≡ []) }
-    ensures every { IfOk result (λ t. t.every ≡ 8192) }
+    ensures every { IfOk result (λ t. t.every ≡ EVERY) }
 {
     let nodes = nodes_of(alloc, tag, deployment)?;
     Timeline::new(alloc, tag, deployment, images, nodes, EVERY)

@@ -14,7 +14,7 @@ ghost use Rattle.command_watch.specs.Output.{stop_output, watch_from};
 
 use crate::following::Following;
 use crate::text::{finish_broken, finish_kept};
-use command_explain::{TraceLine, TraceRule, break_off, judge_line, rule_behind};
+use command_explain::{MOST_LINES, TraceLine, TraceRule, break_off, judge_line, rule_behind};
 use command_promise::{OUT_OF_MEMORY, READ_FAILED, Turned, finish};
 use std::alloc::Global;
 use sx_io::{LineRead, Lines, Sink, Source};
@@ -50,7 +50,7 @@ fn watch_end<S: Source, K: Sink>(
     count: u32,
 ) -> u8
     requires names { IsTrue (are_valid names.now) }
-    requires few { count < 4000000 }
+    requires few { count < MOST_LINES }
     ensures { (means : Meanings) (p : PropertyTree) (items : List Listed) → AreMeanings means
         → Stands p items following.now → count ≡ length items
         → Rest S.tells K.tells trace_lines lines.old
