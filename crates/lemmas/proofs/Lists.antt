@@ -1,15 +1,15 @@
--- Lists: what stands at a place of a list, and what follows it.
+-- Lists: what is at a place of a list, and what follows it.
 use Rattle.std.proofs.Common.{◌≡◌, ℕ, zero, suc, ◌+◌, ◌<◌, List, [], ◌∷◌, ◌++◌, length, get_or, drop, replicate, Some, refl, sym, ap, ◌∙◌, add-one, arith}
 use Rattle.std.specs.Prelude.{slice_get, slice_set, slice_index}
 use Rattle.std.proofs.Math.Seq.{drop-cons}
 
--- an element stands within a list
+-- an element is within a list
 pub get_some : {A : Type 0} → (xs : List A) (i : ℕ) → i < length xs → (x : A) × (slice_get xs i ≡ Some x)
 get_some [] i h = absurd (omega (arith, h))
 get_some (x ∷ xs) zero h = (x, refl)
 get_some (x ∷ xs) (suc i) h = get_some xs i (omega (arith, h))
 
--- the element behind a list
+-- the element after a list
 pub get_mid : {A : Type 0} → (xs ys : List A) (x : A) → slice_get (xs ++ x ∷ ys) (length xs) ≡ Some x
 get_mid [] ys x = refl
 get_mid (z ∷ xs) ys x = get_mid xs ys x
@@ -25,7 +25,7 @@ get_same [] i v w e = absurd (cc)
 get_same (x ∷ xs) zero v w e = refl
 get_same (x ∷ xs) (suc i) v w e = get_same xs i v w e
 
--- in a list of zeros, and behind it, each element is 0
+-- in a list of zeros, and after it, each element is 0
 pub zero_at : (n k : ℕ) → slice_index (replicate n 0) k ≡ 0
 zero_at zero k = refl
 zero_at (suc n) zero = refl

@@ -1,4 +1,4 @@
--- The grammar. `IsExpression form d ts e rest` says: an expression e of this form stands at the
+-- The grammar. `IsExpression form d ts e rest` says: an expression e of this form is at the
 -- start of the tokens ts, inside d open brackets and unary operators, and rest follows it. The
 -- other relations say the same of their parts.
 use Rattle.std.specs.Prelude.{◌≡◌, ℕ, ◌+◌, List, [], ◌∷◌, ◌++◌, Bool, true, Option, Some, None}
@@ -112,7 +112,7 @@ mutual
     statement : {d : ℕ} {ts us rest : List Token} {s : Statement} {x : Block}
         → IsStatement d ts s us → AreStatements d us x rest → AreStatements d ts (Then s x) rest
 
--- A declaration stands outside of all brackets, so its own break no bound; nor do those of a
+-- A declaration is outside of all brackets, so its own break no bound; nor do those of a
 -- handler's head.
 pub data IsDeclaration : List Token → Decl → List Token → Type 0 where
   sensor : {a b : Bool} {rest : List Token} → IsDeclaration

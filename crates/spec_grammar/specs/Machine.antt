@@ -289,7 +289,7 @@ abbrev pub is_else : Kind → Bool
 is_else Else = true
 is_else _ = false
 
--- what is required once a token was read, if it may stand here: a part that may be left out is
+-- what is required once a token was read, if it may be here: a part that may be left out is
 -- passed over by a token that isn't its own
 abbrev pub step : (ℕ → Bool) → List Symbol → List Value → Kind → Option MachineState
 step room [] vs k = None

@@ -58,7 +58,7 @@ abbrev pub added : List Kind → List Token
 added [] = []
 added (k ∷ ks) = token k false ∷ added ks
 
--- The bound: where it is asked, one more of these may stand where n stand already only if n is
+-- The bound: where it is asked, one more of these may be where n are already only if n is
 -- below 48. It is the same for brackets and unary operators that are open at a time, and for
 -- operators in one sum and in one term.
 abbrev pub fits : Bool → ℕ → Bool

@@ -1,4 +1,4 @@
--- Where the source model stands as an honest run's course says. This is what each reading and each delivery keeps.
+-- Where the source model is as an honest run's course says. This is what each reading and each delivery keeps.
 use Rattle.std.proofs.Common.{◌≡◌, ℕ, ◌<◌, false, List, [], ◌++◌, length, map, Some, None, slice_get}
 use Rattle.std.specs.Prelude.{slice_index_or}
 use Rattle.sx_lang.specs.declared.sides.Side.{Side}

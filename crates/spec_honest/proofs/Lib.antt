@@ -1,4 +1,4 @@
--- Begin with Agreement: where the source model stands as the course says; Setup, Events, Sending
+-- Begin with Agreement: where the source model agrees with the course; Setup, Events, Sending
 -- and Agreed keep it, Course leads it along all readings. Honest and AsPlain are the laws.
 pub mod Agreement
 pub mod Computed

@@ -170,7 +170,7 @@ module _ (app : AppTree) (s : Model) (p : ℕ) (q : PartTree) (z : Standing) (pa
       ∙ ap (λ (k : ℕ). after app (with_standing s p (record y { present = Some (record { cells = cells; ends = opened k (ends_of app p); pending = None }) })) (open_items p rest)) (sym n)
       ∙ opens_ran y cells may node ordered (front ++ e ∷ []) rest (all ∙ sym (append_assoc front (e ∷ []) rest))
 
--- Where the set-up stands before the p-th part.
+-- Where the set-up is before the p-th part.
 
 record Ready (app : AppTree) (p : ℕ) (s : Model) : Type 0 where
   boots : s.boots ≡ replicate app.nodes 0

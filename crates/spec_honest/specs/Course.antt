@@ -67,7 +67,7 @@ setup_lines app = parts_lines app 0 app.parts
 
 -- Readings and deliveries.
 
--- where an honest run stands: the plain fold, the values that were delivered with the first
+-- where an honest run is: the plain fold, the values that were delivered with the first
 -- first, and the items so far
 pub record Course : Type 0 where
   pub plain : Plain
@@ -108,7 +108,7 @@ abbrev pub goes_in_items : AppTree → Waiting → ℕ → ℕ → List (List �
 goes_in_items app w i number cells l = event_items app l.to (event.Input l.input w.value)
     (item.Take l.to w.link i w.value) number cells
 
--- the oldest value is delivered, and these wait behind it
+-- the oldest value is delivered, and these wait after it
 abbrev pub delivered : AppTree → Waiting → List Waiting → Course → Course
 delivered app w ws c = record {
   plain = delivers app w ws c.plain;

@@ -31,7 +31,7 @@ pub record Sampling : Type 0 where
   pub device : ℕ
   pub value : ℕ
 
--- where the fold stands: each module's cells, the values on their way with the oldest first, and
+-- where the fold is: each module's cells, the values on their way with the oldest first, and
 -- the outputs so far
 pub record Plain : Type 0 where
   pub cells : List (List ℕ)
@@ -75,7 +75,7 @@ acts_emit acts = flat_map act_emits acts
 abbrev pub reaction : ℕ → PartTree → SourceEvent → List (List ℕ) → HandlerState
 reaction p q e cells = react q.tree e (slice_index_or cells p [])
 
--- after a module's event: its new cells; what it sends waits behind all others; what it emits is
+-- after a module's event: its new cells; what it sends waits after all others; what it emits is
 -- put out
 abbrev pub reacted : AppTree → ℕ → SourceEvent → Plain → PartTree → Plain
 reacted app p e s q = let h = reaction p q e s.cells in record {
@@ -92,7 +92,7 @@ reacts app p e s = option_map_or (reacted app p e s) (slice_get app.parts p) s
 abbrev pub goes_in : AppTree → ℕ → Plain → Link → Plain
 goes_in app v s l = reacts app l.to (event.Input l.input v) s
 
--- the oldest value arrives, and these wait behind it
+-- the oldest value arrives, and these wait after it
 abbrev pub delivers : AppTree → Waiting → List Waiting → Plain → Plain
 delivers app w ws s = let t = record s { waiting = ws } in
     option_map_or (goes_in app w.value t) (slice_get app.links w.link) t
@@ -106,7 +106,7 @@ abbrev pub takes_reading : AppTree → Sampling → Plain → Plain
 takes_reading app r s =
     option_map_or (λ p. reacts app p (event.Sample r.value) s) (driver_of app r.device) s
 
--- what is made of the oldest that waits and of those behind it, where one waits
+-- what is made of the oldest that waits and of those after it, where one waits
 abbrev pub oldest : {A : Type 0} → A → (Waiting → List Waiting → A) → List Waiting → A
 oldest none some [] = none
 oldest none some (w ∷ ws) = some w ws

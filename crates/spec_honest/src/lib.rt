@@ -8,8 +8,8 @@
 //! order, and the outputs are those of the plain fold (`specs/Plain.antt`), which knows modules and
 //! connections alone. `specs/Told.antt` says what is read off items.
 //!
-//! In `proofs/` read `Agreement.antt` first: where the source model stands as the course says. That
-//! the run of a schedule shows these items is the work of the crates above. No code stands here.
+//! In `proofs/` read `Agreement.antt` first: where the source model agrees with the course. That
+//! the run of a schedule shows these items is the work of the crates above. No code is here.
 #![tactic(auto)]
 
 pub mod laws;

@@ -18,7 +18,7 @@ use Rattle.spec_invocation.specs.Marks.{Wrapped, Actuated}
 use Rattle.spec_invocation.specs.Windows.{two, write_bytes}
 use Rattle.spec_invocation.specs.Progress.{Progress, Course, Going, Broken, and_on, with_end_marked}
 
--- Pieces. The packets stand in the out-window one after the other.
+-- Pieces. The packets are in the out-window one after the other.
 
 -- a copy to the out-window that was made, or was refused
 abbrev pub copied_to : Result (List ℕ) Violation → Progress → Course
@@ -64,7 +64,7 @@ with_packets s c output v k (e ∷ es) p =
     (with_packets s c output v (k + 1) es)
     else with_packets s c output v (k + 1) es p
 
--- the module's device: the one whose word stands at the start of its private section
+-- the module's device: the one whose word is at the start of its private section
 abbrev pub own_window : Setup → List Window → Option (ℕ × Window)
 own_window s devices = device_of devices s.section.layout.priv_from
 

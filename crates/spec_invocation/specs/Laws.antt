@@ -1,4 +1,4 @@
--- What holds of every invocation. Each law stands as the contract of a function in src/laws.rt.
+-- What holds of every invocation. Each law is as the contract of a function in src/laws.rt.
 use Rattle.std.specs.Prelude.{◌≡◌, Bool, true, false, List, [], ◌∷◌}
 use Rattle.sx_tag.specs.Mac.{IsTag}
 use Rattle.spec_invocation.specs.Setup.{Setup, Call}

@@ -13,7 +13,7 @@ use Rattle.spec_machine.specs.NodeLaws.{shapes}
 pub some_inj : {A : Type 0} → (a b : A) → ◌≡◌ {A = Option A} (Some a) (Some b) → a ≡ b
 some_inj a b e = cc
 
--- the device that answers stands at its index
+-- the device that answers is at its index
 pub device_found : (ws : List Window) (o : Option ℕ) (k : ℕ) (w : Window) → found ws o ≡ Some (k, w) → slice_get ws k ≡ Some w
 device_found ws None k w e = absurd cc
 device_found ws (Some d) k w e = by (slice_get ws d) refl e

@@ -45,7 +45,7 @@ same_chain mac a b provider l k n i =
     ∙ ap (λ (boot : ℕ). module_key mac a.key boot provider (identity_at b.mem l)) n
     ∙ ap (λ (bytes : List ℕ). module_key mac a.key a.boot provider bytes) i
 
--- a section that stood before keeps the chain's key
+-- a section that was there before keeps the chain's key
 section_kept : (mac : Mac) (a b : State) (s : Section) → b.key ≡ a.key → b.boot ≡ a.boot → KeptPublic s a.mem b.mem
     → s.key ≡ chain_key mac a s.provider s.layout → s.key ≡ chain_key mac b s.provider s.layout
 section_kept mac a b s k n f h =
@@ -55,12 +55,12 @@ section_kept mac a b s k n f h =
 reset_has_keys : (mac : Mac) (a : State) → HaveKeys mac (reset a)
 reset_has_keys mac a s l = absurd l
 
--- each section that stood before and after an act
+-- each section that was there before and after an act
 old_keys : (mac : Mac) (act : Act) (a : State) (s : Section) → Placed a.sections → HaveKeys mac a → Lives a.sections.live s
     → (acted mac act a).state.boot ≡ a.boot → KeptPublic s a.mem (acted mac act a).state.mem → s.key ≡ chain_key mac (acted mac act a).state s.provider s.layout
 old_keys mac act a s p h l n f = section_kept mac a (acted mac act a).state s (acted_key mac act a) n f (h s l)
 
--- a section that stood before and stands after an act that is no reset
+-- a section that was there before and is after an act that is no reset
 from_old : (mac : Mac) (act : Act) (a : State) (s : Section) → Placed a.sections → HaveKeys mac a → (acted mac act a).state.boot ≡ a.boot
     → Lives a.sections.live s → Lives (acted mac act a).state.sections.live s → s.key ≡ chain_key mac (acted mac act a).state s.provider s.layout
 from_old mac act a s p h n l m = elim (public_kept mac act a s p l) [

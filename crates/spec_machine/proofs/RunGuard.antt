@@ -52,7 +52,7 @@ outside_twin s (Interrupt line) a n f = tt
 twin_lives : (s : Section) (a b : State) → Twins s a b → Lives b.sections.live s → Lives a.sections.live s
 twin_lives s a b t l = subst (λ (x : State). Lives x.sections.live s) t.rest l
 
--- after one act on twins: s stands and they are twins, or both were reset and are one
+-- after one act on twins: s is there and they are twins, or both were reset and are one
 after_act : (s : Section) (a n x y : State) → n ≡ with_mem a n.mem → Untouched s a x → Untouched s n y → Twins s x y → Same s x y
 after_act s a n x y e (inl k) u t = inl (k.1, t)
 after_act s a n x y e (inr r) (inl k) t = absurd (subst (λ (z : State). Lives z.sections.live s) r (twin_lives s x y t k.1))

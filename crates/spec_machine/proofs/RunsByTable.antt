@@ -26,7 +26,7 @@ use Rattle.spec_machine.proofs.Devices.{some_inj, position_is}
 use Rattle.spec_machine.proofs.Registers.{pc_even}
 use Rattle.spec_machine.proofs.Frame.{all_pass, out_of, lives_sound}
 
--- where PC may stand by one section: outside its public part, in that of the module that runs, or at the entry
+-- where PC may be by one section: outside its public part, in that of the module that runs, or at the entry
 abbrev InOrder : ℕ → ℕ → Section → Type 0
 InOrder cur pc s = (not (in_public s pc) || (cur == s.id || pc == s.layout.pub_from)) ≡ true
 

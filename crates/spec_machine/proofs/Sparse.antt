@@ -243,7 +243,7 @@ attempt_traced mac s node =
 pub shows_touches : ShowsTouches
 shows_touches mac s node = settled_traced s (attempt mac s) (attempt_traced mac s node)
 
--- An interrupt: two stores, and the vector, at which no device stands.
+-- An interrupt: two stores, and the vector, at which no device is.
 
 sparse_interrupt : (line : ℕ) (regs : List ℕ) → Sparse 2 None (interrupt line regs)
 unfolding interrupt

@@ -23,7 +23,7 @@ use Rattle.spec_machine.specs.Run.{read_place, write_device, write_place, fetch,
 use Rattle.spec_machine.specs.Touches.{Replays}
 use Rattle.spec_machine.proofs.Devices.{some_inj, device_of_parts, device_at_same, window_same, cleared_shapes, position_is}
 
--- The touches so far leave room for n more: the quiet places stand at the end.
+-- The touches so far leave room for n more: the quiet places are at the end.
 
 abbrev pub AllQuiet : List Touch → Type 0
 AllQuiet [] = Unit {0}
@@ -97,7 +97,7 @@ write_noted live own n k v w (DeviceWrite j u ∷ ts) a b r h e s m =
     let g = write_noted live own n k v w ts a b r h.4 e s m in ((h.0, h.1, h.2, h.3, g.0), g.1)
 
 -- A plan makes at most n accesses more at which a device may answer. A store to the place that was just loaded is free: a
--- device that answered the load refuses the store. So is a load of a vector: no device stands there.
+-- device that answered the load refuses the store. So is a load of a vector: there is no device.
 
 abbrev pub Spend : ℕ → (ℕ → Type 0) → Type 0
 Spend zero f = ⊥

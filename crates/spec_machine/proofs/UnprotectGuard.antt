@@ -23,7 +23,7 @@ lives_still s (x ∷ xs) id l ne =
       | inr r ↦ elim (x.id == id) as (λ b. Lives (cond b xs (x ∷ without xs id)) s) [ true ↦ r | false ↦ inr (lives_still s xs id r ne) ]
     ]
 
--- the private parts of two sections that stand beside one another don't meet
+-- the private parts of two sections that are beside one another don't meet
 privates_apart : (u s : Section) → Beside u s → apart u.layout.priv_from u.layout.priv_to s.layout.priv_from s.layout.priv_to ≡ true
 privates_apart u s b =
     let p1 = and_parts (apart u.layout.pub_from u.layout.pub_to s.layout.pub_from s.layout.pub_to) _ b.parts in

@@ -1,4 +1,4 @@
--- What a step does where an instruction stands at PC.
+-- What a step does where an instruction is at PC.
 use Rattle.std.specs.Prelude.{◌≡◌, ◌*◌, ◌⊎◌, true, length}
 use Rattle.sx_isa.specs.declared.instruction.Instr.{Instr}
 use Rattle.sx_isa.specs.declared.instruction.Instr.TheVariants.{Two, One, Reti, Jump, Sancus}
@@ -29,7 +29,7 @@ instruction_done mac a (One op byte arg) = done_plainly a (One op byte arg)
 instruction_done mac a Reti = done_plainly a Reti
 instruction_done mac a (Jump cond offset) = done_plainly a (Jump cond offset)
 
--- a step that is let run does the instruction that stands at PC, or may not take one of its
+-- a step that is let run does the instruction that is at PC, or may not take one of its
 -- extension words
 abbrev pub DoesWhatStands : Type 0
 DoesWhatStands = (mac : Mac) (a : State) (i : Instr) → AreRegisters a.regs

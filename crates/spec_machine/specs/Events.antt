@@ -36,7 +36,7 @@ pub record IsCodeOf (live : List Section) (id at : ℕ) : Type 0 where
   pub named : section.id ≡ id
   pub holds : in_public section at ≡ true
 
--- The section that R9 to R13 name wasn't refused, and stands under the next id: with its provider
+-- The section that R9 to R13 name wasn't refused, and is under the next id: with its provider
 -- and layout, the key of the bytes as they were, and zeros in its private part. No other byte
 -- changed.
 pub record IsAdmitted (mac : Mac) (a b : State) (id : ℕ) : Type 0 where

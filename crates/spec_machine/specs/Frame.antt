@@ -1,5 +1,5 @@
 -- What a step leaves of memory, what it had the right to run, and the keys of the sections that
--- stand.
+-- are there.
 use Rattle.std.specs.Prelude.{◌≡◌, ◌≢◌, ℕ, ◌⊎◌, true, false, List, slice_index, Ok}
 use Rattle.sx_rules.specs.declared.access.Access.TheVariants.{Write, Run}
 use Rattle.sx_rules.specs.declared.access.Violation.TheVariants as bad

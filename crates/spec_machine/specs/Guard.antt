@@ -19,16 +19,16 @@ pub record Twins (s : Section) (a b : State) : Type 0 where
 abbrev pub PrivateKept : Section → List ℕ → List ℕ → Type 0
 PrivateKept s m n = (k : ℕ) → in_private s k ≡ true → slice_index n k ≡ slice_index m k
 
--- s still stands with its private bytes as before, or the node was reset, which makes all of its
+-- s is still there with its private bytes as before, or the node was reset, which makes all of its
 -- memory 0
 abbrev pub Untouched : Section → State → State → Type 0
 Untouched s a b = (PrivateKept s a.mem b.mem × Lives b.sections.live s) ⊎ (b ≡ reset a)
 
--- the step is no instruction of s that is let run: PC stands elsewhere, or where s may not be
+-- the step is no instruction of s that is let run: PC is elsewhere, or where s may not be
 -- entered
 abbrev pub Foreign : Section → State → Type 0
 Foreign s a = (own_of a ≢ s.id) ⊎ (is_let_run a ≡ false)
 
--- s stands and the nodes differ at most in its private bytes, or they don't differ
+-- s is there and the nodes differ at most in its private bytes, or they don't differ
 abbrev pub Same : Section → State → State → Type 0
 Same s a b = (Lives a.sections.live s × Twins s a b) ⊎ (a ≡ b)

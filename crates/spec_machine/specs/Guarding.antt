@@ -28,14 +28,14 @@ FromOutside s (Take at n) a = Unit {0}
 FromOutside s (Sense device v) a = Unit {0}
 FromOutside s (Interrupt line) a = Unit {0}
 
--- none of the acts is a step of code of s that is let run, while s stands
+-- none of the acts is a step of code of s that is let run, while s is there
 abbrev pub AllFromOutside : Mac → Section → List Act → State → Type 0
 AllFromOutside mac s [] a = Unit {0}
 AllFromOutside mac s (act ∷ acts) a =
     (Lives a.sections.live s → FromOutside s act a)
     × AllFromOutside mac s acts (acted mac act a).state
 
--- each act of a list is guarded, for each section that stands before it, unless it is a step of the
+-- each act of a list is guarded, for each section that is before it, unless it is a step of the
 -- section's own code
 abbrev pub AreGuarded : Mac → List Act → State → Type 0
 AreGuarded mac [] a = Unit {0}
@@ -53,7 +53,7 @@ pub record GuardedRun (mac : Mac) (acts : List Act) (a : State) : Type 0 where
   pub blind : (s : Section) (b : State) → AllFromOutside mac s acts a → Same s a b
       → ((acted_all mac acts a).shown ≡ (acted_all mac acts b).shown)
       × Same s (acted_all mac acts a).state (acted_all mac acts b).state
-  -- and s stands with its private bytes as before, or the node was reset
+  -- and s is there with its private bytes as before, or the node was reset
   pub kept : (s : Section) → Lives a.sections.live s → AllFromOutside mac s acts a
       → (PrivateKept s a.mem (acted_all mac acts a).state.mem
       × Lives (acted_all mac acts a).state.sections.live s)

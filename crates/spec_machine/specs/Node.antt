@@ -21,7 +21,7 @@ pub record AreRegisters (regs : List ℕ) : Type 0 where
 abbrev pub AreApartDevices : List ℕ → List Section → Type 0
 AreApartDevices places live = (s : Section) → Lives live s → no_device places s.layout ≡ true
 
--- Registers, memory and the ids that it remembers are in range; devices stand at places of their
+-- Registers, memory and the ids that it remembers are in range; devices are at places of their
 -- own, in no public section, with values that a sensor can give; the sections are placed; and a
 -- module runs only where its public section holds PC.
 pub record IsNode (n : State) : Type 0 where

@@ -60,7 +60,7 @@ writes op2.Cmp = false
 writes op2.Bit = false
 writes _ = true
 
--- The end of an operation on a register: the flags, and then the result, which stands where the
+-- The end of an operation on a register: the flags, and then the result, which is where the
 -- register is SR.
 abbrev pub into_register : Bool → ℕ → ℕ × Flags → List ℕ → Plan
 into_register written r result regs =

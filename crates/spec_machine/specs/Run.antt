@@ -29,7 +29,7 @@ pub record Moment : Type 0 where
 abbrev pub untouched : List Touch
 untouched = Quiet ∷ Quiet ∷ []
 
--- the next touch stands in the first quiet place
+-- the next touch is in the first quiet place
 abbrev pub with_touch : List Touch → Touch → List Touch
 with_touch [] t = []
 with_touch (Quiet ∷ rest) t = t ∷ rest

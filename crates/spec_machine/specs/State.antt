@@ -27,7 +27,7 @@ abbrev pub no_exchange : Exchange
 no_exchange =
     record { ad = replicate 32 0; ad_len = 0; body = replicate 32 0; body_len = 0; own_key = false }
 
--- no section stands, and the next id is 1
+-- there is no section, and the next id is 1
 abbrev pub no_sections : Sections
 no_sections = record { live = []; next = 1 }
 

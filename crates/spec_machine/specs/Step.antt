@@ -44,7 +44,7 @@ abbrev pub is_live : List Section → ℕ → Bool
 is_live live id = is_some (section_of live id)
 
 -- the module that entered `own`: one that begins to run was entered from that of the last
--- instruction, if it still stands
+-- instruction, if it is still there
 abbrev pub entered_from : State → ℕ → ℕ
 entered_from s own =
     if own == s.cur then s.caller else if is_live s.sections.live s.last then s.last else 0

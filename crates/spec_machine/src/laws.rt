@@ -135,7 +135,7 @@ pub fn power_on_has_keys()
     ensures { PowerOnHasKeys }
 {}
 
-/// A step that is let run does the instruction that stands at PC.
+/// A step that is let run does the instruction that is at PC.
 pub fn does_what_stands()
     ensures { DoesWhatStands }
 {}

@@ -1,4 +1,4 @@
--- Acts that show only what is so wherever it stands.
+-- Acts that show only what is so wherever it is.
 use Rattle.std.proofs.Common.{◌≡◌, ℕ, ◌<◌, Bool, true, false, if◌then◌else◌, List, [], ◌∷◌, ◌++◌, length, Option, Some, None, Result, Ok, Err}
 use Rattle.std.specs.Prelude.{slice_get, IfSome}
 use Rattle.std.specs.Option.{option_flatten}
@@ -60,7 +60,7 @@ pub each_walks : (P : Setting → Model → Item → Type 0) (set : Setting) (s 
 each_walks P set s [] h = tt
 each_walks P set s (i ∷ items) h = unless_so (is_forged i) _ (h.0 s, if_some_so (step set.app s i) _ (λ t. each_walks P set t items h.1))
 
--- items of which it is so wherever they stand
+-- items of which it is so wherever they are
 pub record Easy (P : Setting → Model → Item → Type 0) (set : Setting) : Type 0 where
   pub reset : (n : ℕ) (c : Cause) → Always P set (item.Reset n c)
   pub ask : (m a : ℕ) → Always P set (item.Ask m a)

@@ -1,5 +1,5 @@
 -- Read tie first: the tie of Tied is the invariant of a run. ActsKeep: every act keeps it; ActsWalk: what
--- more holds of each item where it stands. RunsInOrder puts the parts together, turns has what holds of
+-- more holds of each item where it is. RunsInOrder puts the parts together, turns has what holds of
 -- each item, and AcceptedRuns goes on from a text. RenewsAsTheModel is of the deployer alone.
 pub mod Tags
 pub mod tie

@@ -8,7 +8,7 @@ use Rattle.sx_deploy.specs.Deployment.{Deployed}
 use Rattle.sx_image.specs.Realizes.{Realizes}
 use Rattle.spec_run.specs.Setting.{Site, Setting}
 
--- where each module stands, with the text of its image
+-- where each module is, with the text of its image
 abbrev pub sites_of : List PartTree → List Layout → List ℕ → List (List ℕ) → List Site
 sites_of (q ∷ qs) (l ∷ ls) (p ∷ ps) (t ∷ ts) =
     record { node = q.node; layout = l; provider = p; text = t } ∷ sites_of qs ls ps ts
@@ -25,7 +25,7 @@ setting mac d sites = record {
   places = d.places;
 }
 
--- with the texts of its modules' images, where they stand
+-- with the texts of its modules' images, where they are
 abbrev pub setting_of : Mac → Deployed → List (List ℕ) → Setting
 setting_of mac d texts = setting mac d (sites_of d.app.parts d.layouts d.providers texts)
 
@@ -34,7 +34,7 @@ abbrev pub AreByteTexts : List (List ℕ) → Type 0
 AreByteTexts texts = (p : ℕ) (text : List ℕ) → slice_get texts p ≡ Some text
     → All (λ b. b < 256) text
 
--- each text is of bytes, and, where its module stands, realizes the module with its ends
+-- each text is of bytes, and, where its module is, realizes the module with its ends
 pub record AreImages (mac : Mac) (d : Deployed) (texts : List (List ℕ)) : Type 0 where
   pub as_many : length texts ≡ length d.app.parts
   pub bytes : AreByteTexts texts

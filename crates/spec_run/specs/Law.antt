@@ -38,7 +38,7 @@ AreApartLayouts a b =
 abbrev pub devices_of : Setting → ℕ → List Window
 devices_of set n = powered_on (windows_at n set.app.devices set.places)
 
--- a module's device is at its node, of the kind that it declares, and stands at the start of its
+-- a module's device is at its node, of the kind that it declares, and is at the start of its
 -- private section
 pub record IsDriven (set : Setting) (q : PartTree) (site : Site) (d : ℕ) : Type 0 where
   pub device : AppDevice

@@ -86,7 +86,7 @@ set_all n (r ∷ rs) w = then_ (set_on n r.number r.value w) (set_all n rs)
 abbrev pub register : ℕ → ℕ → Register
 register r v = record { number = r; value = v }
 
--- what the instruction that protects a module is given, and where it stands
+-- what the instruction that protects a module is given, and where it is
 abbrev pub protect_registers : Site → List Register
 protect_registers site =
     register 9 site.provider ∷ register 10 site.layout.pub_from ∷ register 11 site.layout.pub_to

@@ -1,4 +1,4 @@
--- Where a run stands: the nodes, the packets, the deployer, the ledger, and the counts of lines and
+-- Where a run is: the nodes, the packets, the deployer, the ledger, and the counts of lines and
 -- node steps.
 use Rattle.std.specs.Prelude.{ℕ, ◌+◌, List, [], ◌∷◌, map, None}
 use Rattle.sx_trace.specs.declared.items.Item.{Item}
@@ -8,7 +8,7 @@ use Rattle.spec_machine.specs.State.{State, power_on}
 use Rattle.spec_run.specs.Setting.{Setting, windows_at}
 use Rattle.sx_deployer.specs.Granting.{DeployerState}
 
--- where a run stands: its nodes, packets, deployer and ledger, and how many lines and steps there
+-- where a run is: its nodes, packets, deployer and ledger, and how many lines and steps there
 -- were
 pub record World : Type 0 where
   pub nodes : List State

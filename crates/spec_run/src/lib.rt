@@ -1,5 +1,5 @@
 //! The run of a deployment, as definitions: what a schedule's lines do to nodes, network, deployer
-//! and ledger, and which items they show. No code of a node or of a world stands here.
+//! and ledger, and which items they show. There is no code of a node or of a world here.
 //!
 //! A run is a fold from the lines of a schedule to items and a world (`specs/Run.antt`), over a
 //! setting: the application, where its modules, keys and devices are, and the texts of its images.

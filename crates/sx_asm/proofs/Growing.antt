@@ -41,7 +41,7 @@ no_value t (c ∷ ts) h = by_test (is_comma c) refl
 pub no_comma : (t c : Token) (ts : List Token) → is_comma c ≡ false → data_of (t ∷ c ∷ ts) ≡ None
 no_comma t c ts h = rw h refl
 
--- a value of data before those behind its comma
+-- a value of data before those after its comma
 pub next_value : (t c : Token) (ts : List Token) (v : Value) (n : ℕ) (before after : List Entry) → value t ≡ Some v
     → is_comma c ≡ true → after ≡ before ++ record { line = n; item = Word v } ∷ [] → grown before n (data_of (t ∷ c ∷ ts)) ≡ grown after n (data_of ts)
 next_value t c ts v n before after h k e = rw (k, h, e) (onto (data_of ts))

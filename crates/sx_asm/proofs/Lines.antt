@@ -28,7 +28,7 @@ fits_left left line xs h =
     let k : taken line (parts is_newline xs) ≤ left = grind (arith, nat_tests, b) in
     omega (arith, k, taken_more line xs)
 
--- what a line says and what the lines after it say, before which entries stand
+-- what a line says and what the lines after it say, before which entries are
 joined : (before after : List Entry) (n : ℕ) (e : AsmError) (meant : Option (List Item)) (rest : Result (List Entry) AsmError) → grown before n meant ≡ Some after
     → continued before (ok_or meant e >>= (λ items. rest >>= (λ entries. Ok (placed_entries n items ++ entries)))) ≡ continued after rest
 joined before after n e None rest h = absurd (cc)

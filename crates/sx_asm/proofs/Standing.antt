@@ -9,7 +9,7 @@ use Rattle.sx_asm.specs.declared.written.Label.{Label}
 use Rattle.sx_asm.specs.Meaning.{further, size, bytes_of, words_at, code_of}
 use Rattle.sx_asm.specs.Assembled.{has_form, formed, reaches, reached}
 
--- an instruction's words are among those before which it stands
+-- an instruction's words are among those before which it is
 pub within : (ws : List ℕ) (i : Instr) (n : ℕ) → BeginsWith ws i n → n ≤ length ws
 within ws i n h = omega (arith, h.1, ap length h.2, length-take n ws)
 

@@ -64,12 +64,12 @@ formed (e ∷ es) = if has_form e.item then formed es else Err (Fault 2 e.line)
 
 -- Rule 3: names.
 
--- a number, or the name of a label that stands in the text
+-- a number, or the name of a label that is in the text
 abbrev pub is_known : List Placed → Value → Bool
 is_known labels (Number n) = true
 is_known labels (Name s) = is_label labels s
 
--- each label that an operand names stands in the text
+-- each label that an operand names is in the text
 abbrev pub operand_known : List Placed → Written → Bool
 operand_known labels (Reg r) = true
 operand_known labels (Indexed v r) = is_known labels v
@@ -80,7 +80,7 @@ operand_known labels (Immediate v) = is_known labels v
 operand_known labels (Absolute v) = is_known labels v
 operand_known labels (Symbolic v) = is_known labels v
 
--- a label is the first of its name, where this many stand before it; other names have a label
+-- a label is the first of its name, where this many are before it; other names have a label
 abbrev pub names_known : List Placed → ℕ → Item → Bool
 names_known labels before (Label s) = not (is_label (take before labels) s)
 names_known labels before (Word v) = is_known labels v
@@ -96,7 +96,7 @@ abbrev pub label_count : Item → ℕ
 label_count (Label s) = 1
 label_count _ = 0
 
--- rule 3: each name is that of a label, and no label stands twice; else the first line that breaks
+-- rule 3: each name is that of a label, and no label occurs twice; else the first line that breaks
 -- it
 abbrev pub named : List Placed → ℕ → List Entry → Result (Unit {0}) AsmError
 named labels before [] = Ok tt
@@ -125,7 +125,7 @@ reached labels at (e ∷ es) =
 
 -- Rule 5: the place of the code.
 
--- this many bytes may still stand
+-- this many bytes may still come
 abbrev pub fitted : ℕ → List Entry → Result (Unit {0}) AsmError
 fitted room [] = Ok tt
 fitted room (e ∷ es) =

@@ -19,7 +19,7 @@ value (token.Number n) = Some (Number n)
 value (token.Name s) = Some (Name s)
 value _ = None
 
--- what a token says, where it stands alone
+-- what a token says, where it is alone
 abbrev pub alone : {A : Type 0} → Option A → List Token → Option A
 alone said [] = said
 alone said (t ∷ ts) = None

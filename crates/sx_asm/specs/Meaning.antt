@@ -58,7 +58,7 @@ abbrev pub labels_at : Item → ℕ → List Placed → List Placed
 labels_at (Label s) at more = record { name = s; address = at } ∷ more
 labels_at _ at more = more
 
--- the labels of entries that stand from an address on
+-- the labels of entries placed from an address on
 abbrev pub labels_of : ℕ → List Entry → List Placed
 labels_of at [] = []
 labels_of at (e ∷ es) = labels_at e.item at (labels_of (further at (size e.item)) es)
@@ -85,7 +85,7 @@ abbrev pub hash_operand : List Placed → Value → Operand
 hash_operand labels (Number n) = if is_constant n then operand.Const n else operand.Immediate n
 hash_operand labels (Name s) = operand.Immediate (address_of labels s)
 
--- the operand whose extension word stands at this address, if it has one
+-- the operand whose extension word is at this address, if it has one
 abbrev pub operand_at : List Placed → ℕ → Written → Operand
 operand_at labels at (Reg r) = operand.Reg r
 operand_at labels at (Indexed v r) = operand.Indexed r (number labels v)
@@ -131,7 +131,7 @@ abbrev pub bytes_of : List ℕ → List ℕ
 bytes_of [] = []
 bytes_of (w ∷ ws) = w % 256 ∷ w / 256 % 256 ∷ bytes_of ws
 
--- the bytes of entries that stand from an address on
+-- the bytes of entries placed from an address on
 abbrev pub code_of : List Placed → ℕ → List Entry → List ℕ
 code_of labels at [] = []
 code_of labels at (e ∷ es) =

@@ -33,7 +33,7 @@ hex_digits n =
 abbrev pub hex : ℕ → List ℕ
 hex n = codes "0x" ++ hex_digits n
 
--- an operand whose extension word stands at this address, if it has one; `##` where `#` would be a
+-- an operand whose extension word is at this address, if it has one; `##` where `#` would be a
 -- constant
 abbrev pub operand_text : ℕ → Operand → List ℕ
 operand_text at (Reg r) = register_name r

@@ -77,7 +77,7 @@ fn first_labels(labels: &[Label], count: usize) -> &[Label]
 }
 
 /// Whether the item's names have a label, or a label is the first of its name, where `before`
-/// labels stand before it.
+/// labels are before it.
 fn names_known(labels: &[Label], before: usize, item: &Item) -> bool
     ensures { result ≡ names_known labels.now before item.now }
 {
@@ -155,7 +155,7 @@ fn fitted(room: u32, entries: &[Entry]) -> Result<(), AsmError>
     Ok(())
 }
 
-/// Rule 5: the code stands at an even address, and has room there.
+/// Rule 5: the code is at an even address, and has room there.
 fn stands(at: u16, entries: &[Entry]) -> Result<(), AsmError>
     ensures rule { result ≡ stands at entries.now }
     ensures fault { IfErr result IsFault }
@@ -225,7 +225,7 @@ fn push_item(labels: &[Label], at: u16, item: &Item, code: &mut Vec<u8>) -> Resu
     }
 }
 
-/// The bytes of items that stand from an address on.
+/// The bytes of items placed from an address on.
 fn code_of(alloc: Global, labels: &[Label], at: u16, entries: &[Entry]) -> Result<Vec<u8>, AsmError>
     requires formed { formed entries.now ≡ Ok tt }
     requires reached { reached labels.now at entries.now ≡ Ok tt }
@@ -241,7 +241,7 @@ fn code_of(alloc: Global, labels: &[Label], at: u16, entries: &[Entry]) -> Resul
     Ok(code)
 }
 
-/// The code of items that stand from an address on, or the first of the rules 2 to 5 that they
+/// The code of items placed from an address on, or the first of the rules 2 to 5 that they
 /// break. Memory is wanted only where they break none.
 fn code_with(
     alloc: Global,
@@ -259,7 +259,7 @@ fn code_with(
     code_of(alloc, labels, at, entries)
 }
 
-/// The code of a text that stands at an address. A fault is the first of the five rules that the
+/// The code of a text that is at an address. A fault is the first of the five rules that the
 /// text breaks, each tried on the whole text, and the first line that breaks it, from 1.
 #[tactic(auto, unfolding(crate::specs::Assembled::assembled))]
 pub fn assemble(alloc: Global, at: u16, text: &str) -> Result<Vec<u8>, AsmError>

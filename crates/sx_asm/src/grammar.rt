@@ -120,7 +120,7 @@ pub fn is_colon(token: &Token) -> bool
     }
 }
 
-/// Where the first comma stands, or the number of tokens.
+/// Where the first comma is, or the number of tokens.
 fn comma_at(tokens: &[Token]) -> usize
     ensures within { result ≤ length tokens.now }
     ensures cut { parted tokens.now ≡ cut result tokens.now }

@@ -168,7 +168,7 @@ fn instruction(word: &[u8]) -> Option<Token>
     other_instruction(word)
 }
 
-/// Whether a byte can stand in a word.
+/// Whether a byte can be in a word.
 fn is_word_byte(byte: u8) -> bool
     ensures { result ≡ is_word_byte byte }
 {

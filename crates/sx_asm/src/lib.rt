@@ -5,7 +5,7 @@
 //! instruction of some bytes. What they write is assembled to the same bytes (`laws`). `hex` writes
 //! a number as they do.
 //!
-//! What must be believed stands in specs/: Words.antt and Tokens.antt (names, signs and tokens),
+//! What must be believed is in specs/: Words.antt and Tokens.antt (names, signs and tokens),
 //! Grammar.antt (statements), Reading.antt (lines; rule 1), Meaning.antt (addresses and
 //! instructions), Assembled.antt (rules 2 to 5, and their order) and Shown.antt (what is shown).
 //! Fronts.antt, Adding.antt and Forms.antt are forms that code computes with.

@@ -127,7 +127,7 @@ fn hash_operand(labels: &[Label], value: &Value) -> Operand
     }
 }
 
-/// The operand whose extension word stands at this address, if it has one.
+/// The operand whose extension word is at this address, if it has one.
 fn operand_at(labels: &[Label], at: u16, written: &Written) -> Operand
     ensures operand { result ≡ operand_at labels.now at written.now }
     ensures word { HasWord result }
@@ -180,7 +180,7 @@ pub fn has_form(item: &Item) -> bool
     }
 }
 
-/// The labels of items that stand from an address on. The error says that memory ran out.
+/// The labels of items placed from an address on. The error says that memory ran out.
 pub fn labels_of(alloc: Global, at: u16, entries: &[Entry]) -> Result<Vec<Label>, AsmError>
     ensures labels { IfOk result (λ labels. labels.items ≡ labels_of at entries.now) }
     ensures error { IfErr result (λ e. e ≡ OutOfMemory) }

@@ -235,7 +235,7 @@ fn put_immediate(text: &mut Text, x: u16)
     }
 }
 
-/// An operand whose extension word stands at this address, if it has one.
+/// An operand whose extension word is at this address, if it has one.
 fn put_operand(text: &mut Text, at: u16, operand: &Operand)
     requires { length text.old.items + 11 ≤ 64 }
     ensures added { text.new.items ≡ text.old.items ++ operand_text at operand.now }
@@ -333,7 +333,7 @@ fn written(text: &[u8], into: &mut [u8; 64]) -> usize
     text.len()
 }
 
-/// Writes the text of an instruction that stands at an address at the start of the buffer, and
+/// Writes the text of an instruction that is at an address at the start of the buffer, and
 /// gives its length. The rest of the buffer stays. The instruction can be written in words
 /// (`sx_isa::valid`).
 pub fn show(i: &Instr, at: u16, into: &mut [u8; 64]) -> usize
@@ -369,7 +369,7 @@ fn word_from(bytes: &[u8], place: usize) -> u16
     }
 }
 
-/// Writes the text of the first instruction of some bytes that stand at an address at the start of
+/// Writes the text of the first instruction of some bytes that are at an address at the start of
 /// the buffer, and gives the text's length and the instruction's in bytes. Where no instruction has
 /// the first word, or the bytes don't hold it whole, the text is `.word` and that word, of 2 bytes.
 #[tactic(auto, unfolding(crate::specs::Shown::listed))]

@@ -81,7 +81,7 @@ pub enum Written {
 /// A label, a word or an instruction, as it is written.
 #[derive(Clone, Copy)]
 pub enum Item {
-    /// The label stands at the address of what follows.
+    /// The label is at the address of what follows.
     Label(Name),
     /// A word of data.
     Word(Value),
@@ -109,12 +109,12 @@ pub enum Item {
     Sancus(u8),
 }
 
-/// An item and the line that it stands on, from 1.
+/// An item and the line that it is on, from 1.
 #[derive(Clone, Copy)]
 pub struct Entry {
     /// The line's number, from 1.
     pub line: u32,
-    /// What stands there.
+    /// What is there.
     pub item: Item,
 }
 

@@ -1,4 +1,4 @@
--- How long a blank memory is, and what stands in it.
+-- How long a blank memory is, and what is in it.
 use Rattle.std.proofs.Common.{◌≡◌, ℕ, length}
 use Rattle.std.proofs.lemmas.List.{length-replicate}
 use Rattle.sx_bus.specs.Memory.{blank}

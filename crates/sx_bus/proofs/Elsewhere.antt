@@ -1,4 +1,4 @@
--- No device stands at a byte whose page has none.
+-- No device is at a byte whose page has none.
 use Rattle.std.proofs.Common.{◌≡◌, ℕ, ◌+◌, ◌/◌, ◌%◌, false, ◌==◌, List, [], ◌∷◌, None, All, refl, ◌∙◌, arith}
 use Rattle.std.specs.List.{position_from}
 use Rattle.std.proofs.lemmas.Bool.{leb-true, ltb-true, eqb-false, and_parts, or_parts, false_from_ne_true, cond-false}

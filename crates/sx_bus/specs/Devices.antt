@@ -1,5 +1,5 @@
 -- The devices of a node, each of which is one word of its memory (own profile).
---     ArePlaces      where devices may stand
+--     ArePlaces      where devices may be
 --     HaveSamples      what values devices have
 --     powered_on      a list of devices as the node is switched on
 --     places_of, device_at      the devices' places, and the device at a byte

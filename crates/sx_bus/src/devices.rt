@@ -50,7 +50,7 @@ impl Window {
 pub struct Windows {
     windows: Vec<Window>,
     places: Vec<u16>,
-    /// For each page whether a device stands there.
+    /// For each page whether a device is there.
     pages: [bool; PAGE_COUNT],
 }
 
@@ -182,7 +182,7 @@ fn has_place(places: &[u16], page: u16) -> bool
     places.iter().any(|place| *place / 256 == page)
 }
 
-/// Keeps for each page whether a device stands there.
+/// Keeps for each page whether a device is there.
 fn index(pages: &mut [bool], places: &[u16])
     requires { length pages.old ≤ 256 }
     ensures { (page : ℕ) → page < length pages.new →

@@ -12,7 +12,7 @@ pub trait Bus: Drop {
     fn get(&self, at: u16) -> u8
         ensures { result ≡ slice_index (bytes self.now) at };
 
-    /// Whether these bytes stand from an address on.
+    /// Whether these bytes are in memory from an address on.
     fn holds(&self, at: u16, expected: &[u8]) -> bool
         requires { at + length expected.now ≤ 65536 }
         ensures { result

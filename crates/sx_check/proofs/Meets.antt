@@ -1,4 +1,4 @@
--- Whether a name of a list stands before it, or in it twice.
+-- Whether a name of a list is before it, or in it twice.
 use Rattle.std.proofs.Common.{◌≡◌, ℕ, ◌+◌, ◌<◌, ◌≤◌, Bool, true, false, ◌||◌, cond, nat_lt, List, [], ◌∷◌, ◌++◌, length, take, drop, get_or, count_by, refl, ap, sym, subst, ◌∙◌, append_assoc, arith}
 use Rattle.std.specs.List.{list_any}
 use Rattle.std.proofs.lemmas.Bool.Decides.{nat_tests}
@@ -10,7 +10,7 @@ use Rattle.sx_check.specs.Listed.{is_in_twice}
 use Rattle.sx_check.proofs.Distinct.{same-true, same-refl, count_by-cons, none_counted, some_counted}
 use Rattle.lemmas.proofs.Lists.{rest_is}
 
--- a name of the second list stands in the first, or before it in the second
+-- a name of the second list is in the first, or before it in the second
 abbrev pub meets : List (List ℕ) → List (List ℕ) → Bool
 meets seen [] = false
 meets seen (x ∷ xs) = is_seen seen x || meets (seen ++ x ∷ []) xs
@@ -34,7 +34,7 @@ module _ (seen : List (List ℕ)) (x : List ℕ) (xs : List (List ℕ)) where
   never_twice : is_seen seen x ≡ false → is_seen xs x ≡ false → twice (seen ++ x ∷ xs) x ≡ false
   never_twice h k = let c = counted in let s = none_counted (same x) seen h in let r = none_counted (same x) xs k in grind (arith, nat_tests)
 
--- one that is alike and stands later is there as often
+-- one that is alike and is later is there as often
 or_true : (b : Bool) → (b || true) ≡ true
 or_true true = refl
 or_true false = refl

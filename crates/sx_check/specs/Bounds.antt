@@ -30,7 +30,7 @@ abbrev mutual
   block_height Done = 0
   block_height (Then s b) = max (statement_height s) (block_height b)
 
--- the most blocks that stand in one another, the block itself among them
+-- the most blocks that are in one another, the block itself among them
 abbrev mutual
   pub statement_depth : Statement → ℕ
   statement_depth (Chooses e a b) = max (1 + inner_depth a) (1 + inner_depth b)
@@ -73,7 +73,7 @@ abbrev mutual
 abbrev pub block_sends : Block → ℕ
 block_sends b = block_sends_by (λ x. 1) b
 
--- an `emit` stands in it
+-- an `emit` is in it
 abbrev mutual
   pub statement_emits : Statement → Bool
   statement_emits (Chooses e a b) = block_emits a || block_emits b

@@ -13,7 +13,7 @@ use Rattle.sx_check.specs.Uses.{handlers_uses, is_unknown, is_misused}
 use Rattle.sx_check.specs.Bounds.{block_height, inner_depth, block_counts, is_miscounted}
 use Rattle.sx_check.specs.Bounds.{block_sends, block_emits, is_input, is_output, is_misfit}
 
--- a handler's body stands in no other block
+-- a handler's body is in no other block
 abbrev pub is_too_deep : HandlerTree → Bool
 is_too_deep h = nat_lt 32 (block_height h.body) || nat_lt 15 (inner_depth h.body)
 

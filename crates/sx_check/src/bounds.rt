@@ -81,7 +81,7 @@ fn depth_in_block(block: &Vec<Stmt>) -> u64
     deepest
 }
 
-/// Whether an expression is higher than 32, or a block stands in more than 15 others.
+/// Whether an expression is higher than 32, or a block is in more than 15 others.
 #[tactic(auto, unfolding(crate::specs::Rules::breaks))]
 pub fn breaks_depth(m: &Module) -> bool
     ensures { result ≡ breaks (module_of m.now) Depth }
@@ -249,7 +249,7 @@ fn emits_in_block(block: &Vec<Stmt>) -> bool
     false
 }
 
-/// Whether an `emit` stands in a handler.
+/// Whether an `emit` is in a handler.
 pub fn has_emit(handlers: &[Handler]) -> bool
     ensures { result ≡ list_any (λ h. block_emits h.body) (map handler_of handlers.now) }
 {

@@ -11,7 +11,7 @@ pub enum Rule {
     /// A name is used as another kind; or the module samples without a sensor, or emits without an
     /// actuator.
     Kind,
-    /// An expression is higher than 32, or a block stands in more than 15 others.
+    /// An expression is higher than 32, or a block is in more than 15 others.
     Depth,
     /// A handler has more than 16 locals, its parameter among them.
     Locals,

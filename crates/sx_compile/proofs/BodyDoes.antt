@@ -43,7 +43,7 @@ module _ (mac : Mac) (tree : ModuleTree) (ends : List End) (l : Layout) (code : 
   unfolding body_ops body_parts
   places_are f = ap (λ (ops : List Ir). map (f ops) code.parts.items) low.is.ops ∙ ap (λ (parts : List (ℕ × ℕ)). map (f (body_ops tree ends)) parts) low.is.parts
 
-  -- wherever it stands
+  -- wherever it is
   do_handlers : DoHandlers mac tree ends l (bytes_of (text_words l code)) (map (part_start code.ops.items) code.parts.items) (map (part_return code.ops.items) code.parts.items)
   do_handlers section n e h k p q same part =
       let from = listed (part_start code.ops.items) code.parts.items k p part.begins in

@@ -47,7 +47,7 @@ module _ (tree : ModuleTree) (ends : List End) (code : Code) (able : IsLowerable
   pub body_narrow : (l : Layout) (a : Addresses) → AreBelow 65536 (words_of l a 0 ops) → (p : ℕ) (i : Ir) → slice_get ops p ≡ Some i → IsNarrow i
   body_narrow l a below p i e = handler_narrow ends i able.few_ends (λ n is. push_below l a 0 p n ops below (e ∙ ap (λ (j : Ir). Some j) is)) (handler_op ends ops p i low.does.fits.plain e)
 
-  -- a part stands in it
+  -- a part is in it
   pub part_within : (k from to : ℕ) → slice_get code.parts.items k ≡ Some (from, to) → (from < length ops) × (to ≤ length ops)
   part_within k from to is = go code.parts.items k low.does.there is
     where

@@ -140,7 +140,7 @@ module _ (s : Setup) (code : Code) (before : State) (Sim : Conf → Watched → 
   abbrev result : Invoked
   result = invoke s call (progress_at s before)
 
-  -- the pieces that the invocation's memory has stand in the node's, too
+  -- the pieces that the invocation's memory has are in the node's, too
   stands : (status : ℕ) (q : Progress) (t : Conf) (w : Watched) → Written s call before.mem q → (q.pieces ≡ []) ⊎ (is_bad_window s call.output out_window_size ≡ false)
       → LeftFrom s before status (length q.pieces) t w → t.mem ≡ q.mem → Stand w.node.mem call.output q.pieces
   stands status q t w written (inl none) left mem = subst (λ (l : List (List ℕ)). Stand w.node.mem call.output l) (sym none) tt

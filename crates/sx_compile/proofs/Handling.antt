@@ -121,7 +121,7 @@ course_tallied : (r : Course) → OnCourse r → bytes_in (pieces_in (finished r
 course_tallied (Going q) x = x
 course_tallied (Broken v q) x = x
 
--- where a private section's word stands in memory
+-- where a private section's word is in memory
 private_word : (l : Layout) (m priv : List ℕ) (o : ℕ) → o % 2 ≡ 0 → length priv ≡ l.priv_to - l.priv_from → o + 2 ≤ length priv
     → ((i : ℕ) → o ≤ i → i < o + 2 → slice_index m (l.priv_from + i) ≡ slice_index priv i) → word (private_bytes l m) o ≡ word priv o
 private_word l m priv o even size le f =
@@ -129,7 +129,7 @@ private_word l m priv o even size le f =
     word_same priv (private_bytes l m) o o even even (bytes_from_get m l.priv_from n o (omega (arith, size, le))
     ∙ f o (omega arith) (omega arith)) (bytes_from_get m l.priv_from n (o + 1) (omega (arith, size, le)) ∙ f (o + 1) (omega arith) (omega arith))
 
--- Each part does its handler, wherever the section of its layout stands.
+-- Each part does its handler, wherever the section of its layout is.
 module _ (mac : Mac) (tree : ModuleTree) (ends : List End) (code : Code) (tag : IsTag mac) (able : IsLowerable tree ends) (low : LowersTo tree ends code) (section : Section)
     (room : HasSections tree ends section.layout)
     (n : State) (e : SourceEvent) (h : HandlerTree) (k from to : ℕ) (is : handler_at tree e ≡ Some h) (handler : slice_get tree.handlers k ≡ Some h)

@@ -49,7 +49,7 @@ words_below : (ws rest : List ℕ) → AreBelow 256 (bytes_of ws ++ rest) → Ar
 words_below [] rest h = tt
 words_below (w ∷ ws) rest h = let high = h.1.0 in (omega (arith, high), words_below ws rest h.1.1)
 
--- a pushed word stands in its template
+-- a pushed word is in its template
 pub push_below : (l : Layout) (a : Addresses) (q p n : ℕ) (ops : List Ir) → AreBelow 65536 (words_of l a q ops) → slice_get ops p ≡ Some (ir.Push n) → n < 65536
 push_below l a q p n [] h e = absurd (none_some e)
   where

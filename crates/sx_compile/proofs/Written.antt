@@ -41,7 +41,7 @@ use Rattle.sx_tmpl.proofs.Running.Outcomes.{ok_same}
 use Rattle.sx_tmpl.proofs.Texts.Entering.{window_short}
 use Rattle.sx_compile.proofs.Returning.{returns_same, violates_returns}
 
--- only places where pieces go changed, there the pieces stand, and the out-window holds them
+-- only places where pieces go changed, there the pieces are, and the out-window holds them
 pub record Written (s : Setup) (call : Call) (before : List ℕ) (p : Progress) : Type 0 where
   pub outside : KeepsOutside s call.output p.pieces before p.mem
   pub pieces : Stand p.mem call.output p.pieces
@@ -84,7 +84,7 @@ outside_bytes s devices mem new a (b ∷ bs) at e out = go (write_byte s devices
     go (Err v) f e rest = absurd (err_ok v e)
     go (Ok x) f e rest = rest x e ∙ outside_byte s devices mem x a b at f (λ same. out (omega (arith, same)) (omega (arith, same)))
 
--- bytes that were written stand
+-- bytes that were written are there
 
 err_ok : (v : Violation) (y : List ℕ) → ◌≡◌ {A = Result (List ℕ) Violation} (Err v) (Ok y) → ⊥
 err_ok v y e = cc
@@ -148,7 +148,7 @@ stand_more m a [] p h e = (ap (λ (k : ℕ). bytes_from m k (length p)) (omega a
 stand_more m a (x ∷ ps) p h e = (h.0, stand_more m (a + length x) ps p h.1 (ap (λ (k : ℕ). bytes_from m k (length p)) (omega arith) ∙ e))
 
 module _ (s : Setup) (call : Call) (tag : IsTag s.mac) (before : List ℕ) (room : call.output + 384 ≤ length before) where
-  -- only places of pieces changed, the pieces stand, and each has 24 bytes
+  -- only places of pieces changed, the pieces are there, and each has 24 bytes
   record Whole (p : Progress) : Type 0 where
     full : bytes_in p.pieces ≡ 24 * length p.pieces
     size : length p.mem ≡ length before

@@ -39,7 +39,7 @@ use Rattle.sx_compile.specs.declared.bodies.Body.{Body}
 unfoldable pub body_ops : ModuleTree → List End → List Ir
 body_ops tree ends = handlers_code tree.decls ends 0 tree.handlers
 
--- where each handler's part stands among them
+-- where each handler's part is among them
 unfoldable pub body_parts : ModuleTree → List End → List (ℕ × ℕ)
 body_parts tree ends = handlers_parts tree.decls ends 0 tree.handlers
 
@@ -104,7 +104,7 @@ pub record Handling (s : Setup) (out : ℕ) (course : Course) (before : State) (
   pub marks : HasPrefix (marks_in (finished course)) w.marks
 
 -- The handler has ended, and its return is the next instruction: the private section represents
--- the new state and has the number of pieces, and the pieces stand in the out-window.
+-- the new state and has the number of pieces, and the pieces are in the out-window.
 pub record HasHandled (s : Setup) (out : ℕ) (course : Course) (before : State) (to : ℕ)
     (w : Watched) : Type 0 where
   pub progress : Progress
@@ -138,7 +138,7 @@ pub record IsHandlerPart (tree : ModuleTree) (e : SourceEvent) (from to : List �
   pub begins : slice_get from k ≡ Some p
   pub returns : slice_get to k ≡ Some q
 
--- each handler's part does its handler within the handler's cost, wherever the text stands in a
+-- each handler's part does its handler within the handler's cost, wherever the text is in a
 -- section of this layout
 abbrev pub DoHandlers : Mac → ModuleTree → List End → Layout → List ℕ → List ℕ → List ℕ → Type 0
 DoHandlers mac tree ends l text from to =

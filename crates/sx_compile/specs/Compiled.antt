@@ -21,7 +21,7 @@ compiled_ops tree ends =
     let stub = stub_ops tree ends in
     stub ++ handlers_code tree.decls ends (length stub) tree.handlers
 
--- where each handler's part stands
+-- where each handler's part is
 unfoldable pub compiled_parts : ModuleTree → List End → List (ℕ × ℕ)
 compiled_parts tree ends =
     handlers_parts tree.decls ends (length (stub_ops tree ends)) tree.handlers

@@ -1,4 +1,4 @@
--- What holds of compiled modules. Each law stands as the contract of a function in src/laws.rt.
+-- What holds of compiled modules. Each law is as the contract of a function in src/laws.rt.
 use Rattle.std.specs.Prelude.{◌≡◌, ℕ, ◌+◌, ◌<◌, ◌≤◌, List, [], length, replicate, All}
 use Rattle.sx_lang.specs.Sizes.{module_cost}
 use Rattle.sx_lang.specs.Tree.{ModuleTree}
@@ -31,7 +31,7 @@ ZerosInitial =
     (tree : ModuleTree) (ends : List End) (n : ℕ) → TreeHasWords tree
     → state_of tree ends (replicate n 0) ≡ initial_state tree ends
 
--- The image of a module realizes it: for every lawful tag, wherever the module's sections stand,
+-- The image of a module realizes it: for every lawful tag, wherever the module's sections are,
 -- and for every provider. `code` is the module's code as memory has it, which the text is made of.
 abbrev pub CompiledRealizes : Type 0
 CompiledRealizes =

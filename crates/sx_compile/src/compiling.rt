@@ -56,7 +56,7 @@ fn code_of<T: Tag>(
 /// code, the text of their instructions, and zeros up to the end of the public section. The layout
 /// has sections of exactly the module's weight and data size, at even addresses below 65,536, and
 /// no handler makes more than 16 packets. The image is exactly `compiled_image`, and it realizes
-/// the module: on every node where it stands protected, a call that enters it does what the entry
+/// the module: on every node where it is protected, a call that enters it does what the entry
 /// protocol and the handlers say, within the module's cost. The bytes are the same for every tag.
 /// It fails only where memory runs out.
 pub fn compile<T: Tag>(

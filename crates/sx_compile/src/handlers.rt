@@ -19,7 +19,7 @@ use sx_tmpl::emit;
 
 /// Compiles the handlers of a module alone, with these ends of connections, for tests and tools
 /// that begin a handler themselves. The conditions are those of `compile`. The text is that of the
-/// handlers' code alone, without entry protocol and padding. Where it stands at the start of a
+/// handlers' code alone, without entry protocol and padding. Where it is at the start of a
 /// public section of this layout and the module is at a handler's `from`, it does the handler
 /// within the handler's cost and comes to the handler's `to` (`specs/Body.antt`). It fails only
 /// where memory runs out.

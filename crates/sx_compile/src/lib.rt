@@ -5,7 +5,7 @@
 //! the image is exactly the one that `specs/Compiled.antt` defines, and it realizes the module
 //! (`sx_image/specs/Realizes.antt`). `body` gives the handlers alone, with the places where they
 //! begin and end, and says what a node does between them (`specs/Body.antt`). `laws` say it of the
-//! definitions alone: that the image of every module realizes it, wherever its sections stand and
+//! definitions alone: that the image of every module realizes it, wherever its sections are and
 //! for every provider; and that no step of an invocation shows a key.
 #![tactic(auto)]
 

@@ -397,7 +397,7 @@ pub fn byte_single<B: Bus>(
     }
 }
 
-/// An instruction with the extension word `x`, which stands at `after`; `next` is the address after
+/// An instruction with the extension word `x`, which is at `after`; `next` is the address after
 /// it.
 #[inline(always)]
 pub fn byte_double<B: Bus>(

@@ -139,7 +139,7 @@ pub fn step_single<B: Bus>(
     }
 }
 
-/// An instruction with the extension word `x`, which stands at `after`; `next` is the address after
+/// An instruction with the extension word `x`, which is at `after`; `next` is the address after
 /// it. What compiled code does is done at once where its places are at hand.
 #[inline(always)]
 fn double_at_hand<B: Bus>(

@@ -89,7 +89,7 @@ fn in_place<B: Bus>(
     }
 }
 
-/// Writes a word, or in byte form a byte, where SP stands, and moves PC.
+/// Writes a word, or in byte form a byte, where SP is, and moves PC.
 fn write_at_sp<B: Bus>(
     executor: &mut Executor<B>,
     wide: bool,

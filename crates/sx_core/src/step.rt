@@ -19,7 +19,7 @@ use sx_executor::{Decoded, Executor};
 use sx_isa::{Instr, Operand, with_word, with_words};
 use sx_rules::Violation;
 
-/// Fetches the extension words of the instruction whose first word stands at `pc`; 0 stands for one
+/// Fetches the extension words of the instruction whose first word is at `pc`; 0 stands for one
 /// that it doesn't have.
 #[inline(always)]
 #[tactic(auto, unfolding(sx_isa::specs::Reading::length_of))]

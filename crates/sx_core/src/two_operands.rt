@@ -98,8 +98,8 @@ pub fn writes(op: Op2) -> bool
     !matches!(op, Op2::Cmp | Op2::Bit)
 }
 
-/// The end of an operation on a register: where the register is SR, the result stands. The error is
-/// the instruction's first violation.
+/// The end of an operation on a register: where the register is SR, the result is kept. The error
+/// is the instruction's first violation.
 #[inline(always)]
 pub fn into_register<B: Bus>(
     executor: &mut Executor<B>,

@@ -1,4 +1,4 @@
--- Modules that rule 10 lets through stand apart, and no two drive one device.
+-- Modules that rule 10 lets through are apart, and no two drive one device.
 use Rattle.std.proofs.Common.{◌≡◌, ℕ, ◌+◌, ◌==◌, if◌then◌else◌, Bool, true, false, ◌||◌, ◌&&◌, List, [], ◌∷◌, ◌++◌, length, Some, None, Ok, refl, sym, ap}
 use Rattle.std.proofs.Common.{subst, ◌∙◌, arith, append_assoc, append-nil, length-append}
 use Rattle.std.specs.List.{list_any}
@@ -41,7 +41,7 @@ pub apart-meet : (a b : Span) → meet a b ≡ false → AreApartSpans b a
 apart-meet a b h = grind (arith, nat_tests)
 
 module _ (devices : List DeviceEntry) (links : List Link) where
-  -- where a module stands
+  -- where a module is
   abbrev pub stand : ℕ → Coded → Placement
   stand n m = record { node = m.node; layout = layout_of (sections_of devices links n m) }
 

@@ -46,7 +46,7 @@ pub record IsFit (devices : List DeviceEntry) (m : Coded) : Type 0 where
   pub driven : is_driven (map app_device devices) (byte m.node) (start_device m.start) (declared_kind m.tree.decls) ≡ true
 
 module _ (devices : List DeviceEntry) (links : List Link) (few : length devices ≤ 32) where
-  -- two modules that drive one device don't stand beside each other
+  -- two modules that drive one device aren't beside each other
   two_drivers : (n k : ℕ) (a b : ℕ) (m c : Coded) → m.start ≡ start.Device a → c.start ≡ start.Device b → IsFit devices m → IsFit devices c
       → AreBeside (stand devices links n m) (stand devices links k c)
       → byte a ≡ byte b → ⊥

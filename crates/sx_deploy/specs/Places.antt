@@ -126,7 +126,7 @@ layout_of s = record {
   priv_to = s.data_part.to;
 }
 
--- where a module stands, unless it is misplaced
+-- where a module is, unless it is misplaced
 abbrev pub placement_of : List DeviceEntry → List Placement → ModuleSections → Option Placement
 placement_of devices earlier s = if is_misplaced devices earlier s then None else
     Some (record { node = s.node; layout = layout_of s })
@@ -137,7 +137,7 @@ abbrev pub placed_module : List DeviceEntry → List Link → List Placement →
 placed_module devices links done m = in_entry 10 Module (length done)
     (placement_of devices done (sections_of devices links (length done) m))
 
--- where the modules stand
+-- where the modules are
 abbrev pub placements_of : List DeviceEntry → List Link → List Coded
     → Result (List Placement) DeployFault
 placements_of devices links modules = do

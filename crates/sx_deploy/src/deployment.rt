@@ -42,7 +42,7 @@ pub struct Deployment {
     pub keys: Vec<[u8; 16]>,
     /// The address of each device's word.
     pub places: Vec<u16>,
-    /// Where each module stands.
+    /// Where each module is.
     pub layouts: Vec<Layout>,
     /// The provider of each module.
     pub providers: Vec<u16>,

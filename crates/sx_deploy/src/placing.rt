@@ -24,7 +24,7 @@ use sx_lang::sizes::{data_size, weight};
 use sx_mean::apps::Link;
 use sx_rules::Layout;
 
-/// Where a module stands: its node and its sections.
+/// Where a module is: its node and its sections.
 #[derive(Clone, Copy, Drop)]
 pub struct Placement {
     /// The index of the module's node among the nodes.
@@ -245,7 +245,7 @@ fn sections_placed(
     derived(alloc, &Placer { devices, links }, modules)
 }
 
-/// Where the modules stand. `Fault` is the first fault of rule 10. `OutOfMemory` says that memory
+/// Where the modules are. `Fault` is the first fault of rule 10. `OutOfMemory` says that memory
 /// ran out.
 pub fn placements_of(
     alloc: Global,

@@ -29,7 +29,7 @@ word_of (negsuc n) = None
 abbrev pub word_at : List ℕ → Members → Option ℕ
 word_at key t = option_and_then word_of (option_and_then as_integer (get_member key t))
 
--- the sixteen bytes whose 32 digits stand at a key
+-- the sixteen bytes whose 32 digits are at a key
 abbrev pub key_at : List ℕ → Members → Option (List ℕ)
 key_at key t = option_and_then (λ text. result_ok (decode_sized text 16)) (text_at key t)
 

@@ -11,7 +11,7 @@ use Rattle.sx_entries.specs.Entries.{EntryLists, entries_of}
 use Rattle.sx_entries.specs.declared.entries.Start.{Start}
 use Rattle.sx_entries.specs.declared.entries.Start.TheVariants as start
 
--- each name is in form, and none stands twice
+-- each name is in form, and none occurs twice
 pub record AreNamed (names : List (List ℕ)) : Type 0 where
   pub form : list_all is_name names ≡ true
   pub apart : no_repeat names ≡ true

@@ -103,7 +103,7 @@ pub fn word_at(table: &Table, key: &str) -> Option<u16>
     }
 }
 
-/// The sixteen bytes whose 32 digits stand at a key.
+/// The sixteen bytes whose 32 digits are at a key.
 pub fn key_at(table: &Table, key: &str) -> Option<[u8; 16]>
     ensures { result ≡ key_at key.now (table_view table.now) }
 {

@@ -11,7 +11,7 @@ use sx_lang::names::Name;
 use sx_lang::tree::DeviceKind;
 use toml::Table;
 
-/// A node as it stands in the document.
+/// A node as it is in the document.
 #[derive(Drop)]
 pub struct NodeRow {
     /// The key `name`.
@@ -20,7 +20,7 @@ pub struct NodeRow {
     pub key: [u8; 16],
 }
 
-/// A device as it stands in the document.
+/// A device as it is in the document.
 #[derive(Drop)]
 pub struct DeviceRow {
     /// The key `name`.
@@ -42,7 +42,7 @@ pub enum StartRow {
     Device(Option<Name>),
 }
 
-/// A module as it stands in the document.
+/// A module as it is in the document.
 #[derive(Drop)]
 pub struct ModuleRow<'a> {
     /// The key `name`.
@@ -68,7 +68,7 @@ pub struct EndRow {
     pub port: Option<Name>,
 }
 
-/// A connection as it stands in the document.
+/// A connection as it is in the document.
 #[derive(Drop)]
 pub struct LinkRow {
     /// The key `name`.

@@ -37,7 +37,7 @@ high_byte from to at e h =
     let below : even at + 1 < to = first_of (omega arith, grind arith) in
     and_from (nat_le from (even at + 1)) (nat_lt (even at + 1) to) (le-leb from (even at + 1) above) (lt-ltb (even at + 1) to below)
 
--- a byte of one part isn't one of another that stands apart
+-- a byte of one part isn't one of another that is apart
 pub not_both : (a b c d at : ℕ) → apart a b c d ≡ true → within a b at ≡ true → within c d at ≡ false
 not_both a b c d at h p =
     let from = and_parts (nat_le a at) (nat_lt at b) p in

@@ -67,7 +67,7 @@ outside_any live own at h false =
       | inr e ↦ subst (λ (k : ℕ). may live own Read k ≡ true) e (outside_readable live own (even at + 1) parts.1)
     ]
 
--- a word where an extension word may stand
+-- a word where an extension word may be
 pub extends_readable : (live : List Section) (own at : ℕ) → (extends live own (even at) && extends live own (even at + 1)) ≡ true
     → may_at true live own Read at ≡ true
 extends_readable live own at h =
@@ -116,7 +116,7 @@ unfolding may
 apart_writable live own at n public private =
     all_open live own Write at n (λ i below. byte_writable live own at n i below public private)
 
--- a byte of a part that stands apart from another
+-- a byte of a part that is apart from another
 part_apart : (from to other end i : ℕ) → apart from to other end ≡ true → i < to - from → (leb other (from + i) && ltb (from + i) end) ≡ false
 part_apart from to other end i h below =
     false_from_ne_true (leb other (from + i) && ltb (from + i) end) (λ e.
@@ -133,7 +133,7 @@ second true true c d h = refl
 second true false c d h = absurd (true≢false (sym h))
 second false b c d h = absurd (true≢false (sym h))
 
--- a layout that is clear of a section: its public part and the section's private part stand apart
+-- a layout that is clear of a section: its public part and the section's private part are apart
 private_apart : (l : Layout) (s : Section) → clear_of l s ≡ true → apart l.pub_from l.pub_to s.layout.priv_from s.layout.priv_to ≡ true
 private_apart l s h =
     second (apart l.pub_from l.pub_to s.layout.pub_from s.layout.pub_to) (apart l.pub_from l.pub_to s.layout.priv_from s.layout.priv_to)

@@ -2,7 +2,7 @@
 --     Machine      what an instruction runs on
 --     moment_of, ran      its moment, and the outcome of a plan on it
 --     switched_on, cleared_by_reset      as the power is switched on, and after a reset
---     extends_word      an extension word may stand there
+--     extends_word      an extension word may be there
 --     reaches, reaches_each, IsClear      this many bytes may be reached, and are no device's
 --     written      bytes were written
 --     Keeps      what every part of an instruction keeps

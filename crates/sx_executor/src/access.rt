@@ -216,7 +216,7 @@ impl<B: Bus> Executor<B> {
         }
     }
 
-    /// Whether an extension word of the running code may stand at the place.
+    /// Whether an extension word of the running code may be at the place.
     #[inline(always)]
     #[tactic(auto, using(crate::proofs::Rights::extends_readable, crate::proofs::Open::open_extends, crate::proofs::Open::open_word))]
     fn may_extend(&self, at: u16) -> bool
@@ -233,7 +233,7 @@ impl<B: Bus> Executor<B> {
         self.table().extends_word(self.own(), at)
     }
 
-    /// Fetches an extension word. `Fetch` where no extension word of the running code may stand,
+    /// Fetches an extension word. `Fetch` where no extension word of the running code may be,
     /// and else `Device` on a device's word.
     #[inline(always)]
     pub fn fetch(&self, at: u16) -> Result<u16, Violation>

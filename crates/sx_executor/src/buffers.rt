@@ -1,5 +1,5 @@
 //! Reads and writes of whole buffers: the access table is asked for each byte before the first is
-//! touched, unless the buffer as a whole stands apart from all that it guards, or is known to be
+//! touched, unless the buffer as a whole is apart from all that it guards, or is known to be
 //! the running module's own data.
 
 ghost use Rattle.std.specs.Prelude.{◌≡◌, ◌+◌, ◌≤◌, true, false, length, IfErr, IsTrue, OnOk};

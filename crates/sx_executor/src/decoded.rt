@@ -36,7 +36,7 @@ impl Decoded {
         })
     }
 
-    /// A jump to itself: what stands where nothing was decoded yet.
+    /// A jump to itself: what is where nothing was decoded yet.
     pub(crate) fn idle() -> Decoded {
         Decoded {
             first: 0x3fff,

@@ -68,7 +68,7 @@ fn found(kept: &[Decoded; PLACES], at: u16, first: u16) -> Option<&Decoded>
 }
 
 impl<B: Bus> Executor<B> {
-    /// The shortcut that is kept for an address. Its first word may be another than stands there.
+    /// The shortcut that is kept for an address. Its first word may be another than is there.
     #[inline(always)]
     pub fn shortcut(&self, at: u16) -> &Shortcut {
         shortcut_at(&self.shortcuts, at)

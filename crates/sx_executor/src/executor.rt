@@ -4,7 +4,7 @@
 //! rest of the crate reaches them by these calls. An access reads by `read` and `public_byte` and
 //! writes by `write`, and these require its right, which is that of the module whose turn `begin`
 //! began. `new` and `reset` are about a whole node; `admit` and `remove` say why they ask for no
-//! right. `byte`, `holds` and `copy` ask for none either, but stand only where the memory can be
+//! right. `byte`, `holds` and `copy` ask for none either, but are only where the memory can be
 //! copied, which code of an instruction doesn't know.
 
 ghost use Rattle.std.specs.Prelude.{◌≡◌, ◌⊎◌, ◌+◌, ◌-◌, ◌<◌, ◌≤◌, true, None, Some, length};
@@ -80,7 +80,7 @@ fn wipe<B: Bus>(bus: &mut B, layout: &Layout)
 }
 
 impl<B: Bus> Executor<B> {
-    /// A node's parts as its power is switched on: all registers are 0, and no section stands.
+    /// A node's parts as its power is switched on: all registers are 0, and there is no section.
     pub fn new(bus: B, windows: Windows) -> Executor<B>
         ensures { result ≡ switched_on (B.bytes bus) windows }
     {
@@ -244,7 +244,7 @@ impl<B: Bus> Executor<B> {
     }
 
     /// A byte of the public section of a live module, or of one that no rule refuses. It may be
-    /// read, and no device stands there, since no module is admitted over one.
+    /// read, and there is no device, since no module is admitted over one.
     pub fn public_byte(&self, layout: &Layout, i: u16) -> u8
         requires right { reaches self.now Read layout.now.pub_from
             (layout.now.pub_to - layout.now.pub_from) ≡ true }
@@ -296,7 +296,7 @@ impl<B: Copied> Executor<B> {
         self.bus.get(at)
     }
 
-    /// Whether these bytes stand from an address on. It asks for no right.
+    /// Whether these bytes are in memory from an address on. It asks for no right.
     pub fn holds(&self, at: u16, expected: &[u8]) -> bool
         requires { at + length expected.now ≤ 65536 }
         ensures { result

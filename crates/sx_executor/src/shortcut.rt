@@ -545,7 +545,7 @@ impl Shortcut {
         Some(Shortcut { first, form })
     }
 
-    /// A jump to itself: what stands where nothing was kept yet.
+    /// A jump to itself: what is where nothing was kept yet.
     pub(crate) fn idle() -> Shortcut {
         Shortcut {
             first: 0x3fff,

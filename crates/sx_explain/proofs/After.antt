@@ -1,4 +1,4 @@
--- Where a run stands after items.
+-- Where a run is after items.
 use Rattle.std.proofs.Common.{◌≡◌, List, [], ◌∷◌, ◌++◌, Option, Some, None, refl, ap, ◌∙◌}
 use Rattle.std.proofs.lemmas.Option.{same_Some}
 use Rattle.sx_mean.specs.Application.{AppTree}

@@ -254,7 +254,7 @@ taken_word app s t m c i v h =
     let test = if_state (contains (slice_get words.0 (i % 65536)) v) _ t views.2 in
     (l.0, l.1, ap (λ o. o >>? (λ ws. slice_get ws (i % 65536))) words.1 ∙ word_is v (slice_get words.0 (i % 65536)) test)
 
--- Where a legal trace stands before an item.
+-- Where a legal trace is before an item.
 
 pub record At (app : AppTree) (s : Model) (before : List Item) (item : Item) : Type 0 where
   pub from : Model

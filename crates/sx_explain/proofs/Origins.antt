@@ -244,7 +244,7 @@ module _ (app : AppTree) where
     out_here : outs_of m (was.event.rest ++ i ∷ []) ≡ emits_of was.first ++ v ∷ []
     out_here = outs_last m was.event.rest i ∙ ap (λ z. z ++ out_of m i) was.shown ∙ ap (λ (b : Bool). emits_of was.first ++ (if b then v ∷ [] else [])) (eq-eqb m m refl)
 
-    -- the acts up to a place behind the emit
+    -- the acts up to a place after the emit
     up_to : (mid later : List Act) → acts ≡ mid ++ later → emits_of mid ≡ []
         → (first : List Act) × (acts_of was.event ≡ first ++ later) × (outs_of m (was.event.rest ++ i ∷ []) ≡ emits_of first)
     up_to mid later e none = (

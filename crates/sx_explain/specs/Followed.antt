@@ -23,7 +23,7 @@ use Rattle.sx_explain.specs.Judging.{said}
 use Rattle.sx_explain.specs.Filling.{Fills, IsFull, at_field, full}
 use Rattle.sx_explain.specs.Wants.{IsBehindEvent}
 
--- Where the source stands and how many items there were, the latest item that gave each device a
+-- Where the source is and how many items there were, the latest item that gave each device a
 -- value, the latest event of each module, the numbers of the items at which words were sent, the
 -- event whose words may have none yet, and whether an item was forged.
 pub record Seen : Type 0 where
@@ -116,7 +116,7 @@ pub record Follows (app : AppTree) (items : List Item) (j : Seen) : Type 0 where
   pub taken : j.taken ≡ taken_of items
   pub stands : j.has_forged ≡ false → Stands app items j
 
--- what is said of an item that isn't behind one that is forged, by what the source makes of it
+-- what is said of an item that isn't after one that is forged, by what the source makes of it
 abbrev pub answered : AppTree → Item → Seen → Option Model → Judged
 answered app item j None = Illegal
 answered app item j (Some t) = said (found app j item) item

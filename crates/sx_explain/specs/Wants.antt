@@ -11,7 +11,7 @@ abbrev pub IsBehindEvent : List Item → Type 0
 IsBehindEvent items = (before : List Item) × (event : Item) × (m : ℕ)
     × (items ≡ before ++ event ∷ []) × (begins_event m event ≡ true)
 
--- Memory may run out at this item behind these: none of them was forged, and the item may take
+-- Memory may run out at this item after these: none of them was forged, and the item may take
 -- memory, or it comes next after an event, whose words get their numbers then.
 abbrev pub item_may : List Item → Item → Type 0
 item_may items item = (list_any is_forged items ≡ false)

@@ -253,7 +253,7 @@ impl Judge {
 
     /// Judges the next item. After one that is illegal, or where memory runs out, the judge follows
     /// the items that it followed before. The error says that memory ran out, which it doesn't
-    /// behind an item that is forged, and elsewhere only where the item may take memory or comes
+    /// after an item that is forged, and elsewhere only where the item may take memory or comes
     /// next after an event, whose words then get their numbers.
     pub fn item(&mut self, app: &App, item: &Item) -> Result<Judged, AllocError>
         requires valid { is_valid (app_as app.now) ≡ true }

@@ -31,7 +31,7 @@ private_bytes l mem = bytes_from mem l.priv_from (l.priv_to - l.priv_from)
 abbrev pub public_bytes : Layout → List ℕ → List ℕ
 public_bytes l mem = bytes_from mem l.pub_from (l.pub_to - l.pub_from)
 
--- the module stands protected as this section, with the image's text, layout and provider
+-- the module is protected as this section, with the image's text, layout and provider
 pub record StandsProtected (image : Image) (section : Section) (n : State) : Type 0 where
   pub lives : Lives n.sections.live section
   pub layout : section.layout ≡ image.layout

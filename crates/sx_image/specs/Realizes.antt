@@ -28,7 +28,7 @@ abbrev pub is_piece_address : Setup → ℕ → List (List ℕ) → ℕ → Bool
 is_piece_address s out pieces at =
     nat_le out at && (nat_lt at (out + bytes_in pieces) && may s.live s.section.id Write at)
 
--- the pieces stand in memory, one after the other
+-- the pieces are in memory, one after the other
 abbrev pub Stand : List ℕ → ℕ → List (List ℕ) → Type 0
 Stand mem at [] = Unit {0}
 Stand mem at (piece ∷ pieces) =
@@ -57,7 +57,7 @@ exit_registers before status count =
     ∷ (replicate 8 0 ++ status ∷ count ∷ 0 ∷ 0 ∷ [])
 
 -- The module left its public section by a plain instruction, and the invocation returns: the
--- private section represents the new state, and the pieces stand in the out-window.
+-- private section represents the new state, and the pieces are in the out-window.
 pub record Exited (s : Setup) (result : Invoked) (before : State) (w : Watched) : Type 0 where
   pub status : ℕ
   pub progress : Progress

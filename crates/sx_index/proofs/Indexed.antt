@@ -28,7 +28,7 @@ module _ (names : List (List ℕ)) (name text : List ℕ) where
   abbrev p : List ℕ → Bool
   p = λ n. bytes_eq n text
 
-  -- a name that stands before keeps its place
+  -- a name that is before keeps its place
   pub place_of-there : (i : ℕ) → place_of names text ≡ Some i → place_of (names ++ name ∷ []) text ≡ Some i
   place_of-there i h = rw (position_or_len_push p names name, length-append names (name ∷ [])) (there (position_or_len p names) (length names) i (cond (p name) 0 1) h)
 
@@ -59,7 +59,7 @@ pub none_of : (o : Option ℕ) → is_some o ≡ false → o ≡ None
 none_of None h = refl
 none_of (Some i) h = absurd (cc)
 
--- a name that an index doesn't give stands in no list of its
+-- a name that an index doesn't give is in no list of its
 pub is-new-to : (index : NameIndex) (name : List ℕ) (o : Option ℕ) → ((names : List (List ℕ)) → IsNameIndex index names → o ≡ place_of names name) → is_some o ≡ false → IsNewTo index name
 is-new-to index name o says h = λ names is. sym (says names is) ∙ none_of o h
 

@@ -1,4 +1,4 @@
--- Where a name stands in a list.
+-- Where a name is in a list.
 use Rattle.std.specs.Prelude.{ℕ, List, position, Option}
 use Rattle.std.specs.Str.{bytes_eq}
 

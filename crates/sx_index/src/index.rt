@@ -36,7 +36,7 @@ impl NameIndex {
         Ok(())
     }
 
-    /// Takes in the name that comes next, at this place. A name that stands before keeps its first
+    /// Takes in the name that comes next, at this place. A name that is before keeps its first
     /// place, and takes no memory. The error says that memory ran out.
     pub fn push(&mut self, name: Name, place: usize) -> Result<(), AllocError>
         ensures grows { OnOk result (GrowsIndex self.old self.new name place) }

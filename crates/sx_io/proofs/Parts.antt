@@ -183,7 +183,7 @@ is_within limit bytes into read.End new t = tt
 is_within limit bytes into read.TooLong new t = tt
 is_within limit bytes into read.Failed new t = tt
 
--- where there is room for the whole line, it stands in front
+-- where there is room for the whole line, it is in front
 pub took_front : (limit : ℕ) (bytes into front : List ℕ) (answer : LineRead) (new : Ahead) → FrontOf limit answer into front → Took limit bytes answer into new → Took limit bytes answer front new
 took_front limit bytes into front (read.Text n) new f t =
     let small = t.0 in

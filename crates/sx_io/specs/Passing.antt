@@ -16,7 +16,7 @@ as_read pass.End = read.End
 as_read pass.TooLong = read.TooLong
 as_read pass.Failed = read.Failed
 
--- as many of the first bytes of a text as there is room for stand in front
+-- as many of the first bytes of a text as there is room for are in front
 abbrev pub FrontOf : ℕ → LineRead → List ℕ → List ℕ → Type 0
 FrontOf room (read.Text n) into front = take n front ≡ take room (take n into)
 FrontOf room read.End into front = ⊤
@@ -24,7 +24,7 @@ FrontOf room read.TooLong into front = ⊤
 FrontOf room read.Failed into front = ⊤
 
 -- A call that passes a line answers what a call for the next line would, and the first 8 bytes of
--- its text stand in front.
+-- its text are in front.
 pub record Passes (tells : Bool) (s0 s1 : SourceAt) (old new : Ahead) (front : List ℕ)
     (answer : PassRead) : Type 0 where
   pub into : List ℕ

@@ -24,7 +24,7 @@ pub enum LineRead {
     Text(usize),
     /// The end of the input.
     End,
-    /// More than 4,096 bytes stand without a newline.
+    /// More than 4,096 bytes come without a newline.
     TooLong,
     /// A read failed; the line that was begun isn't given.
     Failed,
@@ -40,7 +40,7 @@ pub enum PassRead {
     Text(u32),
     /// The end of the input.
     End,
-    /// More than 131,072 bytes stand without a newline.
+    /// More than 131,072 bytes come without a newline.
     TooLong,
     /// A read failed; the line that was begun isn't given.
     Failed,
@@ -120,11 +120,11 @@ impl Lines {
         }
     }
 
-    /// The next line, without its newline and one carriage return before it: its text stands at the
+    /// The next line, without its newline and one carriage return before it: its text is at the
     /// start of `into`. It reads only where it holds no newline, and never after the end of the
     /// input or a failed read.
     pub fn next<S: Source>(&mut self, source: &mut S, into: &mut [u8; LONGEST]) -> LineRead
-        // The answer is what stands next in the input, and what isn't given stays held.
+        // The answer is what is next in the input, and what isn't given stays held.
         ensures next { Next longest S.tells (S.at source.old) (S.at source.new) self.old self.new
             into.new result }
 
@@ -152,7 +152,7 @@ impl Lines {
     }
 
     /// Takes the next line, which has at most `limit` bytes, where no last answer was given: its
-    /// first bytes stand in `front`.
+    /// first bytes are in `front`.
     fn take_line<S: Source>(&mut self, source: &mut S, front: &mut [u8], limit: usize) -> LineRead
         requires { self.old.state ≡ ReaderState.Open }
         ensures takes { TakesFront limit S.tells (S.at source.old) (S.at source.new) self.old
@@ -287,7 +287,7 @@ impl Lines {
         part
     }
 
-    /// The next line, where all of it is held: its text stands at the start of `into`, as after
+    /// The next line, where all of it is held: its text is at the start of `into`, as after
     /// `next`. It reads nothing. `None` says that `next` would read, or give its last answer again.
     pub fn next_held(&mut self, into: &mut [u8; LONGEST]) -> Option<usize>
         ensures { GivesHeld self.old self.new into.new result }

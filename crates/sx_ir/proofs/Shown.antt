@@ -5,13 +5,13 @@ use Rattle.std.proofs.lemmas.Bool.{and_from, eq-eqb, le-leb, lt-ltb, ne_eqb, not
 use Rattle.sx_ir.specs.Meaning.{has_key_mark, is_body_place, is_key_mark, is_key_place, is_shown, is_shown_element, spares_slots}
 use Rattle.spec_invocation.specs.Marks.{Mark}
 
--- behind the copied packet's plain body, and before the key of the first slot
+-- after the copied packet's plain body, and before the key of the first slot
 pub middle_shown : (ends o n : ℕ) → 72 ≤ o → o + n ≤ 520 → is_shown ends o n ≡ true
 middle_shown ends o n from to =
     and_from _ _ (or_right (nat_le (o + n) 56) (nat_le 72 o) (le-leb 72 o from))
     (or_left (nat_le (o + n) 520) _ (le-leb (o + n) 520 to))
 
--- behind the slots
+-- after the slots
 pub cell_shown : (ends o n : ℕ) → 512 + 24 * ends ≤ o → is_shown ends o n ≡ true
 cell_shown ends o n from =
     and_from _ _ (or_right (nat_le (o + n) 56) (nat_le 72 o) (le-leb 72 o (omega (arith, from))))
@@ -42,7 +42,7 @@ slot_body k b bn other = or_left (not (k == 0)) _ (not_from_false (k == 0) (ne_e
 pub low_spared : (ends o n : ℕ) → o + n ≤ 512 → spares_slots ends o n ≡ true
 low_spared ends o n to = or_left (nat_le (o + n) 512) _ (le-leb (o + n) 512 to)
 
--- behind them
+-- after them
 pub cell_spared : (ends o n : ℕ) → 512 + 24 * ends ≤ o → spares_slots ends o n ≡ true
 cell_spared ends o n from = or_right (nat_le (o + n) 512) _ (or_left (nat_le (512 + 24 * ends) o) _ (le-leb (512 + 24 * ends) o from))
 

@@ -407,7 +407,7 @@ part_from [] h c = stuck
 part_from (part ∷ parts) zero c = Goes (record c { place = part.0; back = Some (c.place + 1) })
 part_from (part ∷ parts) (suc h) c = part_from parts h c
 
--- the instructions of a `Handler` are its own, without those of its part, which stands in the code
+-- the instructions of a `Handler` are its own, without those of its part, which is in the code
 abbrev pub no_count : ℕ → ℕ
 no_count h = 0
 

@@ -1,5 +1,5 @@
 -- The bytes of a module's text. Nobody has to believe this file for what an image realizes. A text
--- begins with the entry; after it stand the operations' templates in order, the exit, the routine
+-- begins with the entry; after it are the operations' templates in order, the exit, the routine
 -- that opens a slot, a routine for each end that some operation makes a packet of, and a word of
 -- zeros.
 use Rattle.std.specs.Prelude.{ℕ, zero, suc, ◌+◌, ◌*◌, ◌%◌, ◌==◌, Bool, false, if◌then◌else◌, List}
@@ -89,7 +89,7 @@ is_packet k i = false
 abbrev pub has_routine : List Ir → ℕ → Bool
 has_routine ops k = list_any (is_packet k) ops
 
--- the packet routines that stand for the first n ends
+-- the packet routines of the first n ends
 unfoldable pub routines : List Ir → ℕ → ℕ
 routines ops zero = 0
 routines ops (suc n) = routines ops n + (if has_routine ops n then 1 else 0)

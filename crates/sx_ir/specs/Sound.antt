@@ -20,7 +20,7 @@ is_free size o n =
 abbrev pub may_change : ℕ → ℕ → ℕ → Bool
 may_change size o n = is_free size o n && (nat_le (o + n) 6 || nat_le 14 o)
 
--- words stand at even offsets
+-- words are at even offsets
 abbrev pub is_even : ℕ → Bool
 is_even o = o % 2 == 0
 
@@ -32,7 +32,7 @@ has_slot size k = nat_le (end_at k + 24) size
 abbrev pub is_key : ℕ → ℕ → Bool
 is_key size k = k == 0 || is_free size k 16
 
--- Header and body have at most 32 bytes each. After the header stand the cipher and the tag.
+-- Header and body have at most 32 bytes each. After the header are the cipher and the tag.
 abbrev pub are_sealed : ℕ → ℕ → ℕ → ℕ → ℕ → ℕ → Bool
 are_sealed size k h hn b bn =
     is_key size k && (is_free size h (hn + bn + 16)

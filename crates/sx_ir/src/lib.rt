@@ -1,7 +1,7 @@
-//! Stack code: what stands between a module's source and its instructions.
+//! Stack code: what is between a module's source and its instructions.
 //!
 //! `Code` is a list of operations, `Ir`, with the places of each handler's part. `bytes` and
-//! `offset` tell where the instructions of code stand in a module's text, and `sound` whether
+//! `offset` tell where the instructions of code are in a module's text, and `sound` whether
 //! templates can be made for it. `join` puts the entry protocol and the handlers' parts into one
 //! code.
 //!

@@ -1,4 +1,4 @@
-//! How many bytes the text of stack code has, and where each operation stands in it.
+//! How many bytes the text of stack code has, and where each operation is in it.
 
 ghost use Rattle.std.specs.Prelude.{◌≡◌, ◌+◌, ◌*◌, ◌<◌, ◌≤◌, length};
 ghost use Rattle.sx_ir.specs.Sizes.{all_routines, bytes, has_routine, is_packet, offset, op_bytes};
@@ -93,7 +93,7 @@ fn is_packet(op: &Ir, end: u16) -> bool
     }
 }
 
-/// Whether a packet routine stands for this end: some operation makes a packet of it.
+/// Whether there is a packet routine for this end: some operation makes a packet of it.
 pub fn has_routine(ops: &[Ir], end: u16) -> bool
     ensures { result ≡ has_routine ops.now end }
 {
@@ -115,7 +115,7 @@ fn all_routines(ops: &[Ir]) -> u64
 }
 
 /// The length in bytes of the text that is made of code: the entry, each operation's template, the
-/// exit and the routines, of which one stands for each end that some operation makes a packet of.
+/// exit and the routines, one for each end that some operation makes a packet of.
 pub fn bytes(code: &Code) -> u64
     requires { length code.now.ops.items < 65536 }
     ensures { result ≡ bytes code.now.ops.items }

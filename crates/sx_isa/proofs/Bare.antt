@@ -1,4 +1,4 @@
--- How an instruction is read where its first word stands, whatever its extension words are.
+-- How an instruction is read where its first word is, whatever its extension words are.
 use Rattle.std.proofs.Common.{◌≡◌, ℕ, ◌==◌, Bool, true, false, not, List, [], ◌∷◌, length, length-append, Some}
 use Rattle.std.proofs.Common.{refl, sym, ◌∙◌, ap, arith, if◌then◌else◌, drop, get_or}
 use Rattle.std.specs.Prelude.{nat_lt, ℤ, pos, negsuc}
@@ -64,7 +64,7 @@ value_same (Increment r) = refl
 value_same (Immediate x) = refl
 value_same (Const c) = refl
 
--- with other extension words the operand stands at the same place
+-- with other extension words the operand is at the same place
 record SamePlace (o : Operand) : Type 0 where
   register : (place_of (with_word o 0)).register ≡ (place_of o).register
   mode : (place_of (with_word o 0)).mode ≡ (place_of o).mode

@@ -1,4 +1,4 @@
--- Operands and the places where they stand, from and back.
+-- Operands and the places where they are, from and back.
 use Rattle.std.proofs.Common.{◌≡◌, ℕ, zero, suc, ◌<◌, ◌≤◌, ◌==◌, true, false, [], ◌∷◌, length, take, refl, subst, sym, ◌⊎◌, inl, inr, IsTrue, arith, Some, None, is_some}
 use Rattle.std.specs.Prelude.{if◌then◌else◌}
 use Rattle.std.proofs.lemmas.Bool.{ne_eqb}
@@ -23,7 +23,7 @@ by_register P (suc (suc (suc (suc r)))) h p0 p2 p3 general =
     general (omega arith, omega arith, omega arith, omega arith) (ne_eqb _ _ (omega arith))
     (ne_eqb _ _ (omega arith)) (ne_eqb _ _ (omega arith))
 
--- what is read at a place is an operand that stands there
+-- what is read at a place is an operand that is there
 pub record SourceStands (m x r : ℕ) : Type 0 where
   pub valid : IsSource (source_at r m x)
   pub place : place_of (source_at r m x) ≡ at r m (if takes_word r m then x ∷ [] else [])
@@ -49,7 +49,7 @@ source_stands r (suc (suc (suc zero))) x h k w =
     (λ g e0 e2 e3. record { valid = rw (e0, e2, e3) g; place = rw (e0, e2, e3) refl })
 source_stands r (suc (suc (suc (suc m)))) x h k w = absurd (omega arith)
 
--- what is written at a place, if there is something, stands there, and R3 in memory is nothing
+-- what is written at a place, if there is something, is there, and R3 in memory is nothing
 pub record DestinationStands (m x r : ℕ) (d : Operand) : Type 0 where
   pub valid : IsDestination d
   pub place : place_of d ≡ at r m (if takes_word r m then x ∷ [] else [])
@@ -83,7 +83,7 @@ source_value r m x y = grind (arith, nat_tests)
 pub value_place : (r m x : ℕ) → is_value (source_at r m x) ≡ true → m < 4 → IsValuePlace r m
 value_place r m x e h = grind (arith, nat_tests)
 
--- an operand is what is read where it stands
+-- an operand is what is read where it is
 pub record SourceBack (a : Operand) : Type 0 where
   pub register : (place_of a).register < 16
   pub mode : (place_of a).mode < 4

@@ -1,4 +1,4 @@
--- What is read is an instruction, and its words stand there; nothing is read where the first word
+-- What is read is an instruction, and its words are there; nothing is read where the first word
 -- is illegal.
 use Rattle.std.proofs.Common.{◌≡◌, ℕ, zero, suc, ◌+◌, ◌-◌, ◌/◌, ◌%◌, ◌<◌, ◌≤◌, ◌==◌, Bool, true, false, cond, List, [], ◌∷◌, ◌++◌, length, take, refl, ap, sym}
 use Rattle.std.proofs.Common.{subst, ◌⊎◌, inl, inr, arith, Option, Some, None}

@@ -73,7 +73,7 @@ IsIllegal w =
     ⊎ (w / 4096 ≡ 10)
     ⊎ ((0x4000 ≤ w) × (w / 128 % 2 ≡ 1) × (w % 16 ≡ 3))
 
--- the instruction's n words stand at the start of ws
+-- the instruction's n words are at the start of ws
 abbrev pub BeginsWith : List ℕ → Instr → ℕ → Type 0
 BeginsWith ws i n = IsInstruction i × (n ≡ length (spelling i)) × (take n ws ≡ spelling i)
 

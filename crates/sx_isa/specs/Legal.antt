@@ -12,7 +12,7 @@ has_byte_form Sxt = false
 has_byte_form Call = false
 has_byte_form _ = true
 
--- whether the result goes where the operand stands
+-- whether the result goes where the operand is
 abbrev pub writes_back : Op1 → Bool
 writes_back Push = false
 writes_back Call = false

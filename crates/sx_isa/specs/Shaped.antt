@@ -1,5 +1,5 @@
 -- Which instructions can be written in words, apart from the extension words, which are words by
--- their type: computed, so that it is seen of an instruction that stands in code.
+-- their type: computed, so that it is seen of an instruction that is in code.
 use Rattle.std.specs.Prelude.{ℕ, ◌==◌, ℤ, pos, negsuc, Bool, true, false, ◌&&◌, not, nat_lt}
 use Rattle.std.specs.Prelude.{List, [], ◌∷◌}
 use Rattle.sx_isa.specs.declared.instruction.Operand.{Operand}

@@ -19,7 +19,7 @@ use Rattle.lemmas.specs.Truth.{truth}
 abbrev pub is_constant : ℕ → Bool
 is_constant c = (c == 0) || (c == 1) || (c == 2) || (c == 4) || (c == 8) || (c == 65535)
 
--- where an operand stands: a register's number, an addressing mode, and its extension words
+-- where an operand is: a register's number, an addressing mode, and its extension words
 pub record Place : Type 0 where
   pub register : ℕ
   pub mode : ℕ

@@ -1,4 +1,4 @@
--- Instructions that stand in memory, a list of 65,536 bytes. Addresses are modulo 65,536.
+-- Instructions that are in memory, a list of 65,536 bytes. Addresses are modulo 65,536.
 use Rattle.std.specs.Prelude.{◌≡◌, ℕ, ◌+◌, ◌*◌, ◌%◌, List, [], ◌∷◌, ◌++◌, length}
 use Rattle.sx_isa.specs.declared.instruction.Instr.{Instr}
 use Rattle.sx_isa.specs.Instructions.{IsInstruction}
@@ -9,16 +9,16 @@ use Rattle.sx_isa.specs.Memory.{word}
 abbrev pub word_at : List ℕ → ℕ → ℕ
 word_at bytes a = word bytes (a % 65536)
 
--- words stand one after the other from an address on
+-- words are one after the other from an address on
 abbrev pub WordsStand : List ℕ → ℕ → List ℕ → Type 0
 WordsStand bytes a [] = Unit {0}
 WordsStand bytes a (w ∷ ws) = (word_at bytes a ≡ w) × WordsStand bytes (a + 2) ws
 
--- an instruction stands at an address
+-- an instruction is at an address
 abbrev pub InstructionStands : List ℕ → ℕ → Instr → Type 0
 InstructionStands bytes a i = IsInstruction i × WordsStand bytes a (spelling i)
 
--- instructions stand one after the other
+-- instructions are one after the other
 abbrev pub AllStand : List ℕ → ℕ → List Instr → Type 0
 AllStand bytes a [] = Unit {0}
 AllStand bytes a (i ∷ is) =

@@ -17,7 +17,7 @@ pub enum Operand {
     Symbolic(u16),
     /// The memory at this address, `&ADDR`.
     Absolute(u16),
-    /// This number, which stands in an extension word.
+    /// This number, which is in an extension word.
     Immediate(u16),
     /// One of 0, 1, 2, 4, 8 and 0xFFFF, from a constant generator, with no extension word.
     Const(u16),

@@ -39,14 +39,14 @@ pub fn lengths()
         ↔ ((i : Instr) × (instruction_at w0 w1 w2 ≡ Some (record { 0 = i; 1 = n }))) }
 {}
 
-/// Other extension words behind a first word change the operands of its instruction alone.
+/// Other extension words after a first word change the operands of its instruction alone.
 pub fn extending()
     ensures { (w0 v1 v2 w1 w2 n : ℕ) (i : Instr) →
         instruction_at w0 v1 v2 ≡ Some (record { 0 = i; 1 = n }) →
         instruction_at w0 w1 w2 ≡ Some (record { 0 = extended i w1 w2; 1 = n }) }
 {}
 
-/// Instructions in memory: an instruction that stands there is read there; instructions stand where
+/// Instructions in memory: an instruction that is there is read there; instructions are where
 /// their words do, are put together, may be addressed modulo 65,536, and stay where their words
 /// stay.
 pub fn standing()

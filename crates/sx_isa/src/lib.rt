@@ -6,10 +6,11 @@
 //! are the tests to make before them. `with_word` and `with_words` put extension words into operands
 //! that were decoded before they were available. None of them takes memory. `assembly` has
 //! instructions as TI's guide writes them, for code that writes some out; a list of them has words
-//! where `specs/Shaped.antt` computes so. What must be believed stands in specs/: Spelling.antt (the words of an instruction), Legal.antt (what is allowed of an operation
-//! on one operand) and Instructions.antt (which instructions there are, and which first words none
-//! has). Reading.antt computes the instruction from the fields of
-//! its first word, for proofs on given words; `laws` shows that it agrees.
+//! where `specs/Shaped.antt` computes so. What must be believed is in specs/: Spelling.antt (the
+//! words of an instruction), Legal.antt (what is allowed of an operation on one operand) and
+//! Instructions.antt (which instructions there are, and which first words none has). Reading.antt
+//! computes the instruction from the fields of its first word, for proofs on given words; `laws`
+//! shows that it agrees.
 #![tactic(auto)]
 
 pub mod assembly;

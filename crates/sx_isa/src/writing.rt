@@ -11,7 +11,7 @@ ghost use Rattle.lemmas.specs.Truth.{truth};
 use crate::fields::is_allowed;
 use crate::instruction::{Instr, Op1, Op2, Operand, Words};
 
-/// Where an operand stands: a register, an addressing mode and an extension word.
+/// Where an operand is: a register, an addressing mode and an extension word.
 #[derive(Clone, Copy)]
 struct Place {
     register: u16,

@@ -5,7 +5,7 @@ use Rattle.std.specs.Prelude.{◌≡◌, ℕ, ◌<◌, ◌≤◌, List, ◌++◌
 abbrev pub padded_name : List ℕ → List ℕ
 padded_name bytes = take 16 (bytes ++ replicate 16 0)
 
--- `count` bytes stand at the start of a field of 16, and zeros after them
+-- `count` bytes are at the start of a field of 16, and zeros after them
 pub record IsStored (field : List ℕ) (count : ℕ) : Type 0 where
   pub some : 0 < count
   pub short : count ≤ 16

@@ -11,7 +11,7 @@ use std::marker::Model;
 /// The most bytes that a name has.
 pub const LONGEST: usize = 16;
 
-/// Whether a byte can stand in a name: a lower-case letter, a digit or `_`.
+/// Whether a byte can be in a name: a lower-case letter, a digit or `_`.
 pub fn is_name_byte(byte: u8) -> bool
     ensures { result ≡ is_name_byte byte }
 {

@@ -1,4 +1,4 @@
--- How far a text was read, and how many bytes of a token stand at its front.
+-- How far a text was read, and how many bytes of a token are at its front.
 use Rattle.std.specs.Prelude.{ℕ, ◌+◌, List, ◌++◌, ◌≡◌, zero, suc, ◌*◌, ◌≤◌, Bool, false, ◌&&◌, []}
 use Rattle.std.specs.Prelude.{◌∷◌, length, take, None, nat_le, if◌then◌else◌}
 use Rattle.sx_lex.specs.declared.tokens.Place.{Place}
@@ -23,7 +23,7 @@ first_is sort (b ∷ bs) = sort b
 pub record NoHexadecimal (text : List ℕ) : Type 0 where
   pub none : (m : ℕ) → m ≤ length text → is_hexadecimal (take m text) ≡ false
 
--- no sign of two bytes stands at the start
+-- the start is no sign of two bytes
 pub record NoPair (text : List ℕ) : Type 0 where
   pub none : 2 ≤ length text → found_in signs (take 2 text) ≡ None
 

@@ -97,7 +97,7 @@ pub record IsLongest (text : List ℕ) (n : ℕ) (k : Kind) : Type 0 where
 pub record NoToken (text : List ℕ) : Type 0 where
   pub none : (m : ℕ) → m ≤ length text → kind_of (take m text) ≡ None
 
--- how many bytes stand before the first newline
+-- how many bytes are before the first newline
 abbrev pub line_length : List ℕ → ℕ
 line_length [] = 0
 line_length (b ∷ bs) = if b == 10 then 0 else suc (line_length bs)

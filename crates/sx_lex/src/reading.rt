@@ -54,7 +54,7 @@ fn is_comment(text: &[u8]) -> bool
     }
 }
 
-/// How many bytes stand before the first newline.
+/// How many bytes are before the first newline.
 #[tactic(auto, using(crate::proofs::Turns::line_begins, crate::proofs::Turns::line_goes_on, crate::proofs::Turns::line_stops, crate::proofs::Turns::line_ends))]
 fn line_end(text: &[u8]) -> usize
     ensures count { result ≡ line_length text.now }
@@ -74,7 +74,7 @@ fn line_end(text: &[u8]) -> usize
 
 /// The tokens of a text, each the longest possible, and the place where their reading ended.
 ///
-/// Spaces, tabs, newlines and `//` to the line's end stand between tokens. Where no token can
+/// Spaces, tabs, newlines and `//` to the line's end are between tokens. Where no token can
 /// begin, the reading ends with the token `Bad` at that place, else after the text's last byte. The
 /// error says that memory ran out.
 #[tactic(auto, using(crate::proofs::Turns::begins, crate::proofs::Turns::passes_space, crate::proofs::Turns::passes_line, crate::proofs::Turns::passes_comment, crate::proofs::Turns::adds_token, crate::proofs::Turns::adds_bad, crate::proofs::Turns::ends_here))]

@@ -99,7 +99,7 @@ pub struct Place {
 pub struct Placed {
     /// What the token is.
     pub kind: Kind,
-    /// Where its first byte stands.
+    /// Where its first byte is.
     pub place: Place,
 }
 

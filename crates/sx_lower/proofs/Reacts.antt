@@ -252,7 +252,7 @@ module _ (s : Setup) (handle : ℕ → Conf → OperationResult) (given : ℕ �
 
 -- Parts
 
--- a handler's part stands where its number among the parts says
+-- a handler's part is where its number among the parts says
 part_stands : (ds : List Decl) (ends : List End) (hs : List HandlerTree) (code : List Ir) (p k from to : ℕ) (h : HandlerTree) → HasAt code p (handlers_code ds ends p hs) → slice_get hs k ≡ Some h
     → slice_get (handlers_parts ds ends p hs) k ≡ Some (from, to) → HasAt code from (handler_code ds ends from h)
 part_stands ds ends [] code p k from to h has is part = absurd (none-some h is)

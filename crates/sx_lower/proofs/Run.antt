@@ -35,7 +35,7 @@ use Rattle.sx_mean.proofs.Words.{not_equal, at_most}
 use Rattle.sx_ir.proofs.Shown.{cell_shown, element_shown, middle_shown}
 use Rattle.sx_lower.proofs.Holds.{Holds, read_local, read_cell, read_element}
 
--- the operations stand in the code from this place on
+-- the operations are in the code from this place on
 abbrev pub HasAt : List Ir → ℕ → List Ir → Type 0
 HasAt code p [] = Unit {0}
 HasAt code p (i ∷ is) = (slice_get code p ≡ Some i) × HasAt code (p + 1) is

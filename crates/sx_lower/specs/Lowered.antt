@@ -117,7 +117,7 @@ abbrev pub send_code : List Decl → List End → List (List ℕ) → List ℕ �
 send_code ds ends names x e = expression_code ds (length ends) names e
     ++ (packets_code 0 ends (output_number ds x) ++ ir.Drop ∷ [])
 
--- the code of a choice, whose first block stands at this place
+-- the code of a choice, whose first block is at this place
 abbrev pub choice_code : ℕ → List Ir → List Ir → List Ir → List Ir
 choice_code p test a b =
     test ++ (ir.JumpZero (p + length a + 1) ∷ (a ++ (ir.Jump (p + length a + 1 + length b) ∷ b)))

@@ -88,7 +88,7 @@ pub record LowersTo (m : ModuleTree) (ends : List End) (code : Code) : Type 0 wh
   pub does : Lowers m ends code.ops.items code.parts.items
   pub is : IsLowered m ends code.ops.items code.parts.items
 
--- Handlers' code fits wherever it stands.
+-- Handlers' code fits wherever it is.
 abbrev pub LoweredFits : Type 0
 LoweredFits = (m : ModuleTree) (ends : List End) (place ops parts : ℕ) → IsLowerable m ends
     → let code = handlers_code m.decls ends place m.handlers in

@@ -202,7 +202,7 @@ fn put_statement(
     }
 }
 
-/// The code of an `if`. Its jumps are written when the places behind the blocks are known.
+/// The code of an `if`. Its jumps are written when the places after the blocks are known.
 #[cycle(blocks)]
 fn put_choice(
     code: &mut Vec<Ir>,
@@ -240,7 +240,7 @@ fn put_choice(
     Ok(())
 }
 
-/// The code of a `repeat`. Its jump to the end is written when the place behind the block is known.
+/// The code of a `repeat`. Its jump to the end is written when the place after the block is known.
 #[cycle(blocks)]
 fn put_loop(
     code: &mut Vec<Ir>,

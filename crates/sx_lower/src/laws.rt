@@ -13,7 +13,7 @@ pub fn lowered_moves()
     ensures { LoweredMoves }
 {}
 
-/// Lowered code is sound and keeps within its bytes, wherever it stands.
+/// Lowered code is sound and keeps within its bytes, wherever it is.
 pub fn lowered_fits()
     ensures { LoweredFits }
 {}

@@ -24,7 +24,7 @@ abbrev pub IsBefore : End → End → Type 0
 IsBefore a b = (a.link < b.link) ⊎ ((a.link ≡ b.link) × (a.side ≡ From) × (b.side ≡ To))
 
 -- What a module's ends are: at most 16; in connection order, the sending end before the receiving
--- one, so none stands twice; each of one of 64 connections, and at a port of the module.
+-- one, so none occurs twice; each of one of 64 connections, and at a port of the module.
 pub record AreEnds (m : ModuleTree) (ends : List End) : Type 0 where
   pub few : length ends ≤ 16
   pub ordered : AllPairs IsBefore ends

@@ -19,7 +19,7 @@ use Rattle.sx_mean.specs.declared.moments.Local.{Local}
 use Rattle.sx_mean.specs.Places.{place, array_length, output_number}
 use Rattle.lemmas.specs.Truth.{truth}
 
--- where a handler stands: the locals in the order of their lets, the cells, and the acts so far
+-- where a handler is: the locals in the order of their lets, the cells, and the acts so far
 pub record HandlerState : Type 0 where
   pub locals : List Local
   pub cells : List ℕ

@@ -32,7 +32,7 @@ impl Default for Act {
 /// The acts of an event, in order. Few of them need no allocation.
 pub type Acts = SmallVec<Act, 4>;
 
-/// One end of a connection in a module. A module's ends stand in connection order, `From` before
+/// One end of a connection in a module. A module's ends are in connection order, `From` before
 /// `To`.
 #[derive(Clone, Copy, PartialEq, Eq, Debug)]
 pub struct End {

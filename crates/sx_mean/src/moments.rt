@@ -23,12 +23,12 @@ impl Default for Local {
     }
 }
 
-/// Where a handler stands: its locals, the cells, and the acts so far.
+/// Where a handler is: its locals, the cells, and the acts so far.
 #[derive(Drop)]
 pub struct Moment {
     /// The locals in scope; the last was defined last.
     pub locals: SmallVec<Local, 4>,
-    /// The module's cells as they stand.
+    /// The module's cells as they are.
     pub cells: Vec<u16>,
     /// What was sent and emitted, in order.
     pub acts: Acts,

@@ -21,7 +21,7 @@ Keeps app P = (items : List Item) (s : Model) → P items s → (item : Item) (t
 pub keeps_by : (app : AppTree) (P : List Item → Model → Type 0) → ((items : List Item) (s : Model) → P items s → Cases app s (λ item t. P (items ++ item ∷ []) t)) → Keeps app P
 keeps_by app P cases items s p item t e = some_of (step app s item) t (P (items ++ item ∷ [])) (by_step app s (λ item t. P (items ++ item ∷ []) t) (cases items s p) item) e
 
--- where a run stands before an item, and after it
+-- where a run is before an item, and after it
 pub record StepOf (app : AppTree) (P : List Item → Model → Type 0) (before : List Item) (item : Item) : Type 0 where
   pub from : Model
   pub to : Model

@@ -1,4 +1,4 @@
--- Where a run of the source stands.
+-- Where a run of the source is.
 use Rattle.std.specs.Prelude.{ℕ, false, List, [], Bool, Option, Some, None, map, replicate}
 use Rattle.std.specs.Prelude.{◌==◌}
 use Rattle.std.specs.Option.{option_map_or}

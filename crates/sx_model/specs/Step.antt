@@ -33,7 +33,7 @@ o >>? f = option_and_then f o
 abbrev pub state_if : Bool → Model → Option Model
 state_if b s = if b then Some s else None
 
--- the state with another standing of a module
+-- the state with another state of one module
 abbrev pub with_standing : Model → ℕ → Standing → Model
 with_standing s m x = record s { modules = slice_set s.modules m x }
 

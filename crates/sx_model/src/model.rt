@@ -85,7 +85,7 @@ fn take_item(alloc: Global, state: &mut State, app: &App, item: Item) -> Result<
     }
 }
 
-/// Where a run of an application's source stands after the items that were allowed.
+/// Where a run of an application's source is after the items that were allowed.
 #[derive(Drop)]
 pub struct Model {
     alloc: Global,

@@ -1,4 +1,4 @@
-//! Where a run of the source stands, in memory. Contracts see each type as its record of
+//! Where a run of the source is, in memory. Contracts see each type as its record of
 //! `specs/State.antt`.
 
 use std::marker::Model;
@@ -133,7 +133,7 @@ impl Model for Words {
     ghost invariant = { λ w. length w.words.items ≤ 65535 };
 }
 
-/// Where a run stands.
+/// Where a run is.
 #[derive(Drop)]
 pub(crate) struct State {
     pub(crate) boots: Vec<u32>,

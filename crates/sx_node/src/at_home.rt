@@ -1,5 +1,5 @@
 //! The fast path of a node's step while a module runs. It is taken where the last instruction was
-//! of that module too, and where PC stands in its public section, whose bounds the executor knows
+//! of that module too, and where PC is in its public section, whose bounds the executor knows
 //! as those of the module's home.
 //!
 //! Then fetch and order pass, the module of the instruction is the one that runs, and its private

@@ -17,7 +17,7 @@ impl<B: Copied, T: Tag> Node<B, T> {
         self.executor.byte(at)
     }
 
-    /// Whether these bytes stand from an address on. It asks for no right.
+    /// Whether these bytes are in memory from an address on. It asks for no right.
     pub fn holds(&self, at: u16, expected: &[u8]) -> bool
         requires { at + length expected.now ≤ 65536 }
         ensures { result

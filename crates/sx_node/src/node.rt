@@ -65,7 +65,7 @@ pub(crate) fn no_exchange() -> Exchange
 }
 
 impl<B: Bus, T: Tag> Node<B, T> {
-    /// A node when its power is switched on: all registers are 0, no section stands, and the boot
+    /// A node when its power is switched on: all registers are 0, there is no section, and the boot
     /// count is 0. As the conditions say, all bytes are 0, and no device was used. `key` is the
     /// node's own key.
     pub fn new(bus: B, tag: T, key: [u8; 16], windows: Windows) -> Node<B, T>

@@ -74,7 +74,7 @@ impl<B: Bus, T: Tag> Node<B, T> {
     }
 
     /// The same in each case. From the next step on the home of the module that runs is known, or
-    /// the gap where PC stands may be. Its code stays out of the way of what most steps do.
+    /// the gap where PC is may be. Its code stays out of the way of what most steps do.
     #[inline(never)]
     pub(crate) fn step_learning(&mut self, seen: &mut Seen) -> bool
         requires { self.old.boot < 4294967295 }

@@ -48,7 +48,7 @@ front_more new old a b f = (f.0, f.1, (f.2.0 ++ b, sym (append_assoc f.0 f.2.0 b
 pub front_next : (new mid old a b : List Item) → mid ≡ old ++ a → AddsFront mid new b → AddsFront old new (a ++ b)
 front_next new mid old a b e f = (a ++ f.0, f.1 ∙ ap (λ x. x ++ f.0) e ∙ append_assoc old a f.0, (f.2.0, append_assoc a f.0 f.2.0 ∙ ap (λ x. a ++ x) f.2.1))
 
--- all items that stand are a prefix of those before with those that are due
+-- all items that are there are a prefix of those before with those that are due
 pub as_front : (new old due : List Item) → AddsFront old new due → IsFront new (old ++ due)
 as_front new old due f = (f.2.0, ap (λ x. x ++ f.2.0) f.1 ∙ append_assoc old f.0 f.2.0 ∙ ap (λ x. old ++ x) f.2.1)
 

@@ -22,7 +22,7 @@ Records entries ledger =
 abbrev pub IsFront : List Item → List Item → Type 0
 IsFront items due = (rest : List Item) × (items ++ rest ≡ due)
 
--- the items that stood before stay, and a prefix of those that are due was added
+-- the items that were there before stay, and a prefix of those that are due was added
 abbrev pub AddsFront : List Item → List Item → List Item → Type 0
 AddsFront before after due =
     (front : List Item) × (after ≡ before ++ front) × IsFront front due
@@ -33,7 +33,7 @@ abbrev pub Observes : List Entry → List Entry → List Item → List Item → 
 Observes old new before after due = (ledger : List Made) → Records old ledger
     → (after ≡ before ++ (due ledger).items) × Records new (due ledger).ledger
 
--- memory ran out before all items that are due were added; those that stood before stay
+-- memory ran out before all items that are due were added; those that were there before stay
 abbrev pub ObservesFront : List Entry → List Item → List Item → (List Made → Observed) → Type 0
 ObservesFront old before after due =
     (ledger : List Made) → Records old ledger → AddsFront before after (due ledger).items

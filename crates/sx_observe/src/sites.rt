@@ -1,4 +1,4 @@
-//! Where the deployed modules stand, and which of them a section of a node is.
+//! Where the deployed modules are, and which of them a section of a node is.
 
 ghost use Rattle.std.specs.Prelude.{◌≡◌, ◌-◌, ◌<◌, ◌≤◌, length, map, slice_get, bytes_eq};
 ghost use Rattle.std.specs.Prelude.{Some, IfOk};

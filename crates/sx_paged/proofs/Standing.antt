@@ -1,4 +1,4 @@
--- Bytes that stand in a memory from an address on, page by page.
+-- Bytes that are in a memory from an address on, page by page.
 use Rattle.std.proofs.Common.{◌≡◌, ℕ, zero, suc, ◌+◌, ◌*◌, ◌/◌, ◌%◌, ◌<◌, ◌≤◌, Bool, true, false, ◌&&◌, List, [], ◌∷◌, ◌++◌, length, get_or, take, drop, refl, sym, ◌∙◌, ap, arith, Option, None}
 use Rattle.std.proofs.lemmas.List.{length-append, length-drop, length-take-le, take-append-drop, take-append-le, take-take, drop-drop, drop_at, drop-append-le, drop-take}
 use Rattle.std.proofs.lemmas.List.Elements.{All-head, All-tail}
@@ -56,7 +56,7 @@ in_two : (n m : ℕ) (xs : List ℕ) → take (n + m) xs ≡ take n xs ++ take m
 in_two n m xs = sym (take-append-drop n (take (n + m) xs))
     ∙ (λ j. take-take n (n + m) xs (omega arith) j ++ drop-take n m xs j)
 
--- bytes stand from an address on where their first part stands there, and the rest behind it
+-- bytes are from an address on where their first part is there, and the rest after it
 pub stand_in_two : (mem : List ℕ) (at : ℕ) (first rest : List ℕ) → at + (length first + length rest) ≤ length mem
     → bytes_eq (take (length first + length rest) (drop at mem)) (first ++ rest)
     ≡ (bytes_eq (take (length first) (drop at mem)) first && bytes_eq (take (length rest) (drop (at + length first) mem)) rest)

@@ -13,7 +13,7 @@ use sx_pages::Arena;
 /// How many bytes a page has.
 const PAGE_BYTES: usize = 256;
 
-/// What stands for the number of the blank page if there is none. No page has it.
+/// The number that is given in place of a blank page's, if there is none. No page has it.
 const NO_PAGE: u16 = 256;
 
 /// How many numbers a wipe compares at once.
@@ -74,7 +74,7 @@ impl Paged {
         self.arena.page(self.numbers[index as usize])
     }
 
-    /// Whether these bytes stand from an address on, where no page ends before them.
+    /// Whether these bytes are in memory from an address on, where no page ends before them.
     fn holds_on_page(&self, at: u16, expected: &[u8]) -> bool
         requires shaped { IsMemory self.now }
         requires within { at % 256 + length expected.now ≤ 256 }
@@ -86,7 +86,8 @@ impl Paged {
         &page[from..from + expected.len()] == expected
     }
 
-    /// Whether these bytes stand from an address on: one comparison for each page that they meet.
+    /// Whether these bytes are in memory from an address on: one comparison for each page that they
+    /// meet.
     pub(crate) fn holds(&self, at: u16, expected: &[u8]) -> bool
         requires shaped { IsMemory self.now }
         requires within { at + length expected.now ≤ 65536 }

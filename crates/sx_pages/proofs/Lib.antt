@@ -1,5 +1,5 @@
 -- Begin with Kept: an arena stays one through its calls. Walks, Memory and Sharing are of the raw
--- pointer, Slots and Views of what stands in the block; Apart says that two blocks share no byte.
+-- pointer, Slots and Views of what is in the block; Apart says that two blocks share no byte.
 pub mod Apart
 pub mod Kept
 pub mod Loops

@@ -1,4 +1,4 @@
-//! The block of memory behind a raw pointer. Everything that touches the pointer is in this file.
+//! The block of memory after a raw pointer. Everything that touches the pointer is in this file.
 
 ghost use Rattle.std.specs.Prelude.{◌≡◌, ◌<◌, List, All, get_or, map, slice_set, IfSome, Some};
 ghost use Rattle.std.specs.Prelude.{[]};

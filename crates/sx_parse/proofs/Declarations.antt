@@ -50,14 +50,14 @@ array_breaks x n ts a b c t p q s v = record {
       ∙ v.stops st vs o;
 }
 
--- a name, and what is required behind it
+-- a name, and what is required after it
 pub named : {A : Type 0} (w : After) (x : List ℕ) (ts a : List Placed) (ds us : List Decl) (result : Result A Stop) (rest : A → List Placed) → Named ts x a
     → DeclaresOr result (follow w x) ds a us rest → DeclaresOr result (λ st. A_name w ∷ st) ds ts us rest
 named w x ts a ds us (Ok r) rest p q = record { declares = λ st. p.named w st (holding ds []) ∙ q.declares st }
 named w x ts a ds us (Err (Fault t)) rest p q = record { stops = λ st vs o. p.named w st vs ∙ q.stops st vs o }
 named w x ts a ds us (Err Memory) rest p q = q
 
--- the word that a declaration begins with, and what is required behind it
+-- the word that a declaration begins with, and what is required after it
 begun : (want : List Symbol → List Symbol) (k : Kind) (ts a : List Placed) (f : Placed) (st : List Symbol) (vs : List Value) → ts ≡ f ∷ a → f.kind ≡ k
     → machine.declarations st vs k ≡ Some (want (Declarations ∷ st), vs) → read (Declarations ∷ st) vs ts ≡ read (want (Declarations ∷ st)) vs a
 begun want k ts a f st vs h e s =

@@ -31,7 +31,7 @@ DeclaresOr result want ds ts us rest =
     MatchResult result (λ found. Declares want ds ts us done (rest found))
     (λ e. StopsAs want 0 ts e)
 
--- no declaration stands before these tokens
+-- there is no declaration before these tokens
 pub record Passes (ds : List Decl) (ts : List Placed) (us : List Decl) : Type 0 where
   pub passes : (st : List Symbol) (vs : List Value)
       → read (Declarations ∷ st) vs ts ≡ read (Handlers ∷ st) vs ts

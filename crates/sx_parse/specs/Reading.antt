@@ -49,7 +49,7 @@ sign_of CloseSquare = A_close_square
 sign_of Semicolon = A_semicolon
 sign_of Equals = An_equals
 
--- the sign stands before rest
+-- the sign comes before rest
 pub record TakesSign (f : machine.Sign) (ts rest : List Placed) : Type 0 where
   pub takes : (st : List Symbol) (vs : List Value) → read (Want f ∷ st) vs ts ≡ read st vs rest
 
@@ -57,12 +57,12 @@ pub record TakesSign (f : machine.Sign) (ts rest : List Placed) : Type 0 where
 pub record Misses (f : machine.Sign) (ts : List Placed) (t : Option Placed) : Type 0 where
   pub misses : (st : List Symbol) (vs : List Value) → read (Want f ∷ st) vs ts ≡ Refused t
 
--- the sign does not stand here; this call takes no memory
+-- the sign isn't here; this call takes no memory
 abbrev pub Lacks : machine.Sign → List Placed → Stop → Type 0
 Lacks f ts (Fault t) = Misses f ts t
 Lacks f ts Memory = ⊥
 
--- a name stands before rest
+-- a name is before rest
 pub record Named (ts : List Placed) (x : List ℕ) (rest : List Placed) : Type 0 where
   pub named : (w : After) (st : List Symbol) (vs : List Value)
       → read (A_name w ∷ st) vs ts ≡ read (follow w x st) vs rest
@@ -72,12 +72,12 @@ pub record NoName (ts : List Placed) (t : Option Placed) : Type 0 where
   pub no_name : (w : After) (st : List Symbol) (vs : List Value)
       → read (A_name w ∷ st) vs ts ≡ Refused t
 
--- no name stands here; this call takes no memory
+-- there is no name here; this call takes no memory
 abbrev pub NameLacks : List Placed → Stop → Type 0
 NameLacks ts (Fault t) = NoName ts t
 NameLacks ts Memory = ⊥
 
--- a number stands before rest
+-- a number is before rest
 pub record Numbered (ts : List Placed) (n : ℕ) (rest : List Placed) : Type 0 where
   pub numbered : (w : Purpose) (st : List Symbol) (vs : List Value)
       → read (A_number w ∷ st) vs ts ≡ read (follow_number w n st) vs rest
@@ -87,7 +87,7 @@ pub record NoNumber (ts : List Placed) (t : Option Placed) : Type 0 where
   pub no_number : (w : Purpose) (st : List Symbol) (vs : List Value)
       → read (A_number w ∷ st) vs ts ≡ Refused t
 
--- no number stands here; this call takes no memory
+-- there is no number here; this call takes no memory
 abbrev pub NumberLacks : List Placed → Stop → Type 0
 NumberLacks ts (Fault t) = NoNumber ts t
 NumberLacks ts Memory = ⊥

@@ -10,11 +10,11 @@ use Rattle.spec_grammar.specs.Machine.{A_close_square, An_equals, Do_store, Do_c
 abbrev pub sum_wanted : List Symbol → List Symbol
 sum_wanted st = Operand ∷ Factors 0 ∷ Addends 0 ∷ st
 
--- an expression and the `;` behind it
+-- an expression and the `;` after it
 abbrev pub value_wanted : List Symbol → List Symbol
 value_wanted st = An_expression ∷ Want A_semicolon ∷ st
 
--- what follows the name of an array and the `[` behind it
+-- what follows the name of an array and the `[` after it
 abbrev pub element_wanted : List ℕ → List Symbol → List Symbol
 element_wanted x st = An_expression ∷ Want A_close_square ∷ Want An_equals ∷ An_expression
     ∷ Want A_semicolon ∷ Say (Do_store x) ∷ st
@@ -23,7 +23,7 @@ element_wanted x st = An_expression ∷ Want A_close_square ∷ Want An_equals �
 abbrev pub choice_wanted : List Symbol → List Symbol
 choice_wanted st = An_expression ∷ A_block ∷ Otherwise ∷ Say Do_choose ∷ st
 
--- the `;` behind a declaration
+-- the `;` after a declaration
 abbrev pub end_wanted : Decl → List Symbol → List Symbol
 end_wanted d st = Want A_semicolon ∷ Say (Do_declare d) ∷ st
 

@@ -101,8 +101,8 @@ fn array<'a>(all: &mut Vec<Decl>, tokens: &'a [Placed]) -> Result<&'a [Placed], 
     length(all, *name, rest)
 }
 
-/// Adds the declaration that stands here, and gives what follows it; none where another token
-/// stands.
+/// Adds the declaration that is here, and gives what follows it; none where another token
+/// is.
 #[tactic(auto, using(crate::proofs::Declarations::passes, crate::proofs::Declarations::passes_end))]
 fn declaration<'a>(all: &mut Vec<Decl>, tokens: &'a [Placed]) -> Option<Result<&'a [Placed], Stop>>
     ensures declares { DeclaresNext result all.old.items tokens.now all.new.items

@@ -37,7 +37,7 @@ fn body<'a>(
     Ok(rest)
 }
 
-/// Adds the handler that stands here, and gives what follows it; none at the text's end.
+/// Adds the handler that is here, and gives what follows it; none at the text's end.
 #[tactic(auto, using(crate::proofs::Handlers::on_input, crate::proofs::Handlers::on_sample, crate::proofs::Handlers::no_handler))]
 fn handler<'a>(
     alloc: Global,

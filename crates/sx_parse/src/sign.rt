@@ -1,4 +1,4 @@
-//! Single tokens that must stand somewhere.
+//! Single tokens that must be somewhere.
 
 ghost use Rattle.std.specs.Prelude.{◌≡◌, ◌<◌, length, MatchResult, IfOk};
 ghost use Rattle.spec_grammar.specs.Machine.{is_sign};
@@ -9,7 +9,7 @@ use crate::stop::{Front, Stop};
 use sx_lang::names::Name;
 use sx_lex::tokens::{Kind, Placed};
 
-/// A sign that must stand somewhere.
+/// A sign that must be somewhere.
 #[derive(Clone, Copy)]
 pub enum Sign {
     /// `(`
@@ -41,7 +41,7 @@ impl Sign {
     }
 }
 
-/// What follows the sign that must stand here. It stops where another token stands.
+/// What follows the sign that must be here. It stops at another token.
 #[tactic(auto, using(crate::proofs::Signs::takes, crate::proofs::Signs::misses))]
 pub fn take<'a>(tokens: &'a [Placed], sign: Sign) -> Result<&'a [Placed], Stop>
     ensures takes { MatchResult result (λ rest. TakesSign (sign_of sign) tokens.now rest.now)
@@ -57,7 +57,7 @@ pub fn take<'a>(tokens: &'a [Placed], sign: Sign) -> Result<&'a [Placed], Stop>
     Ok(rest)
 }
 
-/// The name that must stand here. It stops where another token stands.
+/// The name that must be here. It stops at another token.
 pub fn identifier<'a>(tokens: &'a [Placed]) -> Front<'a, &'a Name>
     ensures named { MatchResult result (λ p. Named tokens.now p.0.now p.1.now)
         (λ e. NameLacks tokens.now e) }
@@ -72,7 +72,7 @@ pub fn identifier<'a>(tokens: &'a [Placed]) -> Front<'a, &'a Name>
     Ok((name, rest))
 }
 
-/// The number that must stand here. It stops where another token stands.
+/// The number that must be here. It stops at another token.
 pub fn number<'a>(tokens: &'a [Placed]) -> Front<'a, u16>
     ensures numbered { MatchResult result (λ p. Numbered tokens.now p.0 p.1.now)
         (λ e. NumberLacks tokens.now e) }

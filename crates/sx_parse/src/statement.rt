@@ -154,7 +154,7 @@ pub fn block<'a>(alloc: Global, tokens: &'a [Placed], depth: u8) -> Front<'a, Ve
     Ok((body, rest))
 }
 
-/// A statement of a block, or none where the block's closing brace stands.
+/// A statement of a block, or none where the block's closing brace is.
 #[cycle(statement)]
 #[tactic(auto, using(crate::proofs::Statements::emits))]
 fn statement<'a>(alloc: Global, tokens: &'a [Placed], depth: u8) -> Front<'a, Option<Stmt>>
@@ -212,7 +212,7 @@ fn condition<'a>(alloc: Global, tokens: &'a [Placed], depth: u8) -> Front<'a, St
     Ok((choice(test, then, otherwise), rest))
 }
 
-/// The `else` and its block, where they stand.
+/// The `else` and its block, where they are.
 #[cycle(statement)]
 #[tactic(auto, using(crate::proofs::Statements::no_else_end, crate::proofs::Statements::no_else, crate::proofs::Statements::with_else))]
 fn otherwise<'a>(alloc: Global, tokens: &'a [Placed], depth: u8) -> Front<'a, Vec<Stmt>>

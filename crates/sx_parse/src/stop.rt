@@ -14,7 +14,7 @@ pub enum Stop {
     Memory,
 }
 
-/// What stands in front of the tokens, and the tokens that follow it.
+/// What is in front of the tokens, and the tokens that follow it.
 pub type Front<'a, T> = Result<(T, &'a [Placed]), Stop>;
 
 impl From<AllocError> for Stop {

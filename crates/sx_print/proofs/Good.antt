@@ -53,7 +53,7 @@ binary_good Le h = good_word refl refl h
 binary_good Gt h = good_word refl refl h
 binary_good Ge h = good_word refl refl h
 
--- a word that stands alone
+-- a word that is alone
 lone_word : {ps : List Piece} (k : Kind) (g : Gap) → is_quoted k ≡ true → list_any is_lone (spelling k) ≡ true → Good ps → Good (quoted k g ∷ ps)
 lone_word {ps = ps} k g q e h = good_word q (rw e refl) h
 

@@ -1,5 +1,5 @@
 -- Begin with Spells: what is written is the module's text, and spells it. Stands is that its words
--- stand as the module, Read and Good that the text is read as these words, Forms and Parts how it
+-- are as the module, Read and Good that the text is read as these words, Forms and Parts how it
 -- is written.
 pub mod Parts
 pub mod Forms

@@ -1,4 +1,4 @@
--- A word of two bytes or more has none of the bytes that stand alone.
+-- A word of two bytes or more has none of the bytes that are alone.
 use Rattle.std.proofs.Common.{◌≡◌, ℕ, zero, suc, ◌+◌, ◌-◌, ◌<◌, ◌≤◌, Bool, true, false, ◌&&◌, ◌||◌, not, List, [], ◌∷◌, ◌++◌, length, take, Some, None, nat_le}
 use Rattle.std.proofs.Common.{refl, ap, ◌∙◌, arith, ◌==◌, length-append}
 use Rattle.std.specs.List.{list_all, list_any}
@@ -74,7 +74,7 @@ either true y z h = refl
 either false true z h = refl
 either false false z h = absurd (cc)
 
--- a word of one byte that stands alone, or before one, is the longest
+-- a word of one byte that is alone, or before one, is the longest
 no_longer : (w rest : List ℕ) (m : ℕ) → 0 < length w → (list_any is_lone w || first_is is_lone rest) ≡ true → length w < m → m ≤ length (w ++ rest) → kind_of (take m (w ++ rest)) ≡ None
 no_longer w rest m p h l i =
     no_word (take m (w ++ rest)) (let e : length (take m (w ++ rest)) ≡ m = length-take-le m (w ++ rest) i in omega (arith, e, l, p)) (has rest m h l i)

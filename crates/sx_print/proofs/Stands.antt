@@ -1,4 +1,4 @@
--- The words of a module stand as that module.
+-- The words of a module are as that module.
 use Rattle.std.proofs.Common.{◌≡◌, ℕ, zero, suc, ◌+◌, ◌≤◌, true, List, [], ◌∷◌, Option, Some, None, max, refl, sym, ◌∙◌, subst, arith}
 use Rattle.std.proofs.lemmas.Bool.Decides.{nat_tests}
 use Rattle.sx_lang.specs.declared.tree.UnOp.{UnOp}

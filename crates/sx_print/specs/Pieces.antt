@@ -1,5 +1,5 @@
 -- The printed text of a module: words, what follows each, and four spaces for each block that a
--- line stands in. Each function puts its part before the rest.
+-- line is in. Each function puts its part before the rest.
 use Rattle.std.specs.Prelude.{ℕ, zero, suc, ◌+◌, min, List, [], ◌∷◌, ◌++◌, Option, Some, None}
 use Rattle.std.specs.Prelude.{codes, decimal}
 use Rattle.sx_lang.specs.declared.tree.UnOp.{UnOp}
@@ -113,7 +113,7 @@ binary_sign Le = LessEquals
 binary_sign Gt = Greater
 binary_sign Ge = GreaterEquals
 
--- a binary expression stands in brackets, and no other does
+-- a binary expression is in brackets, and no other does
 abbrev pub expression_pieces : Gap → Expression → List Piece → List Piece
 expression_pieces g (Constant n) rest = number n g ∷ rest
 expression_pieces g (Variable x) rest = name x g ∷ rest
@@ -125,7 +125,7 @@ expression_pieces g (Combined op a b) rest = quoted Open Nothing
     ∷ expression_pieces Space a (quoted (binary_sign op) Space
     ∷ expression_pieces Nothing b (quoted Close g ∷ rest))
 
--- the margin of a line that stands in this many blocks
+-- the margin of a line that is in this many blocks
 abbrev pub margin : ℕ → List Piece → List Piece
 margin zero rest = rest
 margin (suc n) rest = indent ∷ margin n rest

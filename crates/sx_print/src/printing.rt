@@ -249,7 +249,7 @@ fn text(bytes: Vec<u8>) -> String
 }
 
 /// A text that reads back as this module: a declaration or a statement a line, indented by four
-/// spaces for each block that it stands in, each binary expression in a pair of brackets and no
+/// spaces for each block that it is in, each binary expression in a pair of brackets and no
 /// other in any.
 ///
 /// The condition is `conditions::printable`. The error says that memory ran out. It is for programs

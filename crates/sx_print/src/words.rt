@@ -108,7 +108,7 @@ pub fn put_number(out: &mut Vec<u8>, n: u16, gap: Gap) -> Result<(), OutOfMemory
     out.extend_from_slice(gap.bytes())
 }
 
-/// Writes the margin of a line that stands in `depth` blocks. The error says that memory ran out.
+/// Writes the margin of a line that is in `depth` blocks. The error says that memory ran out.
 #[tactic(auto, using(crate::proofs::Parts::no_margin, crate::proofs::Parts::margin_written))]
 pub fn put_margin(out: &mut Vec<u8>, depth: u8) -> Result<(), OutOfMemory>
     ensures { OnOk result (Wrote out.old.items (margin depth) out.new.items) }

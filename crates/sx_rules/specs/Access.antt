@@ -13,7 +13,7 @@ use Rattle.sx_rules.specs.declared.access.Access.{Access}
 use Rattle.sx_rules.specs.declared.access.Access.TheVariants.{Read, Write, Run}
 use Rattle.sx_rules.specs.declared.section.Section.{Section}
 
--- what stands in a table: the live sections in the order of their admission, and the next id
+-- what is in a table: the live sections in the order of their admission, and the next id
 pub record Sections : Type 0 where
   pub live : List Section
   pub next : ℕ
@@ -58,7 +58,7 @@ abbrev pub in_order : List Section → ℕ → ℕ → Bool
 in_order live cur pc =
     list_all (λ s. not (in_public s pc) || (cur == s.id || pc == s.layout.pub_from)) live
 
--- a byte of an extension word of an instruction of `own` may stand here: in unprotected memory or
+-- a byte of an extension word of an instruction of `own` may be here: in unprotected memory or
 -- in the public section of `own`
 abbrev pub extends : List Section → ℕ → ℕ → Bool
 extends live own at =

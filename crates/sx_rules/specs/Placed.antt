@@ -23,17 +23,17 @@ abbrev pub AllSound : ℕ → List Section → Type 0
 AllSound next [] = Unit {0}
 AllSound next (s ∷ rest) = Sound next s × AllSound next rest
 
--- a section stands beside each of these
+-- a section is beside each of these
 abbrev pub BesideAll : Section → List Section → Type 0
 BesideAll s [] = Unit {0}
 BesideAll s (u ∷ rest) = Beside s u × BesideAll s rest
 
--- each section stands beside each later one
+-- each section is beside each later one
 abbrev pub AllBeside : List Section → Type 0
 AllBeside [] = Unit {0}
 AllBeside (s ∷ rest) = BesideAll s rest × AllBeside rest
 
--- the live sections are sound and stand beside one another, at most 8, and the next id is one to be
+-- the live sections are sound and are beside one another, at most 8, and the next id is one to be
 -- given or the first beyond
 pub record Placed (t : Sections) : Type 0 where
   pub each : AllSound t.next t.live

@@ -2,7 +2,7 @@
 use Rattle.std.specs.Prelude.{◌≡◌, ℕ, ◌≤◌, List, replicate, get_or}
 use Rattle.sx_rules.specs.declared.section.Section.{Section}
 
--- what stands in such a slot: no key of a section that was removed
+-- what is in such a slot: no key of a section that was removed
 abbrev pub unused : Section
 unused = record {
   layout = record { pub_from = 0; pub_to = 0; priv_from = 0; priv_to = 0 };

@@ -16,7 +16,7 @@ pub struct Layout {
 /// A protected module.
 #[derive(Clone, Copy, Debug, PartialEq, Eq)]
 pub struct Section {
-    /// Where it stands.
+    /// Where it is.
     pub layout: Layout,
     /// The number of the software provider, from which the module's key is derived.
     pub provider: u16,

@@ -68,7 +68,7 @@ impl Table {
         }
     }
 
-    /// Adds a section under the next id, which it gives back, on a node whose devices stand at
+    /// Adds a section under the next id, which it gives back, on a node whose devices are at
     /// `places`. After a refusal the table is unchanged. Sancus 2.0 protects modules; the list of
     /// refusals is our own.
     pub fn admit(
@@ -198,7 +198,7 @@ impl Table {
         self.all_answer(Question::InOrder { cur }, pc)
     }
 
-    /// Whether a byte of an extension word of an instruction of the module `own` may stand here: in
+    /// Whether a byte of an extension word of an instruction of the module `own` may be here: in
     /// unprotected memory or in the public section of `own`. No section is that of `own` 0.
     pub fn extends(&self, own: u16, at: u16) -> bool
         ensures { result ≡ extends self.now.live own at }
@@ -206,7 +206,7 @@ impl Table {
         self.all_answer(Question::Extends { own }, at)
     }
 
-    /// Whether both bytes of the word at an address, whose bit 0 doesn't count, may stand there as
+    /// Whether both bytes of the word at an address, whose bit 0 doesn't count, may be there as
     /// an extension word of an instruction of the module `own`.
     pub fn extends_word(&self, own: u16, at: u16) -> bool
         ensures { result ≡ both_bytes (extends self.now.live own) at }

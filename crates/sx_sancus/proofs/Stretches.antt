@@ -20,6 +20,6 @@ in_two mem at n (suc k) =
     ∙ (λ j. in_two mem at n k j ++ byte (place j))
     ∙ sym (last_byte mem at (n + k)) ∙ ap (bytes_from mem at) more
 
--- a stretch behind what was fed of the same memory
+-- a stretch after what was fed of the same memory
 pub fed_on : (fed mem : List ℕ) (at n k : ℕ) → (fed ++ bytes_from mem at n) ++ bytes_from mem (at + n) k ≡ fed ++ bytes_from mem at (n + k)
 fed_on fed mem at n k = append_assoc fed (bytes_from mem at n) (bytes_from mem (at + n) k) ∙ ap (λ (bytes : List ℕ). fed ++ bytes) (in_two mem at n k)

@@ -174,7 +174,7 @@ code_line assemble n text fields = do
   Ok (Put node at code)
 
 -- The kinds of line: the first word, and what the words after it say. A kind may take the text
--- after the third word as it stands.
+-- after the third word as it is.
 
 -- a kind of line: its first word, and the line that the other words give
 abbrev pub Kind : Type 0

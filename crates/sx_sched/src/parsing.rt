@@ -265,7 +265,7 @@ fn forge_line(alloc: Global, fields: &[u8]) -> Result<Line, LineError>
     Ok(Line::Forge { bytes })
 }
 
-/// Assembled code is put where it stands.
+/// Assembled code is put where it is.
 fn code_line(alloc: Global, names: &Names, fields: &[u8]) -> Result<Line, LineError>
     requires { IsTrue (are_valid names.now) }
     ensures { Answers line_of (MayWant TakesMemory (text_behind 2 fields.now))

@@ -39,7 +39,7 @@ fn past_blanks(text: &[u8]) -> &[u8]
     &text[blanks_before(text)..]
 }
 
-/// How many bytes stand before the first blank.
+/// How many bytes are before the first blank.
 fn word_length(text: &[u8]) -> usize
     ensures within { result ≤ length text.now }
     ensures before { (k : ℕ) → k < result → is_space (slice_index text.now k) ≡ false }

@@ -1,5 +1,5 @@
 -- Begin with StubInvokes: the whole stub, from SetKey, Attest, Input and Sample, a file for each
--- entry, over Straight, Refuse, Chain, Search and Receive. JoinedInvokes puts the handlers behind
+-- entry, over Straight, Refuse, Chain, Search and Receive. JoinedInvokes puts the handlers after
 -- it; StubSound and StubFits say that templates can be made for it.
 pub mod Mem
 pub mod Straight

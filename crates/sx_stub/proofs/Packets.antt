@@ -16,7 +16,7 @@ use Rattle.spec_machine.specs.Memory.{word, put_word, bytes_from, put_bytes}
 use Rattle.sx_stub.proofs.Mem.{AllBytes, word_even, get-put_other, get-put_bytes_in}
 use Rattle.spec_machine.proofs.Lengths.{length-bytes_from}
 
--- the packet stands at offset 16
+-- the packet is at offset 16
 abbrev pub Holds : List ℕ → List ℕ → Type 0
 Holds priv packet = (i : ℕ) → i < length packet → get_or priv (16 + i) 0 ≡ get_or packet i 0
 

@@ -8,15 +8,15 @@ use Rattle.sx_ir.specs.Meaning.{is_saved}
 use Rattle.sx_ir.specs.Sound.{are_sealed, is_even, is_free, is_key, is_sound_op, may_change}
 use Rattle.sx_stub.specs.Sound.{is_plain}
 
--- n bytes at an offset stand below what only templates use
+-- n bytes at an offset are below what only templates use
 abbrev pub is_low : ℕ → ℕ → Bool
 is_low o n = nat_le 2 o && nat_le (o + n) 104
 
--- they stand in the slots of this many ends
+-- they are in the slots of this many ends
 abbrev pub in_slots : ℕ → ℕ → ℕ → Bool
 in_slots ends o n = nat_le 512 o && nat_le (o + n) (512 + 24 * ends)
 
--- they stand beside the caller's registers
+-- they are beside the caller's registers
 abbrev pub is_beside : ℕ → ℕ → Bool
 is_beside o n = nat_le (o + n) 6 || nat_le 14 o
 

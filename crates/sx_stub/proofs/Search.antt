@@ -44,7 +44,7 @@ shows_kept_word s call p c a v q stack h e lo hi small =
     ne i (inl k) d b e lt = omega (arith, k.1, e, lo)
     ne i (inr k) d b e lt = omega (arith, k, e, hi, lt)
 
--- where the found end's code stands
+-- where the found end's code is
 pub found_at : (tree : ModuleTree) (ends : List End) (code : List Ir) (q : ℕ) → At code q (search_code tree ends q)
     → At code (q + 4 * length ends + 3) (found_code tree ends (q + 4 * length ends + 3))
 found_at tree ends code q a =

@@ -111,7 +111,7 @@ end_of_states m [] j k lt = absurd (omega (arith, lt))
 end_of_states m (e ∷ es) j zero lt = ap (end_state m) (omega arith)
 end_of_states m (e ∷ es) j (suc k) lt = end_of_states m es (j + 1) k (omega (arith, lt)) ∙ ap (end_state m) (omega arith)
 
--- the k-th end's state stands in its slot
+-- the k-th end's state is in its slot
 pub end_in_slot : (s : Setup) (call : Call) (p : Progress) (c : Conf) (k : ℕ) → ShowsCall s call p c → k < length s.ends
     → end_of p.state.ends k ≡ end_state c.priv k
 unfolding state_of

@@ -1,4 +1,4 @@
--- Code that stands at a place, and runs of operations that work on the stack alone.
+-- Code that is at a place, and runs of operations that work on the stack alone.
 use Rattle.std.proofs.Common.{◌≡◌, ℕ, ◌+◌, ◌≤◌, Bool, true, false, List, [], ◌∷◌, ◌++◌, length, Option, Some, None, refl, sym, ap, ◌∙◌, subst, arith}
 use Rattle.std.specs.Prelude.{nat_lt, slice_get, if◌then◌else◌, ◌&&◌}
 use Rattle.std.proofs.lemmas.Option.{none-some, same_Some}
@@ -21,7 +21,7 @@ use Rattle.sx_ir.specs.declared.ir.Ir.{Ir}
 use Rattle.sx_ir.specs.declared.ir.Ir.TheVariants as ir
 use Rattle.lemmas.specs.Truth.{truth}
 
--- these operations stand in the code from this place on
+-- these operations are in the code from this place on
 abbrev pub At : List Ir → ℕ → List Ir → Type 0
 At code place [] = Unit {0}
 At code place (i ∷ ops) = (slice_get code place ≡ Some i) × At code (place + 1) ops

@@ -35,7 +35,7 @@ use Rattle.sx_stub.proofs.Sample.{sample_does}
 use Rattle.lemmas.specs.Truth.{truth}
 use Rattle.lemmas.proofs.Truths.{and_not}
 
--- the first operations of a code stand in it
+-- the first operations of a code are in it
 pub stands_at : (code ops : List Ir) (k : ℕ) → ((i : ℕ) → i < length ops → slice_get code (k + i) ≡ slice_get ops i)
     → At code k ops
 stands_at code [] k f = tt

@@ -76,7 +76,7 @@ abbrev pub Invokes : Setup → Call → (ℕ → Conf → OperationResult) → (
 Invokes s call handle given code result n c =
     CodeReaches s handle given code (EndsSo result) (LeavesSo s call code result) n c
 
--- Where the operation `Handler` may stand: the event's value is in its place, no piece was made and
+-- Where the operation `Handler` may be: the event's value is in its place, no piece was made and
 -- no key unwrapped, the stack is empty, the out-window is one that a caller may give, and the
 -- module's devices are there.
 pub record Ready (s : Setup) (call : Call) (e : SourceEvent) (p : Progress) (c : Conf) : Type

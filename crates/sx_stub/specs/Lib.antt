@@ -1,5 +1,5 @@
 -- Begin with Invokes: what it means that stack code does an invocation. Stub is the entry protocol
--- as stack code, Joined with the handlers behind it; Weight and Sound say that it fits.
+-- as stack code, Joined with the handlers after it; Weight and Sound say that it fits.
 pub mod Stub
 pub mod Invokes
 pub mod Joined

@@ -184,7 +184,7 @@ set_key_code search place =
 
 -- Attest.
 
--- where the answer's tag is made, behind the ask
+-- where the answer's tag is made, after the ask
 abbrev pub answer_at : ℕ
 answer_at = 34
 
@@ -316,11 +316,11 @@ tests tree =
     ++ (refuse_if 8 (ir.Meets input_register in_window_size ∷ []) bad_window
     ++ refuse_if 13 (ir.Meets output_register out_window_size ∷ []) bad_window))
 
--- where the ways to the entries begin, behind the tests
+-- where the ways to the entries begin, after the tests
 abbrev pub entries_place : ℕ
 entries_place = 18
 
--- where the entry of sample begins, behind the ways to the three others
+-- where the entry of sample begins, after the ways to the three others
 abbrev pub sample_place : ℕ
 sample_place = 21
 

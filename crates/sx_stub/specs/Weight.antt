@@ -6,7 +6,7 @@ use Rattle.sx_ir.specs.declared.ir.Ir.{Ir}
 use Rattle.sx_ir.specs.Sizes.{ops_bytes}
 use Rattle.sx_stub.specs.Stub.{is_receiving, stub_ops}
 
--- what stands once in the text: the entry, the exit, and the opening of a slot; and a packet's
+-- what occurs once in the text: the entry, the exit, and the opening of a slot; and a packet's
 -- routine for each sending end
 abbrev pub once_bytes : ℕ
 once_bytes = 124
@@ -16,7 +16,7 @@ abbrev pub routine_bytes : List End → ℕ
 routine_bytes [] = 0
 routine_bytes (e ∷ es) = (if is_receiving e then 0 else 140) + routine_bytes es
 
--- with what stands once and the packets' routines, they take no more than the weight leaves beside
+-- with what occurs once and the packets' routines, they take no more than the weight leaves beside
 -- the source's nodes
 abbrev pub FitsWeight : List End → List Ir → Type 0
 FitsWeight ends code = ops_bytes code + once_bytes + routine_bytes ends ≤ 2048 + 192 * length ends

@@ -47,7 +47,7 @@ fn put_wanted_receiving(code: &mut Vec<Ir>) -> Result<(), AllocError>
     put_all(code, &ops)
 }
 
-/// Appends the entry of input, which goes on with the search for the end behind it. The error says
+/// Appends the entry of input, which goes on with the search for the end after it. The error says
 /// that memory ran out.
 pub fn put_input(code: &mut Vec<Ir>) -> Result<(), AllocError>
     requires short { length code.old.items < 60000 }

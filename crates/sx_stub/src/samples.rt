@@ -13,7 +13,7 @@ use sx_ir::{Ir, IrOp};
 use sx_lang::tree::Module;
 use sx_mean::offsets::EVENT;
 
-/// The place where the entry of a sample begins, behind the tests and the ways to the others.
+/// The place where the entry of a sample begins, after the tests and the ways to the others.
 pub const SAMPLE_PLACE: u16 = 21;
 
 /// The number of operations of the entry of a sample, before those of its handler.

@@ -1,4 +1,4 @@
--- Each tag function here is lawful. Nobody has to believe these proofs: they stand in specs/, since
+-- Each tag function here is lawful. Nobody has to believe these proofs: they are in specs/, since
 -- what an impl of `Tag` says of its function is a specification.
 use Rattle.std.proofs.Common.{◌≡◌, ℕ, zero, suc, ◌+◌, ◌%◌, ◌/◌, ◌^◌, ◌<◌, List, ◌++◌, length, sum}
 use Rattle.std.proofs.Common.{lit<}

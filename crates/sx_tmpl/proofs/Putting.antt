@@ -21,7 +21,7 @@ written is k d text text2 start lt put before =
     ∙ ap (λ (r : List Instr). text ++ bytes_of (words_of r)) (sym (drop_more is k d lt))
     ∙ before
 
--- the first of those that are left, and what is left behind it
+-- the first of those that are left, and what is left after it
 shaped_parts : (is : List Instr) (k : ℕ) (d : Instr) → k < length is → are_shaped (drop k is) ≡ true → (is_shaped (get_or is k d) ≡ true) × (are_shaped (drop (k + 1) is) ≡ true)
 shaped_parts is k d lt h =
     and_parts (is_shaped (get_or is k d)) (are_shaped (drop (k + 1) is)) (ap (λ (r : List Instr). are_shaped r) (sym (drop_more is k d lt)) ∙ h)

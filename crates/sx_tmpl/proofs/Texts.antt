@@ -1,4 +1,4 @@
--- From the operations to the whole text of a code, and to nodes on which it stands.
+-- From the operations to the whole text of a code, and to nodes on which it is.
 pub mod Named
 pub mod Whole
 pub mod Placing

@@ -10,7 +10,7 @@ abbrev pub return_at : ℕ
 return_at = scratch_at
 
 -- The packet that is being made: its header, which is its kind, its connection field and its
--- number, and behind it the cipher and the tag.
+-- number, and after it the cipher and the tag.
 abbrev pub kind_at : ℕ
 kind_at = return_at + 2
 

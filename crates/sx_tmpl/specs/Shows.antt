@@ -11,7 +11,7 @@ use Rattle.sx_tmpl.specs.Running.{Regs, Fixed, Data, running, Safe, cell}
 abbrev pub base_of : Fixed → ℕ
 base_of f = f.setup.section.layout.priv_from
 
--- words stand one after the other
+-- words are one after the other
 abbrev pub WordsAt : List ℕ → ℕ → List ℕ → Type 0
 WordsAt m a [] = Unit {0}
 WordsAt m a (w ∷ ws) = (cell m a ≡ w) × WordsAt m (a + 2) ws

@@ -112,7 +112,7 @@ load_at_words start n = words_of (load_at start n)
 abbrev pub store_at_words : ℕ → ℕ → List ℕ
 store_at_words start n = words_of (store_at start n)
 
--- an address that is kept here goes on outside the public section; inside, a word stands that is no
+-- an address that is kept here goes on outside the public section; inside, there is a word that is no
 -- instruction
 abbrev pub inside : ℕ → ℕ → ℕ → List Instr
 inside kept from to =
@@ -218,7 +218,7 @@ seal_words key header hn body bn cipher tag = words_of (seal key header hn body 
 abbrev pub open_words : (key header hn cipher bn body tag : ℕ) → List ℕ
 open_words key header hn cipher bn body tag = words_of (unseal key header hn cipher bn body tag)
 
--- A seal by offsets from the base: behind the header stand the cipher and the tag.
+-- A seal by offsets from the base: after the header are the cipher and the tag.
 abbrev pub sealing_words : (base k h hn b bn : ℕ) → List ℕ
 sealing_words base k h hn b bn =
     seal_words (key_word base k) (base + h) hn (base + b) bn (base + (h + hn))

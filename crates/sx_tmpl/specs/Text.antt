@@ -1,5 +1,5 @@
 -- The text of a code. Nobody has to believe this file for what an image realizes. It has where the
--- instructions of each operation stand, and all words.
+-- instructions of each operation are there, and all words.
 use Rattle.std.specs.Prelude.{◌≡◌, ℕ, zero, suc, ◌+◌, ◌*◌, ◌%◌, ◌/◌, if◌then◌else◌, List, [], ◌∷◌}
 use Rattle.std.specs.Prelude.{◌++◌, length, slice_index}
 use Rattle.sx_rules.specs.declared.section.Layout.{Layout}
@@ -16,7 +16,7 @@ part_place [] h = 0
 part_place (p ∷ parts) zero = p.0
 part_place (p ∷ parts) (suc h) = part_place parts h
 
--- the addresses of operations that stand from an address on, and last that after them
+-- the addresses of operations placed from an address on, and last that after them
 abbrev pub places_from : ℕ → List Ir → List ℕ
 places_from a [] = a ∷ []
 places_from a (i ∷ ops) = a ∷ places_from (a + op_bytes i) ops
@@ -25,7 +25,7 @@ places_from a (i ∷ ops) = a ∷ places_from (a + op_bytes i) ops
 abbrev pub places_of : Layout → Code → List ℕ
 places_of l code = places_from (l.pub_from + entry_bytes) code.ops.items
 
--- After the operations stand the exit, the routine that opens a slot, and the packet routines. The
+-- After the operations are the exit, the routine that opens a slot, and the packet routines. The
 -- third word of the second is an index of 0.
 abbrev pub addresses_of : Layout → List Ir → List (ℕ × ℕ) → Addresses
 addresses_of l ops parts =

@@ -1,4 +1,4 @@
-//! What stands once in a text: the entry, the exit, and the routines.
+//! What occurs once in a text: the entry, the exit, and the routines.
 
 ghost use Rattle.std.specs.Prelude.{◌<◌, ◌+◌, OnOk};
 ghost use Rattle.sx_mean.specs.Offsets.{end_at};

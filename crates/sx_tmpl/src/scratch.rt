@@ -22,10 +22,10 @@ pub const HEADER: u16 = HEADER_SIZE as u16;
 /// How many bytes its body has.
 pub const VALUE: u16 = VALUE_SIZE as u16;
 
-/// Behind the header its cipher.
+/// After the header its cipher.
 pub const CIPHER: u16 = KIND + HEADER;
 
-/// Behind the cipher its tag.
+/// After the cipher its tag.
 pub const TAG: u16 = CIPHER + VALUE;
 
 /// Its body, which is the value that is sent.

@@ -1,4 +1,4 @@
-//! Where the parts of a text stand.
+//! Where the parts of a text are.
 
 ghost use Rattle.std.specs.Prelude.{◌≡◌, ◌<◌, ◌+◌, IfOk, length, slice_index, slice_index_or};
 ghost use Rattle.std.specs.Prelude.{false};
@@ -17,7 +17,7 @@ pub const ZERO: u16 = 4;
 /// As many ends as a byte names.
 pub const END_COUNT: usize = 256;
 
-/// Where the parts of a code's text stand. After the operations stand the exit, the routine that
+/// Where the parts of a code's text are. After the operations are the exit, the routine that
 /// opens a slot, and a packet routine for each end of which some operation makes a packet.
 #[derive(Drop)]
 pub struct Table {
@@ -25,7 +25,7 @@ pub struct Table {
     pub places: Vec<u16>,
     /// For each end, whether it has a packet routine.
     pub noted: Vec<bool>,
-    /// For each end, how many packet routines stand before its own.
+    /// For each end, how many packet routines are before its own.
     pub routines: Vec<u16>,
 }
 
@@ -64,7 +64,7 @@ impl Table {
         has_routine(&code.ops, &self.noted, end)
     }
 
-    /// How many packet routines stand before that of an end.
+    /// How many packet routines are before that of an end.
     pub fn preceding(&self, end: usize) -> u16
         requires { end < length self.now.routines.items }
         ensures { result ≡ slice_index self.now.routines.items end }

@@ -300,7 +300,7 @@ fn place_address(table: &Table, code: &Code, layout: &Layout, place: usize) -> u
     table.at(place)
 }
 
-/// How many packet routines stand before that of an end; with them the text is within memory.
+/// How many packet routines are before that of an end; with them the text is within memory.
 fn routines_before(table: &Table, code: &Code, layout: &Layout, end: u8) -> u16
     requires table { IsTable layout.now code.now table.now }
     ensures count { result ≡ routines code.now.ops.items end }

@@ -27,7 +27,7 @@ before_space (b ∷ bs) rest h =
     let more : 1 + position_or_len is_space (bs ++ 32 ∷ rest) ≡ suc (length bs) = let e = before_space bs rest both.1 in omega (arith, e) in
     rw both.0 more
 
--- what stands before the first space is a word, and the rest follows it
+-- what is before the first space is a word, and the rest follows it
 pub cut_word : (w rest : List ℕ) → is_word w ≡ true → cut (w ++ 32 ∷ rest) ≡ Some (w, rest)
 unfolding cut
 cut_word w rest h =
@@ -39,7 +39,7 @@ cut_word w rest h =
     sym (drop-drop 1 (length w) (w ++ 32 ∷ rest)) ∙ ap (λ (xs : List ℕ). drop 1 xs) (drop_at w (32 ∷ rest) (length w) refl) in
     ap (λ (o : Option ℕ). o >>= (λ i. Some (take i (w ++ 32 ∷ rest), drop (i + 1) (w ++ 32 ∷ rest)))) found ∙ (rw (front, behind) refl)
 
--- the first space stands between what is before it and what is behind it
+-- the first space is between what is before it and what is after it
 abbrev IsSplit : List ℕ → ℕ → Type 0
 IsSplit t n = n < length t → t ≡ take n t ++ 32 ∷ drop (n + 1) t
 

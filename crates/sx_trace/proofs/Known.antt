@@ -62,7 +62,7 @@ form_word (b ∷ bs) h =
     let rest = and_parts (list_all is_name_byte bs) (nat_le (length bs) 15) first.1 in
     rw (plain b (lower_byte b first.0)) (all_plain bs rest.0)
 
--- the name at an index stands there first, has a name's form, is a word, and isn't `-`
+-- the name at an index is there first, has a name's form, is a word, and isn't `-`
 pub record Known (names : List (List ℕ)) (i : ℕ) : Type 0 where
   pub found : place_of names (name_at names i) ≡ Some i
   pub formed : is_name (name_at names i) ≡ true
@@ -112,7 +112,7 @@ known_link n i h lt = known 64 n.links i (and_parts (are_names 32 n.modules) _ (
 pub no_deployer : (n : NameLists) (i : ℕ) → IsTrue (are_valid n) → i < length n.modules → bytes_eq (name_at n.modules i) deployer ≡ false
 no_deployer n i h lt = others n.modules deployer i (not-true _ (behind n h).1) lt
 
--- a name that stands at an index of a list without repeats has this place
+-- a name that is at an index of a list without repeats has this place
 pub guessed_right : (names : List (List ℕ)) (text : List ℕ) (i : ℕ) → no_repeat names ≡ true → i < length names → bytes_eq (name_at names i) text ≡ true → Some i ≡ place_of names text
 guessed_right names text i unique lt named =
     let at = place names i unique lt in

@@ -31,7 +31,7 @@ or_else None o = o
 abbrev pub is_space : ℕ → Bool
 is_space b = b == 32
 
--- what stands before the first space, and what follows it; none without a space
+-- what is before the first space, and what follows it; none without a space
 unfoldable pub cut : List ℕ → Option (List ℕ × List ℕ)
 cut text = position is_space text >>= (λ i. Some (take i text, drop (i + 1) text))
 
@@ -46,7 +46,7 @@ abbrev pub with_digits : ℕ → ℕ → List ℕ → Option ℕ
 with_digits limit n [] = Some n
 with_digits limit n (b ∷ bs) = with_digit limit n b >>= (λ more. with_digits limit more bs)
 
--- some byte is first, and a 0 only if it stands alone
+-- some byte is first, and a 0 only if it is alone
 abbrev pub has_first : List ℕ → Bool
 has_first [] = false
 has_first (b ∷ bs) = if b == 48 then length bs == 0 else true
@@ -94,7 +94,7 @@ later_open m link side epoch = do
 abbrev pub later_in : ℕ → ℕ → List ℕ → Option Item
 later_in m link fields = cut fields >>= (λ f. later_open m link f.0 f.1)
 
--- the item `open` of these words behind the connection: without an epoch it is 0
+-- the item `open` of these words after the connection: without an epoch it is 0
 abbrev pub side_in : ℕ → ℕ → List ℕ → Option Item
 side_in m link fields =
     or_else (side_of fields >>= (λ side. Some (Open m link side 0))) (later_in m link fields)

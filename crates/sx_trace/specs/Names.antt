@@ -1,4 +1,4 @@
--- The names of a deployment, and where a sensor's stands.
+-- The names of a deployment, and where a sensor's is.
 use Rattle.std.specs.Prelude.{ℕ, Bool, false, codes, if◌then◌else◌, List, Option, Some, None}
 use Rattle.std.specs.Prelude.{option_and_then, unwrap_or, slice_get}
 use Rattle.sx_index.specs.Places.{place_of}

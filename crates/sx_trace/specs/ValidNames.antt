@@ -5,11 +5,11 @@ use Rattle.std.specs.Str.{bytes_eq}
 use Rattle.sx_lang.specs.Form.{is_name}
 use Rattle.sx_trace.specs.Names.{NameLists, deployer}
 
--- the name stands in the list
+-- the name is in the list
 abbrev pub has_name : List (List ℕ) → List ℕ → Bool
 has_name names text = list_any (λ name. bytes_eq name text) names
 
--- no name stands twice
+-- no name occurs twice
 abbrev pub no_repeat : List (List ℕ) → Bool
 no_repeat [] = true
 no_repeat (x ∷ xs) = not (has_name xs x) && no_repeat xs

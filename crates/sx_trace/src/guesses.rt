@@ -1,4 +1,4 @@
-//! A guess where a name stands in its list, by the name's ends and length. The name that stands
+//! A guess where a name is in its list, by the name's ends and length. The name that is
 //! there confirms it, so nothing is promised of a guess.
 
 ghost use Rattle.std.specs.Prelude.{◌≡◌, ◌<◌, length, true, IfSome};
@@ -31,7 +31,7 @@ pub(crate) fn guesses_of(names: &[Name]) -> Guesses {
     guesses
 }
 
-/// Whether this name stands at this place.
+/// Whether this name is at this place.
 fn is_at(names: &[Name], place: u8, text: &[u8]) -> bool
     ensures within { result ≡ true → place < length names.now }
     ensures named { result ≡ true → bytes_eq (name_at names.now place) text.now ≡ true }
@@ -42,7 +42,7 @@ fn is_at(names: &[Name], place: u8, text: &[u8]) -> bool
     }
 }
 
-/// Where a name stands, if the guess is right.
+/// Where a name is, if the guess is right.
 pub(crate) fn guessed(names: &[Name], guesses: &Guesses, text: &[u8]) -> Option<u8>
     ensures within { IfSome result (λ place. place < length names.now) }
     ensures named { IfSome result (λ place. bytes_eq (name_at names.now place) text.now ≡ true) }

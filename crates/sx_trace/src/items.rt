@@ -7,7 +7,7 @@ use sx_lang::sides::Side;
 pub enum Cause {
     /// A module was entered elsewhere than at its entry.
     Order,
-    /// An instruction was fetched from a place where it may not stand.
+    /// An instruction was fetched from a place where it may not be.
     Fetch,
     /// A byte was read that may not be read.
     Read,

@@ -8,7 +8,7 @@
 //! `reading::read_item` gives the item of a line, `None` exactly where no item has that line. No
 //! two items have one line.
 //!
-//! `specs/Names.antt` has the names and where one stands, `specs/ValidNames.antt` when lists of them
+//! `specs/Names.antt` has the names and where one is, `specs/ValidNames.antt` when lists of them
 //! are valid; the form of a name is `sx_lang`'s.
 //! `specs/Items.antt` has the lines of items, and `specs/KnownItems.antt` which items there are.
 #![tactic(auto)]

@@ -72,7 +72,7 @@ fn have_form(names: &[Name]) -> bool
     names.iter().all(|name| has_form(name.bytes()))
 }
 
-/// Whether a name stands in the list.
+/// Whether a name is in the list.
 pub fn has_name(names: &[Name], text: &[u8]) -> bool
     ensures { result ≡ has_name names.now text.now }
 {

@@ -51,7 +51,7 @@ fn first_space(text: &[u8]) -> Option<usize>
     }
 }
 
-/// What stands before the first space, and what follows it; None exactly without a space.
+/// What is before the first space, and what follows it; None exactly without a space.
 #[tactic(auto, using(std::proofs::lemmas::List::take_rest), unfolding(crate::specs::Finding::cut))]
 fn cut(text: &[u8]) -> Option<(&[u8], &[u8])>
     ensures { MatchOption result (cut text.now ≡ None)
@@ -61,7 +61,7 @@ fn cut(text: &[u8]) -> Option<(&[u8], &[u8])>
     Some((&text[..end], &text[end + 1..]))
 }
 
-/// Whether some byte is first, and a 0 only if it stands alone.
+/// Whether some byte is first, and a 0 only if it is alone.
 fn has_first(text: &[u8]) -> bool
     ensures { result ≡ has_first text.now }
 {

@@ -14,24 +14,24 @@ use Rattle.sx_observe.specs.Observing.{AddsFront}
 use Rattle.sx_world.specs.Standing.{Stands}
 use Rattle.sx_world.specs.Whole.{next, whole_run}
 
--- Whatever world of a run it stands at, it stands at the next one, and the line's items were
+-- Whatever world of a run it is at, it is at the next one, and the line's items were
 -- appended.
 abbrev pub Acts : Setting → Line → Held → Held → List Item → List Item → Type 0
 Acts set line held left old new =
     (w : World) → Stands set held w
     → Stands set left (next set w line).world × (new ≡ old ++ (next set w line).items)
 
--- Memory ran out: the items that stood before stay, and a prefix of the line's was appended.
+-- Memory ran out: the items that were there before stay, and a prefix of the line's was appended.
 abbrev pub ActsInPart : Setting → Line → Held → List Item → List Item → Type 0
 ActsInPart set line held old new =
     (w : World) → Stands set held w → AddsFront old new (next set w line).items
 
--- These lines lead from power-on to where the program's world stands.
+-- These lines lead from power-on to where the program's world is.
 pub record LeadTo (set : Setting) (lines : List Line) (held : Held) : Type 0 where
   pub formed : LinesInForm set lines
   pub stands : Stands set held (whole_run set lines).world
 
--- The run of these lines goes on with one more. The world stands where the longer run leads, and
+-- The run of these lines goes on with one more. The world is where the longer run leads, and
 -- what the line adds to the run's items was appended. All items of the longer run are legal up to
 -- the first that is forged, with what a reader may take from that; each act comes in its order, and
 -- a node shows one event at a time.

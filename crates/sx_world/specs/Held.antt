@@ -22,7 +22,7 @@ pub record Running : Type 0 where
   pub ledger : List Entry
   pub steps : ℕ
 
--- the program's world: where modules are deployed, how the run stands, the number of lines, whether
+-- the program's world: where modules are deployed, the state of the run, the number of lines, whether
 -- an act has run out of memory, and how many items the list held when the last act ended
 pub record Held : Type 0 where
   pub sites : List Site
@@ -78,7 +78,7 @@ abbrev pub Did : Setting → Running → Running → List Item → List Item →
 Did set old new before after act =
     (w : World) → Shows set old w → Shows set new (act w).world × (after ≡ before ++ (act w).items)
 
--- Memory ran out: the items that stood before stay, and a prefix of the act's items was added.
+-- Memory ran out: the items that were there before stay, and a prefix of the act's items was added.
 abbrev pub Wanted : Setting → Running → List Item → List Item → (World → Acted) → Type 0
 Wanted set old before after act =
     (w : World) → Shows set old w → AddsFront before after (act w).items

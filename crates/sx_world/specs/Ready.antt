@@ -1,4 +1,4 @@
--- What performing a line requires of where a run stands.
+-- What performing a line requires of where a run is.
 use Rattle.std.specs.Prelude.{◌≡◌, ℕ, ◌+◌, ◌<◌, ◌≤◌, List, length, slice_get, Some}
 use Rattle.spec_machine.specs.State.{State}
 use Rattle.spec_machine.specs.NodeLaws.{shapes}

@@ -1,4 +1,4 @@
--- Where the program's world stands: at the world of a run that some lines lead to.
+-- Where the program's world is: at the world of a run that some lines lead to.
 use Rattle.std.specs.Prelude.{◌≡◌, ◌*◌, ◌≤◌, false, List, length}
 use Rattle.sx_sched.specs.Lines.{Line}
 use Rattle.spec_run.specs.Setting.{Setting}
@@ -17,6 +17,6 @@ pub record Stands (set : Setting) (held : Held) (w : World) : Type 0 where
   pub is : w ≡ (run set (switched_on set) lines).world
   pub shows : Shows set held.running w
 
--- It stands so, unless it has run out of memory.
+-- It is so, unless it has run out of memory.
 abbrev pub IsGoing : Setting → Held → Type 0
 IsGoing set held = held.ran_out ≡ false → (w : World) × Stands set held w

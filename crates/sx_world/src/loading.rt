@@ -25,7 +25,7 @@ const PIECE: usize = 1024;
 /// The instruction that protects a module.
 const PROTECT: [u8; 2] = [0x81, 0x13];
 
-/// What the instruction that protects a module is given; it stands at address 0.
+/// What the instruction that protects a module is given; it is at address 0.
 fn protect_registers(site: &Site) -> [Register; 6]
     ensures { result ≡ protect_registers site.now }
 {

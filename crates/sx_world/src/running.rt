@@ -1,4 +1,4 @@
-//! How a run stands: all nodes, the packets, the deployer and the ledger.
+//! The state of a run: all nodes, the packets, the deployer and the ledger.
 
 ghost use Rattle.std.specs.Prelude.{◌≡◌, []};
 

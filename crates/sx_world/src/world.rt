@@ -1,4 +1,4 @@
-//! The world of a deployment: its modules' sites, and how its run stands.
+//! The world of a deployment: its modules' sites, and the state of its run.
 
 ghost use Rattle.std.specs.Prelude.{◌≡◌, ◌+◌, ◌<◌, false, true, length, slice_get, IfOk};
 ghost use Rattle.std.specs.Prelude.{IsErr, OnOk, OnErr, Option, option_map};

@@ -1,4 +1,4 @@
--- A node's windows when it is switched on stand at the words of its devices.
+-- A node's windows when it is switched on are at the words of its devices.
 use Rattle.std.proofs.Common.{◌≡◌, ◌≢◌, ℕ, zero, suc, ◌+◌, ◌%◌, ◌<◌, ◌≤◌, ◌==◌, inl, inr, nat_lt}
 use Rattle.std.proofs.Common.{nat_le, Bool, true, false, if◌then◌else◌, List, [], ◌∷◌, length}
 use Rattle.std.proofs.Common.{get_or, Option, Some, None, refl, sym, ◌∙◌, ap, subst, arith}

@@ -1,4 +1,4 @@
--- Where the sites of a setting stand.
+-- Where the sites of a setting are.
 use Rattle.std.proofs.Common.{◌≡◌, ℕ, zero, suc, ◌+◌, List, [], ◌∷◌, length, Some, refl, sym, ◌∙◌, ap, subst, arith}
 use Rattle.std.specs.Prelude.{slice_get}
 use Rattle.sx_rules.specs.declared.section.Layout.{Layout}

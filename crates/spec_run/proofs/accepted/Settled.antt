@@ -210,7 +210,7 @@ module _ (mac : Mac) (d : Deployed) (texts : List (List ℕ)) (acc : deployment.
       none = undriven;
     }
 
-  -- two sites of a node stand apart
+  -- two sites of a node are apart
 
   earlier : (m k : ℕ) (a b : Site) → slice_get (setting_of mac d texts).sites m ≡ Some a → slice_get (setting_of mac d texts).sites k ≡ Some b → a.node ≡ b.node → m < k
       → Off a.layout.pub_from a.layout.pub_to b.layout.pub_from b.layout.pub_to × Off a.layout.pub_from a.layout.pub_to b.layout.priv_from b.layout.priv_to

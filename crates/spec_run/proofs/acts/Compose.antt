@@ -1,5 +1,5 @@
 -- From each act to the run: every act forges, or goes on to a tied state, and each of its items is so
--- where it stands.
+-- where it is.
 use Rattle.std.proofs.Common.{◌≡◌, ℕ, zero, suc, ◌+◌, ◌/◌, ◌<◌, ◌==◌, ◌||◌, Bool, true, false, if◌then◌else◌, List, [], ◌∷◌, length, take, drop, Option, Some, None, refl, arith}
 use Rattle.std.specs.Prelude.{slice_get}
 use Rattle.sx_trace.specs.declared.items.Item.{Item}
@@ -25,7 +25,7 @@ use Rattle.spec_run.proofs.tie.Tied.{Tied}
 use Rattle.spec_run.proofs.acts.Walks.{Walks, walks_then}
 
 -- from a tied state the act forges, or it is legal and leads to a tied state; each item is so where it
--- stands
+-- is
 abbrev pub Walked : (Setting → Model → Item → Type 0) → Setting → World → Acted → Type 0
 Walked P set w a = (mo : Model) → Tied set w mo → Fares (judge set.app mo a.items) (Tied set a.world) × Walks (P set) set.app mo a.items
 

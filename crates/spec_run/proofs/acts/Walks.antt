@@ -1,4 +1,4 @@
--- Items of which each is so where it stands, up to the first that is forged.
+-- Items of which each is so where it is, up to the first that is forged.
 use Rattle.std.proofs.Common.{Bool, true, false, List, [], ◌∷◌, ◌++◌, Option, Some, None}
 use Rattle.std.specs.Prelude.{IfSome, if◌then◌else◌, All}
 use Rattle.std.proofs.lemmas.List.Elements.{All-cons, All-nil}

@@ -262,7 +262,7 @@ module _ (app : AppTree) (m : ℕ) (q : PartTree) (x : Standing) (pr : Present) 
       (reacted (Unwrapped header body false) st2 views (event.Input lk.l.input (value_in body)) mo.devices ms result refl same.same t.2
       (λ c side. open_same (takes epoch last) c link side To (ends_of app m) pr.ends views (takes_leaves epoch last) t.1) h2)))
 
-  -- with the module's standing and the readings replaced
+  -- with the module's state and the readings replaced
   abbrev with_end_of : Present → Model
   with_end_of p = record {
     boots = mo.boots;

@@ -143,7 +143,7 @@ module _ (app : AppTree) (m n : ℕ) (q : PartTree) (s : Setup) (c : Call) (cell
   abbrev es : List End
   es = ends_of app m
 
-  -- the module stands as the source has it, while its acts are done
+  -- the module is as the source has it, while its acts are done
   pub record Stand (p : Progress) (f : Flow) : Type 0 where
     pub ends : SameEnds es p.state.ends views f.sent
     pub count : length p.pieces ≡ f.pieces

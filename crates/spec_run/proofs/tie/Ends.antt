@@ -18,7 +18,7 @@ use Rattle.spec_run.specs.Observation.{is_end}
 use Rattle.spec_run.proofs.tie.Lists.{some_inj}
 use Rattle.spec_run.proofs.tie.Tied.{epoch_at, HasLength, Counts, SameEnds, open_at, AtLeast, HasEnd}
 
--- the end stands at this place, and no end before it is the same
+-- the end is at this place, and no end before it is the same
 abbrev pub FoundAt : ℕ → Side → List End → ℕ → End → Type 0
 FoundAt link side [] j e = ⊥
 FoundAt link side (x ∷ es) zero e = (end_is link side x ≡ true) × (x ≡ e)

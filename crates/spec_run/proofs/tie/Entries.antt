@@ -52,7 +52,7 @@ same_entry-refl e =
     (and_from (e.boot == e.boot) _ (eq-eqb e.boot e.boot refl)
     (and_from (bytes_eq e.header e.header) (bytes_eq e.body e.body) (bytes_eq-same e.header) (bytes_eq-same e.body))))
 
--- what stands in the ledger was made
+-- what is in the ledger was made
 pub made_in : (before after : List Made) (e : Made) → is_made (before ++ e ∷ after) e ≡ true
 made_in [] after e = or_left (same_entry e e) (is_made after e) (same_entry-refl e)
 made_in (x ∷ before) after e = or_right (same_entry e x) (is_made (before ++ e ∷ after) e) (made_in before after e)

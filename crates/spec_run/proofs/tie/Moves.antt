@@ -50,7 +50,7 @@ module _ (app : AppTree) (n m : ℕ) (mark : Mark) (x y : Standing) (mo mo' : Mo
   pub other_module : (k : ℕ) → k ≢ m → slice_get mo'.modules k ≡ slice_get mo.modules k
   other_module k ne = rw moved.modules (get_other mo.modules m k y ne)
 
-  -- what a standing is like for the ledger
+  -- what a state is like for the ledger
   pub module_moved : (k : ℕ) (z : Standing) → slice_get mo.modules k ≡ Some z
       → (w : Standing) × (slice_get mo'.modules k ≡ Some w) × (w.asked ≡ z.asked) × (w.attested ≡ z.attested) × ((a b : ℕ) → is_vouched a b z.vouched ≡ true → is_vouched a b w.vouched ≡ true)
   module_moved k z e = elim (cases_eq k m) [

@@ -1,4 +1,4 @@
--- How a run of the world stands to a run of the source.
+-- How a run of the world relates to a run of the source.
 use Rattle.std.proofs.Common.{◌≡◌, ◌≢◌, ℕ, ◌+◌, ◌*◌, ◌<◌, ◌≤◌, ◌⊎◌, ◌==◌, ◌&&◌, true, false, if◌then◌else◌, List, [], ◌∷◌, ◌++◌, length, Option, Some, None}
 use Rattle.std.specs.Prelude.{slice_get, slice_index, is_some, nat_le}
 use Rattle.sx_lang.specs.declared.sides.Side.{Side}

@@ -51,7 +51,7 @@ found (l ∷ ls) n p i vs e v h g f = one (λ i vs h g. found ls (n + 1) p i vs 
     two more true (suc i) (w ∷ vs) h g = skip ((n == e.link) && false) (Some w) _ (and_right (n == e.link) false refl) (more i vs h g)
     two more false i vs h g = more i vs h g
 
-    -- an end behind is of another connection, or the receiving one
+    -- an end after is of another connection, or the receiving one
     behind : (b : Bool) (i : ℕ) → slice_get (cons_option (if b then Some (record { link = n; side = To; port = l.input }) else None) (ends_after (n + 1) p ls)) i ≡ Some e → n < e.link
     behind true zero h = absurd (let s : To ≡ e.side = ap (λ (e : End). e.side) (same_Some (record { link = n; side = To; port = l.input }) e h) in let z : To ≡ From = (s ∙ f) in cc)
     behind true (suc i) h = let le = high ls (n + 1) p i e h in omega (arith, le)

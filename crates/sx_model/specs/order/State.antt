@@ -1,4 +1,4 @@
--- Where a run of the source stands where acts keep their order: the model's own State but for what
+-- Where a run of the source is where acts keep their order: the model's own State but for what
 -- is pending.
 use Rattle.std.specs.Prelude.{ℕ, false, List, [], Option, Some, None, map, replicate}
 use Rattle.sx_mean.specs.declared.events.Act.{Act}

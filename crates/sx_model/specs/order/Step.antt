@@ -27,7 +27,7 @@ use Rattle.sx_model.specs.order.Reaction.{flow_of, after_event, sent_first, from
 abbrev pub state_if : Bool → Model → Option Model
 state_if b s = if b then Some s else None
 
--- the state with another standing of a module
+-- the state with another state of one module
 abbrev pub with_standing : Model → ℕ → Standing → Model
 with_standing s m x = record s { modules = slice_set s.modules m x }
 
@@ -77,7 +77,7 @@ reacts app s m q x p e =
     let f = flow_of q.tree (ends_of app m) e p s.sent in
     record (with_present s m x (after_event q.tree e f p)) { sent = f.sent }
 
--- what is owed behind the first act, if that emits this value
+-- what is owed after the first act, if that emits this value
 abbrev pub behind_emit : ℕ → List Act → Option (List Act)
 behind_emit v (Emit e ∷ acts) = if e == v then Some acts else None
 behind_emit v _ = None

@@ -1,4 +1,4 @@
--- Bytes that stand in memory.
+-- Bytes that are in memory.
 use Rattle.std.proofs.Common.{◌≡◌, ℕ, zero, suc, ◌+◌, ◌-◌, ◌/◌, ◌%◌, ◌<◌, ◌≤◌, inl, List, [], ◌∷◌, ◌++◌, length, refl, sym, ◌∙◌, ap, subst, arith, slice_index, slice_set}
 use Rattle.std.proofs.lemmas.List.{get_or-set_same, length-set}
 use Rattle.sx_tag.proofs.TagBytes.{AreBytes}
@@ -8,7 +8,7 @@ use Rattle.spec_machine.proofs.PublicKept.{put_other}
 use Rattle.spec_invocation.specs.Windows as outside
 use Rattle.sx_tmpl.specs.Running.{cell}
 
--- bytes stand one after the other
+-- bytes are one after the other
 abbrev pub BytesAt : List ℕ → ℕ → List ℕ → Type 0
 BytesAt m a [] = Unit {0}
 BytesAt m a (b ∷ bs) = (slice_index m a ≡ b) × BytesAt m (a + 1) bs
@@ -21,7 +21,7 @@ pub bytes_append : (m : List ℕ) (a : ℕ) (xs ys : List ℕ) → BytesAt m a x
 bytes_append m a [] ys h g = subst (λ a. BytesAt m a ys) (omega arith) g
 bytes_append m a (x ∷ xs) ys h g = (h.0, bytes_append m (a + 1) xs ys h.1 (subst (λ a. BytesAt m a ys) (omega arith) g))
 
--- bytes that were written stand there
+-- bytes that were written are there
 pub bytes_put : (bs m : List ℕ) (a : ℕ) → AreBytes bs → a + length bs ≤ length m → BytesAt (put_bytes m a bs) a bs
 bytes_put [] m a h le = tt
 bytes_put (b ∷ bs) m a h le = (

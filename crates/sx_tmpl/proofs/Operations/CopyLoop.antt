@@ -63,12 +63,12 @@ turns_of true n e =
     (m, omega (arith, z), omega (arith, z, c))
 turns_of false n e = let c = bytes_are false n in (n, omega arith, omega (arith, c))
 
--- copies of so many bytes stand from the k-th word on
+-- copies of so many bytes are from the k-th word on
 abbrev pub Copies : List ℕ → ℕ → ℕ → ℕ → Type 0
 Copies ws k i zero = Unit {0}
 Copies ws k i (suc n) = (take 2 (drop k ws) ≡ spelling (mov_b (increment r13) (i ⟨ r12 ⟩))) × Copies ws (k + 2) (i + 1) n
 
--- and the turns' end behind them
+-- and the turns' end after them
 pub record Turns (ws : List ℕ) (k : ℕ) (b : Bool) : Type 0 where
   pub copies : Copies ws k 0 (size b)
   pub add_is : take 1 (drop (k + 2 * size b) ws) ≡ spelling (add (# (size b)) r12)
@@ -99,7 +99,7 @@ module _ (f : Fixed) (st : Stands f) (all : List Mark) (B : Watched → Violatio
       (record r { pc = P + 2 * (k + 1); sr = sr2; r12 = (dst + 1) % 65536; r13 = src % 65536; r15 = left }) m (inside t (k + 1) le)
       (rw sum refl, refl) (after sr2)
 
-  -- where the jump leads that stands at this word
+  -- where the jump leads that is at this word
   abbrev goal : Bool → ℕ → ℕ → ℕ
   goal z k e = if z then P + 2 * (e + 1) else P + 2 * k
 

@@ -379,7 +379,7 @@ module _ (f : Fixed) (st : Stands f) (all : List Mark) (B : Watched → Violatio
             ),
           )
 
-  -- wrap, by the header and the body that stand in memory
+  -- wrap, by the header and the body that are in memory
   pub wrap_as : {P n : ℕ} {ws : List ℕ} (t : Text f P n ws) (k : ℕ) → slice_get ws k ≡ Some 0x1384 → k + 1 ≤ n → (e : Event) (r : Regs) (d : Data) (key ad body : List ℕ) (j : ℕ) → r.pc ≡ P + 2 * k
       → Safe f all (running_after e f r d)
       → Buffers f r → KeyAt f r d key → (r.r9 ≡ 0 → r.r13 ≡ 0) → bytes_from d.mem r.r10 r.r11 ≡ ad → bytes_from d.mem r.r12 r.r13 ≡ body → WrapThen j e r d (P + 2 * (k + 1)) key ad body

@@ -1,4 +1,4 @@
--- An end is opened with the copied packet's field and the plain key, by a routine that stands once.
+-- An end is opened with the copied packet's field and the plain key, by a routine that occurs once.
 use Rattle.sx_isa.specs.Assembly.{##◌, #◌, &◌, ◌⟨◌⟩, call, clr, mov, pc, pop, r12}
 use Rattle.sx_tmpl.proofs.Running.Instructions.{goes}
 use Rattle.sx_tmpl.specs.Template.{slot_words}

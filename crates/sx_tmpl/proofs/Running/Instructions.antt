@@ -1,4 +1,4 @@
--- One step of a template: the instruction that stands there, what it owes, and what is to follow it.
+-- One step of a template: the instruction that is there, what it owes, and what is to follow it.
 use Rattle.std.proofs.Common.{◌≡◌, ℕ, zero, suc, ◌+◌, ◌*◌, ◌<◌, ◌≤◌, true, false, List, [], ◌∷◌, length, Some}
 use Rattle.std.proofs.Common.{refl, sym, ◌∙◌, ap, subst, arith, take, drop, get_or}
 use Rattle.std.specs.Prelude.{slice_get}
@@ -63,7 +63,7 @@ module _ (f : Fixed) (st : Stands f) (all : List Mark) (B : Watched → Violatio
   abbrev Then_owes : Event → Regs → Data → ℕ → Plan → Type 0
   Then_owes e r d j p = Owes f (Then f st all B Q j d) (NoTell f st all B Q) (B (running_after e f r d)) p d.mem
 
-  -- the instruction that stands at the k-th of these words, and what is to follow it
+  -- the instruction that is at the k-th of these words, and what is to follow it
   pub step : {P n : ℕ} {ws : List ℕ} (t : Text f P n ws) (k : ℕ) (i : Instr) → take (length (spelling i)) (drop k ws) ≡ spelling i → k + length (spelling i) ≤ n
       → is_shaped i ≡ true → is_module_word (first_word i) ≡ false
       → (e : Event) (r : Regs) (d : Data) (j : ℕ) → r.pc ≡ P + 2 * k → Safe f all (running_after e f r d)

@@ -1,4 +1,4 @@
--- Numbers are loaded into registers by instructions that stand in a row: a whole row is one step of a proof.
+-- Numbers are loaded into registers by instructions that are in a row: a whole row is one step of a proof.
 use Rattle.std.proofs.Common.{◌≡◌, ℕ, zero, suc, ◌+◌, ◌*◌, ◌%◌, ◌<◌, ◌≤◌, inl, inr, Bool, true, false, not, ◌&&◌, List, [], ◌∷◌, ◌++◌, map}
 use Rattle.std.proofs.Common.{length, length-append, refl, sym, ◌∙◌, ap, subst, arith, take, drop, get_or}
 use Rattle.std.specs.Prelude.{nat_lt, nat_le, slice_index, slice_set}
@@ -141,7 +141,7 @@ module _ (f : Fixed) (st : Stands f) (all : List Mark) (B : Watched → Violatio
   owes X r d a to j (Symbolic x) i h p q lt there after = absurd (false≢true h)
   owes X r d a to j (Absolute x) i h p q lt there after = absurd (false≢true h)
 
-  -- the loads that stand at the k-th of these words, and what is to follow them
+  -- the loads that are at the k-th of these words, and what is to follow them
   pub loads : {P n : ℕ} {ws : List ℕ} (t : Text f P n ws) (k : ℕ) (ls : List (Operand × ℕ)) → take (length (words ls)) (drop k ws) ≡ words ls → k + length (words ls) ≤ n → are_loads ls ≡ true
       → AreWords ls → (r : Regs) (d : Data) (j pc : ℕ) → pc ≡ P + 2 * k → Safe f all (running f (record r { pc = pc }) d)
       → (Safe f all (running f (record (loaded f ls r) { pc = P + 2 * (k + length (words ls)) }) d)

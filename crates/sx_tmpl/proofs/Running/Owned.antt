@@ -59,7 +59,7 @@ module _ (f : Fixed) (st : Stands f) where
   pub public_not_private : (a : ℕ) → f.setup.section.layout.pub_from ≤ a → a < f.setup.section.layout.pub_to → in_private f.setup.section a ≡ false
   public_not_private a p q = out_of f.setup.section.layout.pub_from f.setup.section.layout.pub_to f.setup.section.layout.priv_from f.setup.section.layout.priv_to a parts p q
 
-  -- where an own byte lies in another section, by what stands beside it
+  -- where an own byte lies in another section, by what is beside it
   others : (test : Section → Bool) → test f.setup.section ≡ true → ((u : Section) → Beside f.setup.section u → test u ≡ true) → list_all test f.setup.live ≡ true
   others test here there = all_pass test f.setup.live (λ u l.
       elim (same_or_beside (sections_of f) f.setup.section u st.placed st.lives l) [ inl e ↦ subst (λ u. test u ≡ true) e here | inr b ↦ there u b ])

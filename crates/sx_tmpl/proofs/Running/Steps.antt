@@ -34,7 +34,7 @@ pub record Reads (w n : ℕ) (i : ℕ → ℕ → Instr) : Type 0 where
   pub count : length_of w ≡ Some n
   pub reads : (x y : ℕ) → instruction_at w x y ≡ Some (i x y, n)
 
--- words stand in the text, with a word after them
+-- words are in the text, with a word after them
 pub record Text (f : Fixed) (P n : ℕ) (ws : List ℕ) : Type 0 where
   pub from : f.setup.section.layout.pub_from ≤ P
   pub to : P + 2 * n < f.setup.section.layout.pub_to
@@ -72,7 +72,7 @@ module _ (f : Fixed) (st : Stands f) (all : List Mark) (B : Watched → Violatio
       let hi = text_kept f st m (a + 1) k (in_public_yes f.setup.section (a + 1) (omega arith) q) in
       omega arith
 
-  -- so it is where a word of these stands
+  -- so it is where a word of these is
   pub reached : {P n : ℕ} {ws : List ℕ} (t : Text f P n ws) (k w : ℕ) → slice_get ws k ≡ Some w → k + 1 ≤ n → (r : Regs) (m : List ℕ) → r.pc ≡ P + 2 * k → OutsideKept f m → Reached f r m w
   reached t k w has fits r m pc kept =
       let here : f.setup.section.layout.pub_from ≤ r.pc = omega (arith, t.from) in

@@ -140,7 +140,7 @@ module _ (s : Setup) (n : State) (result : Invoked) (e : Ready s n) (sizes : byt
     leaves = leaves;
   }
 
--- wherever the text of sound code stands
+-- wherever the text of sound code is
 pub text_does : (mac : Mac) (code : Code) (l : Layout) → IsTag mac → HasRoom l → is_sound code.ops.items code.parts.items l ≡ true → DoesCode mac code l (bytes_of (text_words l code))
 text_does mac code l tag room sound tree ends image section n result rest same is narrow enters sizes =
     let s = setup_at mac tree ends section n in

@@ -1,4 +1,4 @@
--- The operations' words stand one after the other in the text.
+-- The operations' words are one after the other in the text.
 use Rattle.std.proofs.Common.{◌≡◌, ℕ, zero, suc, ◌+◌, ◌*◌, ◌%◌, ◌<◌, ◌≤◌, List, [], ◌∷◌, ◌++◌, take, length, length-append, Some, sym, ◌∙◌, ap, subst, arith}
 use Rattle.std.specs.Prelude.{slice_get}
 use Rattle.std.proofs.lemmas.Option.{none-some, same_Some}
@@ -31,7 +31,7 @@ got_short (j ∷ code) zero i e = omega arith
 got_short (j ∷ code) (suc p) i e = let x = got_short code p i e in omega (arith, x)
 
 module _ (l : Layout) (a : Addresses) where
-  -- the words of the operation at a place, and how many stand before it and after it
+  -- the words of the operation at a place, and how many are before it and after it
   at_place : (m : List ℕ) (code : List Ir) (b p q : ℕ) (i : Ir) → slice_get code q ≡ Some i → WordsAt m b (words_of l a p code)
       → WordsAt m (b + 2 * length (words_of l a p (take q code))) (template l a (p + q) i)
   at_place m [] b p q i e h = absurd (none-some i e)
@@ -70,7 +70,7 @@ module _ (l : Layout) (a : Addresses) where
       let l2 = length-append (template l a p j) (words_of l a (p + 1) code) in
       omega arith
 
--- code whose words stand in the text from an even address on, with a word after them, is emitted there
+-- code whose words are in the text from an even address on, with a word after them, is emitted there
 pub emitted : (f : Fixed) (a : Addresses) (code : List Ir) (start : ℕ) → ((p : ℕ) → p ≤ length code → a.at p ≡ start + 2 * length (words_of f.setup.section.layout a 0 (take p code)))
     → f.setup.section.layout.pub_from ≤ start → start % 2 ≡ 0 → start + 2 * length (words_of f.setup.section.layout a 0 code) < f.setup.section.layout.pub_to
     → WordsAt f.entered start (words_of f.setup.section.layout a 0 code) → ((p : ℕ) (i : Ir) → slice_get code p ≡ Some i → IsSoundOp f a i) → Emitted f a code

@@ -51,7 +51,7 @@ routines_more ops k (suc n) =
     step true x = omega (arith, x)
     step false x = omega (arith, x)
 
--- that of an end with one stands within the first n
+-- that of an end with one is within the first n
 pub routine_within : (ops : List Ir) (k n : ℕ) → has_routine ops k ≡ true → k < n → routines ops k + 1 ≤ routines ops n
 unfolding routines
 routine_within ops k n h lt =

@@ -94,7 +94,7 @@ IsSoundOp f a ir.Sense = Unit {0}
 IsSoundOp f a (ir.Handler h) = IsTarget f (a.at (a.part h))
 IsSoundOp f a ir.Leave = Unit {0}
 
--- the code stands in the text, each operation's words after those of the one before
+-- the code is in the text, each operation's words after those of the one before
 pub record Emitted (f : Fixed) (a : Addresses) (code : List Ir) : Type 0 where
   pub stands : (p : ℕ) (i : Ir) → slice_get code p ≡ Some i → Text f (a.at p) (length (template f.setup.section.layout a p i)) (template f.setup.section.layout a p i)
   pub following : (p : ℕ) (i : Ir) → slice_get code p ≡ Some i → a.at (p + 1) ≡ a.at p + 2 * length (template f.setup.section.layout a p i)

@@ -251,7 +251,7 @@ passed_small mac idle n k left now mid new seen b p kept test more small t here 
     let on = (or_parts (is_reset (step mac m).shown.event) (idle && ((step mac m).state.cur == 0)) (ends ∙ more)).0 in
     subst (λ b. b < 4294967295) (sym (ap (λ (u : State). u.boot) same ∙ step_quiet mac m (λ v e. no_reset (step mac m).shown.event v on e) ∙ quiet_boot mac idle k p.node p.quiet)) small
 
--- What that step showed was said: the program goes on behind it, or it was the last one.
+-- What that step showed was said: the program goes on after it, or it was the last one.
 module _ (mac : Mac) (d : Deployed) (sites : List Site) (idle : Bool) (ends : List Item) (n all left k : ℕ) (old now mid new : Running) (before came after : List Item) (seen : Seen) (b : Bool)
     (p : Passage mac idle n k left now mid seen) (kept : new ≡ with_nodes mid mid.nodes new.ledger mid.steps)
     (saw : (t : State) → slice_get mid.nodes n ≡ Some t → Observes mid.ledger new.ledger came after (observed (setting mac d sites) n (runner_of sites n t seen) t seen))

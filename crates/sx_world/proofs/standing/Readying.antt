@@ -1,4 +1,4 @@
--- A world that stands at a run's world is ready for the next line, and stands at the next world after it.
+-- A world that is at a run's world is ready for the next line, and is at the next world after it.
 use Rattle.std.proofs.Common.{◌≡◌, ℕ, suc, ◌+◌, ◌*◌, ◌<◌, ◌≤◌, List, [], ◌∷◌, ◌++◌, length, Some, refl, sym, ◌∙◌, ap, subst, arith, length-append}
 use Rattle.std.specs.Prelude.{slice_get}
 use Rattle.sx_tag.specs.Mac.{Mac}
@@ -28,7 +28,7 @@ module _ (mac : Mac) (d : Deployed) (sites : List Site) (acc : deployment.IsSoun
   abbrev set : Setting
   set = setting mac d sites
 
-  -- the counts of the world at which it stands
+  -- the counts of the world at which it is
   bounded : (held : Held) (w : World) → Stands set held w → Within set held.performed w.steps (192 * held.performed) held.performed w
   bounded held w s =
       let l = lines_within set s.lines sound s.formed in
@@ -99,7 +99,7 @@ module _ (mac : Mac) (d : Deployed) (sites : List Site) (acc : deployment.IsSoun
   shows_counted : (kept : Running) (w : World) → Shows set kept w → Shows set kept (line_counted w)
   shows_counted kept w h = record { nodes = h.nodes; packets = h.packets; deployer = h.deployer; ledger = h.ledger; steps = h.steps; placed = h.placed }
 
-  -- after a line that was acted it stands at the world after it
+  -- after a line that was acted it is at the world after it
   pub acted_stands : (old new : Held) (w : World) (line : Line) → IsLine d.names line → new.performed ≡ old.performed + 1
       → Shows set new.running (after_line set (line_counted w) line).world → Stands set old w → Stands set new (after_line set (line_counted w) line).world
   acted_stands old new w line form more shows s =

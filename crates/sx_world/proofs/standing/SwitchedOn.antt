@@ -1,4 +1,4 @@
--- A world whose nodes were just switched on stands at the start of a run: its sites, what the deployer knows, and what it keeps.
+-- A world whose nodes were just switched on is at the start of a run: its sites, what the deployer knows, and what it keeps.
 use Rattle.std.proofs.Common.{◌≡◌, ℕ, ◌+◌, ◌<◌, ◌≤◌}
 use Rattle.std.proofs.Common.{List, [], length, take, map, replicate, Option, Some, None}
 use Rattle.std.proofs.Common.{refl, sym, ◌∙◌, ap, subst, arith}
@@ -80,7 +80,7 @@ nothing_made m short = (λ c. absurd (nowhere (entry_of m) c), λ t. absurd (tru
 all_placed : (set : Setting) → ArePlaced (nodes_from set 0 set.keys)
 all_placed set n s e = let r = get_nodes set 0 set.keys n s e in subst (λ (z : State). Placed z.sections) (sym r.1) starts_placed
 
--- such a world stands where no line was acted
+-- such a world is where no line was acted
 pub stands_first : (set : Setting) (held : Held) (nodes : List State) (deployer : Keeping) (targets : List Known) → length set.app.parts ≤ 32 → length set.app.links ≤ 64
     → targets ≡ targets_from set 0 set.sites → held.performed ≡ 0 → held.running ≡ record { nodes = nodes; packets = []; deployer = deployer; ledger = []; steps = 0 }
     → nodes ≡ nodes_from set 0 set.keys → deployer ≡ first set.secret targets → Stands set held (switched_on set)
