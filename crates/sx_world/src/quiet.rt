@@ -39,8 +39,8 @@ fn silent() -> Seen
     }
 }
 
-/// Steps of a node, at most `count`, up to the first that shows something or leaves a module
-/// running. The loop is code of its own, so that the processor's registers are its alone.
+/// Steps of a node, at most `count`, up to the first that shows something. The loop is code of its
+/// own, so that the processor's registers are its alone.
 #[inline(never)]
 fn quiet_stretch<B: Bus, T: Tag>(node: &mut Node<B, T>, count: u32) -> QuietSteps
     requires { node.old.boot < 4294967295 }
@@ -54,12 +54,6 @@ fn quiet_stretch<B: Bus, T: Tag>(node: &mut Node<B, T>, count: u32) -> QuietStep
             return QuietSteps {
                 count: done,
                 last: Some(seen),
-            };
-        }
-        if node.running() != 0 {
-            return QuietSteps {
-                count: done,
-                last: Some(silent()),
             };
         }
     }
@@ -101,8 +95,9 @@ fn module_stretch<B: Bus, T: Tag>(node: &mut Node<B, T>, count: u32) -> QuietSte
 }
 
 /// Steps of a node, at most `count`, up to the first that shows something or, where `idle` says so,
-/// leaves no module running. Each of the two loops is the shorter one for its own code, so they also
-/// end where a module is entered or left, even if `idle` doesn't say so; a caller goes on.
+/// leaves no module running. Where a module runs they end when it leaves even if `idle` doesn't say
+/// so, since the loop for a module is the shorter one; a caller goes on. Code outside is mostly run
+/// without that word, so its loop asks for no module.
 #[tactic(auto, using(crate::proofs::passing::Passed::quiet_either))]
 pub(crate) fn stretch<B: Bus, T: Tag>(node: &mut Node<B, T>, count: u32, idle: bool) -> QuietSteps
     requires { node.old.boot < 4294967295 }
