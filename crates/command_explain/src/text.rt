@@ -1,7 +1,7 @@
 //! The lines that `explain` writes. What is said of items is kept, to be written together. None of
 //! this takes memory.
 
-ghost use Rattle.std.specs.Prelude.{◌≡◌, ◌≢◌, ◌+◌, ◌≤◌, ◌++◌, decimal, length, List, Some, true};
+ghost use Rattle.std.specs.Prelude.{◌≡◌, ◌≢◌, ◌+◌, ◌≤◌, ◌++◌, IsTrue, decimal, length, List, Some, true};
 ghost use Rattle.command_promise.specs.Told.{CommandEnds, Output, behind, out_of_memory, write_failed};
 ghost use Rattle.sx_trace.specs.declared.items.Item.{Item as Listed};
 ghost use Rattle.sx_mean.specs.Application.{AppTree};
@@ -124,8 +124,10 @@ fn finish_kept<K: Sink>(output: &mut K, kept: &Kept, text: &[u8], status: u8) ->
 
 /// Writes all that is kept, where memory ran out.
 pub(crate) fn finish_wanted<K: Sink>(output: &mut K, kept: &Kept) -> u8
-    ensures { (o : Output) → CommandEnds K.tells (K.at output.old) (K.at output.new) result
+    ensures ends { (o : Output) → CommandEnds K.tells (K.at output.old) (K.at output.new) result
         (behind kept.now.items o) }
+    ensures made { result ≡ out_of_memory → IsTrue K.tells
+        → (K.at output.new).written ≡ (K.at output.old).written ++ kept.now.items }
 {
     match put_kept(output, kept) {
         Ok(()) => OUT_OF_MEMORY,

@@ -1,7 +1,7 @@
 //! The lines of a trace. Each is judged, and what is said of it is written before more of the input
 //! is read.
 
-ghost use Rattle.std.specs.Prelude.{◌≡◌, ◌≢◌, ◌+◌, ◌<◌, ◌≤◌, ◌||◌, [], IsTrue, List, OnOk, length};
+ghost use Rattle.std.specs.Prelude.{◌≡◌, ◌≢◌, ◌+◌, ◌<◌, ◌≤◌, ◌++◌, ◌||◌, [], IsTrue, List, OnOk, length};
 ghost use Rattle.std.specs.Prelude.{IfSome, None, Some, true, false, is_some};
 ghost use Rattle.sx_io.specs.Next.{GivesHeld};
 ghost use Rattle.command_promise.specs.Told.{command_at, out_of_memory};
@@ -67,7 +67,8 @@ fn next_line<S: Source, K: Sink>(
 }
 
 /// Judges an item with this number, and keeps what is said of it. Memory runs out only where no
-/// item was forged before, and the item may take memory or comes next after an event.
+/// item was forged before, and the item may take memory or comes next after an event; what was
+/// kept of the items before is written then.
 fn turn<K: Sink>(
     output: &mut K,
     kept: &mut Kept,
@@ -84,6 +85,8 @@ fn turn<K: Sink>(
     ensures memory { result ≡ Turned.Stop out_of_memory → judge.old.has_forged ≡ false }
     ensures wants { result ≡ Turned.Stop out_of_memory
         → (may_take_memory item.now || is_some judge.old.behind) ≡ true }
+    ensures made { result ≡ Turned.Stop out_of_memory → IsTrue K.tells
+        → (K.at output.new).written ≡ (K.at output.old).written ++ kept.old.items }
 {
     match judge.item(app, item) {
         Ok(said) => keep_said(output, kept, number, said),

@@ -11,7 +11,7 @@ pub returns-in-Ok-clause-memory : goal.returns-in-Ok-clause-memory
 returns-in-Ok-clause-memory g c = λ six. absurd (c.keep_said.ensures.memory six)
 
 pub returns-in-Err-clause-judges : goal.returns-in-Err-clause-judges
-returns-in-Err-clause-judges g c = λ items h counted. judges_none (app_as c.args.app.now) items c.args.item.now c.finish_wanted.ensures
+returns-in-Err-clause-judges g c = λ items h counted. judges_none (app_as c.args.app.now) items c.args.item.now c.finish_wanted.ensures.ends
 
 pub returns-in-Err-clause-memory : goal.returns-in-Err-clause-memory
 returns-in-Err-clause-memory g c = λ six. wanted_unforged c.args.judge.now.has_forged c.in-Err.ensures.unjudged
