@@ -1,21 +1,24 @@
 -- What a line does to the program's world, and to its output, and what a part that reads does.
 -- Nobody has to believe this file: the promise doesn't cite it.
-use Rattle.std.specs.Prelude.{ℕ, ◌+◌, ◌≡◌, ◌==◌, if◌then◌else◌, Bool, List, ◌∷◌}
+use Rattle.std.specs.Prelude.{ℕ, ◌+◌, ◌≡◌, ◌≢◌, ◌==◌, if◌then◌else◌, Bool, false, List, ◌∷◌, ◌++◌}
+use Rattle.std.specs.Prelude.{IsTrue, length}
 use Rattle.sx_asm.specs.Assembled.{assembled}
 use Rattle.sx_io.specs.Streams.{SinkAt, SourceAt}
 use Rattle.sx_io.specs.Next.{Ahead}
 use Rattle.sx_io.specs.Reading.{Answer, Limit}
 use Rattle.sx_io.specs.Reading as answer
 use Rattle.command_promise.specs.Head.{head_lines}
-use Rattle.command_promise.specs.Told.{CommandAt, CommandEnds, Output}
+use Rattle.command_promise.specs.Told.{CommandAt, CommandEnds, Output, out_of_memory}
 use Rattle.command_promise.specs.Parts.{Begun, DoesPart, Notes, Rest, WroteSome}
 use Rattle.command_promise.specs.declared.turned.Turned.{Turned}
 use Rattle.command_promise.specs.declared.turned.Turned.TheVariants as turn
+use Rattle.sx_trace.specs.declared.items.Item.{Item}
 use Rattle.sx_trace.specs.Names.{NameLists}
 use Rattle.spec_run.specs.Setting.{Setting}
 use Rattle.spec_run.specs.State.{World}
 use Rattle.sx_world.specs.Held.{Held}
 use Rattle.sx_world.specs.Standing.{Stands}
+use Rattle.command_world.specs.Items.{items_text}
 use Rattle.command_batch.specs.declared.schedules.Outcome.{Outcome}
 use Rattle.command_batch.specs.declared.schedules.Outcome.TheVariants.{Broken, On, Stop}
 use Rattle.sx_deploy.specs.Deployment.{Deployed}
@@ -68,6 +71,15 @@ pub record RepliesLine (to_tell : Bool) (k0 k1 : SinkAt) (names : NameLists) (se
       (answer.Line text ∷ more)) outcome
       (schedules_from assembled names set start first count (Runs next) (number + 1))
       (passed_from names set start first count number)
+
+-- Where memory ran out at a line that was performed, all that it made is written: as many items
+-- as the line's act made.
+abbrev pub TellsMade : Bool → SinkAt → SinkAt → NameLists → Held → Held → List Item → Outcome
+    → Type 0
+TellsMade to_tell k0 k1 names held left made outcome =
+    outcome ≡ Stop out_of_memory → left ≢ held
+    → (held.ran_out ≡ false → length made ≡ left.made)
+    × (IsTrue to_tell → k1.written ≡ k0.written ++ items_text names made)
 
 -- A part that reads: whatever came before, the command goes on to this, or it has ended.
 abbrev pub ReadsOn : Bool → Bool → Ahead → Ahead → CommandAt → CommandAt → Turned

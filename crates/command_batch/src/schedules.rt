@@ -19,7 +19,7 @@ ghost use Rattle.command_world.specs.Schedule.{judged_line};
 ghost use Rattle.command_world.specs.Turning.{MayRunOut};
 ghost use Rattle.command_batch.specs.Output.{Runs, schedules_from};
 ghost use Rattle.command_batch.specs.Parts.{EndsWanting, HasStood, KeepsWanting, ReadsOn};
-ghost use Rattle.command_batch.specs.Parts.{RepliesLine, next_from};
+ghost use Rattle.command_batch.specs.Parts.{RepliesLine, TellsMade, next_from};
 
 use crate::passing::{end_long, pass_over};
 use command_promise::{
@@ -87,6 +87,8 @@ fn turn<K: Sink, B: Copied, T: Tag>(
         world.new number said.now result w }
     ensures memory { result ≡ Outcome.Stop out_of_memory
         → MayRunOut (judged_line assembled (deployed_as deployment.now).names number said.now) }
+    ensures made { TellsMade K.tells (K.at output.old) (K.at output.new)
+        (deployed_as deployment.now).names world.old world.new items.new.items result }
     ensures few { result ≡ Outcome.On → number ≤ 65536 }
     ensures sites { world.new.sites ≡ world.old.sites }
     ensures counts { result ≡ Outcome.On → world.new.performed ≡ number }
