@@ -12,9 +12,8 @@ use Rattle.sx_io.specs.declared.lines.LineRead.TheVariants as read
 use Rattle.sx_io.specs.declared.lines.ReaderState.TheVariants.{Open}
 use Rattle.command_promise.specs.Reads.{anything}
 use Rattle.command_promise.specs.Got.{Got}
-use Rattle.command_promise.proofs.Takings.{got-new, got-line, got-same}
+use Rattle.command_promise.proofs.Takings.{got-new, got-line, got-same, alone}
 use Rattle.command_promise.proofs.Takings.{reads-end, reads-failed, reads-stop, reads-too-long}
-use Rattle.command_asm.proofs.Alone.{alone}
 use Rattle.command_asm.specs.Disassembling.{HexInput, Bytes, BadLine, Unread, in_front, on_line, hex_input}
 use Rattle.command_asm.specs.Disassembling.{decoded, line_bytes, dis_lines}
 use Rattle.command_asm.specs.Kept.{ReadsGiven}

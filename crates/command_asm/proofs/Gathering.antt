@@ -11,8 +11,7 @@ use Rattle.sx_io.specs.Next.{Ahead, Next}
 use Rattle.sx_io.specs.declared.lines.LineRead.TheVariants as read
 use Rattle.command_promise.specs.Reads.{Reads, anything}
 use Rattle.command_promise.specs.Got.{Got}
-use Rattle.command_promise.proofs.Takings.{got-line, got-same, reads-map, reads-stop, reads-end, reads-too-long, reads-failed}
-use Rattle.command_asm.proofs.Alone.{alone}
+use Rattle.command_promise.proofs.Takings.{got-line, got-same, reads-map, reads-stop, reads-end, reads-too-long, reads-failed, alone}
 use Rattle.command_asm.specs.declared.assembling.GatheredText.{GatheredText}
 use Rattle.command_asm.specs.declared.assembling.GatherFault.{GatherFault}
 use Rattle.command_asm.specs.declared.assembling.GatherFault.TheVariants as fault

@@ -1,7 +1,6 @@
--- Alone: what is read where nothing else is said. Of `asm`: Gathering is how a text comes, Coded its code, Statused its status; begin with
+-- Of `asm`: Gathering is how a text comes, Coded its code, Statused its status; begin with
 -- AsmPromised. Of `dis`: Coming is how bytes come; begin with Listed. Sizes and LeftLines are of
 -- the listing of both.
-pub mod Alone
 pub mod AsmPromised
 pub mod Coded
 pub mod Coming

@@ -29,7 +29,7 @@ use Rattle.command_head.specs.Found.{IsFound, RunsOutBehindHead}
 
 -- ---- longer lines
 
-push_some : (xs : List ℕ) (x : ℕ) → xs ++ x ∷ [] ≡ [] → ⊥
+pub push_some : (xs : List ℕ) (x : ℕ) → xs ++ x ∷ [] ≡ [] → ⊥
 push_some [] x e = cc e
 push_some (y ∷ ys) x e = cc e
 

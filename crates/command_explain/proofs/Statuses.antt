@@ -17,15 +17,14 @@ use Rattle.sx_explain.specs.Laws.{NoneIllegal}
 use Rattle.sx_explain.proofs.JudgesLegal.{judges_legal}
 use Rattle.command_explain.specs.declared.images.ImageLine.{ImageLine}
 use Rattle.command_explain.specs.declared.images.ImageLine.TheVariants as image
-use Rattle.command_explain.specs.declared.lines.TraceLine.{TraceLine}
 use Rattle.command_explain.specs.declared.lines.TraceRule.{TraceRule}
-use Rattle.command_explain.specs.declared.lines.TraceRule.TheVariants.{NoTrace, NoItem, NoEnd}
-use Rattle.command_explain.specs.declared.lines.TraceLine.TheVariants as kind
+use Rattle.command_explain.specs.declared.lines.TraceRule.TheVariants.{NoTrace}
 use Rattle.command_explain.specs.Meant.{Meanings}
 use Rattle.command_explain.specs.Output.{explain_all, explain_found, explain_from, explain_head, explain_start, stop_output, told_item, told_items}
 use Rattle.command_explain.specs.Promise.{IsLegalInput, IsLegalOf, IsLegalTrace}
-use Rattle.command_explain.specs.Trace.{Behind, Breaks, Missing, Start, Stop, Trace, Unread, Whole, image_line, judged_line, line_of, on_image, on_line, start, stop_behind, trace}
+use Rattle.command_explain.specs.Trace.{Behind, Breaks, Missing, Start, Stop, Unread, Whole, image_line, on_image, start, trace}
 use Rattle.command_explain.proofs.Explained.{traces_explained}
+use Rattle.command_explain.proofs.Stops.{start_whole, trace_kept}
 
 -- ---- from stops to statuses
 
@@ -81,32 +80,12 @@ module _ (bad : Stop) (s : ℕ) (Kept : List Answer → Type 0) (is_bad : (items
     (none : Kept [] → Whole ≡ bad → ⊥) (ended : (more : List Answer) → Kept (End ∷ more) → Whole ≡ bad → ⊥)
     (failed : (more : List Answer) → Kept (Fault ∷ more) → Unread ≡ bad → ⊥) (unread : (more : List Answer) → Kept (Fault ∷ more) → 4 ≡ s → ⊥)
     (behind : (text : List ℕ) (more : List Answer) → Kept (Line text ∷ more) → Kept more) where
-  last_kept : (item : List ℕ → Option Item) (number : ℕ) (answers : List Answer) → Kept answers → stop_behind item number answers ≡ bad → ⊥
-  last_kept item number [] k e = none k e
-  last_kept item number (End ∷ more) k e = ended more k e
-  last_kept item number (Long ∷ more) k e = breaks NoItem number e
-  last_kept item number (Fault ∷ more) k e = failed more k e
-  last_kept item number (Line text ∷ more) k e = breaks _ number e
-
-  line_kept : (number : ℕ) (r : Result TraceLine TraceRule) (last : Stop) (rest : Trace) → (last ≡ bad → ⊥) → (rest.stop ≡ bad → ⊥) → (on_line number r last rest).stop ≡ bad → ⊥
-  line_kept number (Err rule) last rest a b e = breaks rule number e
-  line_kept number (Ok kind.Last) last rest a b e = a e
-  line_kept number (Ok (kind.Item i)) last rest a b e = b e
-
-  trace_kept : (item : List ℕ → Option Item) (number : ℕ) (answers : List Answer) → Kept answers → (trace item number answers).stop ≡ bad → ⊥
-  trace_kept item number [] k e = breaks NoEnd number e
-  trace_kept item number (End ∷ more) k e = breaks NoEnd number e
-  trace_kept item number (Long ∷ more) k e = breaks NoItem number e
-  trace_kept item number (Fault ∷ more) k e = failed more k e
-  trace_kept item number (Line text ∷ more) k e =
-      line_kept number (judged_line number (line_of item text)) (stop_behind item (number + 1) more) (trace item (number + 1) more)
-      (last_kept item (number + 1) more (behind text more k)) (trace_kept item (number + 1) more (behind text more k)) e
 
   from_kept : (app : AppTree) (item : List ℕ → Option Item) (answers : List Answer) → Kept answers → (explain_from app item [] answers).status ≡ s → ⊥
   from_kept app item answers k e =
       elim (status_from app item answers) [
         | inl h ↦ eight (sym h ∙ e)
-        | inr h ↦ trace_kept item 1 answers k (is_bad (trace item 1 answers).items (trace item 1 answers).stop (sym h ∙ e))
+        | inr h ↦ trace_kept bad Kept breaks none ended failed behind item 1 answers k (is_bad (trace item 1 answers).items (trace item 1 answers).stop (sym h ∙ e))
       ]
 
   image_kept : (app : AppTree) (item : List ℕ → Option Item) (number : ℕ) (l : ImageLine) (more : List Answer) (rest : Start) → Kept more → ((explain_start app item rest).status ≡ s → ⊥)
@@ -202,19 +181,6 @@ from_zero app item more e =
 start_zero : (app : AppTree) (item : List ℕ → Option Item) (s : Start) → (explain_start app item s).status ≡ 0 → (s ≡ Missing Whole → ⊥) → IsLegalTrace app item s
 start_zero app item (Behind more) e n = from_zero app item more e
 start_zero app item (Missing stop) e n = absurd (n (ap Missing (is_whole [] stop e)))
-
--- a start isn't missing where nothing is broken
-never_whole : (number : ℕ) (l : ImageLine) (more : List Answer) (rest : Start) → (rest ≡ Missing Whole → ⊥) → on_image number l more rest ≡ Missing Whole → ⊥
-never_whole number image.Trace more rest n e = cc e
-never_whole number image.Image more rest n e = n e
-never_whole number image.Other more rest n e = cc e
-
-start_whole : (number : ℕ) (answers : List Answer) → start number answers ≡ Missing Whole → ⊥
-start_whole number [] e = cc e
-start_whole number (End ∷ more) e = cc e
-start_whole number (Long ∷ more) e = cc e
-start_whole number (Fault ∷ more) e = cc e
-start_whole number (Line text ∷ more) e = never_whole number (image_line number text) more (start (number + 1) more) (start_whole (number + 1) more) e
 
 found_zero : (means : Meanings) (r : Result Deployed DeployFault) (more : List Answer) → (explain_found means r more).status ≡ 0 → IsLegalOf means r more
 found_zero means (Ok d) more e = start_zero d.app (means.item d.names) (start 1 more) e (start_whole 1 more)

@@ -1,6 +1,7 @@
 -- What is said of a trace, line by line.
 use Rattle.std.proofs.Common.{◌≡◌, ◌∙◌, ℕ, ◌+◌, List, [], ◌∷◌, ◌++◌, length, refl, sym, ap, arith, append_assoc, Option, Result, Ok, Err}
 use Rattle.std.proofs.lemmas.List.{append-nil, length-append}
+use Rattle.std.specs.Prelude.{OnOk}
 use Rattle.sx_io.specs.Reading.{Answer, Line, End, Long, Fault}
 use Rattle.command_promise.specs.Told.{Output, unread_output}
 use Rattle.sx_trace.specs.declared.items.Item.{Item}
@@ -59,3 +60,8 @@ module _ (app : AppTree) (item : List ℕ → Option Item) (front : List Item) w
   pub said_unread : (more : List Answer) → explain_from app item front (Fault ∷ more) ≡ unread_output
   unfolding explain_from
   said_unread more = refl
+
+-- what holds of a result's value holds where there is one
+pub on_ok : {X E : Type 0} (P : Type 0) (r : Result X E) (x : X) → r ≡ Ok x → OnOk r P → P
+on_ok P (Ok y) x e p = p
+on_ok P (Err y) x e p = absurd (cc e)

@@ -1,10 +1,6 @@
 -- What follows for `holds` from what it wrote and read.
-use Rattle.std.proofs.Common.{◌≡◌, ◌∙◌, ℕ, Bool, List, [], ◌++◌, sym, ap, subst, arith, append-nil}
-use Rattle.std.specs.Prelude.{IsTrue}
-use Rattle.sx_io.specs.Streams.{SourceAt}
-use Rattle.sx_io.specs.Counts.{Rose}
-use Rattle.sx_io.specs.Reading.{Answer, Ended, Limit, scan}
-use Rattle.command_promise.specs.Reads.{AtEnd, AtFault, Decides, Enough, Left}
+use Rattle.std.proofs.Common.{◌≡◌, ◌∙◌, ℕ, Bool, [], sym, arith}
+use Rattle.sx_io.specs.Reading.{Ended, scan}
 use Rattle.command_promise.specs.Told.{CommandAt, CommandEnds}
 use Rattle.command_promise.proofs.Endings.{faultless}
 use Rattle.command_promise.specs.Head.{head, head_lines}
@@ -14,7 +10,7 @@ use Rattle.command_property.proofs.Known as properties
 use Rattle.command_holds.specs.Output.{AreMeanings, Meanings, holds_all}
 use Rattle.command_holds.specs.Promise.{HoldsPromise, SaysOf}
 use Rattle.command_holds.specs.Ending.{ToldOf}
-use Rattle.command_promise.proofs.Laws.{told-some}
+use Rattle.command_promise.proofs.Laws.{decides-quiet, told-some}
 use Rattle.command_holds.proofs.Statuses.{all_not_four, head_not_two}
 
 -- what the texts mean
@@ -24,23 +20,13 @@ known = record { deployment = deployments.known; property = properties.known }
 are_known : AreMeanings known
 are_known = record { deployment = deployments.is_known; property = properties.is_known }
 
--- what holds of the answers holds of those of the whole input, where no read failed
-of_input : (left : Left) (tells : Bool) (limit : Limit) (s0 s1 : SourceAt) (taken : List ℕ) (P : List Answer → Type 0) → IsTrue tells → (Rose s0.faults s1.faults → ⊥)
-    → s0.rest ≡ taken ++ s1.rest → Decides left tells limit s0 s1 taken P → P (scan limit Ended [] s0.rest)
-of_input AtEnd tells limit s0 s1 taken P t quiet e d =
-    let Q : List ℕ → Type 0 = λ bytes. P (scan limit Ended [] bytes) in
-    subst Q (sym (e ∙ ap (λ (v : List ℕ). taken ++ v) (d.1 t).rest ∙ append-nil taken)) d.2
-of_input AtFault tells limit s0 s1 taken P t quiet e d = absurd (quiet (omega (arith, d.0.faults)))
-of_input Enough tells limit s0 s1 taken P t quiet e d =
-    let Q : List ℕ → Type 0 = λ bytes. P (scan limit Ended [] bytes) in subst Q (sym e) (d.2 Ended s1.rest)
-
 pub promised : {tells to_tell : Bool} {m0 m1 : CommandAt} {status : ℕ} → ToldOf tells to_tell m0 m1 status → HoldsPromise tells to_tell m0 m1 status
 promised {tells} {to_tell} {m0} {m1} {status} (decision, told) = record {
   decision = decision;
   told = told;
   never = λ means is t quiet zero.
       let r = (told means is).reads in
-      let also = of_input r.left tells head_lines m0.source m1.source r.taken (λ answers. CommandEnds to_tell m0.sink m1.sink status (holds_all means decision answers) × SaysOf means status answers)
+      let also = decides-quiet r.left tells head_lines m0.source m1.source r.taken (λ answers. CommandEnds to_tell m0.sink m1.sink status (holds_all means decision answers) × SaysOf means status answers)
       t quiet.0 (r.from_source t) r.decides in
       also.1.never zero;
   faults = faults_of (λ bytes e. all_not_four known decision (scan head_lines Ended [] bytes) (faultless head_lines [] bytes) e) (told known are_known);

@@ -6,6 +6,7 @@ use Rattle.sx_io.specs.Reading.{Answer, Ending, Ended, Broken, Line, End, Long, 
 use Rattle.command_promise.specs.Head.{Head, Found, TooLong, NoMark, Unread, head_behind, head_lines, is_mark, most_bytes}
 use Rattle.command_promise.specs.HeadRead.{Noted}
 use Rattle.command_watch.specs.Output.{behind_mark}
+use Rattle.command_explain.proofs.Heads.{push_some}
 
 -- ---- what is seen of a head
 
@@ -39,10 +40,6 @@ IsNone (Found text more) = ⊥
 IsNone TooLong = Unit {0}
 IsNone NoMark = Unit {0}
 IsNone Unread = Unit {0}
-
-push_some : (xs : List ℕ) (x : ℕ) → xs ++ x ∷ [] ≡ [] → ⊥
-push_some [] x e = cc e
-push_some (y ∷ ys) x e = cc e
 
 -- the end of the input comes first only where nothing is left
 pub only_end : (begun bytes : List ℕ) → ends_now (scan head_lines Ended begun bytes) ≡ 1 → (begun ≡ []) × (bytes ≡ [])

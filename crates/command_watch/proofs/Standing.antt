@@ -114,10 +114,6 @@ broken_more p k items more h = from_more p 1 k _ items more h
 
 -- ---- by how the code asks
 
-pub none_of : (o : Option ℕ) → is_some o ≡ false → o ≡ None
-none_of None e = refl
-none_of (Some n) e = absurd (cc e)
-
 pub rests_as : (p : PropertyTree) (items : List Item) (item : Item) (f : Following) → is_some f.forged ≡ true → Stands p items f → Stands p (items ++ item ∷ []) f
 rests_as p items item f some s = at f.forged refl some
   where

@@ -13,11 +13,10 @@ use Rattle.sx_watch.specs.declared.reading.PropertyFault.{PropertyFault}
 use Rattle.sx_watch.specs.Watched.{PropertyTree, broken_at}
 use Rattle.command_explain.specs.declared.images.ImageLine.{ImageLine}
 use Rattle.command_explain.specs.declared.images.ImageLine.TheVariants as image
-use Rattle.command_explain.specs.declared.lines.TraceLine.{TraceLine}
 use Rattle.command_explain.specs.declared.lines.TraceRule.{TraceRule}
-use Rattle.command_explain.specs.declared.lines.TraceRule.TheVariants.{NoTrace, NoItem, NoEnd}
-use Rattle.command_explain.specs.declared.lines.TraceLine.TheVariants as kind
-use Rattle.command_explain.specs.Trace.{Behind, Breaks, Missing, Start, Stop, Trace, Unread, Whole, image_line, judged_line, line_of, on_image, on_line, start, stop_behind, trace}
+use Rattle.command_explain.specs.declared.lines.TraceRule.TheVariants.{NoTrace}
+use Rattle.command_explain.specs.Trace.{Behind, Breaks, Missing, Start, Stop, Unread, Whole, image_line, on_image, start, trace}
+use Rattle.command_explain.proofs.Stops.{start_whole, trace_kept}
 use Rattle.command_watch.specs.Meant.{Meanings}
 use Rattle.command_watch.specs.Output.{stop_output, unless_broken, watch_all, watch_found, watch_from, watch_head, watch_judged, watch_property, watch_start}
 use Rattle.command_watch.specs.Promise.{IsBrokenTrace, IsKeptTrace, OfDeployment, OfInput, OfProperty, OfRest}
@@ -102,32 +101,12 @@ module _ (bad : Stop) (s : ℕ) (Kept : List Answer → Type 0) (is_bad : (items
     (none : Kept [] → Whole ≡ bad → ⊥) (ended : (more : List Answer) → Kept (End ∷ more) → Whole ≡ bad → ⊥)
     (failed : (more : List Answer) → Kept (Fault ∷ more) → Unread ≡ bad → ⊥) (unread : (more : List Answer) → Kept (Fault ∷ more) → 4 ≡ s → ⊥)
     (behind : (text : List ℕ) (more : List Answer) → Kept (Line text ∷ more) → Kept more) where
-  last_kept : (item : List ℕ → Option Item) (number : ℕ) (answers : List Answer) → Kept answers → stop_behind item number answers ≡ bad → ⊥
-  last_kept item number [] k e = none k e
-  last_kept item number (End ∷ more) k e = ended more k e
-  last_kept item number (Long ∷ more) k e = breaks NoItem number e
-  last_kept item number (Fault ∷ more) k e = failed more k e
-  last_kept item number (Line text ∷ more) k e = breaks _ number e
-
-  line_kept : (number : ℕ) (r : Result TraceLine TraceRule) (last : Stop) (rest : Trace) → (last ≡ bad → ⊥) → (rest.stop ≡ bad → ⊥) → (on_line number r last rest).stop ≡ bad → ⊥
-  line_kept number (Err rule) last rest a b e = breaks rule number e
-  line_kept number (Ok kind.Last) last rest a b e = a e
-  line_kept number (Ok (kind.Item i)) last rest a b e = b e
-
-  trace_kept : (item : List ℕ → Option Item) (number : ℕ) (answers : List Answer) → Kept answers → (trace item number answers).stop ≡ bad → ⊥
-  trace_kept item number [] k e = breaks NoEnd number e
-  trace_kept item number (End ∷ more) k e = breaks NoEnd number e
-  trace_kept item number (Long ∷ more) k e = breaks NoItem number e
-  trace_kept item number (Fault ∷ more) k e = failed more k e
-  trace_kept item number (Line text ∷ more) k e =
-      line_kept number (judged_line number (line_of item text)) (stop_behind item (number + 1) more) (trace item (number + 1) more)
-      (last_kept item (number + 1) more (behind text more k)) (trace_kept item (number + 1) more (behind text more k)) e
 
   from_kept : (p : PropertyTree) (item : List ℕ → Option Item) (answers : List Answer) → Kept answers → (watch_from p item [] answers).status ≡ s → ⊥
   from_kept p item answers k e =
       elim (from_is p item answers s e) [
         | inl h ↦ twelve h
-        | inr h ↦ trace_kept item 1 answers k (is_bad (trace item 1 answers).items (trace item 1 answers).stop h.1)
+        | inr h ↦ trace_kept bad Kept breaks none ended failed behind item 1 answers k (is_bad (trace item 1 answers).items (trace item 1 answers).stop h.1)
       ]
 
   image_kept : (p : PropertyTree) (item : List ℕ → Option Item) (number : ℕ) (l : ImageLine) (more : List Answer) (rest : Start) → Kept more → ((watch_start p item rest).status ≡ s → ⊥)
@@ -182,19 +161,6 @@ not_zero means answers kept =
     (λ more k e. omega (arith, e)) (λ text more k. k) means answers kept
 
 -- ---- status 0
-
--- a start isn't missing where nothing is broken
-never_whole : (number : ℕ) (l : ImageLine) (more : List Answer) (rest : Start) → (rest ≡ Missing Whole → ⊥) → on_image number l more rest ≡ Missing Whole → ⊥
-never_whole number image.Trace more rest n e = cc e
-never_whole number image.Image more rest n e = n e
-never_whole number image.Other more rest n e = cc e
-
-start_whole : (number : ℕ) (answers : List Answer) → start number answers ≡ Missing Whole → ⊥
-start_whole number [] e = cc e
-start_whole number (End ∷ more) e = cc e
-start_whole number (Long ∷ more) e = cc e
-start_whole number (Fault ∷ more) e = cc e
-start_whole number (Line text ∷ more) e = never_whole number (image_line number text) more (start (number + 1) more) (start_whole (number + 1) more) e
 
 start_zero : (p : PropertyTree) (item : List ℕ → Option Item) (s : Start) → (watch_start p item s).status ≡ 0 → (s ≡ Missing Whole → ⊥) → IsKeptTrace p item s
 start_zero p item (Behind more) e n =

@@ -1,5 +1,4 @@
-use Rattle.std.proofs.Common.{◌≡◌, ◌∙◌, ◌+◌, ◌∷◌, ◌++◌, ◌≤◌, [], ℕ, take, arith, ap, refl, sym, subst, List, Result, Err, Ok}
-use Rattle.std.specs.Prelude.{OnOk}
+use Rattle.std.proofs.Common.{◌≡◌, ◌∙◌, ◌+◌, ◌∷◌, ◌++◌, ◌≤◌, [], ℕ, take, arith, ap, refl, sym, subst, List, Ok}
 use Rattle.sx_io.specs.Reading.{Answer, Line}
 use Rattle.sx_io.specs.declared.lines.LineRead.TheVariants as read
 use Rattle.sx_io.specs.declared.outside.Failed.{Failed}
@@ -15,17 +14,9 @@ use Rattle.command_explain.specs.declared.lines.TraceRule.TheVariants.{NoItem, N
 use Rattle.command_explain.specs.Output.{broken_output, explain_from, stop_output}
 use Rattle.command_explain.specs.Trace.{judged_line, line_of, stop_behind}
 use Rattle.command_explain.proofs.Keeping.{Waits, waits_asked, waits_failed, waits_more, waits_new, waits_stop, waits_text, waits_written}
-use Rattle.command_explain.proofs.Written.{said_broken, said_end, said_item, said_last, said_long, said_unread}
+use Rattle.command_explain.proofs.Written.{said_broken, said_end, said_item, said_last, said_long, said_unread, on_ok}
 use Rattle.command_explain.proofs.Wanted.{came_text, trace_more, trace_none, trace_wants}
 use Rattle.command_explain.proofs.trace.explain_lines.Goals as goal
-
-few_of : {X E : Type 0} → (r : Result X E) (x : X) (n : ℕ) → r ≡ Ok x → OnOk r (n ≤ 4000000) → n ≤ 4000000
-few_of (Ok y) x n e h = h
-few_of (Err y) x n e h = absurd (cc e)
-
-on_ok : {X E : Type 0} (P : Type 0) (r : Result X E) (x : X) → r ≡ Ok x → OnOk r P → P
-on_ok P (Ok y) x e p = p
-on_ok P (Err y) x e p = absurd (cc e)
 
 pub lines-init : goal.lines-init
 lines-init g c =
@@ -132,7 +123,7 @@ turn-requires-clause-few g c =
     let t = st.follows.taken in
     let f = few_taken st.items in
     let n = st.counted in
-    let few = few_of c.judge_line.result _ c.lines.number (c.in-Ok-Item.is ∙ ap Ok c.in-Ok-Item.field-0-is) c.judge_line.ensures.few in
+    let few = on_ok (c.lines.number ≤ 4000000) c.judge_line.result _ (c.in-Ok-Item.is ∙ ap Ok c.in-Ok-Item.field-0-is) c.judge_line.ensures.few in
     omega (arith, t, f, n, few)
 
 pub turn-requires-clause-room : goal.turn-requires-clause-room
@@ -194,7 +185,7 @@ lines-preserved g c =
     let app = app_as c.args.deployment.now.app in
     let i = c.in-Ok-Item.item in
     let j = c.in-On.ensures.judges st.items st.follows st.counted in
-    let few = few_of c.judge_line.result _ c.lines.number (c.in-Ok-Item.is ∙ ap Ok c.in-Ok-Item.field-0-is) c.judge_line.ensures.few in record {
+    let few = on_ok (c.lines.number ≤ 4000000) c.judge_line.result _ (c.in-Ok-Item.is ∙ ap Ok c.in-Ok-Item.field-0-is) c.judge_line.ensures.few in record {
       between = record {
         few = omega (arith, few);
         items = st.items ++ i ∷ [];

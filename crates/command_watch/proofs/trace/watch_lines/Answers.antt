@@ -1,5 +1,4 @@
-use Rattle.std.proofs.Common.{◌≡◌, ◌∙◌, ◌∷◌, ◌++◌, ◌≤◌, [], ℕ, take, length, arith, ap, refl, sym, subst, List, Result, Err, Ok}
-use Rattle.std.specs.Prelude.{OnOk}
+use Rattle.std.proofs.Common.{◌∙◌, ◌∷◌, ◌++◌, ◌≤◌, [], ℕ, take, length, arith, ap, refl, sym, subst, List, Ok}
 use Rattle.std.proofs.lemmas.List.{length-append}
 use Rattle.sx_io.specs.Streams.{SinkAt}
 use Rattle.sx_io.specs.Reading.{Answer}
@@ -9,13 +8,10 @@ use Rattle.command_promise.proofs.Laws.{begun-line, begun-same, ends-same, told-
 use Rattle.command_explain.specs.declared.lines.TraceRule.TheVariants.{NoItem, NoEnd}
 use Rattle.command_explain.specs.Output.{broken_output}
 use Rattle.command_explain.specs.Trace.{judged_line, line_of, stop_behind, trace_lines}
+use Rattle.command_explain.proofs.Written.{on_ok}
 use Rattle.command_watch.specs.Output.{stop_output, watch_from}
 use Rattle.command_watch.proofs.Written.{said_bad, said_end, said_item, said_last, said_long, said_unread}
 use Rattle.command_watch.proofs.trace.watch_lines.Goals as goal
-
-few_of : {X E : Type 0} → (r : Result X E) (x : X) (n : ℕ) → r ≡ Ok x → OnOk r (n ≤ 4000000) → n ≤ 4000000
-few_of (Ok y) x n e h = h
-few_of (Err y) x n e h = absurd (cc e)
 
 pub lines-init : goal.lines-init
 lines-init g c = record { between = record { few = omega arith; items = []; counted = refl; stands = λ p s. s; begun = λ means p is s limit m0 defined aside noted b. b } }
@@ -88,7 +84,7 @@ pub lines-preserved : goal.lines-preserved
 lines-preserved g c =
     let st = c.lines.invariant.between in
     let i = c.in-Ok-Item.item in
-    let few = few_of c.judge_line.result _ c.lines.number (c.in-Ok-Item.is ∙ ap Ok c.in-Ok-Item.field-0-is) c.judge_line.ensures.few in record {
+    let few = on_ok (c.lines.number ≤ 4000000) c.judge_line.result _ (c.in-Ok-Item.is ∙ ap Ok c.in-Ok-Item.field-0-is) c.judge_line.ensures.few in record {
       between = record {
         few = omega (arith, few);
         items = st.items ++ i ∷ [];
