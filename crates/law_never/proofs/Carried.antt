@@ -1,5 +1,5 @@
 -- What acts send and emit, as a row has it.
-use Rattle.std.proofs.Common.{◌≡◌, ℕ, zero, suc, ◌+◌, ◌%◌, ◌<◌, ◌≤◌, inl, inr, ◌==◌, ◌&&◌, Bool, true, false, if◌then◌else◌, List, [], ◌∷◌, ◌++◌, length}
+use Rattle.std.proofs.Common.{◌≡◌, ℕ, suc, ◌+◌, ◌%◌, ◌<◌, ◌≤◌, inl, inr, ◌==◌, ◌&&◌, Bool, true, false, if◌then◌else◌, List, [], ◌∷◌, ◌++◌, length}
 use Rattle.std.proofs.Common.{Option, Some, None, refl, sym, ap, ◌∙◌, subst, arith, append_assoc}
 use Rattle.std.specs.Prelude.{slice_get, slice_set, is_some, nat_lt}
 use Rattle.std.specs.List.{cons_option}
@@ -22,11 +22,7 @@ use Rattle.law_never.specs.Intervals.{Interval, AreInside, Doing, MaySend, MayEm
 use Rattle.law_never.specs.Tables.{Row, HasWord, HasWords}
 use Rattle.law_never.specs.Closed.{IsCarried, may_emit}
 use Rattle.law_never.proofs.Lists.{each_append}
-
-pub get_within : {X : Type 0} → (xs : List X) (i : ℕ) (v : X) → slice_get xs i ≡ Some v → i < length xs
-get_within [] i v e = absurd cc
-get_within (x ∷ xs) zero v e = omega arith
-get_within (x ∷ xs) (suc i) v e = let h = get_within xs i v e in omega (arith, h)
+use Rattle.spec_run.proofs.tie.Lists.{get_within}
 
 -- the link of an end that sends
 

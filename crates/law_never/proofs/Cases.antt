@@ -1,6 +1,5 @@
 -- What holds after an allowed item, by kinds.
 use Rattle.std.proofs.Common.{◌≡◌, ℕ, ◌+◌, ◌*◌, ◌/◌, ◌%◌, ◌==◌, ◌&&◌, ◌||◌, not, Bool, true, false, if◌then◌else◌, List, [], ◌∷◌, ◌++◌, Option, Some, None}
-use Rattle.std.proofs.Common.{refl}
 use Rattle.std.specs.Prelude.{IfSome, is_none, nat_le, slice_get}
 use Rattle.std.proofs.lemmas.Bool.{and_parts}
 use Rattle.sx_lang.specs.declared.sides.Side.TheVariants.{To}
@@ -11,17 +10,10 @@ use Rattle.sx_mean.specs.Ends.{ends_of}
 use Rattle.sx_trace.specs.declared.items.Item.TheVariants.{Protect, Sense, Drain, Ask, Attested, Vouch, Take, Raw, Done}
 use Rattle.sx_model.specs.State.{EndView, Model, Pending, Present, Reading, Standing, contains}
 use Rattle.sx_model.specs.Renewal.{boot_of, may_attest, renewed, takes}
-use Rattle.sx_model.specs.Step.{◌>>?◌, changed_views, first_present, state_if, idle, is_nothing, is_vouched, kind_is, reacts}
+use Rattle.sx_model.specs.Step.{changed_views, first_present, idle, is_nothing, is_vouched, kind_is, reacts}
 use Rattle.sx_model.specs.Step.{step, is_undriven, waits, with_device, with_present, with_standing}
 use Rattle.sx_model.specs.Changes.{with_pending}
-
-looked_up : {A B : Type 0} → (o : Option A) (f : A → Option B) (Q : B → Type 0) → ((x : A) → o ≡ Some x → IfSome (f x) Q) → IfSome (o >>? f) Q
-looked_up None f Q h = tt
-looked_up (Some x) f Q h = h x refl
-
-tested : (b : Bool) (s : Model) (Q : Model → Type 0) → (b ≡ true → Q s) → IfSome (state_if b s) Q
-tested true s Q h = h refl
-tested false s Q h = tt
+use Rattle.sx_model.proofs.Steps.{looked_up, tested}
 
 chosen : (b : Bool) (o p : Option Model) (Q : Model → Type 0) → IfSome o Q → IfSome p Q → IfSome (if b then o else p) Q
 chosen true o p Q f g = f

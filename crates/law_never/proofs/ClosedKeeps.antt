@@ -24,6 +24,7 @@ use Rattle.sx_model.proofs.Along.{some_of}
 use Rattle.sx_model.proofs.EndViews.{changed_at, link_of_end}
 use Rattle.sx_model.proofs.Idle.{idle_is}
 use Rattle.sx_model.proofs.Steps.{on_open, on_out, on_read}
+use Rattle.sx_model.proofs.OutsAreCaused.{first_owed}
 use Rattle.law_never.specs.Rules.{Each, IsInvariant}
 use Rattle.law_never.specs.Intervals.{Interval, IsInside, AreInside, OneOf, Reactions, IsSoundFor, event_of, nought}
 use Rattle.law_never.specs.Tables.{Place, Row, Table, Shows, at, IsAtPlace, IsGiven, HasPlace, HasPlaces, HasReading, HasReadings, HasWord, HasWords}
@@ -34,14 +35,15 @@ use Rattle.law_never.proofs.Rules.{invariant_keeps}
 use Rattle.law_never.proofs.Lists.{one_map, one_with}
 use Rattle.law_never.proofs.Ways.{led, went}
 use Rattle.law_never.proofs.Cases.{attested_at, on_ask, on_attested, on_done, on_drain, on_protect, on_raw, on_sense, on_taken, on_vouch, vouched_at}
-use Rattle.law_never.proofs.Carried.{emits_done, get_within, own_ends, words_done}
-use Rattle.law_never.proofs.Kept.{absent_shown, each_there, first_owed, first_places, first_readings, first_words, idle_owes, inside_none, inside_one}
+use Rattle.law_never.proofs.Carried.{emits_done, own_ends, words_done}
+use Rattle.law_never.proofs.Kept.{absent_shown, each_there, first_places, first_readings, first_words, idle_owes, inside_none, inside_one}
 use Rattle.law_never.proofs.Kept.{nothing_owed, place_like, place_of_present, places_but, places_like, places_reset}
 use Rattle.law_never.proofs.Kept.{places_stay, shown_stays, readings_reset, readings_set, readings_stay, words_stay}
 use Rattle.sx_watch.specs.declared.topics.Topic.TheVariants as about
 use Rattle.sx_watch.specs.declared.topics.Topic.{Topic}
 use Rattle.sx_watch.specs.Watched.{PropertyTree, hears, input_of, watched}
 use Rattle.law_never.specs.Kept.{AreQuiet}
+use Rattle.spec_run.proofs.tie.Lists.{get_within}
 
 -- a row has what a state has
 abbrev Has : Row → Model → Type 0

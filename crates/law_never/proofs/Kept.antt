@@ -6,15 +6,17 @@ use Rattle.std.proofs.lemmas.Bool.{ne_eqb, eqb-true}
 use Rattle.std.proofs.lemmas.Option.{same_Some}
 use Rattle.sx_mean.specs.declared.apps.AppDevice.{AppDevice}
 use Rattle.sx_mean.specs.Application.{AppTree, PartTree}
-use Rattle.sx_model.specs.State.{Pending, Present, Reading, Standing, contains, owing}
-use Rattle.sx_model.specs.Step.{◌>>?◌, absent_at, idle, is_nothing, stale_at, without_first}
+use Rattle.sx_model.specs.State.{Pending, Present, Reading, Standing, contains}
+use Rattle.sx_model.specs.Step.{◌>>?◌, absent_at, idle, is_nothing, stale_at}
 use Rattle.sx_model.specs.Consequences.{is_device_at, is_part_at}
 use Rattle.sx_model.proofs.Written.{at_set}
+use Rattle.sx_model.proofs.ReadsAreSensed.{first_stale, fresh_elsewhere}
 use Rattle.law_never.specs.Rules.{Each}
 use Rattle.law_never.specs.Intervals.{Interval, IsInside, AreInside}
 use Rattle.law_never.specs.Tables.{Row, at, IsAtPlace, HasPlace, HasPlaces, HasReading, HasReadings, HasWord, HasWords, IsShown, MayBeAbsent, owed_of}
 use Rattle.law_never.specs.Closed.{Stays}
 use Rattle.law_never.proofs.Lists.{each_map, one_map}
+use Rattle.spec_run.proofs.tie.Start.{get_blank}
 
 -- modules
 
@@ -85,17 +87,6 @@ readings_set r new ms ys d z h st own k y e f =
       | inr p ↦ st.readings k (ne_eqb d k p.0) y.value (h k y p.1 f)
     ]
 
-fresh_elsewhere : (n : ℕ) (ds : List AppDevice) (rs : List Reading) (d : ℕ) (r : Reading) → slice_get (stale_at n ds rs) d ≡ Some r → r.fresh ≡ true
-    → (is_device_at n (slice_get ds d) ≡ false) × (slice_get rs d ≡ Some r)
-fresh_elsewhere n [] rs d r e f = (refl, e)
-fresh_elsewhere n (x ∷ ds) [] d r e f = absurd cc
-fresh_elsewhere n (x ∷ ds) (y ∷ rs) zero r e f = here (x.node == n) e
-  where
-    here : (b : Bool) → Some (if b then record y { fresh = false } else y) ≡ Some r → (b ≡ false) × (Some y ≡ Some r)
-    here true e = absurd cc
-    here false e = (refl, e)
-fresh_elsewhere n (x ∷ ds) (y ∷ rs) (suc d) r e f = fresh_elsewhere n ds rs d r e f
-
 pub readings_reset : (app : AppTree) (r new : Row) (ms : ℕ → Bool) (n : ℕ) (ys : List Reading) → HasReadings r ys
     → Stays ms (λ d. is_device_at n (slice_get app.devices d)) r new → HasReadings new (stale_at n app.devices ys)
 readings_reset app r new ms n ys h st d y e f =
@@ -126,21 +117,11 @@ first_places r qs h m x e = let k = first_absent qs m x e in subst (IsShown r m)
     first_absent (q ∷ qs) zero x e = (ap (λ (x : Standing). x.present) (same_Some (record { present = None; asked = None; vouched = []; attested = None }) x e), q, refl)
     first_absent (q ∷ qs) (suc m) x e = first_absent qs m x e
 
-first_stale : (ds : List AppDevice) (d : ℕ) (r : Reading) → slice_get (map (λ d. record { value = 0; fresh = false }) ds) d ≡ Some r → r.fresh ≡ false
-first_stale [] d r e = absurd cc
-first_stale (x ∷ ds) zero r e = sym (ap (λ (r : Reading). r.fresh) (same_Some _ r e))
-first_stale (x ∷ ds) (suc d) r e = first_stale ds d r e
-
 pub first_readings : (r : Row) (ds : List AppDevice) → HasReadings r (map (λ d. record { value = 0; fresh = false }) ds)
 first_readings r ds d y e f = absurd (let z = sym (first_stale ds d y e) ∙ f in cc)
 
-first_empty : (k n : ℕ) (words : List ℕ) → slice_get (replicate k []) n ≡ Some words → words ≡ []
-first_empty zero n words e = absurd cc
-first_empty (suc k) zero words e = sym (same_Some [] words e)
-first_empty (suc k) (suc n) words e = first_empty k n words e
-
 pub first_words : (r : Row) (k : ℕ) → HasWords r (replicate k [])
-first_words r k field words e = subst (Each (λ v. HasWord r (field % 256) v)) (sym (first_empty k field words e)) tt
+first_words r k field words e = subst (Each (λ v. HasWord r (field % 256) v)) (sym (get_blank k field words e)) tt
 
 -- what is owed
 
@@ -165,14 +146,6 @@ idle_owes x p e = from x.present e
 pub nothing_owed : (xs : List ℕ) → is_nothing xs ≡ true → xs ≡ []
 nothing_owed [] h = refl
 nothing_owed (x ∷ xs) h = absurd cc
-
-pub first_owed : (v : ℕ) (emits : List ℕ) (k : ℕ) (left : Pending) → without_first v emits k ≡ Some left → emits ≡ v ∷ left.emits
-first_owed v [] k left e = absurd cc
-first_owed v (x ∷ xs) k left e = here (x == v) refl e
-  where
-    here : (b : Bool) → (x == v) ≡ b → (if b then owing xs k else None) ≡ Some left → x ∷ xs ≡ v ∷ left.emits
-    here true t e = ap (λ y. y ∷ xs) (eqb-true x v t) ∙ ap (λ (o : Pending). v ∷ o.emits) (same_Some (record { emits = xs; pieces = k }) left e)
-    here false t e = absurd cc
 
 pub inside_none : (is : List Interval) → AreInside is [] → is ≡ []
 inside_none [] h = refl
