@@ -4,8 +4,8 @@
     tools/lemma_copies.py [--all]     the ten most copied (or all); the last line counts the copies beyond the first
 
 A name means what the file imports by it; what a file defines itself is its own, so statements over it aren't compared with
-those of other files. Definitions (whose type ends in a `Type`) are no lemmas. Looked at are declarations with an arrow, of
-one line and the lines that go on, in crates/*/proofs. A place to look, and no verdict: a lemma in other words isn't found.
+those of other files. Definitions (whose type ends in a `Type`) and fields of records are no lemmas. Looked at are declarations
+with an arrow, of one line and the lines that go on, in crates/*/proofs. A place to look, and no verdict: a lemma in other words isn't found.
 """
 
 import re
@@ -44,6 +44,13 @@ def statement(lines, at, said):
     return re.sub(r"\s+", " ", said).strip()
 
 
+def is_field(lines, at):
+    """Whether a declaration is a field: the first line above that begins further to the left opens a record."""
+    indent = len(lines[at]) - len(lines[at].lstrip())
+    outer = next((line for line in reversed(lines[:at]) if line.strip() and len(line) - len(line.lstrip()) < indent), "")
+    return bool(re.match(r" *(?:pub )?record ", outer))
+
+
 def compared(said, came):
     """A statement with its bound names numbered, and each other name as what it means."""
     bound = [name for group in re.findall(r"[({]([^:(){}]+) :", said) for name in group.split()]
@@ -59,7 +66,9 @@ def main():
         came = origins(path.relative_to(CRATES), lines)
         for at, line in enumerate(lines):
             found = HEAD.match(line)
-            if found and "→" in (said := statement(lines, at, found[2])) and len(said) > 25 and not re.search(r"Type \d+$|;$", said):
+            if not found or is_field(lines, at):
+                continue
+            if "→" in (said := statement(lines, at, found[2])) and len(said) > 25 and not re.search(r"Type \d+$|;$", said):
                 stands[compared(said, came)].append((path, at + 1, found[1], said))
     twice = [it for it in stands.values() if len({path for path, *_ in it}) > 1]
     twice.sort(key=lambda it: -len(it))
