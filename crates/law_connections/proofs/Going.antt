@@ -2,7 +2,7 @@
 use Rattle.std.proofs.Common.{◌≡◌, ◌≢◌, ℕ, suc, ◌+◌, ◌*◌, ◌≤◌, ◌==◌, ◌&&◌, Bool, true, false, if◌then◌else◌, inl, inr, ◌⊎◌, List, [], ◌∷◌, ◌++◌}
 use Rattle.std.proofs.Common.{length, slice_index, Some, None, refl, sym, ◌∙◌, ap, ap₂, subst, arith}
 use Rattle.std.specs.Prelude.{slice_get}
-use Rattle.std.proofs.lemmas.Bool.{and_parts, cases_eq, cases_lt, eq-eqb, eqb-true, true≢false}
+use Rattle.std.proofs.lemmas.Bool.{and_parts, cases_eq, cases_lt, eq-eqb, eqb-true, true≢false, and_right}
 use Rattle.std.proofs.lemmas.List.{append-nil, get_or_past}
 use Rattle.sx_mean.specs.Application.{PartTree}
 use Rattle.sx_trace.specs.declared.items.Item.{Item}
@@ -71,18 +71,13 @@ use Rattle.law_connections.proofs.KeysUsed.{seals}
 use Rattle.law_connections.proofs.Worlds.{SameWorld, with_same}
 use Rattle.law_connections.proofs.Doing.{reset_node, states_kept}
 
--- an event's packet is no set-key packet
-no_key : (c : Bool) → (c && false) ≡ false
-no_key true = refl
-no_key false = refl
-
 event_no_key : (packet : List ℕ) → is_kind event_kind packet ≡ true → is_set_key_header (header_in packet) ≡ false
 event_no_key [] e = absurd (true≢false (sym e))
 event_no_key (p ∷ ps) e =
     let three : p ≡ 3 = eqb-true p 3 (and_parts (p == 3) (slice_index (p ∷ ps) 1 == 0) e).0 in
     let head = header_in (p ∷ ps) in
     ap (λ (z : ℕ). (length head == 6) && (((z == 1) && (slice_index head 1 == 0)) && (Rattle.std.specs.Prelude.nat_lt (slice_index head 4) 2 && (slice_index head 5 == 0)))) three
-    ∙ no_key (length head == 6)
+    ∙ and_right (length head == 6) false refl
 
 -- Marks of both runs, and parts of them.
 

@@ -74,7 +74,8 @@ any_upto (x ∷ items) = by (is_forged x) (any_upto items)
     by true e = refl
     by false e = e
 
-forged_is : (i : Item) → is_forged i ≡ true → (who : Option ℕ) × (i ≡ item.Forged who)
+-- an item that is forged
+pub forged_is : (i : Item) → is_forged i ≡ true → (who : Option ℕ) × (i ≡ item.Forged who)
 forged_is (item.Forged who) e = (who, refl)
 forged_is _ e = absurd (true≢false (sym e))
 

@@ -7,6 +7,14 @@ use Rattle.law_counting.specs.Guesses.{Attempt, Play, misses, all_miss, IsBlind}
 use Rattle.law_counting.proofs.Sums.{total_le, total_same, total_add, total_const, total_none, total_few}
 
 -- 1. entries
+
+-- each is one of the values
+pub entry_below : (n w : ℕ) (x : List ℕ) → IsTable n w x → (k : ℕ) → k < n → at x k < w
+entry_below zero w x h k lt = absurd (omega (arith, lt))
+entry_below (suc n) w [] h k lt = absurd h
+entry_below (suc n) w (y ∷ x) h zero lt = h.0
+entry_below (suc n) w (y ∷ x) h (suc k) lt = entry_below n w x h.1 k (omega (arith, lt))
+
 pub put_table : (n w : ℕ) (t : List ℕ) (e v : ℕ) → IsTable n w t → v < w → IsTable n w (put t e v)
 put_table zero w [] e v h lt = h
 put_table zero w (u ∷ t) e v h lt = absurd h

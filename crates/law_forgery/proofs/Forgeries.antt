@@ -91,7 +91,7 @@ body_back secret mac key header cipher plain body n tag long few c is =
     let back : crypt mac key header cipher ≡ body = ap (crypt mac key header) (sym c) ∙ crypt_twice secret mac key header body tag (omega (arith, long, few)) in
     ap (take n) (is ∙ ap padded back) ∙ ap (λ (k : ℕ). take k (padded body)) (sym long) ∙ take_front body (replicate (32 - length body) 0)
 
-event_long : (header : List ℕ) → is_event_header header ≡ true → length header ≡ 6
+pub event_long : (header : List ℕ) → is_event_header header ≡ true → length header ≡ 6
 event_long header e = eqb-true (length header) 6 (and_parts (length header == 6) _ e).0
 
 same_field : (a b : ℕ) → a % 256 ≡ b % 256 → a / 256 ≡ b / 256 → a ≡ b

@@ -44,7 +44,7 @@ module _ (table mac : Mac) where
   tag_held : (k message : List ℕ) → length k ≡ 16 → mac k message ≡ named table mac k message
   tag_held k message e = ap (λ (t : Bool). cond t (mac k message) (looked table k message)) (sym (eq-eqb (length k) 16 e))
 
-names_long : (i n : ℕ) → length (names i n) ≡ n
+pub names_long : (i n : ℕ) → length (names i n) ≡ n
 names_long i zero = refl
 names_long i (suc n) = ap suc (names_long (i + 1) n)
 

@@ -37,7 +37,7 @@ use Rattle.law_forgery.proofs.Acting.{put_like, take_like, set_like, sense_like,
 use Rattle.law_forgery.proofs.Granting.{LikeNodes, LikeGot, got_like, put_in_like, LikeWorld, LikeActed, like_nodes, packet_like, answer_like}
 
 -- the element of the next index
-at_next : (x : List ℕ) (xs : List (List ℕ)) (i : ℕ) → list_at (x ∷ xs) (suc i) ≡ list_at xs i
+pub at_next : (x : List ℕ) (xs : List (List ℕ)) (i : ℕ) → list_at (x ∷ xs) (suc i) ≡ list_at xs i
 at_next x xs i =
     let ne : suc i ≢ 0 = λ e. absurd (omega (arith, e)) in
     let e : suc i - 1 ≡ i = omega arith in

@@ -1,5 +1,5 @@
 -- A setting with names is sound.
-use Rattle.std.proofs.Common.{◌≡◌, ◌≢◌, ℕ, zero, suc, ◌+◌, ◌==◌, Bool, true, false, cond, List, [], ◌∷◌, ◌++◌, length, refl, sym, ◌∙◌, ap, subst}
+use Rattle.std.proofs.Common.{◌≡◌, ◌≢◌, ℕ, ◌+◌, ◌==◌, Bool, true, false, cond, List, [], ◌∷◌, ◌++◌, length, refl, sym, ◌∙◌, subst}
 use Rattle.std.proofs.lemmas.Bool.{eq-eqb}
 use Rattle.sx_mean.specs.Application.{PartTree}
 use Rattle.sx_mean.specs.Ends.{ends_of}
@@ -8,6 +8,7 @@ use Rattle.spec_run.specs.Setting.{Setting, Site}
 use Rattle.spec_run.specs.Law.{IsTagBytes, IsTagUnder, IsSoundSetting, IsDriven, image_at}
 use Rattle.law_forgery.specs.Tags.{rekeyed}
 use Rattle.law_forgery.specs.Named.{code, looked, named, names}
+use Rattle.law_forgery.proofs.Naming.{names_long}
 use Rattle.law_connections.specs.Laws.{RealizesAlways}
 use Rattle.law_makers.specs.NamedSound.{NamedIsSound}
 use Rattle.law_makers.proofs.Realizing.{realizes_under}
@@ -24,10 +25,6 @@ module _ (secret : List ℕ) (table mac : Mac) (long : length secret ≡ 16) (ta
     tags = λ key kind rest ne. made key kind rest ne (length key == 16) (kind == 0x4B) refl;
     derived = λ rest. subst (λ (b : Bool). IsTagBytes (cond b (mac secret (0x4B ∷ rest)) (looked table secret (0x4B ∷ rest)))) (sym (eq-eqb (length secret) 16 long)) (tag.derived rest);
   }
-
-names_long : (i n : ℕ) → length (names i n) ≡ n
-names_long i zero = refl
-names_long i (suc n) = ap suc (names_long (i + 1) n)
 
 -- a sound setting with other keys of nodes and another tag function
 pub sound_with : (set : Setting) → IsSoundSetting set → RealizesAlways set → (nac : Mac) (keys : List (List ℕ)) → length keys ≡ length set.keys → IsTagUnder set.secret nac

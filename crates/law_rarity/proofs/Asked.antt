@@ -1,5 +1,5 @@
 -- What a moment asks under two tag functions that differ in tags over `T` alone: the same first, and where that has the same answer, all the same.
-use Rattle.std.proofs.Common.{◌≡◌, ◌≢◌, ℕ, ◌+◌, ◌-◌, ◌==◌, Bool, true, false, cond, not, ◌&&◌, bytes_eq, List, [], ◌∷◌, ◌++◌, length, take, min, slice_index, Option, Some, None, refl, sym, ◌∙◌, ap, ap₂, arith}
+use Rattle.std.proofs.Common.{◌≡◌, ◌≢◌, ℕ, ◌+◌, ◌-◌, ◌==◌, Bool, true, false, cond, not, ◌&&◌, bytes_eq, List, [], ◌∷◌, ◌++◌, length, min, slice_index, Option, Some, None, refl, sym, ◌∙◌, ap, ap₂, arith}
 use Rattle.std.specs.Prelude.{nat_le, slice_get}
 use Rattle.std.specs.List.{list_any}
 use Rattle.std.specs.Option.{option_flatten}
@@ -29,6 +29,7 @@ use Rattle.law_uses.specs.Uses.{wrap_uses, unwrap_uses, instruction_uses, step_u
 use Rattle.law_uses.specs.Whole.{DeriveTheSame}
 use Rattle.law_uses.proofs.Asking.{each_long}
 use Rattle.law_uses.proofs.Whole.{keys_are_held}
+use Rattle.law_uses.proofs.Answering.{asked_tag}
 
 -- two tag functions differ in tags over `T` alone, and not in how many bytes they have
 pub record IsClose (mac nac : Mac) : Type 0 where
@@ -55,7 +56,6 @@ abbrev pub TriesFirst : List Use → Type 0
 TriesFirst [] = Unit {0}
 TriesFirst (u ∷ us) = NoTries us
 
-asked_tag : (mac : Mac) (key ask : List ℕ) → (wrapped mac key ask []).tag ≡ take 16 (mac key (0x54 ∷ length ask ∷ (ask ++ [])))
 unfolding crypt wrap_tag
 asked_tag mac key ask = refl
 

@@ -1,8 +1,7 @@
 -- What is wrapped with one header is one body: a key's header has the connection and its epoch, and an
 -- event's has its number.
-use Rattle.std.proofs.Common.{◌≡◌, ◌==◌, ℕ, zero, suc, ◌+◌, ◌*◌, ◌/◌, ◌%◌, ◌<◌, ◌≤◌, ◌⊎◌, inl, inr, Bool, true, false, List, [], ◌∷◌, ◌++◌, length, Option, Some, None, refl, sym, ◌∙◌, ap, subst, arith}
+use Rattle.std.proofs.Common.{◌≡◌, ℕ, zero, suc, ◌+◌, ◌*◌, ◌/◌, ◌%◌, ◌<◌, ◌≤◌, ◌⊎◌, inl, inr, Bool, true, false, List, [], ◌∷◌, ◌++◌, Option, Some, None, refl, sym, ◌∙◌, ap, subst, arith}
 use Rattle.std.specs.Prelude.{slice_get, if◌then◌else◌}
-use Rattle.std.proofs.lemmas.Bool.{and_parts, eqb-true}
 use Rattle.sx_trace.specs.declared.items.Item.{Item}
 use Rattle.sx_trace.specs.declared.items.Item.TheVariants as item
 use Rattle.sx_sched.specs.Lines.{Line}
@@ -39,10 +38,11 @@ use Rattle.law_forgery.specs.Logged.{IsWord, IsLogged}
 use Rattle.law_forgery.proofs.Accepting.{ask_long}
 use Rattle.law_forgery.proofs.Reaching.{lines_form}
 use Rattle.law_forgery.proofs.Logging.{AllLogged, done_logged, starts_logged}
-use Rattle.law_forgery.proofs.Forgeries.{step_sends}
+use Rattle.law_forgery.proofs.Forgeries.{step_sends, event_long}
 use Rattle.law_forgery.proofs.Keyed.{among_right}
 use Rattle.law_forgery.proofs.Unmade.{holds, among_left}
 use Rattle.law_rarity.specs.Once.{PadsOnce}
+use Rattle.law_connections.proofs.Upto.{forged_is}
 
 -- A run that shows no `forged` is tied to the source at its end.
 
@@ -68,13 +68,9 @@ any set s items = each_walks Any set s items (each_all (Always Any set) (λ i s.
 keep : (set : Setting) → IsSoundSetting set → ActsWalk Any set
 keep set sound = acts_walk Any set (easy set) sound (λ w n s here mo t. any set mo _) (λ w d v x s dev sensor lt here mo t. any set mo _) (λ w n line s lt here mo t. any set mo _)
 
-named : (i : Item) → is_forged i ≡ true → (who : Option ℕ) × (i ≡ item.Forged who)
-named (item.Forged who) e = (who, refl)
-named i e = absurd cc
-
 still_head : (i : Item) (items : List Item) (b : Bool) (o : Option Model) (f : Model → Verdict) (good : Model → Type 0) → is_forged i ≡ b → NoForged (i ∷ items)
     → ((u : Model) → Fares (f u) good → (t : Model) × good t) → Fares (if b then Over else judge_on o f) good → (t : Model) × good t
-still_head i items true o f good e none k h = let n = named i e in absurd (none n.0 (inl n.1))
+still_head i items true o f good e none k h = let n = forged_is i e in absurd (none n.0 (inl n.1))
 still_head i items false None f good e none k h = absurd h
 still_head i items false (Some u) f good e none k h = k u h
 
@@ -126,9 +122,6 @@ module _ (set : Setting) (sound : IsSoundSetting set) (lines : List Line) (form 
 
 key_parts : (l e s m f t : ℕ) → set_key_header l e s ≡ set_key_header m f t → (l ≡ m) × (e ≡ f)
 key_parts l e s m f t same = (cc same, cc same)
-
-event_long : (header : List ℕ) → is_event_header header ≡ true → length header ≡ 6
-event_long header e = eqb-true (length header) 6 (and_parts (length header == 6) _ e).0
 
 apart : {X : Type 0} (header : List ℕ) → is_ask header ≡ true → is_event_header header ≡ true → X
 apart header a e = let l = ask_long header a in let m = event_long header e in absurd (omega (arith, l, m))

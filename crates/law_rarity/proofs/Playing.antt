@@ -9,6 +9,7 @@ use Rattle.spec_run.proofs.tie.Lists.{some_inj}
 use Rattle.sx_sched.specs.Lines.{Line}
 use Rattle.law_counting.specs.Counting.{IsTable, at, put}
 use Rattle.law_counting.specs.Guesses.{Attempt, Play, misses, all_miss, IsBlind}
+use Rattle.law_counting.proofs.Lines.{entry_below}
 use Rattle.law_forgery.specs.Moments.{Moment, moment}
 use Rattle.law_uses.specs.Uses.{Holder, key_held, Use, Gives, Tries, Sizes, SameUses, uses}
 use Rattle.law_uses.specs.GivenLogged.{IsUse}
@@ -162,12 +163,6 @@ module _ (set : Setting) (es : List Entry) (make : Maker) (n : ℕ) where
         → bytes_eq tag (take 16 (tabled set es u (key_of_entry set e) (message_of e))) ≡ false
     wrong found u is tag ne = by (bytes_eq tag (take 16 (tabled set es u (key_of_entry set e) (message_of e)))) refl
       where
-        value : (n w : ℕ) (x : List ℕ) → IsTable n w x → (k : ℕ) → k < n → at x k < w
-        value zero w x h k lt = absurd (omega (arith, lt))
-        value (suc n) w [] h k lt = absurd h
-        value (suc n) w (y ∷ x) h zero lt = h.0
-        value (suc n) w (y ∷ x) h (suc k) lt = value n w x h.1 k (omega (arith, lt))
-
         by : (b : Bool) → bytes_eq tag (take 16 (tabled set es u (key_of_entry set e) (message_of e))) ≡ b
             → bytes_eq tag (take 16 (tabled set es u (key_of_entry set e) (message_of e))) ≡ false
         by false f = f
@@ -175,7 +170,7 @@ module _ (set : Setting) (es : List Entry) (make : Maker) (n : ℕ) where
             let is_tag : tag ≡ bytes_of 16 (at u i) =
             (bytes_eq-Decides tag (take 16 (tabled set es u (key_of_entry set e) (message_of e)))).0 f
             ∙ ap (take 16) (tag_at set es (2 ^ 128) u is (key_of_entry set e) (message_of e) i found) in
-            absurd (ne (sym (ap number is_tag ∙ number_of (at u i) (value (length es) (2 ^ 128) u is i low))))
+            absurd (ne (sym (ap number is_tag ∙ number_of (at u i) (entry_below (length es) (2 ^ 128) u is i low))))
 
     spares : index_of set es (key_of_entry set e) (message_of e) ≡ Some i → (j : ℕ) (now : Moment) → at_moment t j ≡ Some now → given t (suc j) i ≡ false → misses (tries t j) t ≡ true → misses (tries t j) s ≡ true
         → AllSpare (with_ t) (tabled set es s) (key_of_entry set e) tail (uses (with_ t) now)

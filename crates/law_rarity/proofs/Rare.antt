@@ -14,6 +14,7 @@ use Rattle.law_counting.specs.Counting.{IsTable, at, put, one, sum_all, count}
 use Rattle.law_counting.specs.Guesses.{Attempt, misses, all_miss}
 use Rattle.law_counting.proofs.Sums.{sum_le, sum_add, sum_one}
 use Rattle.law_counting.proofs.Hits.{few_guesses_hit}
+use Rattle.law_counting.proofs.Lines.{entry_below}
 use Rattle.law_forgery.specs.Moments.{Moment, moment}
 use Rattle.law_forgery.specs.Forgery.{key_at}
 use Rattle.law_connections.specs.Laws.{RealizesAlways}
@@ -186,13 +187,7 @@ module _ (set : Setting) (es : List Entry) (make : Maker) (n q : ℕ) (sound : I
         let tag : hit.tag ≡ bytes_of 16 (at t i) =
         (bytes_eq-Decides hit.tag (take 16 (tabled set es t key (message_of e)))).0 whole
         ∙ ap (take 16) (tag_at set es (2 ^ 128) t table key (message_of e) i first.1) in
-        sym (ap number tag ∙ number_of (at t i) (value (length es) (2 ^ 128) t table i there.low))
-      where
-        value : (n w : ℕ) (x : List ℕ) → IsTable n w x → (k : ℕ) → k < n → at x k < w
-        value zero w x h k lt = absurd (omega (arith, lt))
-        value (suc n) w [] h k lt = absurd h
-        value (suc n) w (y ∷ x) h zero lt = h.0
-        value (suc n) w (y ∷ x) h (suc k) lt = value n w x h.1 k (omega (arith, lt))
+        sym (ap number tag ∙ number_of (at t i) (entry_below (length es) (2 ^ 128) t table i there.low))
 
     -- so this attempt doesn't miss
     hits : all_miss (play set es make n) t q ≡ false

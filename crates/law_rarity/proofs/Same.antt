@@ -26,7 +26,7 @@ use Rattle.law_forgery.proofs.Granting.{LikeNodes}
 use Rattle.law_uses.specs.Uses.{Holder, key_held, SameUses, section_holder, uses_at, uses}
 use Rattle.law_uses.specs.Whole.{DeriveTheSame}
 use Rattle.law_uses.proofs.Asking.{N}
-use Rattle.law_uses.proofs.Alone.{Side, Both, both_do}
+use Rattle.law_uses.proofs.Alone.{Side, Both, both_do, like_self}
 use Rattle.law_uses.proofs.Keeping.{Kept, AllKept, done_kept, on_kept}
 use Rattle.law_uses.proofs.Stepping.{NodeKeys}
 use Rattle.law_uses.proofs.Whole.{keys_are_held, script_same}
@@ -84,13 +84,9 @@ module _ (a : Setting) (nac : Mac) (derive : DeriveTheSame a.mac nac) where
       ap₂ (λ (z : State) (zs : List State). z ∷ zs) (node_same (at 0) s t h.0 (p 0 s refl) (q 0 t refl))
       (nodes_same (λ n. at (suc n)) ss ts h.1 (λ n z e. p (suc n) z e) (λ n z e. q (suc n) z e))
 
-  like_live : (xs : List Section) → LikeAll N N xs xs
-  like_live [] = tt
-  like_live (x ∷ xs) = ((refl, λ kind rest ne. refl), like_live xs)
-
   like_nodes : (ss : List State) → LikeNodes N N ss ss
   like_nodes [] = tt
-  like_nodes (s ∷ ss) = (record { rest = refl; sections = like_live s.sections.live; next = refl; keys = λ boot provider id kind rest ne. refl }, like_nodes ss)
+  like_nodes (s ∷ ss) = (record { rest = refl; sections = like_self s.sections.live; next = refl; keys = λ boot provider id kind rest ne. refl }, like_nodes ss)
 
   -- one thing happens
   pub done_same : (x : Happening) (w : World) → AllKept a w → SameUses a b (uses_at a x w) → done b x w ≡ done a x w

@@ -1,5 +1,5 @@
 -- At each moment of a run the live sections' providers and bounds are words.
-use Rattle.std.proofs.Common.{◌≡◌, ℕ, zero, suc, ◌+◌, ◌<◌, ◌⊎◌, inl, inr, List, [], ◌∷◌, length, Some, refl, sym, ◌∙◌, ap, subst}
+use Rattle.std.proofs.Common.{◌≡◌, ℕ, zero, suc, ◌<◌, ◌⊎◌, inl, inr, List, length, Some, sym, ◌∙◌, ap, subst}
 use Rattle.std.specs.Prelude.{slice_get, slice_set}
 use Rattle.std.proofs.lemmas.Bool.{cases_eq}
 use Rattle.lemmas.proofs.Lists.{get_same}
@@ -19,9 +19,9 @@ use Rattle.spec_machine.proofs.Apart.{lives_push, lives_without}
 use Rattle.spec_machine.proofs.Meanings.{steps_say, others_keep_sections}
 use Rattle.spec_run.specs.Setting.{Setting}
 use Rattle.spec_run.specs.Law.{IsSoundSetting, LinesInForm}
-use Rattle.spec_run.specs.State.{World, Acted, nodes_from, switched_on}
+use Rattle.spec_run.specs.State.{World, Acted, switched_on}
 use Rattle.spec_run.proofs.tie.Lists.{get_other, some_inj, length_set}
-use Rattle.spec_run.proofs.tie.Start.{get_nodes}
+use Rattle.spec_run.proofs.tie.Start.{get_nodes, nodes_long}
 use Rattle.law_isolation.specs.Happening.{Happening, done}
 use Rattle.law_isolation.specs.Script.{Script, End, Do, looks}
 use Rattle.law_isolation.specs.Lines.{script_of}
@@ -96,10 +96,6 @@ module _ (set : Setting) (x : Happening) (w : World) (count : ℕ) (h : length w
     | inr e ↦ subst (λ (z : Acted). length z.world.nodes ≡ count) (sym (k.none w.nodes e)) h
     | inl c ↦ subst (λ (z : Acted). length z.world.nodes ≡ count) (sym (k.does w.nodes c.0 c.1)) (length_set w.nodes k.node (k.effect c.0).state ∙ h)
   ]
-
-nodes_long : (set : Setting) (i : ℕ) (keys : List (List ℕ)) → length (nodes_from set i keys) ≡ length keys
-nodes_long set i [] = refl
-nodes_long set i (key ∷ keys) = ap suc (nodes_long set (i + 1) keys)
 
 on_worded : (set : Setting) → AllWorded (switched_on set)
 on_worded set n s e x l = let r = get_nodes set 0 set.keys n s e in absurd (subst (λ (z : State). Lives z.sections.live x) r.1 l)

@@ -38,7 +38,7 @@ use Rattle.law_uses.proofs.Keeping.{AllKept, done_kept, on_kept}
 
 -- a node is like itself
 
-like_self : (xs : List Section) → LikeAll N N xs xs
+pub like_self : (xs : List Section) → LikeAll N N xs xs
 like_self [] = tt
 like_self (x ∷ xs) = ((refl, λ kind rest ne. refl), like_self xs)
 

@@ -27,7 +27,7 @@ same_parts a b [] vs h = (tt, h)
 same_parts a b (x ∷ us) vs h = let r = same_parts a b us vs h.1 in ((h.0, r.0), r.1)
 
 -- the tag that answers an ask
-asked_tag : (mac : Mac) (key ask : List ℕ) → (wrapped mac key ask []).tag ≡ take 16 (mac key (0x54 ∷ length ask ∷ (ask ++ [])))
+pub asked_tag : (mac : Mac) (key ask : List ℕ) → (wrapped mac key ask []).tag ≡ take 16 (mac key (0x54 ∷ length ask ∷ (ask ++ [])))
 unfolding crypt wrap_tag
 asked_tag mac key ask = refl
 

@@ -1,7 +1,7 @@
 -- The nodes keep their keys, and their sections the keys that the chain gives.
-use Rattle.std.proofs.Common.{◌≡◌, ◌≢◌, ℕ, zero, suc, ◌+◌, ◌-◌, Bool, cond, ◌⊎◌, inl, inr, List, [], ◌∷◌, Some, refl, sym, ◌∙◌, ap, subst, arith}
+use Rattle.std.proofs.Common.{◌≡◌, ℕ, zero, suc, ◌+◌, ◌⊎◌, inl, inr, List, [], ◌∷◌, Some, refl, sym, ◌∙◌, ap, subst}
 use Rattle.std.specs.Prelude.{slice_get, slice_set}
-use Rattle.std.proofs.lemmas.Bool.{cases_eq, ne_eqb}
+use Rattle.std.proofs.lemmas.Bool.{cases_eq}
 use Rattle.lemmas.proofs.Lists.{get_same}
 use Rattle.sx_rules.specs.Placed.{Placed}
 use Rattle.sx_rules.proofs.Placing.{starts_placed}
@@ -19,6 +19,7 @@ use Rattle.law_isolation.specs.Happening.{Happening, done}
 use Rattle.law_isolation.proofs.Acting.{with_nodes, Still, OnNode, kind}
 use Rattle.law_isolation.proofs.Alone.{some_or_none}
 use Rattle.law_uses.proofs.Stepping.{NodeKeys}
+use Rattle.law_forgery.proofs.Scripts.{at_next}
 
 pub record Kept (set : Setting) (n : ℕ) (s : State) : Type 0 where
   pub placed : Placed s.sections
@@ -51,13 +52,6 @@ node_kept set x w (inr k) p = elim (some_or_none (slice_get w.nodes k.node)) [
 
 pub done_kept : (set : Setting) (x : Happening) (w : World) → AllKept set w → AllKept set (done set x w).world
 done_kept set x w p = node_kept set x w (kind set x w) p
-
--- the element of the next index
-at_next : (x : List ℕ) (xs : List (List ℕ)) (i : ℕ) → list_at (x ∷ xs) (suc i) ≡ list_at xs i
-at_next x xs i =
-    let ne : suc i ≢ 0 = λ e. absurd (omega (arith, e)) in
-    let e : suc i - 1 ≡ i = omega arith in
-    ap (λ (b : Bool). cond b x (list_at xs (suc i - 1))) (ne_eqb (suc i) 0 ne) ∙ ap (list_at xs) e
 
 -- what a node is at power-on
 record Starts (set : Setting) (key : List ℕ) (s : State) : Type 0 where
