@@ -5,7 +5,7 @@ use Rattle.sx_rules.specs.declared.section.Layout.{Layout}
 use Rattle.command_text.specs.Address.{address}
 use Rattle.command_text.specs.Output.{line}
 use Rattle.command_report.specs.Output.{Report}
-use Rattle.command_report.specs.Promise.{ReportTold}
+use Rattle.command_report.specs.Promise.{ReportPromise}
 
 -- a module and the bounds of its sections; an end is the address after the last byte
 unfoldable pub module_line : List ℕ → Layout → List ℕ
@@ -25,4 +25,4 @@ check_report d = module_lines d.names.modules d.layouts
 
 -- The command `check`.
 abbrev pub CheckPromise : Bool → Bool → CommandAt → CommandAt → ℕ → Type 0
-CheckPromise tells to_tell m0 m1 status = ReportTold check_report tells to_tell m0 m1 status
+CheckPromise tells to_tell m0 m1 status = ReportPromise check_report tells to_tell m0 m1 status

@@ -18,7 +18,7 @@ use Rattle.command_head.specs.Begun.{ReadsAs, HasHead}
 use Rattle.command_head.specs.Meanings.{input_of}
 use Rattle.command_head.proofs.Known.{known, is_known}
 use Rattle.command_deploy.specs.Afterwards.{found_output, head_output}
-use Rattle.command_deploy.specs.Output.{Behind, deploy_output}
+use Rattle.command_deploy.specs.Output.{OwnOutput, deploy_output}
 use Rattle.command_deploy.specs.Promise.{DeployPromise, DeploysWith, OwnPart}
 use Rattle.command_deploy.specs.Same.{IsUnhindered, RunsIn, WriteTheSame}
 use Rattle.command_world.specs.Compiled.{compiled_texts}
@@ -54,7 +54,7 @@ one_head (Some text) (Some other) NoMark x y = absurd x
 one_head (Some text) (Some other) Unread x y = absurd x
 
 -- what is written depends on the images of the deployment that was read alone
-agrees : (own : Behind) (deployment : Option (List ℕ)) (texts others : List (List ℕ)) (h : Head) → HasHead deployment h → ((d : Deployed) → ReadsAs deployment d → texts ≡ others)
+agrees : (own : OwnOutput) (deployment : Option (List ℕ)) (texts others : List (List ℕ)) (h : Head) → HasHead deployment h → ((d : Deployed) → ReadsAs deployment d → texts ≡ others)
     → head_output own known texts h ≡ head_output own known others h
 agrees own None texts others (Found found more) has same = absurd has
 agrees own (Some text) texts others (Found found more) has same = by_meaning (known found) refl

@@ -18,15 +18,15 @@ use Rattle.command_head.specs.Meanings.{Meaning, IsMeaning}
 use Rattle.command_head.specs.Refused.{fault_output}
 use Rattle.command_head.specs.Wanting.{RanOutAt}
 use Rattle.command_world.specs.Compiled.{compiled_texts}
-use Rattle.command_deploy.specs.Output.{Behind, Wants, by_deployment, by_head, deploy_output}
+use Rattle.command_deploy.specs.Output.{OwnOutput, Wants, by_deployment, by_head, deploy_output}
 
 -- what is written of a deployment that was read, or the rule that it breaks
-abbrev pub found_output : Behind → List (List ℕ) → Result Deployed DeployFault → List Answer
+abbrev pub found_output : OwnOutput → List (List ℕ) → Result Deployed DeployFault → List Answer
     → Output
 found_output own texts r more = by_deployment (λ d. own d texts) fault_output r more
 
 -- what is written of an input's head
-abbrev pub head_output : Behind → Meaning → List (List ℕ) → Head → Output
+abbrev pub head_output : OwnOutput → Meaning → List (List ℕ) → Head → Output
 head_output own meaning texts h = by_head (λ d. own d texts) fault_output unread_output meaning h
 
 -- the exit status by an input's head
@@ -35,7 +35,7 @@ head_status own meaning h = by_head own (λ f. 1) read_failed meaning h
 
 -- What does the rest of the command after a head of this text: with these images, which realize its
 -- modules, it writes what is defined for what is to come.
-pub record DeploysBehind (mac : Mac) (own : Behind) (may : Wants) (tells to_tell : Bool)
+pub record DeploysBehind (mac : Mac) (own : OwnOutput) (may : Wants) (tells to_tell : Bool)
     (now : Ahead)
     (m1 m2 : CommandAt)
     (status : ℕ)
@@ -51,14 +51,14 @@ pub record DeploysBehind (mac : Mac) (own : Behind) (may : Wants) (tells to_tell
       × RanOutSince head_lines head_lines (may d) tells m1.source m2.source now new
 
 -- the rest of the command, or that memory ran out before the images were made
-abbrev pub DeploysOrRanOut : Mac → Behind → Wants → Bool → Bool → Ahead → CommandAt → CommandAt
+abbrev pub DeploysOrRanOut : Mac → OwnOutput → Wants → Bool → Bool → Ahead → CommandAt → CommandAt
     → ℕ → List ℕ → Type 0
 DeploysOrRanOut mac own may tells to_tell now m1 m2 status text =
     RanOut m1 m2 status ⊎ DeploysBehind mac own may tells to_tell now m1 m2 status text
 
 -- The whole command: there are images that realize the modules of the deployment that was read, and
 -- what was written is what is defined with them.
-pub record ToldWith (mac : Mac) (own : Behind) (tells to_tell : Bool) (m0 m1 : CommandAt)
+pub record ToldWith (mac : Mac) (own : OwnOutput) (tells to_tell : Bool) (m0 m1 : CommandAt)
     (status : ℕ) : Type 0 where
   pub deployment : Option (List ℕ)
   pub texts : List (List ℕ)
@@ -71,7 +71,7 @@ pub record ToldWith (mac : Mac) (own : Behind) (tells to_tell : Bool) (m0 m1 : C
       (λ answers. HasHead deployment (head answers))
 
 -- this, or that memory ran out before the images were made; and where it ran out, at which line
-pub record DeployTold (mac : Mac) (own : Behind) (may : Wants) (tells to_tell : Bool)
+pub record DeployTold (mac : Mac) (own : OwnOutput) (may : Wants) (tells to_tell : Bool)
     (m0 m1 : CommandAt)
     (status : ℕ) : Type 0 where
   pub says : Starved tells m0 m1 status ⊎ ToldWith mac own tells to_tell m0 m1 status

@@ -13,8 +13,8 @@ use Rattle.command_head.specs.Refused.{fault_output}
 
 -- what is written after the head of a deployment, by the texts of its modules' images and the
 -- answers to come
-abbrev pub Behind : Type 0
-Behind = Deployed → List (List ℕ) → List Answer → Output
+abbrev pub OwnOutput : Type 0
+OwnOutput = Deployed → List (List ℕ) → List Answer → Output
 
 -- whether a line after the head of a deployment may want memory, by the lines between them
 abbrev pub Wants : Type 1
@@ -36,7 +36,7 @@ by_head own broken unread meaning NoMark = broken (fault 2 Nowhere)
 by_head own broken unread meaning Unread = unread
 
 -- what is written of a whole input, over what is written after its head
-abbrev pub deploy_output : Behind → Meaning → List (List ℕ) → List Answer → Output
+abbrev pub deploy_output : OwnOutput → Meaning → List (List ℕ) → List Answer → Output
 deploy_output own meaning texts answers =
     by_head (λ d. own d texts) fault_output unread_output meaning (head answers)
 

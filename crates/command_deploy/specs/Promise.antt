@@ -12,14 +12,14 @@ use Rattle.command_head.specs.Begun.{ReadsAs, HasHead, Starved}
 use Rattle.command_head.specs.Meanings.{Meaning, IsMeaning, input_of}
 use Rattle.command_head.specs.Wanting.{RanOutAt}
 use Rattle.command_world.specs.Compiled.{compiled_texts}
-use Rattle.command_deploy.specs.Output.{Behind, Wants, deploy_output, deploy_status}
+use Rattle.command_deploy.specs.Output.{OwnOutput, Wants, deploy_output, deploy_status}
 
 -- What a command that deploys has of its own: what it writes after the head, and its status there,
 -- whatever the images are; the statuses with which it is cut short, whatever the input is; at which
 -- lines memory may run out; and what it promises of the images that were made, for a head of this
 -- text or for none.
 pub record OwnPart : Type 1 where
-  pub output : Behind
+  pub output : OwnOutput
   pub status : Deployed → List Answer → ℕ
   pub Cut : ℕ → Type 0
   pub MayWant : Wants

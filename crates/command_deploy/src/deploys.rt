@@ -11,7 +11,7 @@ ghost use Rattle.sx_deploy.specs.SeenDeployment.{deployed_as};
 ghost use Rattle.spec_run.specs.Accepted.{AreImages};
 ghost use Rattle.sx_image.specs.InMemory.{texts_of};
 ghost use Rattle.command_head.specs.Given.{RanOutSince};
-ghost use Rattle.command_deploy.specs.Output.{Behind, Wants};
+ghost use Rattle.command_deploy.specs.Output.{OwnOutput, Wants};
 
 use std::alloc::Global;
 use sx_deploy::deployment::Deployment;
@@ -22,7 +22,7 @@ use sx_tag::Tag;
 /// A command that deploys, by what is its own.
 pub trait Deploys {
     // What is written after the head of a deployment, for a tag.
-    ghost behind: { Mac → Behind };
+    ghost behind: { Mac → OwnOutput };
 
     // At which lines after the head memory may run out.
     ghost may: { Wants };

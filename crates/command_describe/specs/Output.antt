@@ -26,7 +26,7 @@ use Rattle.sx_deploy.specs.Ties.{port_names}
 use Rattle.command_text.specs.Address.{address}
 use Rattle.command_text.specs.Output.{line}
 use Rattle.command_report.specs.Output.{Report}
-use Rattle.command_report.specs.Promise.{ReportTold}
+use Rattle.command_report.specs.Promise.{ReportPromise}
 
 -- the lines of entries, each of which has its index, from this one on
 abbrev pub each_from : {A : Type 0} → (ℕ → A → List ℕ) → ℕ → List A → List ℕ
@@ -155,4 +155,4 @@ describe_report d =
 
 -- The command `describe`.
 abbrev pub DescribePromise : Bool → Bool → CommandAt → CommandAt → ℕ → Type 0
-DescribePromise tells to_tell m0 m1 status = ReportTold describe_report tells to_tell m0 m1 status
+DescribePromise tells to_tell m0 m1 status = ReportPromise describe_report tells to_tell m0 m1 status

@@ -80,7 +80,6 @@ module _ (bad : Stop) (s : ℕ) (Kept : List Answer → Type 0) (is_bad : (items
     (none : Kept [] → Whole ≡ bad → ⊥) (ended : (more : List Answer) → Kept (End ∷ more) → Whole ≡ bad → ⊥)
     (failed : (more : List Answer) → Kept (Fault ∷ more) → Unread ≡ bad → ⊥) (unread : (more : List Answer) → Kept (Fault ∷ more) → 4 ≡ s → ⊥)
     (behind : (text : List ℕ) (more : List Answer) → Kept (Line text ∷ more) → Kept more) where
-
   from_kept : (app : AppTree) (item : List ℕ → Option Item) (answers : List Answer) → Kept answers → (explain_from app item [] answers).status ≡ s → ⊥
   from_kept app item answers k e =
       elim (status_from app item answers) [

@@ -10,12 +10,12 @@ use Rattle.command_promise.specs.Head.{Head, head, head_lines}
 use Rattle.command_head.specs.Meanings.{Meaning, IsMeaning}
 use Rattle.command_report.specs.Output.{Report, report_head, report_all}
 use Rattle.command_head.specs.Found.{RunsOutBehindHead}
-use Rattle.command_report.specs.Promise.{ReportTold, IsHead}
+use Rattle.command_report.specs.Promise.{ReportPromise, IsHead}
 use Rattle.command_head.proofs.Known.{known, is_known}
 use Rattle.command_text.proofs.Ends.{came, faults_of}
 use Rattle.command_report.proofs.Statuses.{head_zero, head_not_two, report_not_four, said_not}
 
-pub report_not_two : {report : Report} {tells to_tell : Bool} {m0 m1 : CommandAt} {status : ℕ} → ReportTold report tells to_tell m0 m1 status → status ≡ 2 → ⊥
+pub report_not_two : {report : Report} {tells to_tell : Bool} {m0 m1 : CommandAt} {status : ℕ} → ReportPromise report tells to_tell m0 m1 status → status ≡ 2 → ⊥
 report_not_two {report} said two =
     let w = told-some (said.told known is_known) in
     head_not_two report known (head w.0) (sym (w.1.0.whole (λ five. omega (arith, two, five)) (λ six. omega (arith, two, six))).0 ∙ two)
@@ -27,7 +27,7 @@ report_no_further report bytes rest text told t e h =
     (λ y d. said_not report 4 (known text) (λ x. omega (arith, x)) (λ x. omega (arith, x)) (ap (λ (x : Head). (report_head report known x).status) (sym (h.1 Broken y)) ∙ ap (λ (o : Output). o.status) d))
 
 pub report_promise : {tells to_tell : Bool} {m0 m1 : CommandAt} {status : ℕ} (report : Report)
-    → ((meaning : Meaning) → IsMeaning meaning → Told tells to_tell head_lines m0 m1 status (report_all report meaning) (RunsOutBehindHead status)) → ReportTold report tells to_tell m0 m1 status
+    → ((meaning : Meaning) → IsMeaning meaning → Told tells to_tell head_lines m0 m1 status (report_all report meaning) (RunsOutBehindHead status)) → ReportPromise report tells to_tell m0 m1 status
 report_promise {tells} {to_tell} {m0} {m1} {status} report told = record {
   told = told;
   no_further = λ bytes rest text t e h. report_no_further report bytes rest text (told known is_known) t e h;

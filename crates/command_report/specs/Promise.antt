@@ -35,7 +35,7 @@ IsHead bytes text =
 
 -- The command, whatever a deployment's text is said to mean. At most 4,096 bytes after the line `%%`
 -- are taken.
-pub record ReportTold (report : Report) (tells to_tell : Bool) (m0 m1 : CommandAt)
+pub record ReportPromise (report : Report) (tells to_tell : Bool) (m0 m1 : CommandAt)
     (status : ℕ) : Type 0 where
   pub told : (meaning : Meaning) → IsMeaning meaning
       → Told tells to_tell head_lines m0 m1 status (report_all report meaning)

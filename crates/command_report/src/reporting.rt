@@ -10,7 +10,7 @@ ghost use Rattle.command_text.specs.Output.{end_line};
 ghost use Rattle.command_head.specs.Ends.{EndsRefused};
 ghost use Rattle.command_head.specs.Found.{RunsOutBehindHead};
 ghost use Rattle.command_head.specs.Meanings.{Meaning, IsMeaning};
-ghost use Rattle.command_report.specs.Promise.{ReportTold};
+ghost use Rattle.command_report.specs.Promise.{ReportPromise};
 ghost use Rattle.command_report.specs.Output.{report_all, report_output};
 
 use crate::reports::Reports;
@@ -98,7 +98,7 @@ pub fn report_over<C: Reports, S: Source, K: Sink>(
     input: &mut S,
     output: &mut K,
 ) -> u8
-    ensures { ReportTold C.report S.tells K.tells (command_at (S.at input.old) (K.at output.old))
+    ensures { ReportPromise C.report S.tells K.tells (command_at (S.at input.old) (K.at output.old))
         (command_at (S.at input.new) (K.at output.new)) result }
 {
     report_told::<C, S, K>(alloc, input, output)

@@ -101,7 +101,6 @@ module _ (bad : Stop) (s : ℕ) (Kept : List Answer → Type 0) (is_bad : (items
     (none : Kept [] → Whole ≡ bad → ⊥) (ended : (more : List Answer) → Kept (End ∷ more) → Whole ≡ bad → ⊥)
     (failed : (more : List Answer) → Kept (Fault ∷ more) → Unread ≡ bad → ⊥) (unread : (more : List Answer) → Kept (Fault ∷ more) → 4 ≡ s → ⊥)
     (behind : (text : List ℕ) (more : List Answer) → Kept (Line text ∷ more) → Kept more) where
-
   from_kept : (p : PropertyTree) (item : List ℕ → Option Item) (answers : List Answer) → Kept answers → (watch_from p item [] answers).status ≡ s → ⊥
   from_kept p item answers k e =
       elim (from_is p item answers s e) [

@@ -1,7 +1,7 @@
 use Rattle.std.proofs.Common.{ℕ, List, subst}
 use Rattle.command_promise.specs.Told.{command_at}
 use Rattle.command_deploy.specs.Afterwards.{DeploysOrRanOut}
-use Rattle.command_deploy.proofs.Behind.{does_read, told_headless, told_behind}
+use Rattle.command_deploy.proofs.AfterHead.{does_read, told_headless, told_behind}
 use Rattle.command_deploy.proofs.deploying.deploy_over.Goals as goal
 
 pub returns-in-Ok : goal.returns-in-Ok

@@ -33,13 +33,13 @@ use Rattle.command_head.specs.Refused.{fault_output}
 use Rattle.command_head.specs.Ends.{EndsRefused}
 use Rattle.command_head.proofs.Given.{ran_out_at, ran_out_behind}
 use Rattle.command_deploy.specs.Afterwards.{DeployTold, DeploysBehind, DeploysOrRanOut, found_output, head_output}
-use Rattle.command_deploy.specs.Output.{Behind, Wants, deploy_output}
+use Rattle.command_deploy.specs.Output.{OwnOutput, Wants, deploy_output}
 
 no_bytes : AreByteTexts []
 no_bytes m t e = absurd (cc e)
 
 -- what is done after a head of a text
-pub does_read : {tells to_tell : Bool} {now : Ahead} {s0 s1 : SourceAt} {k0 k1 : SinkAt} {status : ℕ} (mac : Mac) (own : Behind) (may : Wants) (text : List ℕ) (r : Result Deployment DeployError)
+pub does_read : {tells to_tell : Bool} {now : Ahead} {s0 s1 : SourceAt} {k0 k1 : SinkAt} {status : ℕ} (mac : Mac) (own : OwnOutput) (may : Wants) (text : List ℕ) (r : Result Deployment DeployError)
     → GivesOne deployed_as r (IsRead text)
     → IfOk r (λ d. (text : List ℕ) → IsRead text (Ok (deployed_as d)) → DeploysOrRanOut mac own may tells to_tell now (command_at s0 k0) (command_at s1 k1) status text)
     → IfErr r (λ e. EndsRefused to_tell k0 k1 status e) → OnErr r (s1 ≡ s0) → DeploysOrRanOut mac own may tells to_tell now (command_at s0 k0) (command_at s1 k1) status text
@@ -96,7 +96,7 @@ is_some : (text : List ℕ) → ◌≡◌ {A = Option (List ℕ)} (Some text) No
 is_some text e = cc
 
 -- a head was read, and the rest was done
-told_found : {tells to_tell : Bool} {s0 s1 : SourceAt} {k0 : SinkAt} {now : Ahead} {m2 : CommandAt} {status : ℕ} (mac : Mac) (own : Behind) (may : Wants) (text : List ℕ)
+told_found : {tells to_tell : Bool} {s0 s1 : SourceAt} {k0 : SinkAt} {now : Ahead} {m2 : CommandAt} {status : ℕ} (mac : Mac) (own : OwnOutput) (may : Wants) (text : List ℕ)
     → HeadRead tells s0 s1 now (Ok text) → DeploysBehind mac own may tells to_tell now (command_at s1 k0) m2 status text → DeployTold mac own may tells to_tell (command_at s0 k0) m2 status
 told_found {tells} {to_tell} {s0} {s1} {k0} {now} {m2} {status} mac own may text got does = record {
   says = inr (record {
@@ -116,7 +116,7 @@ told_found {tells} {to_tell} {s0} {s1} {k0} {now} {m2} {status} mac own may text
 }
 
 -- there is none
-told_none : {tells to_tell : Bool} {s0 s1 : SourceAt} {k0 k1 : SinkAt} {status : ℕ} (mac : Mac) (own : Behind) (may : Wants) (h : Head) (o : Output) → HasHead None h
+told_none : {tells to_tell : Bool} {s0 s1 : SourceAt} {k0 k1 : SinkAt} {status : ℕ} (mac : Mac) (own : OwnOutput) (may : Wants) (h : Head) (o : Output) → HasHead None h
     → ((meaning : Meaning) → head_output own meaning [] h ≡ o) → Reads tells head_lines s0 s1 head Unread (λ answers. head answers ≡ h) → CommandEnds to_tell k0 k1 status o
     → (status ≡ out_of_memory → ⊥) → DeployTold mac own may tells to_tell (command_at s0 k0) (command_at s1 k1) status
 told_none {tells} {to_tell} {s0} {s1} {k0} {k1} {status} mac own may h o none e r w never = record {
@@ -134,7 +134,7 @@ told_none {tells} {to_tell} {s0} {s1} {k0} {k1} {status} mac own may h o none e 
 }
 
 -- memory ran out after a head, and nothing was written
-told_out_of_memory : {tells to_tell : Bool} {s0 s1 : SourceAt} {k : SinkAt} {now : Ahead} (mac : Mac) (own : Behind) (may : Wants) (text : List ℕ)
+told_out_of_memory : {tells to_tell : Bool} {s0 s1 : SourceAt} {k : SinkAt} {now : Ahead} (mac : Mac) (own : OwnOutput) (may : Wants) (text : List ℕ)
     → Got tells head_lines head_lines s0 s1 now head (λ more. Found text more) Unread anything → DeployTold mac own may tells to_tell (command_at s0 k) (command_at s1 k) out_of_memory
 told_out_of_memory {tells} {to_tell} {s0} {s1} {k} {now} mac own may text got = record {
   says = inl (record {
@@ -147,7 +147,7 @@ told_out_of_memory {tells} {to_tell} {s0} {s1} {k} {now} mac own may text got = 
 }
 
 -- there is no head, or no memory for one
-pub told_headless : {tells to_tell : Bool} {s0 s1 : SourceAt} {k0 k1 : SinkAt} {status : ℕ} (mac : Mac) (own : Behind) (may : Wants) (now : Ahead) (why : HeadFault) → HeadRead tells s0 s1 now (Err why)
+pub told_headless : {tells to_tell : Bool} {s0 s1 : SourceAt} {k0 k1 : SinkAt} {status : ℕ} (mac : Mac) (own : OwnOutput) (may : Wants) (now : Ahead) (why : HeadFault) → HeadRead tells s0 s1 now (Err why)
     → EndsHeadless to_tell k0 k1 status why → DeployTold mac own may tells to_tell (command_at s0 k0) (command_at s1 k1) status
 told_headless {tells} {to_tell} {s0} {s1} {k0} {k1} {status} mac own may now none.TooLong r w =
     told_none mac own may TooLong (fault_output (fault 1 Nowhere)) tt (λ meaning. refl) r w.0 w.1
@@ -158,7 +158,7 @@ told_headless {tells} {to_tell} {s0} {s1} {k0} {k1} {status} mac own may now non
     rw (w.0, w.1) (told_out_of_memory {to_tell = to_tell} {k = k0} {now = now} mac own may text got)
 
 -- a head was read, and the rest was done, or memory ran out for it
-pub told_behind : {tells to_tell : Bool} {s0 s1 : SourceAt} {k0 : SinkAt} {now : Ahead} {m2 : CommandAt} {status : ℕ} (mac : Mac) (own : Behind) (may : Wants) (text : List ℕ)
+pub told_behind : {tells to_tell : Bool} {s0 s1 : SourceAt} {k0 : SinkAt} {now : Ahead} {m2 : CommandAt} {status : ℕ} (mac : Mac) (own : OwnOutput) (may : Wants) (text : List ℕ)
     → HeadRead tells s0 s1 now (Ok text) → DeploysOrRanOut mac own may tells to_tell now (command_at s1 k0) m2 status text → DeployTold mac own may tells to_tell (command_at s0 k0) m2 status
 told_behind {tells} {to_tell} {s0} {s1} {k0} {now} {m2} {status} mac own may text got (inl out) =
     rw (out.six, out.same) (told_out_of_memory {to_tell = to_tell} {k = k0} {now = now} mac own may text got)
