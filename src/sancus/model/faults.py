@@ -230,16 +230,13 @@ class Teller:
                 return [f"it was made of {text_of(text[3:])}"]
         return []
 
-    def bad_field(self, line: int, words: List[Word], fields: List[Field], only: str) -> Lines:
+    def bad_field(self, line: int, words: List[Word], fields: List[Field]) -> Lines:
         """The first field that doesn't suit, with a caret."""
         for field, word in zip(fields, words[1:]):
             if not acts.suits(field, word.text, self.tables):
                 lines = self.shown(line, word.column, len(word.text.encode(errors="surrogateescape")))
-                known = (
-                    self.tables.names(field.name.lower())
-                    if self.tables and field.name in ("NODE", "MODULE", "DEVICE")
-                    else []
-                )
+                is_name = field in (acts.NODE, acts.MODULE, acts.DEVICE)
+                known = acts.names_for(field, self.tables) if self.tables and is_name else []
                 return [*lines, f"expected: {acts.told(field, self.tables)}{rules.near(word.text, known)}"]
         return self.shown(line)
 
@@ -253,7 +250,7 @@ class Teller:
         if rule == "S3" and words:
             lines += self.shown(line, words[0].column, len(act)) + guesses.of_act(act, text, self.command, self.tables)
         elif rule in ("S4", "S5", "S6") and act in ACTS:
-            lines += self.bad_field(line, words, ACTS[act], rule)
+            lines += self.bad_field(line, words, ACTS[act])
         elif rule == "S7":
             lines += [*self.shown(line), f"its words: {acts.fields_told(act, ACTS)}"]
         elif rule == "S8" and len(words) > 3:
@@ -340,7 +337,7 @@ class Teller:
         return lines + self.shown(line)
 
     def bad_query(self, line: int, words: List[Word]) -> Lines:
-        lines = self.bad_field(line, words, QUERIES[words[0].text], "")
+        lines = self.bad_field(line, words, QUERIES[words[0].text])
         if len(lines) > 1 or words[0].text != "bytes":
             return lines
         return self.shown(line, words[2].column, words[3].column + len(words[3].text) - words[2].column) + [

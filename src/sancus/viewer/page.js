@@ -29,7 +29,6 @@ class Page {
     }
     const {deployment, schedule} = this.texts;
     if (deployment && schedule !== undefined) this.texts.input = joinedInput(this.texts);
-    if (deployment) this.texts.head ??= deployment;
     this.show();
     if (!this.texts.input && !this.texts.output)
       this.warn("This is a part of a run: open the deployment, its schedule and the output too, one or all at once.");

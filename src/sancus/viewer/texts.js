@@ -71,11 +71,8 @@ function scheduleLine(text, number) {
 }
 
 function readInput(text) {
-  const lines = splitLines(text), mark = lines.indexOf("%%");
-  return {
-    head: lines.slice(0, mark).join("\n"),
-    lines: lines.slice(mark + 1).map((line, at) => scheduleLine(line, at + 1))
-  };
+  const lines = splitLines(text);
+  return {lines: lines.slice(lines.indexOf("%%") + 1).map((line, at) => scheduleLine(line, at + 1))};
 }
 
 // The items of a run. If each line of the schedule comes before its items, as `> LINE`, lines has them.
