@@ -2,9 +2,8 @@
 
 from __future__ import annotations
 
-from dataclasses import dataclass
 from pathlib import Path
-from typing import TYPE_CHECKING, Dict, Iterable, List, Optional, Tuple, Union
+from typing import TYPE_CHECKING, Iterable, List, Optional, Tuple, Union
 
 from sancus.errors import Fault, NoProgram
 from sancus.model import warnings
@@ -25,14 +24,6 @@ if TYPE_CHECKING:
 Lines = Union[str, bytes, Iterable[str]]
 
 
-@dataclass(frozen=True)
-class Bounds:
-    """The addresses of a module's public and private section."""
-
-    text: range
-    data: range
-
-
 class App:
     """A deployment that the program accepted. What it refuses is a Fault."""
 
@@ -44,9 +35,6 @@ class App:
         self.program: Program = program or runner()
         self.deployment: Deployment = described(self.program, self.head)
         self.must_be_accepted(self.deployment.last)
-        self.bounds: Dict[str, Bounds] = {
-            it.name: Bounds(it.text, it.data) for it in self.deployment.modules.values()
-        }
 
     def input(self, schedule: bytes) -> bytes:
         """The input of a run, as the program reads it."""
