@@ -517,7 +517,7 @@ class Reading(unittest.TestCase):
 
     def test_what_reads_toml(self):
         missing = patch("sancus.model.toml.import_module", side_effect=ImportError)
-        with missing, self.assertRaises(Ended) as caught:
+        with missing, patch("site.main"), patch("sys.path", []), self.assertRaises(Ended) as caught:
             toml.read("")
         self.assertIn("pip install tomli", caught.exception.lines[0])
         self.assertEqual(toml.read('[[i]]\nj = "\\u0041"'), {"i": [{"j": "A"}]})

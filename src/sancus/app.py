@@ -8,7 +8,6 @@ from typing import TYPE_CHECKING, Iterable, List, Optional, Tuple, Union
 from sancus.errors import Fault, NoProgram
 from sancus.model import warnings
 from sancus.model.asking import Program
-from sancus.model.deployment import tables_of
 from sancus.model.described import Deployment, described
 from sancus.model.faults import Teller
 from sancus.model.people import are_for_people
@@ -57,8 +56,7 @@ class App:
     def warnings(self) -> List[str]:
         """What the rules allow and hardly anybody wants."""
         teller = Teller(kept_of(self.input(b""), self.name), "check")
-        tables = tables_of(self.head)
-        return [*warnings.of_deployment(tables), *warnings.of_values(teller)] if tables else []
+        return warnings.of_text(teller)
 
     def schedule(self) -> "Schedule":
         """A schedule of it that is still empty: the program runs beside it."""

@@ -16,6 +16,7 @@ from sancus.model.lines import run_by_line
 from sancus.model.session import Stopped, snapped
 from sancus.model.shown import text_of
 from sancus.model.texts import MOST_HEAD, Input, Kept, find_mark, kept_of
+from sancus.model.toml import NoReader
 from sancus.status import WITH_A_FAULT, Ended
 
 
@@ -37,6 +38,8 @@ def words_of(words: Callable[[], List[str]]) -> List[str]:
     """Words about an input, or none if finding them fails: however odd an input is, the program's answer is kept."""
     try:
         return words()
+    except NoReader as error:
+        return error.lines
     except Ended:
         raise
     except Exception:  # noqa: BLE001
@@ -47,10 +50,8 @@ def words_of(words: Callable[[], List[str]]) -> List[str]:
 
 def warn_of(context: Context, kept: Kept) -> None:
     teller = Teller(kept, "check")
-    tables = teller.tables if len(teller.head) < MOST_HEAD else None
-    if tables:
-        known = tables
-        context.voice.say(*words_of(lambda: warnings.of_deployment(known) + warnings.of_values(teller)))
+    if len(teller.head) < MOST_HEAD:
+        context.voice.say(*words_of(lambda: warnings.of_text(teller)))
 
 
 def warn_after(context: Context, given: Given, ran: Ran) -> None:

@@ -3,6 +3,7 @@
 from __future__ import annotations
 
 import re
+import sys
 from importlib import import_module
 from typing import Any, Dict, Optional
 
@@ -17,14 +18,24 @@ class NoToml(ValueError):
         self.what, self.line, self.column = what, line, column
 
 
+class NoReader(Ended):
+    """There is nothing that reads TOML."""
+
+
 def library() -> Any:
-    """What reads TOML: Python has it from 3.11 on, and before that it is a package."""
-    for name in ("tomllib", "tomli"):
-        try:
-            return import_module(name)
-        except ImportError:
-            continue
-    raise Ended(NO_ANSWER, "Python 3.10 has no library that reads deployments: `pip install tomli` does")
+    """What reads TOML: Python has it from 3.11 on, and before that it is a package. (The command of a clone is started
+    without the folders of packages.)"""
+    try:
+        return import_module("tomllib")
+    except ImportError:
+        import site
+
+        site.main()
+        sys.path.append(site.getusersitepackages())
+    try:
+        return import_module("tomli")
+    except ImportError:
+        raise NoReader(NO_ANSWER, "Python 3.10 needs the package tomli here: `pip install tomli`") from None
 
 
 def read(text: str) -> Dict[str, Any]:

@@ -148,3 +148,8 @@ def of_keys(tables: Tables) -> List[str]:
 
 def of_deployment(tables: Tables) -> List[str]:
     return [*of_keys(tables), *map(str, about_ports(tables))]
+
+
+def of_text(teller: Teller) -> List[str]:
+    """All that is warned of; nothing of a text that is no TOML."""
+    return [*of_deployment(teller.tables), *of_values(teller)] if teller.tables else []
