@@ -5,7 +5,6 @@ docs/FORMATS.md.
 from __future__ import annotations
 
 USAGE = 2
-READ_FAILED = 4
 WRITE_FAILED = 5
 # A player's lines don't reach their goal, or aren't allowed.
 NOT_REACHED = 15

@@ -115,10 +115,6 @@ class ForgedSeen(Sink):
         self.to.close()
 
 
-def is_end(line: bytes) -> bool:
-    return line == b"end" or line.startswith(b"fault ")
-
-
 @dataclass
 class ScheduleOnly(Lines):
     """Of what `drive` writes the lines of the schedule, as `run` takes them. A fault isn't one: it becomes a
