@@ -1,7 +1,7 @@
 //! Words between two ends.
 
-ghost use Rattle.std.specs.Prelude.{◌≡◌, ◌≤◌, ◌<◌, ◌^◌, ℕ, suc, max, min};
-ghost use Rattle.sx_span.specs.Intervals.{any_word, between, decided, hull, most_of_bits};
+ghost use Rattle.std.specs.Prelude.{◌≡◌};
+ghost use Rattle.sx_span.specs.Intervals.{between, decided, hull, most_of_bits};
 ghost use Rattle.sx_span.specs.Intervals.{ones, only, wrapped};
 
 /// The words from `low` to `high`.

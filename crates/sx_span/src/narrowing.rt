@@ -1,12 +1,12 @@
 //! What a test tells where it came out true, and where false.
 
-ghost use Rattle.std.specs.Prelude.{◌≡◌, ◌++◌, ◌<◌, IfOk, List, OnOk, Option, length, slice_set};
+ghost use Rattle.std.specs.Prelude.{◌≡◌, ◌++◌, ◌<◌, IfOk, OnOk, Option, slice_set};
 ghost use Rattle.std.specs.List.{flat_map};
 ghost use Rattle.sx_lang.specs.View.{expression_of};
 ghost use Rattle.sx_mean.specs.Sized.{AreSizedDecls};
 ghost use Rattle.sx_span.specs.Intervals.{between};
 ghost use Rattle.sx_span.specs.Narrow.{limit, limit_both, limit_cell, limit_element};
-ghost use Rattle.sx_span.specs.Narrow.{limit_local, limit_name, limit_to, meet, narrow};
+ghost use Rattle.sx_span.specs.Narrow.{limit_local, limit_name, limit_to, narrow};
 ghost use Rattle.sx_span.specs.Narrow.{are_flags, narrow_equal, narrow_less, narrow_plain};
 ghost use Rattle.sx_span.specs.Narrow.{narrow_either, without};
 ghost use Rattle.sx_span.specs.Ranges.{look_up_range};
