@@ -1,7 +1,7 @@
 //! Intervals in others, and boxes in boxes.
 
 ghost use Rattle.std.specs.Prelude.{◌≡◌};
-ghost use Rattle.sx_table.specs.Boxes.{box_has, box_within, fills, spans, within};
+ghost use Rattle.sx_table.specs.Boxes.{box_has, box_within, fills, within};
 
 use sx_span::intervals::Interval;
 

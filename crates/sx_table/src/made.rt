@@ -7,7 +7,7 @@ ghost use Rattle.sx_mean.specs.View.{app_as};
 ghost use Rattle.sx_table.specs.Demands.{demand_as, needed_as};
 ghost use Rattle.sx_table.specs.Made.{answered, answers, carried, carried_one, emit_of, event_in};
 ghost use Rattle.sx_table.specs.Made.{may_emit};
-ghost use Rattle.sx_table.specs.Made.{needed_at, owes_none, places_of, reacts, sent_by, sent_over};
+ghost use Rattle.sx_table.specs.Made.{needed_at, owes_none, places_of, sent_by, sent_over};
 ghost use Rattle.sx_table.specs.Made.{ways_at};
 ghost use Rattle.sx_table.specs.Made.{ways_from, words_of};
 ghost use Rattle.sx_table.specs.Places.{place_as};

@@ -2,7 +2,6 @@
 
 ghost use Rattle.std.specs.Prelude.{◌≡◌, ◌++◌, IfOk, OnOk, None, Some, map};
 ghost use Rattle.sx_check.specs.Source.{source_tree};
-ghost use Rattle.sx_mean.specs.Places.{initial_cells};
 ghost use Rattle.sx_mean.specs.View.{app_as, part_as};
 ghost use Rattle.sx_table.specs.Demands.{demand_as};
 ghost use Rattle.sx_table.specs.Places.{place_as};
