@@ -1,6 +1,6 @@
 //! The lines before a trace. Those of images are passed, whatever they say.
 
-ghost use Rattle.std.specs.Prelude.{◌≡◌, IsTrue};
+ghost use Rattle.std.specs.Prelude.{IsTrue};
 ghost use Rattle.command_promise.specs.Told.{command_at};
 ghost use Rattle.command_promise.specs.Parts.{Rest};
 ghost use Rattle.sx_trace.specs.ValidNames.{are_valid};

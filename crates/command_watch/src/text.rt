@@ -1,7 +1,7 @@
 //! The lines that `watch` writes. None of this takes memory.
 
-ghost use Rattle.std.specs.Prelude.{◌≡◌, ◌≢◌, ◌+◌, ◌≤◌, List, length};
-ghost use Rattle.command_promise.specs.Told.{CommandEnds, out_of_memory};
+ghost use Rattle.std.specs.Prelude.{◌≡◌, List, length};
+ghost use Rattle.command_promise.specs.Told.{CommandEnds};
 ghost use Rattle.sx_trace.specs.declared.items.Item.{Item as Listed};
 ghost use Rattle.sx_model.specs.Legal.{before};
 ghost use Rattle.sx_watch.specs.Watched.{PropertyTree};
