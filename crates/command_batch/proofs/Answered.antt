@@ -1,5 +1,5 @@
 -- What an answer is of what `run` writes.
-use Rattle.std.proofs.Common.{◌≡◌, ◌∙◌, ℕ, ◌+◌, ◌≤◌, Bool, true, false, List, [], ◌∷◌, ◌++◌, length, refl, sym, ap, subst, arith, append_assoc, Result, Ok, Err}
+use Rattle.std.proofs.Common.{◌≡◌, ◌∙◌, ℕ, ◌+◌, ◌≤◌, false, List, [], ◌∷◌, ◌++◌, length, refl, sym, ap, subst, arith, append_assoc, Result, Ok, Err}
 use Rattle.std.specs.Prelude.{codes}
 use Rattle.std.proofs.lemmas.List.Elements.{All-head, All-tail}
 use Rattle.sx_io.specs.Reading.{Answer, End}
@@ -9,7 +9,6 @@ use Rattle.command_promise.specs.Told.{Output, behind}
 use Rattle.sx_trace.specs.Names.{NameLists}
 use Rattle.sx_sched.specs.Lines.{Line}
 use Rattle.sx_sched.specs.Reading.{Assembler}
-use Rattle.sx_trace.specs.declared.items.Item.{Item}
 use Rattle.spec_run.specs.Setting.{Setting}
 use Rattle.spec_run.specs.State.{World}
 use Rattle.spec_run.specs.Run.{run}
@@ -21,7 +20,7 @@ use Rattle.command_world.specs.Turning.{after_next}
 use Rattle.command_run.specs.Output.{run_from, schedule_output, stop_output}
 use Rattle.command_run.proofs.Written.{items_text_append}
 use Rattle.command_batch.specs.Output.{Passes, Runs, common_from, schedules_from}
-use Rattle.command_batch.specs.Laws.{AnswersAreRuns, AreCommon, AreUnmarked, IsUnmarked, given, mark}
+use Rattle.command_batch.specs.Laws.{AnswersAreRuns, AreUnmarked, IsUnmarked, given, mark}
 use Rattle.command_batch.proofs.Written.{behind_line, behind_mark, common_ends, common_goes, line_goes, schedule_breaks, schedule_ends, schedule_passes, schedule_runs}
 
 module _ (assemble : Assembler) (names : NameLists) (set : Setting) where

@@ -1,5 +1,5 @@
 -- The state of common lines, of a schedule and of all schedules between two lines.
-use Rattle.std.proofs.Common.{◌≡◌, ℕ, ◌+◌, Bool, List}
+use Rattle.std.proofs.Common.{ℕ, Bool, List}
 use Rattle.sx_asm.specs.Assembled.{assembled}
 use Rattle.sx_io.specs.Reading.{Answer, Limit}
 use Rattle.sx_io.specs.Next.{Ahead}

@@ -1,17 +1,16 @@
 -- Which lines a part of the command was given, and that the last of them may want memory.
-use Rattle.std.proofs.Common.{◌≡◌, ℕ, Bool, true, false, List, [], ◌∷◌, ◌++◌, refl, inl, inr, take, arith, nat_lt, Result, Ok, Err}
+use Rattle.std.proofs.Common.{◌≡◌, ℕ, Bool, true, false, List, [], ◌∷◌, ◌++◌, inl, inr, take, arith, nat_lt, Result, Err}
 use Rattle.std.specs.Prelude.{if◌then◌else◌}
 use Rattle.sx_asm.specs.Assembled.{assembled}
 use Rattle.sx_io.specs.Streams.{SourceAt}
-use Rattle.sx_io.specs.Reading.{Answer, Line, longest}
+use Rattle.sx_io.specs.Reading.{Line, longest}
 use Rattle.sx_io.specs.Next.{Ahead, Next}
 use Rattle.sx_io.specs.declared.lines.LineRead.TheVariants as read
 use Rattle.command_promise.specs.Head.{head_lines, is_mark}
-use Rattle.sx_trace.specs.Names.{NameLists}
 use Rattle.sx_sched.specs.Lines as lines
 use Rattle.sx_sched.specs.Reading.{said_line}
 use Rattle.sx_deploy.specs.Deployment.{Deployed}
-use Rattle.command_head.specs.Given.{GivenSince, RanOutSince}
+use Rattle.command_head.specs.Given.{RanOutSince}
 use Rattle.command_head.proofs.Given.{given_line, given_none, given_then, wants_last}
 use Rattle.command_world.specs.Schedule.{judged_line, or_rule}
 use Rattle.command_world.specs.Turning.{MayRunOut}

@@ -1,5 +1,5 @@
 -- What `batch` owes after the head of a deployment.
-use Rattle.std.proofs.Common.{◌≡◌, ◌∙◌, ℕ, ◌+◌, ◌==◌, Bool, true, false, List, [], ◌∷◌, refl, arith, Result, Ok, Err, inl, inr}
+use Rattle.std.proofs.Common.{◌≡◌, ℕ, ◌+◌, ◌==◌, Bool, true, false, List, [], ◌∷◌, refl, arith, Result, Ok, Err, inl, inr}
 use Rattle.std.specs.Prelude.{if◌then◌else◌}
 use Rattle.sx_asm.specs.Assembled.{assembled}
 use Rattle.sx_io.specs.Reading.{Answer, Line, End, Long, Fault}
@@ -10,7 +10,6 @@ use Rattle.command_promise.proofs.Endings.{Faultless, Unfinished, pick}
 use Rattle.sx_tag.specs.Mac.{Mac}
 use Rattle.sx_trace.specs.Names.{NameLists}
 use Rattle.sx_sched.specs.Lines as lines
-use Rattle.sx_deploy.specs.Deployment.{Deployed}
 use Rattle.spec_run.specs.Setting.{Setting}
 use Rattle.spec_run.specs.State.{World, switched_on}
 use Rattle.spec_run.specs.Accepted.{setting_of}
@@ -18,7 +17,7 @@ use Rattle.command_deploy.proofs.Owing.{Owes}
 use Rattle.command_world.specs.Broken.{broken_output}
 use Rattle.command_world.specs.Schedule.{judged_line}
 use Rattle.command_world.specs.Turning.{after_next}
-use Rattle.command_batch.specs.Output.{Reply, Runs, Standing, common_from, reply, last_number, last_text, long_output, most_schedules, on_common, schedules_from}
+use Rattle.command_batch.specs.Output.{Runs, Standing, common_from, reply, last_number, last_text, long_output, most_schedules, on_common, schedules_from}
 use Rattle.command_batch.specs.Promise.{batch_part}
 use Rattle.command_batch.specs.Status.{common_status, or_broken, schedules_status}
 use Rattle.command_batch.proofs.Written.{behind_line, behind_mark, common_breaks, common_ends, common_goes, common_unread, schedule_ends, schedule_replies, schedule_unread}

@@ -1,5 +1,5 @@
 -- What a line of a schedule does to the output.
-use Rattle.std.proofs.Common.{◌≡◌, ◌∙◌, ℕ, ◌+◌, ◌≤◌, Bool, false, List, [], ◌∷◌, ◌++◌, refl, sym, ap, arith, Result, Ok, Err}
+use Rattle.std.proofs.Common.{◌≡◌, ◌∙◌, ℕ, ◌+◌, ◌≤◌, Bool, false, List, [], ◌∷◌, ◌++◌, refl, sym, ap, arith, Ok, Err}
 use Rattle.std.specs.Prelude.{IsTrue}
 use Rattle.std.proofs.lemmas.List.{append-nil}
 use Rattle.sx_asm.specs.Assembled.{assembled}
@@ -7,10 +7,8 @@ use Rattle.sx_io.specs.Reading.{Answer}
 use Rattle.sx_io.specs.Reading as answer
 use Rattle.sx_io.specs.Streams.{SinkAt}
 use Rattle.command_promise.specs.Head.{is_mark}
-use Rattle.command_promise.specs.Parts.{DoesPart, WroteSome}
+use Rattle.command_promise.specs.Parts.{WroteSome}
 use Rattle.command_promise.specs.Told.{CommandEnds, Output, behind, out_of_memory, write_failed}
-use Rattle.command_promise.specs.declared.turned.Turned.{Turned}
-use Rattle.command_promise.specs.declared.turned.Turned.TheVariants.{On, Stop}
 use Rattle.command_promise.proofs.Laws.{ends-same, ends-out-of-memory, ends-write-failed, prefix-all, prefix-more}
 use Rattle.sx_trace.specs.declared.items.Item.{Item}
 use Rattle.sx_trace.specs.Names.{NameLists}
@@ -23,10 +21,10 @@ use Rattle.command_world.specs.Items.{items_text}
 use Rattle.command_world.specs.Schedule.{judged_line}
 use Rattle.command_world.specs.Turning.{after_next}
 use Rattle.command_run.specs.declared.trace.Shown.TheVariants.{Items}
-use Rattle.command_run.proofs.Written.{part, prefix_told, told_front}
-use Rattle.command_batch.specs.Output.{Passes, Runs, schedules_from}
+use Rattle.command_run.proofs.Written.{prefix_told, told_front}
+use Rattle.command_batch.specs.Output.{Runs, schedules_from}
 use Rattle.command_batch.specs.Parts.{passed_from}
-use Rattle.command_batch.proofs.Written.{line_goes, schedule_breaks, schedule_runs}
+use Rattle.command_batch.proofs.Written.{schedule_breaks, schedule_runs}
 
 -- nothing was written, since what was to be written is what is left
 pub wrote_nothing : (to_tell : Bool) (k : SinkAt) (f g : List Answer → Output) → ((more : List Answer) → f more ≡ g more) → WroteSome to_tell k k f g

@@ -21,7 +21,7 @@ use Rattle.command_world.specs.Items.{items_text}
 use Rattle.command_world.specs.Schedule.{judged_line}
 use Rattle.command_world.specs.Turning.{after_next}
 use Rattle.command_batch.specs.Parts.{next_from, passed_from}
-use Rattle.command_batch.specs.Output.{Reply, Passes, Runs, Standing, common_from, reply, last_number, last_text, long_output, most_schedules, on_common, schedules_from}
+use Rattle.command_batch.specs.Output.{Passes, Runs, Standing, common_from, reply, last_number, last_text, long_output, most_schedules, schedules_from}
 
 -- a number that is not the last to be passed over
 pub goes_on : (number : ℕ) → number + 1 ≤ 4294967295 → (number == last_number) ≡ false

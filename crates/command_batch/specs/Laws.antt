@@ -4,7 +4,7 @@ use Rattle.std.specs.Prelude.{◌≡◌, ℕ, ◌+◌, ◌≤◌, ◌==◌, if�
 use Rattle.std.specs.Prelude.{All, codes, length, map}
 use Rattle.sx_io.specs.Reading.{Answer, End, Line}
 use Rattle.command_promise.specs.Head.{is_mark}
-use Rattle.command_promise.specs.Told.{Output, behind}
+use Rattle.command_promise.specs.Told.{behind}
 use Rattle.sx_trace.specs.Names.{NameLists}
 use Rattle.sx_sched.specs.Lines as lines
 use Rattle.sx_sched.specs.Reading.{Assembler}

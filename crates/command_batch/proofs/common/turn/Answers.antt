@@ -1,7 +1,7 @@
-use Rattle.std.proofs.Common.{◌≡◌, ◌∙◌, ◌+◌, ℕ, List, ◌∷◌, ◌++◌, ap, refl, sym, Err}
+use Rattle.std.proofs.Common.{◌∙◌, ◌+◌, ℕ, ◌∷◌, ap, refl, sym, Err}
 use Rattle.sx_asm.specs.Assembled.{assembled}
 use Rattle.sx_io.specs.Reading.{Line}
-use Rattle.command_promise.proofs.Laws.{does-same, ends-same, ends-out-of-memory, prefix-none}
+use Rattle.command_promise.proofs.Laws.{ends-same, ends-out-of-memory, prefix-none}
 use Rattle.sx_sched.specs.Seen.{line_of}
 use Rattle.sx_deploy.specs.SeenDeployment.{deployed_as}
 use Rattle.spec_run.specs.Accepted.{setting}

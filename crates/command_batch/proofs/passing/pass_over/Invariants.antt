@@ -1,4 +1,4 @@
-use Rattle.std.specs.Prelude.{ℕ, ◌≤◌, ◌-◌, List}
+use Rattle.std.specs.Prelude.{ℕ, ◌-◌, List}
 use Rattle.sx_io.specs.Reading.{Answer, Limit}
 use Rattle.command_promise.specs.Head.{head_lines}
 use Rattle.command_promise.specs.Parts.{Begun, Notes}

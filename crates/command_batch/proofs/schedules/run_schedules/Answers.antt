@@ -1,4 +1,4 @@
-use Rattle.std.proofs.Common.{◌≡◌, ◌+◌, ap, arith, refl, sym}
+use Rattle.std.proofs.Common.{◌+◌, ap, arith, refl, sym}
 use Rattle.sx_asm.specs.Assembled.{assembled}
 use Rattle.command_promise.specs.declared.turned.Turned.TheVariants.{Stop}
 use Rattle.command_promise.proofs.Laws.{begun-same, ends-same, told-stop}
