@@ -1,7 +1,6 @@
 use Rattle.std.proofs.Common.{◌≡◌, ◌∙◌, ◌+◌, ◌∷◌, ◌++◌, ◌≤◌, [], ℕ, take, arith, ap, refl, sym, subst, List, Ok}
 use Rattle.sx_io.specs.Reading.{Answer, Line}
 use Rattle.sx_io.specs.declared.lines.LineRead.TheVariants as read
-use Rattle.sx_io.specs.declared.outside.Failed.{Failed}
 use Rattle.sx_io.specs.Streams.{SinkAt, SourceAt}
 use Rattle.command_promise.specs.Told.{Output, Told, behind, command_at, read_line, write_failed}
 use Rattle.command_promise.specs.Parts.{Notes}
