@@ -6,8 +6,10 @@ use Rattle.sx_drive.proofs.Loops.{settle_all, settle_first, settle_on, settle_wa
 use Rattle.sx_drive.proofs.honest.Honest.settle.Goals as goal
 
 pub deliver-requires : goal.deliver-requires
-deliver-requires g c =
-    goes_popped g.T.Tag.mac c.args.deployment.now c.loop-turn.self c.next_waiting.new.self (drop 1 c.loop-turn.self.waiting) c.in-Some.ensures.rest c.loop-turn.invariant.goes
+deliver-requires g c = record {
+  going =
+      goes_popped g.T.Tag.mac c.args.deployment.now c.loop-turn.self c.next_waiting.new.self (drop 1 c.loop-turn.self.waiting) c.in-Some.ensures.rest c.loop-turn.invariant.goes;
+}
 
 pub returns-in_err-deliver-in-Some-clause-does : goal.returns-in_err-deliver-in-Some-clause-does
 returns-in_err-deliver-in-Some-clause-does g c =
