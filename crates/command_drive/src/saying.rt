@@ -57,7 +57,7 @@ fn can_be_written(names: &Names, line: &Line)
 fn push_line(batch: &mut Batch, names: &Names, line: &Line)
     requires names { IsTrue (are_valid names.now) }
     requires named { IsNamed names.now (line_of line.now) }
-    requires room { length batch.old.items + 131 ≤ 512 }
+    requires room { length batch.old.items + 131 ≤ 8192 }
     ensures { batch.new.items
         ≡ batch.old.items ++ said_line names.now (SaidLine (line_of line.now)) }
 {

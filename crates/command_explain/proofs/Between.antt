@@ -11,7 +11,7 @@ use Rattle.sx_explain.specs.Followed.{Follows, Seen}
 use Rattle.command_explain.specs.Output.{explain_from}
 use Rattle.command_explain.specs.Meant.{AreMeanings, Meanings}
 use Rattle.command_explain.specs.Trace.{trace_lines}
-use Rattle.command_explain.proofs.Keeping.{Waits}
+use Rattle.command_text.proofs.Keeping.{Waits}
 use Rattle.command_explain.proofs.Wanted.{GaveTrace}
 
 -- The judge follows these items, and what is left is what is kept, and then what is said from the line after them on.

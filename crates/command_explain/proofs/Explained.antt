@@ -21,7 +21,7 @@ use Rattle.sx_explain.proofs.JudgesLegal.{allowed_next, is_not_none, judged_is, 
 use Rattle.command_explain.specs.Output.{explain_from, illegal_output, stop_output, told_item, told_items}
 use Rattle.command_explain.specs.Laws.{Refused, TracesExplained, cause_line, causes_text}
 use Rattle.command_explain.specs.Trace.{trace}
-use Rattle.command_explain.proofs.Keeping.{joined}
+use Rattle.command_text.proofs.Keeping.{joined}
 
 -- nothing is said after a forged item
 behind_forged : (app : AppTree) (front items : List Item) (last : Output) → list_any is_forged front ≡ true → told_items app front items last ≡ last

@@ -7,7 +7,6 @@ pub mod Found
 pub mod Fronts
 pub mod Heads
 pub mod Judged
-pub mod Keeping
 pub mod Owing
 pub mod Promised
 pub mod Starting

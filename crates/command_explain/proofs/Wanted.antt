@@ -31,6 +31,7 @@ use Rattle.sx_explain.specs.Wants.{IsBehindEvent, item_may}
 use Rattle.command_head.specs.Given.{GivenSince, RanOutSince, WantsLast}
 use Rattle.command_head.specs.Headless.{EndsHeadless}
 use Rattle.command_head.specs.Wanting.{RanOutAt}
+use Rattle.command_head.proofs.Came.{Came, given_came, wants_came}
 use Rattle.command_head.proofs.Given.{given_line, given_none, given_then, ran_out_at, ran_out_behind, wants_last}
 use Rattle.command_explain.specs.declared.images.ImageLine.{ImageLine}
 use Rattle.command_explain.specs.declared.images.ImageLine.TheVariants as image
@@ -39,70 +40,10 @@ use Rattle.command_explain.specs.declared.lines.TraceRule.{TraceRule}
 use Rattle.command_explain.specs.declared.lines.TraceLine.TheVariants as kind
 use Rattle.command_explain.specs.Meant.{AreMeanings, Meanings}
 use Rattle.command_explain.specs.Trace.{Start, explain_lines, image_line, image_lines, is_trace, judged_line, line_of, on_image, on_line, start, stop_behind, trace, trace_lines}
-use Rattle.command_explain.specs.Turns.{ComesNext, ReadWants, TraceWants}
+use Rattle.command_explain.specs.Turns.{ReadWants, TraceWants}
 use Rattle.command_explain.specs.Wants.{explain_may, line_may, start_may, trace_may}
 use Rattle.command_explain.proofs.Heads.{got_longer}
-use Rattle.command_explain.proofs.Keeping.{few_left}
 use Rattle.command_explain.proofs.Starting.{image_is, lines_by, trace_is}
-
--- ---- a line that was held, or read
-
-pub record Came (tells : Bool) (s1 s2 : SourceAt) (old new : Ahead) (into : List ℕ) (n : ℕ) : Type 0 where
-  pub how : ((s2 ≡ s1) × GivesHeld old new into (Some n)) ⊎ Next longest tells s1 s2 old new into (read.Text n)
-
-pub came_text : (tells to_tell : Bool) (m0 m1 : CommandAt) (kept left : List ℕ) (old new : Ahead) (into : List ℕ) (n : ℕ) (r : Result LineRead Failed) → r ≡ Ok (read.Text n)
-    → ComesNext tells to_tell m0 m1 kept left old new into r → Came tells m0.source m1.source old new into n
-came_text tells to_tell m0 m1 kept left old new into n r is comes =
-    let R : Result LineRead Failed → Type 0 = λ r. ComesNext tells to_tell m0 m1 kept left old new into r in
-    let here : R (Ok (read.Text n)) = subst R is comes in
-    elim here [
-      | inl held ↦ record { how = inl (ap (λ (m : CommandAt). m.source) held.0, held.2) }
-      | inr reads ↦ record { how = inr reads.2 }
-    ]
-
--- one that was held is the next, and nothing is read for it
-held_next : (tells : Bool) (s : SourceAt) (old new : Ahead) (into : List ℕ) (n : ℕ) → length old.held ≤ longest → GivesHeld old new into (Some n) → Next longest tells s s old new into (read.Text n)
-held_next tells s old new into n few held =
-    let P : List ℕ → Type 0 = λ bytes. Took longest bytes (read.Text n) into new in record {
-      takes = λ o. record {
-        got = [];
-        from_source = λ t. refl;
-        took = subst P (sym (append-nil old.held)) held.2;
-        faults = record { faults = refl; left = refl };
-        at_end = λ e. absurd (open-not-at-end new.state held.1 e);
-        no_end = λ e t. refl;
-        asked = λ t. inl refl;
-        few = few_left old.held held.2.1 new.held held.2.2 few;
-      };
-      again = λ c. absurd (c held.0);
-    }
-
-module _ {tells : Bool} {s1 s2 s3 : SourceAt} {old now new : Ahead} (lines : List Answer) (into : List ℕ) (n : ℕ) (given : GivenSince trace_lines trace_lines tells s1 s2 old now lines)
-    (came : Came tells s2 s3 now new into n) where
-  given_held : GivesHeld now new into (Some n) → GivenSince trace_lines trace_lines tells s1 s2 old new (lines ++ Line (take n into) ∷ [])
-  given_held held = λ limit s0 f due b.
-      let g = given limit s0 f due b in (
-        f (lines ++ Fault ∷ []),
-        got-same (λ more. ap f (sym (append_assoc lines (Line (take n into) ∷ []) more))) refl (got-line (λ more. f (lines ++ more)) g.1 (held_next tells s2 now new into n g.1.few held)),
-      )
-
-  pub given_came : GivenSince trace_lines trace_lines tells s1 s3 old new (lines ++ Line (take n into) ∷ [])
-  given_came =
-      let P : SourceAt → Type 0 = λ s. GivenSince trace_lines trace_lines tells s1 s old new (lines ++ Line (take n into) ∷ []) in
-      elim came.how [
-        | inl held ↦ subst P (sym held.0) (given_held held.1)
-        | inr next ↦ given_line lines into n given next
-      ]
-
-  pub wants_came : (May : List Answer → List ℕ → Type 0) → May lines (take n into) → WantsLast trace_lines May tells s1 s3 old (lines ++ Line (take n into) ∷ [])
-  wants_came May may =
-      elim came.how [
-        | inl held ↦ (
-          (lines, take n into, refl, may),
-          λ limit s0 f due b i. inl ((given_came limit s0 f due b).1.no_end (open-not-at-end new.state held.1.1) i),
-        )
-        | inr next ↦ wants_last May lines into n given next may
-      ]
 
 -- ---- the lines of a trace
 

@@ -1,16 +1,12 @@
 -- What a call makes of one line. Nobody has to believe this file: it is for contracts of functions
 -- that aren't public.
 use Rattle.std.specs.Prelude.{◌≡◌, ℕ, ◌+◌, ◌==◌, ◌&&◌, nat_le, Bool, if◌then◌else◌, List, [], ◌∷◌}
-use Rattle.std.specs.Prelude.{◌++◌, ◌⊎◌, codes, length, take, IsTrue, Option, Some, Result, Ok}
-use Rattle.std.specs.Prelude.{Err}
+use Rattle.std.specs.Prelude.{◌++◌, ◌⊎◌, codes, length, take, Option, Some, Ok}
 use Rattle.std.specs.Str.{bytes_eq}
 use Rattle.sx_io.specs.Streams.{SinkAt, SourceAt}
-use Rattle.sx_io.specs.Reading.{Answer, longest}
-use Rattle.sx_io.specs.Next.{Ahead, GivesHeld, Next}
-use Rattle.sx_io.specs.declared.lines.LineRead.{LineRead}
-use Rattle.sx_io.specs.declared.lines.LineRead.TheVariants.{Text}
-use Rattle.sx_io.specs.declared.outside.Failed.{Failed}
-use Rattle.command_promise.specs.Told.{CommandAt, CommandEnds, Output, behind}
+use Rattle.sx_io.specs.Reading.{Answer}
+use Rattle.sx_io.specs.Next.{Ahead}
+use Rattle.command_promise.specs.Told.{CommandEnds, Output, behind}
 use Rattle.command_promise.specs.declared.turned.Turned.{Turned}
 use Rattle.command_promise.specs.declared.turned.Turned.TheVariants.{On, Stop}
 use Rattle.sx_trace.specs.declared.items.Item.{Item}
@@ -19,7 +15,6 @@ use Rattle.sx_deploy.specs.Deployment.{Deployed, IsRead}
 use Rattle.sx_explain.specs.Followed.{Follows, Seen}
 use Rattle.sx_explain.specs.Judging.{judged}
 use Rattle.sx_explain.specs.declared.judge.Judged.{Judged}
-use Rattle.command_text.specs.Batch.{WritesPrefix}
 use Rattle.command_head.specs.Given.{GivenSince, RanOutSince, WantsLast}
 use Rattle.command_explain.specs.declared.images.ImageLine.{ImageLine}
 use Rattle.command_explain.specs.declared.images.ImageLine.TheVariants as image
@@ -35,32 +30,6 @@ front_line number front count =
     else if nat_le number most_images
     && (nat_le 6 count && bytes_eq (take 6 front) (codes "image ")) then image.Image
     else image.Other
-
--- a text was written whole
-pub record Wrote (to_tell : Bool) (k0 k1 : SinkAt) (text : List ℕ) : Type 0 where
-  pub wrote : IsTrue to_tell → k1.written ≡ k0.written ++ text
-  pub no_fault : k1.faults ≡ k0.faults
-
--- that, or one write failed, by the answer
-abbrev pub Puts : Bool → SinkAt → SinkAt → List ℕ → Result (Unit {0}) Failed → Type 0
-Puts to_tell k0 k1 text (Ok done) = Wrote to_tell k0 k1 text
-Puts to_tell k0 k1 text (Err failed) = WritesPrefix to_tell k0 k1 text
-
--- the line was held
-abbrev pub WasHeld : Ahead → Ahead → List ℕ → LineRead → Type 0
-WasHeld old new into (Text n) = GivesHeld old new into (Some n)
-WasHeld old new into _ = ⊥
-
--- The next line was held, and nothing was written or read; or all that was kept was written, and
--- then the line was asked for.
-abbrev pub ComesNext : Bool → Bool → CommandAt → CommandAt → List ℕ → List ℕ → Ahead → Ahead
-    → List ℕ → Result LineRead Failed → Type 0
-ComesNext tells to_tell m0 m1 kept left old new into (Ok answer) =
-    ((m1 ≡ m0) × (left ≡ kept) × WasHeld old new into answer)
-    ⊎ (Wrote to_tell m0.sink m1.sink kept × (left ≡ [])
-    × Next longest tells m0.source m1.source old new into answer)
-ComesNext tells to_tell m0 m1 kept left old new into (Err failed) =
-    WritesPrefix to_tell m0.sink m1.sink kept × (m1.source ≡ m0.source)
 
 -- What was said of an item is kept after what was kept before, and nothing was written; or the
 -- command ended.

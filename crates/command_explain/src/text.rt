@@ -1,23 +1,24 @@
 //! The lines that `explain` writes. What is said of items is kept, to be written together. None of
 //! this takes memory.
 
-ghost use Rattle.std.specs.Prelude.{◌≡◌, ◌≢◌, ◌+◌, ◌≤◌, ◌++◌, IsTrue, decimal, length, List, Some, true};
+ghost use Rattle.std.specs.Prelude.{◌≡◌, ◌≢◌, ◌+◌, ◌≤◌, ◌++◌, decimal, length, List, Some, true};
 ghost use Rattle.command_promise.specs.Told.{CommandEnds, Output, behind, out_of_memory, write_failed};
 ghost use Rattle.sx_trace.specs.declared.items.Item.{Item as Listed};
 ghost use Rattle.sx_mean.specs.Application.{AppTree};
 ghost use Rattle.sx_explain.specs.Followed.{Follows};
 ghost use Rattle.command_explain.specs.Output.{because_line, broken_output, forged_line};
 ghost use Rattle.command_explain.specs.Output.{illegal_output, legal_text};
-ghost use Rattle.command_explain.specs.Turns.{Puts, TellsItem};
+ghost use Rattle.command_explain.specs.Turns.{TellsItem};
 
 use crate::lines::TraceRule;
 use arrayvec::ArrayVec;
-use command_promise::{OUT_OF_MEMORY, Turned, WRITE_FAILED, finish};
+use command_promise::{Turned, WRITE_FAILED, finish};
+use command_text::batch::{Batch, MOST, put_kept};
 use command_text::fault::finish_fault;
 use command_text::text::{Text, put};
 use itoa::Buffer;
 use sx_explain::judge::{Judge, Judged};
-use sx_io::{Failed, Sink, put_all};
+use sx_io::Sink;
 
 /// The exit status for a line that breaks a rule.
 const BROKEN: u8 = 3;
@@ -25,27 +26,14 @@ const BROKEN: u8 = 3;
 /// The exit status for an item that the source doesn't allow.
 const ILLEGAL: u8 = 8;
 
-/// The most bytes that are kept.
-pub(crate) const ROOM: usize = 4096;
-
 /// The most bytes that are said of an item.
 pub(crate) const LONGEST_LINE: usize = 96;
 
-/// Lines that are kept, to be written together.
-pub(crate) type Kept = ArrayVec<u8, ROOM>;
-
 /// Whether there is room for what is said of one more item.
-pub(crate) fn has_room(kept: &Kept) -> bool
-    ensures { result ≡ true → length kept.now.items + LONGEST_LINE ≤ ROOM }
+pub(crate) fn has_room(kept: &Batch) -> bool
+    ensures { result ≡ true → length kept.now.items + LONGEST_LINE ≤ MOST }
 {
-    kept.len() <= ROOM - LONGEST_LINE
-}
-
-/// Writes all that is kept.
-pub(crate) fn put_kept<K: Sink>(output: &mut K, kept: &Kept) -> Result<(), Failed>
-    ensures { Puts K.tells (K.at output.old) (K.at output.new) kept.now.items result }
-{
-    put_all(output, kept.as_slice())
+    kept.len() <= MOST - LONGEST_LINE
 }
 
 /// Appends a number of at most 20 digits.
@@ -98,8 +86,8 @@ fn last_text(judge: &Judge) -> Text
 }
 
 /// Keeps which item caused an item, which there is room for.
-fn keep_because(kept: &mut Kept, number: u32, cause: u64)
-    requires { length kept.old.items + LONGEST_LINE ≤ ROOM }
+fn keep_because(kept: &mut Batch, number: u32, cause: u64)
+    requires { length kept.old.items + LONGEST_LINE ≤ MOST }
     ensures { kept.new.items ≡ kept.old.items ++ because_line number cause }
 {
     put(kept, b"because ");
@@ -110,7 +98,7 @@ fn keep_because(kept: &mut Kept, number: u32, cause: u64)
 }
 
 /// Writes all that is kept, and ends the command with this text and status, as `finish` does.
-fn finish_kept<K: Sink>(output: &mut K, kept: &Kept, text: &[u8], status: u8) -> u8
+fn finish_kept<K: Sink>(output: &mut K, kept: &Batch, text: &[u8], status: u8) -> u8
     requires { status ≡ write_failed → ⊥ }
     ensures ends { CommandEnds K.tells (K.at output.old) (K.at output.new) result
         (behind kept.now.items (record { text = text.now; status = status })) }
@@ -122,27 +110,14 @@ fn finish_kept<K: Sink>(output: &mut K, kept: &Kept, text: &[u8], status: u8) ->
     }
 }
 
-/// Writes all that is kept, where memory ran out.
-pub(crate) fn finish_wanted<K: Sink>(output: &mut K, kept: &Kept) -> u8
-    ensures ends { (o : Output) → CommandEnds K.tells (K.at output.old) (K.at output.new) result
-        (behind kept.now.items o) }
-    ensures made { result ≡ out_of_memory → IsTrue K.tells
-        → (K.at output.new).written ≡ (K.at output.old).written ++ kept.now.items }
-{
-    match put_kept(output, kept) {
-        Ok(()) => OUT_OF_MEMORY,
-        Err(_) => WRITE_FAILED,
-    }
-}
-
 /// Keeps what is said of an item; where it is illegal, writes that and stops.
 pub(crate) fn keep_said<K: Sink>(
     output: &mut K,
-    kept: &mut Kept,
+    kept: &mut Batch,
     number: u32,
     said: Judged,
 ) -> Turned
-    requires room { length kept.old.items + LONGEST_LINE ≤ ROOM }
+    requires room { length kept.old.items + LONGEST_LINE ≤ MOST }
     ensures does { TellsItem K.tells (K.at output.old) (K.at output.new) kept.old.items
         kept.new.items number said result }
     ensures legal { result ≡ Turned.On → said ≢ Judged.Illegal }
@@ -183,7 +158,7 @@ pub fn break_off<K: Sink>(output: &mut K, rule: TraceRule, number: u32) -> u8
 }
 
 /// Writes all that is kept, and which rule the line of this number breaks.
-pub(crate) fn break_kept<K: Sink>(output: &mut K, kept: &Kept, rule: TraceRule, number: u32) -> u8
+pub(crate) fn break_kept<K: Sink>(output: &mut K, kept: &Batch, rule: TraceRule, number: u32) -> u8
     ensures ends { CommandEnds K.tells (K.at output.old) (K.at output.new) result
         (behind kept.now.items (broken_output rule number)) }
     ensures memory { result ≢ out_of_memory }

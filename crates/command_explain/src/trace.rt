@@ -15,14 +15,13 @@ ghost use Rattle.sx_explain.specs.Followed.{Follows};
 ghost use Rattle.command_explain.specs.Output.{explain_from, stop_output};
 ghost use Rattle.command_explain.specs.Meant.{AreMeanings, Meanings};
 ghost use Rattle.command_explain.specs.Trace.{stop_behind, trace_lines};
-ghost use Rattle.command_explain.specs.Turns.{ComesNext, JudgesFrom, TraceWants};
+ghost use Rattle.command_text.specs.Keeping.{ComesNext};
+ghost use Rattle.command_explain.specs.Turns.{JudgesFrom, TraceWants};
 
 use crate::lines::{MOST_LINES, TraceLine, TraceRule, judge_line, rule_behind};
-use crate::text::{
-    Kept, LONGEST_LINE, ROOM, break_kept, break_off, finish_legal, finish_wanted, has_room,
-    keep_said, put_kept,
-};
+use crate::text::{LONGEST_LINE, break_kept, break_off, finish_legal, has_room, keep_said};
 use command_promise::{OUT_OF_MEMORY, READ_FAILED, Turned, WRITE_FAILED, finish};
+use command_text::batch::{Batch, MOST, finish_wanted, put_kept};
 use std::alloc::Global;
 use sx_deploy::deployment::Deployment;
 use sx_explain::judge::Judge;
@@ -31,9 +30,9 @@ use sx_mean::apps::App;
 use sx_trace::items::Item;
 
 /// The next line of a trace, where it is held and there is room for what is said of it.
-fn next_held(lines: &mut Lines, kept: &Kept, into: &mut [u8; 4096]) -> Option<usize>
+fn next_held(lines: &mut Lines, kept: &Batch, into: &mut [u8; 4096]) -> Option<usize>
     ensures held { IfSome result (λ n. GivesHeld lines.old lines.new into.new (Some n)) }
-    ensures room { IfSome result (λ n. length kept.now.items + LONGEST_LINE ≤ ROOM) }
+    ensures room { IfSome result (λ n. length kept.now.items + LONGEST_LINE ≤ MOST) }
     ensures none { result ≡ None → lines.new ≡ lines.old }
 {
     if !has_room(kept) {
@@ -48,13 +47,13 @@ fn next_line<S: Source, K: Sink>(
     lines: &mut Lines,
     input: &mut S,
     output: &mut K,
-    kept: &mut Kept,
+    kept: &mut Batch,
     into: &mut [u8; 4096],
 ) -> Result<LineRead, Failed>
     ensures comes { ComesNext S.tells K.tells (command_at (S.at input.old) (K.at output.old))
         (command_at (S.at input.new) (K.at output.new)) kept.old.items kept.new.items lines.old
         lines.new into.new result }
-    ensures room { OnOk result (length kept.new.items + LONGEST_LINE ≤ ROOM) }
+    ensures room { OnOk result (length kept.new.items + LONGEST_LINE ≤ MOST) }
 {
     match next_held(lines, kept, into) {
         Some(count) => Ok(LineRead::Text(count)),
@@ -71,7 +70,7 @@ fn next_line<S: Source, K: Sink>(
 /// kept of the items before is written then.
 fn turn<K: Sink>(
     output: &mut K,
-    kept: &mut Kept,
+    kept: &mut Batch,
     judge: &mut Judge,
     app: &App,
     item: &Item,
@@ -79,7 +78,7 @@ fn turn<K: Sink>(
 ) -> Turned
     requires valid { is_valid (app_as app.now) ≡ true }
     requires few { judge.old.taken < MOST_LINES }
-    requires room { length kept.old.items + LONGEST_LINE ≤ ROOM }
+    requires room { length kept.old.items + LONGEST_LINE ≤ MOST }
     ensures judges { JudgesFrom K.tells (K.at output.old) (K.at output.new) kept.old.items
         kept.new.items (app_as app.now) judge.old judge.new number item.now result }
     ensures memory { result ≡ Turned.Stop out_of_memory → judge.old.has_forged ≡ false }
@@ -142,7 +141,7 @@ fn explain_lines<S: Source, K: Sink>(
         lines.old lines.new }
 {
     let mut into = [0; 4096];
-    let mut kept = Kept::new();
+    let mut kept = Batch::new();
     let mut number: u32 = 1;
     'lines: loop {
         match next_line(lines, input, output, &mut kept, &mut into) {

@@ -69,3 +69,15 @@ module _ (names : NameLists) (shown : Shown) (said : List ℕ) (items : List Ite
       → WritesUpTo to_tell k1 k2 (kept ++ items_text names items) left → WritesUpTo to_tell k0 k2 (batch ++ shown_text shown names (record { text = said; items = items })) left
   items_added {to_tell} {k0} {k1} {k2} {kept} {left} a b =
       let Q : List ℕ → Type 0 = λ t. WritesUpTo to_tell k0 k2 t left in subst Q (append_assoc batch (front shown said) (items_text names items)) (up_to_more (items_text names items) a b)
+
+  -- in one that was begun with something
+  pub front_failed : {to_tell : Bool} {k0 k1 : SinkAt} → WritesPrefix to_tell k0 k1 (batch ++ front shown said)
+      → WritesPrefix to_tell k0 k1 (batch ++ shown_text shown names (record { text = said; items = items }))
+  front_failed {to_tell} {k0} {k1} w =
+      let Q : List ℕ → Type 0 = λ t. WritesPrefix to_tell k0 k1 t in subst Q (append_assoc batch (front shown said) (items_text names items)) (prefix_more (items_text names items) w)
+
+  pub items_kept : {to_tell : Bool} {k0 k1 : SinkAt} {kept : List ℕ} (k2 : SinkAt) (left : List ℕ) (r : Result (Unit {0}) Failed) → WritesUpTo to_tell k0 k1 (batch ++ front shown said) kept
+      → Writes to_tell k1 k2 (kept ++ items_text names items) left r → Writes to_tell k0 k2 (batch ++ shown_text shown names (record { text = said; items = items })) left r
+  items_kept {to_tell} {k0} {k1} {kept} k2 left r a b =
+      let Q : List ℕ → Type 0 = λ t. Writes to_tell k0 k2 t left r in
+      subst Q (append_assoc batch (front shown said) (items_text names items)) (writes_then k2 left r (writes_more (items_text names items) (kept ++ items_text names items) a refl) b)

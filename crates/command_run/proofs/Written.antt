@@ -6,11 +6,9 @@ use Rattle.sx_io.specs.Prefixes.{AppendsPrefix}
 use Rattle.sx_io.specs.Reading.{Answer}
 use Rattle.sx_io.specs.Reading as answer
 use Rattle.sx_io.specs.Streams.{SinkAt}
-use Rattle.command_promise.specs.Told.{CommandEnds, Output, behind, out_of_memory, unread_output}
-use Rattle.command_promise.specs.Parts.{DoesPart}
+use Rattle.command_promise.specs.Told.{CommandEnds, Output, behind, unread_output}
 use Rattle.command_promise.specs.declared.turned.Turned.{Turned}
-use Rattle.command_promise.specs.declared.turned.Turned.TheVariants.{Stop}
-use Rattle.command_promise.proofs.Laws.{does-same, ends-out-of-memory, ends-same, prefix-all, prefix-more}
+use Rattle.command_promise.proofs.Laws.{ends-same, prefix-more}
 use Rattle.sx_trace.specs.declared.items.Item.{Item}
 use Rattle.sx_trace.specs.Names.{NameLists}
 use Rattle.sx_sched.specs.Lines.{Line}
@@ -18,7 +16,9 @@ use Rattle.spec_run.specs.Setting.{Setting}
 use Rattle.spec_run.specs.State.{World}
 use Rattle.sx_observe.specs.Observing.{AddsFront, IsFront}
 use Rattle.sx_observe.proofs.Fronts.{as_front}
+use Rattle.command_text.specs.Keeping.{DoesKept}
 use Rattle.command_text.specs.Output.{end_line}
+use Rattle.command_text.proofs.Keeping.{kept_same}
 use Rattle.command_world.specs.Schedule.{Schedule, judged_line, on_line, schedule}
 use Rattle.command_world.specs.Items.{item_line, items_text}
 use Rattle.command_run.specs.declared.trace.Shown.{Shown}
@@ -81,38 +81,28 @@ module _ (shown : Shown) (names : NameLists) where
           ap (λ (r : Result Line ℕ). shown_output shown names set w (text ∷ texts_in more) (on_line number r (schedule assembled names (number + 1) more))) e
           ∙ written_line text (texts_in more) line (schedule assembled names (number + 1) more)
 
-      -- a line was performed, and all that is shown of it was written
-      pub line_told : (to_tell : Bool) (k0 k1 : SinkAt) (turned : Turned) (line : Line) (made : List Item) → judged_line assembled names number text ≡ Ok line → made ≡ (after_next set w line).items
-          → ((left : List Answer → Output) → DoesPart to_tell k0 k1 (λ more. behind (shown_text shown names (part text made)) (left more)) turned left)
-          → DoesPart to_tell k0 k1 (λ more. shown_from shown names set w number (answer.Line text ∷ more)) turned
+      -- a line was performed, and what is shown of it was kept
+      pub line_kept : (to_tell : Bool) (k0 k1 : SinkAt) (kept left : List ℕ) (turned : Turned) (line : Line) (made : List Item) → judged_line assembled names number text ≡ Ok line
+          → made ≡ (after_next set w line).items
+          → ((after : List Answer → Output) → DoesKept to_tell k0 k1 kept left (λ more. behind (shown_text shown names (part text made)) (after more)) turned after)
+          → DoesKept to_tell k0 k1 kept left (λ more. shown_from shown names set w number (answer.Line text ∷ more)) turned
           (shown_from shown names set (after_next set w line).world (number + 1))
-      line_told to_tell k0 k1 turned line made judged same does =
-          let left = shown_from shown names set (after_next set w line).world (number + 1) in
-          does-same to_tell k0 k1 (λ more. shown_from shown names set w number (answer.Line text ∷ more)) (λ more. behind (shown_text shown names (part text made)) (left more)) left turned
-          (λ more. next_line line more judged ∙ ap (λ (items : List Item). behind (shown_text shown names (part text items)) (left more)) (sym same)) (does left)
+      line_kept to_tell k0 k1 kept left turned line made judged same does =
+          let after = shown_from shown names set (after_next set w line).world (number + 1) in
+          kept_same to_tell k0 k1 kept left (λ more. shown_from shown names set w number (answer.Line text ∷ more))
+          (λ more. behind (shown_text shown names (part text made)) (after more)) after turned
+          (λ more. next_line line more judged ∙ ap (λ (items : List Item). behind (shown_text shown names (part text items)) (after more)) (sym same)) (does after)
 
-      -- memory ran out at a line, and what is shown of it with the items that were made before was written
-      pub line_wanted : {to_tell : Bool} {k0 k1 : SinkAt} (line : Line) (made : List Item)
+      -- memory ran out at a line, and the command ended after what is shown of it with the items that were made before
+      pub line_cut : {to_tell : Bool} {k0 k1 : SinkAt} {status : ℕ} (kept : List ℕ) (line : Line) (made : List Item)
           → judged_line assembled names number text ≡ Ok line → IsFront made (after_next set w line).items
-          → (IsTrue to_tell → k1.written ≡ k0.written ++ shown_text shown names (part text made))
-          → k1.faults ≡ k0.faults → (more : List Answer) → CommandEnds to_tell k0 k1 out_of_memory (shown_from shown names set w number (answer.Line text ∷ more))
-      line_wanted {to_tell} {k0} {k1} line made judged front wrote same more =
+          → ((o : Output) → CommandEnds to_tell k0 k1 status (behind kept (behind (shown_text shown names (part text made)) o)))
+          → (more : List Answer) → CommandEnds to_tell k0 k1 status (behind kept (shown_from shown names set w number (answer.Line text ∷ more)))
+      line_cut {to_tell} {k0} {k1} {status} kept line made judged front ends more =
           let next = after_next set w line in
           let left = shown_from shown names set next.world (number + 1) more in
-          ends-same _ _ _ _ _ _ (next_line line more judged)
-          (ends-out-of-memory to_tell k0 k1 (behind (shows text line) left)
-          (λ t. prefix_told _ _ text made front.0 next.items left.text front.1 (prefix-all _ _ _ (wrote t))) same)
-
-      -- or a write of it failed
-      pub line_unwritten : {to_tell : Bool} {k0 k1 : SinkAt} {status : ℕ} (line : Line) (made : List Item)
-          → judged_line assembled names number text ≡ Ok line → IsFront made (after_next set w line).items
-          → ((left : List Answer → Output) → DoesPart to_tell k0 k1 (λ more. behind (shown_text shown names (part text made)) (left more)) (Stop status) left)
-          → (more : List Answer) → CommandEnds to_tell k0 k1 status (shown_from shown names set w number (answer.Line text ∷ more))
-      line_unwritten {to_tell} {k0} {k1} {status} line made judged front does more =
-          let next = after_next set w line in
-          let left = shown_from shown names set next.world (number + 1) in
-          ends-same _ _ _ _ _ _ (next_line line more judged ∙ told_front text made front.0 next.items (left more) front.1)
-          (does (λ more. behind (items_text names front.0) (left more)) more)
+          ends-same _ _ _ _ _ _ (ap (behind kept) (next_line line more judged ∙ told_front text made front.0 next.items left front.1))
+          (ends (behind (items_text names front.0) left))
 
       pub line_breaks : (rule : ℕ) (more : List Answer) → judged_line assembled names number text ≡ Err rule
           → shown_from shown names set w number (answer.Line text ∷ more) ≡ broken_output rule number

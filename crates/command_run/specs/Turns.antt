@@ -7,7 +7,6 @@ use Rattle.sx_io.specs.Streams.{SinkAt}
 use Rattle.sx_io.specs.Reading.{Answer}
 use Rattle.sx_io.specs.Reading as answer
 use Rattle.command_promise.specs.Told.{Output, behind, out_of_memory}
-use Rattle.command_promise.specs.Parts.{DoesPart}
 use Rattle.command_promise.specs.declared.turned.Turned.{Turned}
 use Rattle.command_promise.specs.declared.turned.Turned.TheVariants.{On, Stop}
 use Rattle.sx_trace.specs.declared.items.Item.{Item}
@@ -16,6 +15,7 @@ use Rattle.spec_run.specs.Setting.{Setting}
 use Rattle.spec_run.specs.State.{World}
 use Rattle.sx_world.specs.Held.{Held}
 use Rattle.sx_world.specs.Standing.{Stands}
+use Rattle.command_text.specs.Keeping.{DoesKept}
 use Rattle.command_text.specs.Output.{line}
 use Rattle.command_world.specs.Items.{items_text}
 use Rattle.command_world.specs.Schedule.{Schedule, schedule}
@@ -44,30 +44,30 @@ unfoldable pub shown_from : Shown → NameLists → Setting → World → ℕ �
 shown_from shown names set w number answers =
     shown_output shown names set w (texts_in answers) (schedule assembled names number answers)
 
--- Where memory ran out at a line that was performed, all that it made is written: as many items
--- as the line's act made.
-abbrev pub TellsMade : Shown → Bool → SinkAt → SinkAt → NameLists → Held → Held → List ℕ
+-- Where memory ran out at a line that was performed, all that was kept and all that it made is
+-- written: as many items as the line's act made.
+abbrev pub TellsMade : Shown → Bool → SinkAt → SinkAt → List ℕ → NameLists → Held → Held → List ℕ
     → List Item → Turned → Type 0
-TellsMade shown to_tell k0 k1 names held left text made turned =
+TellsMade shown to_tell k0 k1 kept names held left text made turned =
     turned ≡ Stop out_of_memory → left ≢ held
     → (held.ran_out ≡ false → length made ≡ left.made)
     × (IsTrue to_tell → k1.written
-    ≡ k0.written ++ shown_text shown names (record { text = text; items = made }))
+    ≡ k0.written ++ (kept ++ shown_text shown names (record { text = text; items = made })))
 
--- The line with this number was performed in the world w and what is shown of it was written, or
--- the command ended.
-pub record TurnsLine (shown : Shown) (to_tell : Bool) (k0 k1 : SinkAt) (names : NameLists)
-    (set : Setting) (left : Held) (number : ℕ) (text : List ℕ) (turned : Turned) (w : World) : Type
-    0 where
+-- The line with this number was performed in the world w and what is shown of it was kept after
+-- what was kept before, or the command ended.
+pub record TurnsLine (shown : Shown) (to_tell : Bool) (k0 k1 : SinkAt) (kept more_kept : List ℕ)
+    (names : NameLists) (set : Setting) (left : Held) (number : ℕ) (text : List ℕ)
+    (turned : Turned) (w : World) : Type 0 where
   pub next : World
   pub stands : turned ≡ On → Stands set left next
-  pub does : DoesPart to_tell k0 k1
+  pub does : DoesKept to_tell k0 k1 kept more_kept
       (λ more. shown_from shown names set w number (answer.Line text ∷ more))
       turned (shown_from shown names set next (number + 1))
 
 -- whatever world it stood at
-abbrev pub TurnsFrom : Shown → Bool → SinkAt → SinkAt → NameLists → Setting → Held → Held → ℕ
-    → List ℕ → Turned → Type 0
-TurnsFrom shown to_tell k0 k1 names set held left number text turned =
+abbrev pub TurnsFrom : Shown → Bool → SinkAt → SinkAt → List ℕ → List ℕ → NameLists → Setting
+    → Held → Held → ℕ → List ℕ → Turned → Type 0
+TurnsFrom shown to_tell k0 k1 kept more_kept names set held left number text turned =
     (w : World) → Stands set held w
-    → TurnsLine shown to_tell k0 k1 names set left number text turned w
+    → TurnsLine shown to_tell k0 k1 kept more_kept names set left number text turned w

@@ -54,8 +54,8 @@ impl Deploys for LinesCommand {
 }
 
 /// The command `lines` over any tag: a deployment, the line `%%`, and a schedule. Each line that is
-/// performed is written after `> `, and its items after it, before the next line is read. Gives the
-/// exit status, as `top` does for this command.
+/// performed is written after `> `, and its items after it, before more of the input is read. Gives
+/// the exit status, as `top` does for this command.
 pub fn lines_over<S: Source, K: Sink, T: Tag + Copy>(
     alloc: Global,
     tag: T,

@@ -1,10 +1,10 @@
-//! The lines of a schedule. Each is judged and performed, and what is shown of it is written,
-//! before the next is read.
+//! The lines of a schedule. Each is judged and performed, and what is shown of it is written before
+//! more of the input is read.
 
-ghost use Rattle.std.specs.Prelude.{◌≡◌, ◌+◌, ◌≤◌, IsTrue};
+ghost use Rattle.std.specs.Prelude.{◌≡◌, ◌≢◌, ◌+◌, ◌≤◌, IsTrue};
 ghost use Rattle.sx_asm.specs.Assembled.{assembled};
 ghost use Rattle.sx_trace.specs.ValidNames.{are_valid};
-ghost use Rattle.command_promise.specs.Told.{command_at, out_of_memory};
+ghost use Rattle.command_promise.specs.Told.{CommandEnds, behind, command_at, out_of_memory};
 ghost use Rattle.command_promise.specs.Parts.{Rest};
 ghost use Rattle.command_promise.specs.Head.{head_lines};
 ghost use Rattle.sx_deploy.specs.SeenDeployment.{deployed_as};
@@ -13,26 +13,64 @@ ghost use Rattle.sx_world.specs.InMemory.{world_setting};
 ghost use Rattle.spec_run.specs.Law.{IsSoundSetting};
 ghost use Rattle.sx_world.specs.Standing.{IsGoing, Stands};
 ghost use Rattle.spec_run.specs.State.{switched_on};
+ghost use Rattle.command_text.specs.Keeping.{ComesNext};
 ghost use Rattle.command_head.specs.Given.{RanOutSince};
 ghost use Rattle.command_run.specs.Promise.{run_may};
+ghost use Rattle.command_world.specs.Broken.{broken_output};
 ghost use Rattle.command_world.specs.Schedule.{judged_line};
 ghost use Rattle.command_run.specs.Turns.{TellsMade, TurnsFrom, shown_from};
 ghost use Rattle.command_world.specs.Turning.{MayRunOut};
 
-use crate::trace::{Shown, put_line};
-use command_promise::{OUT_OF_MEMORY, READ_FAILED, Turned, finish};
+use crate::trace::{Shown, finish_line, keep_line};
+use command_promise::{READ_FAILED, Turned, WRITE_FAILED, finish};
+use command_text::batch::{Batch, finish_wanted, put_kept};
 use command_world::judging::{TOO_LONG, break_off, judge_line};
 use std::alloc::Global;
 use sx_bus::Copied;
 use sx_deploy::deployment::Deployment;
-use sx_io::{LineRead, Lines, Sink, Source};
+use sx_io::{Failed, LineRead, Lines, Sink, Source};
 use sx_sched::lines::LineError;
 use sx_tag::Tag;
 use sx_trace::items::Item;
 use sx_world::world::World;
 
-/// Does what a line says, and writes what is shown of it; where memory runs out, with the items
-/// that were made before.
+/// The next line of a schedule. All that is kept is written before the source is asked for it, so
+/// nothing is kept while the source waits.
+fn next_line<S: Source, K: Sink>(
+    lines: &mut Lines,
+    input: &mut S,
+    output: &mut K,
+    kept: &mut Batch,
+    into: &mut [u8; 4096],
+) -> Result<LineRead, Failed>
+    ensures comes { ComesNext S.tells K.tells (command_at (S.at input.old) (K.at output.old))
+        (command_at (S.at input.new) (K.at output.new)) kept.old.items kept.new.items lines.old
+        lines.new into.new result }
+{
+    match lines.next_held(into) {
+        Some(count) => Ok(LineRead::Text(count)),
+        None => {
+            put_kept(output, kept)?;
+            kept.clear();
+            Ok(lines.next(input, into))
+        }
+    }
+}
+
+/// Writes all that is kept, and which rule the line of this number breaks.
+fn break_kept<K: Sink>(output: &mut K, kept: &Batch, rule: u8, number: u32) -> u8
+    ensures ends { CommandEnds K.tells (K.at output.old) (K.at output.new) result
+        (behind kept.now.items (broken_output rule number)) }
+    ensures memory { result ≢ out_of_memory }
+{
+    match put_kept(output, kept) {
+        Ok(()) => break_off(output, rule, number),
+        Err(_) => WRITE_FAILED,
+    }
+}
+
+/// Does what a line says, and keeps what is shown of it. Where memory runs out, all that is kept is
+/// written, with the items that the line made before.
 /// `items` is the loop's, so that lines use its memory one after the other.
 fn turn<K: Sink, B: Copied, T: Tag>(
     alloc: Global,
@@ -41,6 +79,7 @@ fn turn<K: Sink, B: Copied, T: Tag>(
     world: &mut World<B, T>,
     deployment: &Deployment,
     items: &mut Vec<Item>,
+    kept: &mut Batch,
     said: &[u8],
     number: u32,
 ) -> Turned
@@ -49,12 +88,12 @@ fn turn<K: Sink, B: Copied, T: Tag>(
     requires going { IsGoing (world_setting T.mac deployment.now world.old) world.old }
     requires names { IsTrue (are_valid (deployed_as deployment.now).names) }
     requires counted { world.old.performed + 1 ≡ number }
-    ensures turns { TurnsFrom shown K.tells (K.at output.old) (K.at output.new)
-        (deployed_as deployment.now).names (world_setting T.mac deployment.now world.old) world.old
+    ensures turns { TurnsFrom shown K.tells (K.at output.old) (K.at output.new) kept.old.items
+        kept.new.items (deployed_as deployment.now).names (world_setting T.mac deployment.now world.old) world.old
         world.new number said.now result }
     ensures memory { result ≡ Turned.Stop out_of_memory
         → MayRunOut (judged_line assembled (deployed_as deployment.now).names number said.now) }
-    ensures made { TellsMade shown K.tells (K.at output.old) (K.at output.new)
+    ensures made { TellsMade shown K.tells (K.at output.old) (K.at output.new) kept.old.items
         (deployed_as deployment.now).names world.old world.new said.now items.new.items result }
     ensures few { result ≡ Turned.On → number ≤ 65536 }
     ensures sites { world.new.sites ≡ world.old.sites }
@@ -63,14 +102,13 @@ fn turn<K: Sink, B: Copied, T: Tag>(
     items.clear();
     match judge_line(alloc, &deployment.names, said, number) {
         Ok(line) => match world.act(deployment, &line, items) {
-            Ok(()) => put_line(output, &deployment.names, shown, said, items),
-            Err(_) => match put_line(output, &deployment.names, shown, said, items) {
-                Turned::On => Turned::Stop(OUT_OF_MEMORY),
-                Turned::Stop(status) => Turned::Stop(status),
-            },
+            Ok(()) => keep_line(output, kept, &deployment.names, shown, said, items),
+            Err(_) => {
+                Turned::Stop(finish_line(output, kept, &deployment.names, shown, said, items))
+            }
         },
-        Err(LineError::Fault(rule)) => Turned::Stop(break_off(output, rule, number)),
-        Err(LineError::OutOfMemory) => Turned::Stop(OUT_OF_MEMORY),
+        Err(LineError::Fault(rule)) => Turned::Stop(break_kept(output, kept, rule, number)),
+        Err(LineError::OutOfMemory) => Turned::Stop(finish_wanted(output, kept)),
     }
 }
 
@@ -102,19 +140,22 @@ pub(crate) fn run_lines<S: Source, K: Sink, B: Copied, T: Tag>(
 {
     let mut into = [0; 4096];
     let mut items = Vec::new(alloc);
+    let mut kept = Batch::new();
     let mut number: u32 = 1;
     'lines: loop {
-        match lines.next(input, &mut into) {
-            LineRead::End => return finish(output, b"end\n", 0),
-            LineRead::TooLong => return break_off(output, TOO_LONG, number),
-            LineRead::Failed => return finish(output, b"fault read\n", READ_FAILED),
-            LineRead::Text(n) => match turn(
+        match next_line(lines, input, output, &mut kept, &mut into) {
+            Err(_) => return WRITE_FAILED,
+            Ok(LineRead::End) => return finish(output, b"end\n", 0),
+            Ok(LineRead::TooLong) => return break_off(output, TOO_LONG, number),
+            Ok(LineRead::Failed) => return finish(output, b"fault read\n", READ_FAILED),
+            Ok(LineRead::Text(n)) => match turn(
                 alloc,
                 shown,
                 output,
                 world,
                 deployment,
                 &mut items,
+                &mut kept,
                 &into[..n],
                 number,
             ) {

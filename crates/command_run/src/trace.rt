@@ -2,13 +2,14 @@
 
 ghost use Rattle.std.specs.Prelude.{◌≡◌, ◌≢◌, [], ◌++◌, IsTrue, List};
 ghost use Rattle.sx_io.specs.Reading.{Answer};
-ghost use Rattle.command_promise.specs.Told.{Output, behind, out_of_memory};
+ghost use Rattle.command_promise.specs.Told.{CommandEnds, Output, behind, out_of_memory};
 ghost use Rattle.command_promise.specs.Parts.{DoesPart};
 ghost use Rattle.command_text.specs.Batch.{Writes};
+ghost use Rattle.command_text.specs.Keeping.{DoesKept};
 ghost use Rattle.command_run.specs.Turns.{front, shown_text};
 
 use command_promise::{Turned, WRITE_FAILED};
-use command_text::batch::Batch;
+use command_text::batch::{Batch, finish_wanted};
 use command_world::items::add_items;
 use sx_io::{Failed, Sink, put_all};
 use sx_trace::items::Item;
@@ -55,6 +56,67 @@ fn add_front<K: Sink>(
             add_text(output, batch, said)?;
             add_text(output, batch, b"\n")
         }
+    }
+}
+
+/// Appends what is shown of a line with this text and these items to a batch, which may be written
+/// before, and between its items.
+fn add_line<K: Sink>(
+    output: &mut K,
+    batch: &mut Batch,
+    names: &Names,
+    shown: Shown,
+    said: &[u8],
+    items: &[Item],
+) -> Result<(), Failed>
+    ensures { Writes K.tells (K.at output.old) (K.at output.new) (batch.old.items
+        ++ shown_text shown names.now (record { text = said.now; items = items.now }))
+        batch.new.items result }
+{
+    add_front(output, batch, shown, said)?;
+    add_items(output, batch, names, items)
+}
+
+/// Keeps what is shown of a line with this text and these items, or stops with `WRITE_FAILED`. It
+/// takes no memory.
+pub(crate) fn keep_line<K: Sink>(
+    output: &mut K,
+    kept: &mut Batch,
+    names: &Names,
+    shown: Shown,
+    said: &[u8],
+    items: &[Item],
+) -> Turned
+    ensures does { (left : List Answer → Output) → DoesKept K.tells (K.at output.old)
+        (K.at output.new) kept.old.items kept.new.items (λ more. behind (shown_text shown names.now
+        (record { text = said.now; items = items.now })) (left more)) result left }
+    ensures memory { result ≢ Turned.Stop out_of_memory }
+{
+    match add_line(output, kept, names, shown, said, items) {
+        Ok(()) => Turned::On,
+        Err(_) => Turned::Stop(WRITE_FAILED),
+    }
+}
+
+/// Writes all that is kept and what is shown of a line, where memory ran out at it.
+pub(crate) fn finish_line<K: Sink>(
+    output: &mut K,
+    kept: &mut Batch,
+    names: &Names,
+    shown: Shown,
+    said: &[u8],
+    items: &[Item],
+) -> u8
+    ensures ends { (o : Output) → CommandEnds K.tells (K.at output.old) (K.at output.new) result
+        (behind kept.old.items (behind (shown_text shown names.now
+        (record { text = said.now; items = items.now })) o)) }
+    ensures whole { result ≡ out_of_memory → IsTrue K.tells → (K.at output.new).written
+        ≡ (K.at output.old).written ++ (kept.old.items
+        ++ shown_text shown names.now (record { text = said.now; items = items.now })) }
+{
+    match add_line(output, kept, names, shown, said, items) {
+        Ok(()) => finish_wanted(output, kept),
+        Err(_) => WRITE_FAILED,
     }
 }
 

@@ -1,24 +1,26 @@
-//! Lines that are written together.
+//! Text that is kept, to be written together.
 
-ghost use Rattle.std.specs.Prelude.{◌≡◌, ◌+◌, ◌≤◌, OnOk, length};
+ghost use Rattle.std.specs.Prelude.{◌≡◌, ◌+◌, ◌≤◌, ◌++◌, IsTrue, OnOk, length};
+ghost use Rattle.command_promise.specs.Told.{CommandEnds, Output, behind, out_of_memory};
 ghost use Rattle.command_text.specs.Batch.{Writes};
+ghost use Rattle.command_text.specs.Keeping.{Puts};
 
 use arrayvec::ArrayVec;
+use command_promise::{OUT_OF_MEMORY, WRITE_FAILED};
 use sx_io::{Failed, Sink, put_all};
 
-/// The most bytes that are written together. What a line of a schedule or a reading shows makes a
-/// batch of its own, so this is no more than most of them need.
-const MOST: usize = 512;
+/// The most bytes that are written together.
+pub const MOST: usize = 8192;
 
 /// The most bytes of a line, with what comes before it and its newline.
 const LONGEST_LINE: usize = 131;
 
-/// Lines that are written together.
+/// Text that is kept, to be written together.
 pub type Batch = ArrayVec<u8, MOST>;
 
 /// Writes a batch that a further line might not fit in.
 pub fn make_room<K: Sink>(output: &mut K, batch: &mut Batch) -> Result<(), Failed>
-    ensures room { OnOk result (length batch.new.items + 131 ≤ 512) }
+    ensures room { OnOk result (length batch.new.items + 131 ≤ 8192) }
     ensures writes { Writes K.tells (K.at output.old) (K.at output.new) batch.old.items
         batch.new.items result }
 {
@@ -28,4 +30,24 @@ pub fn make_room<K: Sink>(output: &mut K, batch: &mut Batch) -> Result<(), Faile
     put_all(output, batch.as_slice())?;
     batch.clear();
     Ok(())
+}
+
+/// Writes all that is kept.
+pub fn put_kept<K: Sink>(output: &mut K, kept: &Batch) -> Result<(), Failed>
+    ensures { Puts K.tells (K.at output.old) (K.at output.new) kept.now.items result }
+{
+    put_all(output, kept.as_slice())
+}
+
+/// Writes all that is kept, where memory ran out.
+pub fn finish_wanted<K: Sink>(output: &mut K, kept: &Batch) -> u8
+    ensures ends { (o : Output) → CommandEnds K.tells (K.at output.old) (K.at output.new) result
+        (behind kept.now.items o) }
+    ensures made { result ≡ out_of_memory → IsTrue K.tells
+        → (K.at output.new).written ≡ (K.at output.old).written ++ kept.now.items }
+{
+    match put_kept(output, kept) {
+        Ok(()) => OUT_OF_MEMORY,
+        Err(_) => WRITE_FAILED,
+    }
 }

@@ -14,7 +14,7 @@ use sx_trace::writing::write_item;
 /// Appends an item's line, which there is room for.
 #[tactic(auto, unfolding(crate::specs::Items::item_line))]
 fn push_item(batch: &mut Batch, names: &Names, item: &Item)
-    requires { length batch.old.items + 131 ≤ 512 }
+    requires { length batch.old.items + 131 ≤ 8192 }
     ensures { batch.new.items ≡ batch.old.items ++ item_line names.now item.now }
 {
     let mut into = [0; 128];

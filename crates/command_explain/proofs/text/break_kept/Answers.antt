@@ -1,5 +1,5 @@
 use Rattle.command_explain.specs.Output.{broken_output}
-use Rattle.command_explain.proofs.Keeping.{ends_kept, ends_stopped}
+use Rattle.command_text.proofs.Keeping.{ends_kept, ends_stopped}
 use Rattle.command_explain.proofs.text.break_kept.Goals as goal
 
 pub returns-in-Ok-clause-ends : goal.returns-in-Ok-clause-ends

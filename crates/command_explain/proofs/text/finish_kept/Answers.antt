@@ -1,4 +1,4 @@
-use Rattle.command_explain.proofs.Keeping.{ends_kept, ends_stopped}
+use Rattle.command_text.proofs.Keeping.{ends_kept, ends_stopped}
 use Rattle.command_explain.proofs.text.finish_kept.Goals as goal
 
 pub returns-in-Ok-clause-ends : goal.returns-in-Ok-clause-ends

@@ -2,7 +2,7 @@ use Rattle.std.proofs.Common.{◌≡◌, ◌∙◌, ℕ, List, refl, ap, sym}
 use Rattle.command_promise.specs.Told.{behind}
 use Rattle.command_promise.proofs.Laws.{ends-same}
 use Rattle.command_explain.specs.Output.{because_line, illegal_output, told_item}
-use Rattle.command_explain.proofs.Keeping.{joined}
+use Rattle.command_text.proofs.Keeping.{joined}
 use Rattle.command_explain.proofs.text.keep_said.Goals as goal
 
 pub returns-in-Because-clause-does : goal.returns-in-Because-clause-does

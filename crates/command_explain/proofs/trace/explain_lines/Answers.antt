@@ -12,9 +12,10 @@ use Rattle.sx_explain.proofs.Following.{few_taken}
 use Rattle.command_explain.specs.declared.lines.TraceRule.TheVariants.{NoItem, NoEnd}
 use Rattle.command_explain.specs.Output.{broken_output, explain_from, stop_output}
 use Rattle.command_explain.specs.Trace.{judged_line, line_of, stop_behind}
-use Rattle.command_explain.proofs.Keeping.{Waits, waits_asked, waits_failed, waits_more, waits_new, waits_stop, waits_text, waits_written}
+use Rattle.command_text.proofs.Keeping.{Waits, waits_asked, waits_failed, waits_more, waits_new, waits_stop, waits_text, waits_written}
 use Rattle.command_explain.proofs.Written.{said_broken, said_end, said_item, said_last, said_long, said_unread, on_ok}
-use Rattle.command_explain.proofs.Wanted.{came_text, trace_more, trace_none, trace_wants}
+use Rattle.command_head.proofs.Came.{came_text}
+use Rattle.command_explain.proofs.Wanted.{trace_more, trace_none, trace_wants}
 use Rattle.command_explain.proofs.trace.explain_lines.Goals as goal
 
 pub lines-init : goal.lines-init

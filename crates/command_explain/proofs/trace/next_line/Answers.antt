@@ -4,7 +4,7 @@ use Rattle.sx_io.specs.Next.{Ahead, Next}
 use Rattle.sx_io.specs.declared.lines.LineRead.{LineRead}
 use Rattle.sx_io.specs.declared.outside.Failed.{Failed}
 use Rattle.command_promise.specs.Told.{command_at}
-use Rattle.command_explain.specs.Turns.{ComesNext}
+use Rattle.command_text.specs.Keeping.{ComesNext}
 use Rattle.command_explain.proofs.trace.next_line.Goals as goal
 
 pub returns-in-Some-clause-comes : goal.returns-in-Some-clause-comes

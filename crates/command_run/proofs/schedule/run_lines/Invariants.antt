@@ -14,7 +14,7 @@ invariant-lines g l =
       counted : l.world.performed + 1 ≡ l.number;
       sites : l.world.sites ≡ l.fn.world.sites;
       between : Between l.fn.shown g.S.Source.tells g.K.Sink.tells (command_at (g.S.Source.at l.fn.input) (g.K.Sink.at l.fn.output)) (command_at (g.S.Source.at l.input) (g.K.Sink.at l.output))
-          l.fn.lines l.lines d.names set l.world l.number;
+          l.fn.lines l.lines d.names set l.world l.number l.kept.items;
     }
 
 abbrev pub decreases-lines : goal.decreases-lines

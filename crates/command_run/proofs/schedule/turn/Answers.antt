@@ -1,7 +1,7 @@
 use Rattle.std.proofs.Common.{◌≡◌, ◌∙◌, ℕ, List, ◌∷◌, ◌++◌, ap, refl, sym, Err}
 use Rattle.sx_io.specs.Reading.{Line}
-use Rattle.command_promise.specs.Told.{unread_output}
-use Rattle.command_promise.proofs.Laws.{ends-same, ends-out-of-memory, prefix-none}
+use Rattle.command_promise.specs.Told.{behind}
+use Rattle.command_promise.proofs.Laws.{ends-same}
 use Rattle.sx_trace.specs.declared.items.Item.{Item}
 use Rattle.sx_sched.specs.Seen.{line_of}
 use Rattle.sx_deploy.specs.SeenDeployment.{deployed_as}
@@ -9,7 +9,7 @@ use Rattle.spec_run.specs.Accepted.{setting}
 use Rattle.command_world.specs.Broken.{broken_output}
 use Rattle.command_world.specs.Turning.{after_next}
 use Rattle.command_run.specs.Turns.{shown_from}
-use Rattle.command_run.proofs.Written.{line_breaks, line_told, line_unwritten, line_wanted, made_front}
+use Rattle.command_run.proofs.Written.{line_breaks, line_cut, line_kept, made_front}
 use Rattle.command_run.proofs.schedule.turn.Goals as goal
 
 pub returns-in-Ok-act-clause-turns : goal.returns-in-Ok-act-clause-turns
@@ -22,21 +22,8 @@ returns-in-Ok-act-clause-turns g c = λ w shows.
     let made : c.deref.result.now ≡ next.items = c.deref.ensures.value ∙ acted.1 ∙ ap (λ (front : List Item). front ++ next.items) c.clear.ensures.items in record {
       next = next.world;
       stands = λ on. acted.0;
-      does = line_told c.args.shown d.names set w c.args.number c.args.said.now g.K.Sink.tells (g.K.Sink.at c.args.output.now) (g.K.Sink.at c.put_line.new.output) c.put_line.result
-          line c.deref.result.now c.in-Ok.ensures.line made c.put_line.ensures.does;
-    }
-
-pub returns-in-On-clause-turns : goal.returns-in-On-clause-turns
-returns-in-On-clause-turns g c = λ w shows.
-    let d = deployed_as c.args.deployment.now in
-    let set = setting g.T.Tag.mac d c.args.world.now.sites in
-    let line = line_of c.in-Ok.line in
-    let next = after_next set w line in
-    let made = c.deref-in-Err.result.now in
-    let front = made_front _ _ made next.items c.clear.ensures.items c.deref-in-Err.ensures.value (c.in-Err.ensures.front w shows) in record {
-      next = next.world;
-      stands = λ on. absurd (cc on);
-      does = line_wanted c.args.shown d.names set w c.args.number c.args.said.now line made c.in-Ok.ensures.line front (c.in-On.ensures.whole refl) (c.in-On.ensures.does (λ more. unread_output)).no_fault;
+      does = line_kept c.args.shown d.names set w c.args.number c.args.said.now g.K.Sink.tells (g.K.Sink.at c.args.output.now) (g.K.Sink.at c.keep_line.new.output)
+          c.args.kept.now.items c.keep_line.new.kept.items c.keep_line.result line c.deref.result.now c.in-Ok.ensures.line made c.keep_line.ensures.does;
     }
 
 pub returns-in-Ok-clause-turns : goal.returns-in-Ok-clause-turns
@@ -49,7 +36,7 @@ returns-in-Ok-clause-turns g c = λ w shows.
     let front = made_front _ _ made next.items c.clear.ensures.items c.deref-in-Err.ensures.value (c.in-Err.ensures.front w shows) in record {
       next = next.world;
       stands = λ on. absurd (cc on);
-      does = line_unwritten c.args.shown d.names set w c.args.number c.args.said.now line made c.in-Ok.ensures.line front c.in-Stop.ensures.does;
+      does = line_cut c.args.shown d.names set w c.args.number c.args.said.now c.args.kept.now.items line made c.in-Ok.ensures.line front c.finish_line.ensures.ends;
     }
 
 pub returns-in-Err-Fault-clause-turns : goal.returns-in-Err-Fault-clause-turns
@@ -61,9 +48,10 @@ returns-in-Err-Fault-clause-turns g c = λ w shows.
       stands = λ on. absurd (cc on);
       does = λ more.
           ends-same _ _ _ _ _ _
+          (ap (behind c.args.kept.now.items)
           (line_breaks c.args.shown d.names set w c.args.number c.args.said.now rule more (c.judge_line.ensures.rule rule (c.in-Err-Fault.is ∙ ap Err c.in-Err-Fault.field-0-is))
-          ∙ ap (λ (r : ℕ). broken_output r c.args.number) (sym c.in-Err-Fault.rule-is))
-          c.break_off.ensures.ends;
+          ∙ ap (λ (r : ℕ). broken_output r c.args.number) (sym c.in-Err-Fault.rule-is)))
+          c.break_kept.ensures.ends;
     }
 
 pub returns-clause-turns : goal.returns-clause-turns
@@ -72,6 +60,5 @@ returns-clause-turns g c = λ w shows.
     let set = setting g.T.Tag.mac d c.args.world.now.sites in record {
       next = w;
       stands = λ on. absurd (cc on);
-      does = λ more.
-          ends-out-of-memory _ _ _ (shown_from c.args.shown d.names set w c.args.number (Line c.args.said.now ∷ more)) (λ t. prefix-none _ _ _ refl) refl;
+      does = λ more. c.finish_wanted.ensures.ends (shown_from c.args.shown d.names set w c.args.number (Line c.args.said.now ∷ more));
     }

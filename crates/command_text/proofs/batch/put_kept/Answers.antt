@@ -1,5 +1,5 @@
-use Rattle.command_explain.proofs.Keeping.{puts_all}
-use Rattle.command_explain.proofs.text.put_kept.Goals as goal
+use Rattle.command_text.proofs.Keeping.{puts_all}
+use Rattle.command_text.proofs.batch.put_kept.Goals as goal
 
 pub returns : goal.returns
 returns g c =
