@@ -66,7 +66,7 @@ words_few w0 w1 w2 =
     (λ h k. (omega arith, omega arith)) (λ h k l. (omega arith, omega arith)) (λ h. (omega arith, omega arith))
     (λ h k. one_few _ _ _ _ (one_bit (takes_word (w0 % 16) (w0 / 16 % 4)))) (λ h. tt)
 
--- a line stands for one to three words of the bytes
+-- a line is the text of one to three words of the bytes
 pub record Sized (bytes : List ℕ) (size : ℕ) : Type 0 where
   pub some : 2 ≤ size
   pub few : size ≤ 6

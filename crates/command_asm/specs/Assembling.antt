@@ -41,7 +41,7 @@ nothing = record { text = []; bad = None }
 abbrev pub broken_at : ℕ → Gathered → Gathered
 broken_at number g = record { text = g.text; bad = option_or g.bad (Some number) }
 
--- the text with one more line, where it is UTF-8 and no line before it breaks rule 1
+-- the text with one more line, if it is UTF-8 and no line before it breaks rule 1
 abbrev pub with_text : ℕ → List ℕ → Option ℕ → List ℕ → Gathered
 with_text number text (Some bad) line = record { text = text; bad = Some bad }
 with_text number text None line =
@@ -81,7 +81,7 @@ first_bad bad (Ok code) = bad
 first_bad bad (Err (error.Fault rule number)) = if rule == 1 then number else bad
 first_bad bad (Err error.OutOfMemory) = bad
 
--- the code, or the fault of rule 1 where a line breaks it
+-- the code, or the fault of rule 1 if a line breaks it
 abbrev pub judged : Option ℕ → Result (List ℕ) AsmError → Result (List ℕ) AsmError
 judged None code = code
 judged (Some bad) code = Err (error.Fault 1 (first_bad bad code))

@@ -37,7 +37,7 @@ abbrev pub decoded : Result (List ℕ) FromHexError → Option (List ℕ)
 decoded (Ok bytes) = Some bytes
 decoded (Err e) = None
 
--- The bytes that the line with this number, counted from 1, writes in hexadecimal. None where it
+-- The bytes that the line with this number, counted from 1, writes in hexadecimal. None if it
 -- breaks the rule of lines: it doesn't write whole bytes, or it is one line too many.
 unfoldable pub line_bytes : ℕ → List ℕ → Option (List ℕ)
 line_bytes number text = if nat_lt most_lines number then None else decoded (decode_of text)
@@ -101,7 +101,7 @@ abbrev pub dis_input : ℕ → List ℕ → Output
 dis_input at input = dis_all at (scan dis_lines Ended [] input)
 
 -- What the command `dis` says of its streams at its start (m0) and at its end (m1). It takes no
--- memory. Status 0 says that the input was read to its end. Where no read and no write failed, an
+-- memory. Status 0 says that the input was read to its end. If no read and no write failed, an
 -- input that is to be listed is listed, and the status of any input is the defined one.
 pub record DisPromise (at : ℕ) (tells to_tell : Bool) (m0 m1 : CommandAt) (status : ℕ) : Type 0 where
   pub told : Told tells to_tell dis_lines m0 m1 status (dis_all at) anything

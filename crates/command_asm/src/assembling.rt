@@ -120,7 +120,8 @@ fn gather<S: Source>(alloc: Global, source: &mut S) -> Result<GatheredText, Gath
     }
 }
 
-/// Where this line breaks rule 1, the first line that does, when those before it break a rule.
+/// The first line that breaks rule 1: this one if this rule is the one it breaks, else the one that
+/// was found before.
 fn first_bad(bad: u32, rule: u8, line: u32) -> u32
     ensures { result ≡ (if rule == 1 then line else bad) }
 {

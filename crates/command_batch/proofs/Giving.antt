@@ -39,7 +39,7 @@ wants_line {tells} {s1} {s2} {s3} {old} {now} {new} d into n g next may =
 pub since_then : {tells : Bool} {s1 s2 s3 : SourceAt} {old now new : Ahead} → Since tells s1 s2 old now → Since tells s2 s3 now new → Since tells s1 s3 old new
 since_then {tells} {s1} {s2} {s3} {old} {now} {new} w g = record { lines = w.lines ++ g.lines; given = given_then w.lines g.lines w.given g.given }
 
--- those behind which memory may be wanted
+-- those after which memory may be wanted
 pub since_wanting : {tells : Bool} {s1 s2 : SourceAt} {old new : Ahead} (d : Deployed) → WantsSince d tells s1 s2 old new → Since tells s1 s2 old new
 since_wanting d w = record { lines = w.0; given = w.1 }
 

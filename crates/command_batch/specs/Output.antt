@@ -35,8 +35,8 @@ long_line = line (codes "fault batch long")
 abbrev pub long_output : Output
 long_output = record { text = long_line; status = 9 }
 
--- how a schedule stands between two lines: it came to this world, or one of its lines broke a rule,
--- and the others are passed over
+-- the state of a schedule between two lines: it came to this world, or one of its lines broke a
+-- rule, and the others are passed over
 pub data Standing : Type 0 where
   Runs : World → Standing
   Passes : Standing
@@ -46,7 +46,7 @@ abbrev pub last_text : Standing → List ℕ
 last_text (Runs w) = end_line
 last_text Passes = []
 
--- what a line of a schedule writes, and how the schedule stands after it
+-- what a line of a schedule writes, and the state of the schedule after it
 pub record Reply : Type 0 where
   pub text : List ℕ
   pub standing : Standing

@@ -64,7 +64,7 @@ fn put_broken<K: Sink>(output: &mut K, rule: u8, number: u32) -> Turned
     }
 }
 
-/// Does what a line says, and writes its items; where memory runs out, those that were made before.
+/// Does what a line says, and writes its items; if memory runs out, those that were made before.
 fn turn<K: Sink, B: Copied, T: Tag>(
     alloc: Global,
     output: &mut K,

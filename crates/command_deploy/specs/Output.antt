@@ -27,7 +27,7 @@ abbrev pub by_deployment : {A : Type 0} → (Deployed → List Answer → A) →
 by_deployment own broken (Ok d) more = own d more
 by_deployment own broken (Err f) more = broken f
 
--- what follows from an input's head; where a read failed before it was whole, this
+-- what follows from an input's head; if a read failed before it was whole, this
 abbrev pub by_head : {A : Type 0} → (Deployed → List Answer → A) → (DeployFault → A) → A → Meaning
     → Head → A
 by_head own broken unread meaning (Found text more) = by_deployment own broken (meaning text) more

@@ -48,9 +48,9 @@ pub record DeploysWith (mac : Mac) (part : OwnPart) (tells to_tell : Bool) (m0 m
       → part.Cut status ⊎ ((status ≡ 0) × (IsTrue to_tell → m1.sink.written
       ≡ m0.sink.written ++ (deploy_output part.output meaning texts (input_of m0)).text))
 
--- A command that deploys. Whatever the images are, its status is that of the input where no read
+-- A command that deploys. Whatever the images are, its status is that of the input if no read
 -- and no write failed, unless the command was cut short; status 0 says that the input was read to
--- its end. Where memory ran out, no line after the head was given, or the last that was given is
+-- its end. If memory ran out, no line after the head was given, or the last that was given is
 -- one at which it may (`memory`).
 pub record DeployPromise (mac : Mac) (part : OwnPart) (tells to_tell : Bool) (m0 m1 : CommandAt)
     (status : ℕ) : Type 0 where

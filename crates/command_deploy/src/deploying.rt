@@ -55,8 +55,8 @@ fn deploy_read<C: Deploys, S: Source, K: Sink, T: Tag + Copy>(
 }
 
 /// A command that deploys, over any tag: the input is a deployment, the line `%%`, and what the
-/// command's own part reads after it. Gives the exit status: 1 where the deployment breaks a rule
-/// or there is no head, 4 where a read failed, 5 where a write failed, 6 where memory ran out, and
+/// command's own part reads after it. Gives the exit status: 1 if the deployment breaks a rule
+/// or there is no head, 4 if a read failed, 5 if a write failed, 6 if memory ran out, and
 /// else that of the own part.
 pub fn deploy_over<C: Deploys, S: Source, K: Sink, T: Tag + Copy>(
     alloc: Global,

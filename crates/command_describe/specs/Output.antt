@@ -46,7 +46,7 @@ kind_word Actuator = codes "actuator"
 abbrev pub number_at : List ℕ → ℕ → ℕ
 number_at numbers i = unwrap_or (slice_get numbers i) 0
 
--- the module that drives a device, `-` where none does
+-- the module that drives a device, `-` if none does
 abbrev pub driver_word : Deployed → ℕ → List ℕ
 driver_word d n = name_or (codes "-") d.names.modules
     (position_from (λ (q : PartTree). same_device (Some n) q.device) 0 d.app.parts)
@@ -75,7 +75,7 @@ module_line d p q l ends =
     ++ codes " text" ++ bounds_words l.pub_from l.pub_to
     ++ codes " data" ++ bounds_words l.priv_from l.priv_to ++ sizes_words q.tree ends)
 
--- the address of a cell, by the name of its variable or array, where the module has this many ends
+-- the address of a cell, by the name of its variable or array, if the module has this many ends
 abbrev pub cell_place : Layout → ℕ → List Decl → List ℕ → ℕ
 cell_place l ends ds x = l.priv_from + cell_at ends (place ds x)
 
@@ -95,7 +95,7 @@ declaration_line cell owner (decl.Array x n) =
 abbrev pub declared_by : List PartTree → ℕ → List Decl
 declared_by parts p = unwrap_or (option_map (λ (q : PartTree). q.tree.decls) (slice_get parts p)) []
 
--- the name of a port of a part: of an output where it is the sending side, else of an input
+-- the name of a port of a part: of an output if it is the sending side, else of an input
 unfoldable pub port_word : List PartTree → Side → ℕ → ℕ → List ℕ
 port_word parts side p port = name_at (port_names (same_side From side) (declared_by parts p)) port
 

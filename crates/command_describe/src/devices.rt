@@ -71,7 +71,7 @@ fn driver_at(parts: &[Part], device: u8) -> Option<u8>
     None
 }
 
-/// The name of the module that drives a device, `-` where none does.
+/// The name of the module that drives a device, `-` if none does.
 fn driver_word(deployment: &Deployment, device: u8) -> &[u8]
     requires { length deployment.now.app.parts.items ≤ 256 }
     ensures { result.now ≡ driver_word (deployed_as deployment.now) device }

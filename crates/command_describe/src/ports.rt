@@ -58,7 +58,7 @@ fn declared_by(parts: &[Part], part: u8) -> &[Decl]
     }
 }
 
-/// The name of a module's port: of an output where it is on the sending side.
+/// The name of a module's port: of an output if it is on the sending side.
 #[tactic(auto, unfolding(crate::specs::Output::port_word))]
 pub(crate) fn port_word(parts: &[Part], side: Side, part: u8, port: u8) -> &[u8]
     ensures { result.now ≡ port_word (map part_as parts.now) side part port }

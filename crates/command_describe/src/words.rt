@@ -35,7 +35,7 @@ pub(crate) fn put_address(text: &mut Vec<u8>, before: &[u8], at: u16) -> Result<
     put(text, before, &address(at))
 }
 
-/// The number at an index of its list, 0 where the list has none.
+/// The number at an index of its list, 0 if the list has none.
 pub(crate) fn number_at(numbers: &[u16], index: u8) -> u16
     ensures { result ≡ number_at numbers.now index }
 {

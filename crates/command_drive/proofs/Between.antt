@@ -13,7 +13,7 @@ use Rattle.sx_drive.specs.Honest.{Honest}
 use Rattle.sx_drive.specs.Driving.{Follows, Kept}
 use Rattle.command_drive.specs.Parts.{drive_from}
 
--- a run stands, of which no line was left out, and what is left is what is defined from the next line on in it
+-- the program has a run of which no line was left out, and what is left is what is defined from the next line on in it
 pub record Between (tells to_tell : Bool) (m1 m2 : CommandAt) (old new : Ahead) (mac : Mac) (d : Deployment) (set : Setting) (first : Honest) (kept : Kept) (number : ℕ) : Type 0 where
   pub honest : Honest
   pub follows : Follows mac d kept set honest

@@ -34,7 +34,7 @@ line_left false e = absurd (cc e)
 ok_same : {E : Type 0} (x y : Drove) → ◌≡◌ {A = Result Drove E} (Ok x) (Ok y) → x ≡ y
 ok_same x y e = cc e
 
--- the part was done to its end: it stands where this leads, and no line was left out
+-- the part was done to its end: the run is where this leads, and no line was left out
 pub done_follows : {E : Type 0} (mac : Mac) (d : Deployment) (r : Result Drove E) (old new : Kept) (before after : List Told) (act : Setting → Honest → Driven)
     → Does mac d r old new before after act → IfOk r (λ drove. drove ≡ drove_of new.long) → r ≡ Ok Done → (set : Setting) (h : Honest) → Follows mac d old set h
     → Follows mac d new set (act set h).honest × ((act set h).honest.long ≡ false)

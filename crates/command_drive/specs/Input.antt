@@ -35,7 +35,7 @@ abbrev pub ◌>>=◌ : {A B : Type 0} → Result A ReadingRule → (A → Result
 Ok x >>= f = f x
 Err rule >>= f = Err rule
 
--- the device, where a module drives it
+-- the device, if a module drives it
 abbrev pub if_driven : AppTree → ℕ → Option ℕ
 if_driven app device = option_map (λ (driver : ℕ). device) (driver_of app device)
 

@@ -84,12 +84,12 @@ TellsPart to_tell k0 k1 names a turned =
     (left : Honest → List Answer → Output)
     → DoesPart to_tell k0 k1 (part_output names a left) turned (left a.honest)
 
--- all that a part says was said; or where memory ran out, a part of it
+-- all that a part says was said; or if memory ran out, a part of it
 abbrev pub SaysAll : {E : Type 0} → List Said → Result Drove E → Driven → Type 0
 SaysAll said (Ok drove) a = (said ≡ a.said) × (drove ≡ drove_of a.honest.long)
 SaysAll said (Err e) a = (rest : List Said) × (said ++ rest ≡ a.said)
 
--- where memory ran out, all that was said is written
+-- if memory ran out, all that was said is written
 abbrev pub TellsSaid : Bool → SinkAt → SinkAt → NameLists → List Said → Turned → Type 0
 TellsSaid to_tell k0 k1 names said turned = turned ≡ Stop out_of_memory → IsTrue to_tell
     → k1.written ≡ k0.written ++ said_text names said
@@ -105,7 +105,7 @@ EndsPart to_tell k0 k1 (Ok Done) turned = (turned ≡ On) × (k1 ≡ k0)
 EndsPart to_tell k0 k1 (Ok Long) turned = StopsLong to_tell k0 k1 turned
 EndsPart to_tell k0 k1 (Err e) turned = (turned ≡ Stop out_of_memory) × (k1 ≡ k0)
 
--- wherever the run stood, it did this part, or the command ended
+-- whichever run there was, it did this part, or the command ended
 abbrev pub PlaysPart : Mac → Deployment → Bool → SinkAt → SinkAt → Kept → Kept → Turned
     → (Setting → Honest → Driven) → Type 0
 PlaysPart mac d to_tell k0 k1 old new turned act =
@@ -113,7 +113,7 @@ PlaysPart mac d to_tell k0 k1 old new turned act =
     → TellsPart to_tell k0 k1 d.names (act set h) turned
     × (turned ≡ On → Follows mac d new set (act set h).honest × ((act set h).honest.long ≡ false))
 
--- The line with this number was judged where the run stood, and what its reading shows was written;
+-- The line with this number was judged in this run, and what its reading shows was written;
 -- or the command ended.
 pub record TurnsLine (mac : Mac) (d : Deployment) (to_tell : Bool) (k0 k1 : SinkAt) (new : Kept)
     (number : ℕ) (text : List ℕ) (turned : Turned) (set : Setting) (h : Honest) : Type 0 where
@@ -124,7 +124,7 @@ pub record TurnsLine (mac : Mac) (d : Deployment) (to_tell : Bool) (k0 k1 : Sink
       (λ more. drive_from (deployed_as d) set h number (Line text ∷ more)) turned
       (drive_from (deployed_as d) set next (number + 1))
 
--- wherever the run stood, if no line was left out of it
+-- in whichever run there was, if no line was left out of it
 abbrev pub TurnsFrom : Mac → Deployment → Bool → SinkAt → SinkAt → Kept → Kept → ℕ → List ℕ
     → Turned → Type 0
 TurnsFrom mac d to_tell k0 k1 old new number text turned =

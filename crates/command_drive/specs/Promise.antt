@@ -67,8 +67,8 @@ pub record IsPredicted (app : AppTree) (readings : List Reading) (a : Driven) : 
 
 -- Whatever the readings are, the lines that are written are run with these images as `run` runs
 -- them, and that run is guarded (`ran`); they are a schedule that `run` reads as the same lines
--- (`replays`). Where no line was left out, its items are those that the source alone predicts, and
--- every event that was sent was delivered (`delivered`). None is left out where the course of the
+-- (`replays`). If no line was left out, its items are those that the source alone predicts, and
+-- every event that was sent was delivered (`delivered`). None is left out if the course of the
 -- readings has at most 65,536 lines (`room`), and the status is 9 exactly where one was (`status`).
 pub record DrivesWith (mac : Mac) (deployment : Option (List ℕ)) (texts : List (List ℕ)) : Type
     0 where
@@ -94,7 +94,7 @@ items_said mac d texts readings = items_of (driven_of mac d texts readings).said
 abbrev pub drive_may : Deployed → List Answer → List ℕ → Type 0
 drive_may d earlier text = MayRunOut (judged_reading d (length earlier + 1) text)
 
--- what is `drive`'s own after the head; it is cut short where memory runs out, or where a line was
+-- what is `drive`'s own after the head; it is cut short if memory runs out, or if a line was
 -- left out
 abbrev pub drive_part : Mac → OwnPart
 drive_part mac = record {

@@ -1,4 +1,4 @@
--- The exit status of `drive`, whatever the images are, where no line was left out of its run.
+-- The exit status of `drive`, whatever the images are, if no line was left out of its run.
 use Rattle.std.specs.Prelude.{ℕ, List}
 use Rattle.sx_io.specs.Reading.{Answer}
 use Rattle.sx_deploy.specs.Deployment.{Deployed}

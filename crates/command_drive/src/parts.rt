@@ -23,7 +23,7 @@ use sx_trace::names::Names;
 /// The exit status for a run of which a line was left out.
 const LEFT_OUT: u8 = 9;
 
-/// Goes on after a part of the run that was written; stops where a line of it was left out, or
+/// Goes on after a part of the run that was written; stops if a line of it was left out, or
 /// memory ran out.
 #[tactic(auto, unfolding(crate::specs::Output::long_line))]
 fn end_part<K: Sink>(output: &mut K, drove: Result<Drove, AllocError>) -> Turned
@@ -37,7 +37,7 @@ fn end_part<K: Sink>(output: &mut K, drove: Result<Drove, AllocError>) -> Turned
     }
 }
 
-/// Writes what a part of the run said; where memory ran out, what was said before.
+/// Writes what a part of the run said; if memory ran out, what was said before.
 fn tell<K: Sink>(
     output: &mut K,
     names: &Names,

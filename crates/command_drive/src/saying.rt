@@ -24,7 +24,7 @@ use sx_sched::write_line;
 use sx_trace::names::Names;
 
 /// A line whose indices, lengths and values are in their ranges can be written: its other numbers
-/// are in those of their types.
+/// are in those of their types. It does nothing: a number that is read brings its type's range.
 fn can_be_written(names: &Names, line: &Line)
     requires { IsNamed names.now (line_of line.now) }
     ensures kind { IsWritten (line_of line.now) }

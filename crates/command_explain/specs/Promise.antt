@@ -48,11 +48,11 @@ EndsAs to_tell m0 m1 status o = (status ≡ out_of_memory)
 
 -- The command `explain`, whatever texts of deployments and lines of traces are said to mean. What
 -- was written is what is defined for the lines that were taken, and nothing was read once the line
--- was whole at which it ended (`told`); no more was taken than must be (`streams`). Where no read
+-- was whole at which it ended (`told`); no more was taken than must be (`streams`). If no read
 -- and no write failed, all is as it is defined for the whole input (`exact`). Status 0 says that
 -- the input was read to its end (`read_all`), and that its trace is whole, and legal up to the
 -- first item that is forged (`legal`); and it comes for each such input (`complete`). What a legal
--- trace of a deployment rests on follows (`causes`). Where memory ran out, no line after the head
+-- trace of a deployment rests on follows (`causes`). If memory ran out, no line after the head
 -- was given, or the last that was given is one at which it may (`memory`).
 pub record ExplainPromise (tells to_tell : Bool) (m0 m1 : CommandAt) (status : ℕ) : Type 0 where
   pub told : (means : Meanings) → AreMeanings means

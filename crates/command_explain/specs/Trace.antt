@@ -51,7 +51,7 @@ image_line number text =
     if is_trace text then image.Trace
     else if nat_le number most_images && is_image text then image.Image else image.Other
 
--- the answers to come after the line `trace`, or where there is none
+-- the answers to come after the line `trace`, or if there is none
 pub data Start : Type 0 where
   Behind : List Answer → Start
   Missing : Stop → Start
@@ -81,7 +81,7 @@ is_last text = bytes_eq text (codes "end") || bytes_eq (take 6 text) (codes "fau
 abbrev pub said_by : Bool → Option Item → Option TraceLine
 said_by last item = if last then Some kind.Last else option_map kind.Item item
 
--- what a line says; none where it is no line of a trace
+-- what a line says; none if it is no line of a trace
 abbrev pub line_of : (List ℕ → Option Item) → List ℕ → Option TraceLine
 line_of item text = said_by (is_last text) (item text)
 

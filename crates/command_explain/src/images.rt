@@ -33,7 +33,7 @@ pub enum ImageLine {
     Other,
 }
 
-/// At most this many lines of images come before a trace.
+/// At most this many lines of images come before a trace: a deployment has no more modules.
 const MOST_IMAGES: u32 = 32;
 
 /// What the line of this number is, by its first bytes and how many it has.

@@ -92,7 +92,7 @@ front_is n into line rest e h = ap (λ (xs : List ℕ). take n xs) e ∙ ap (λ 
 
 -- ---- between two lines
 
--- i lines were acted: the program's world stands, so much was counted of the items before, and what is left is what is defined
+-- i lines were acted: the program's world is that of the run, so much was counted of the items before, and what is left is what is defined
 pub record Tallied (n : ℕ) (names : NameLists) (set : Setting) (held : Held) (i : ℕ) (c : Counts) : Type 0 where
   pub world : World
   pub before : List Item

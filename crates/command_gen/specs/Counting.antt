@@ -24,7 +24,7 @@ plus a b =
     record { items = a.items + b.items; outputs = a.outputs + b.outputs; lit = a.lit + b.lit }
 
 -- The line with this number keeps the rules, and was performed in the world w: the program's world
--- stands at the next one, and these are the line's items.
+-- shows the next one, and these are the line's items.
 pub record ActsIn (names : NameLists) (set : Setting) (left : Held) (number : ℕ) (text : List ℕ)
     (items : List Item) (w : World) : Type 0 where
   pub line : Line
@@ -32,7 +32,7 @@ pub record ActsIn (names : NameLists) (set : Setting) (left : Held) (number : �
   pub stands : Stands set left (after_next set w line).world
   pub made : items ≡ (after_next set w line).items
 
--- whatever world it stood at
+-- whichever world it showed
 abbrev pub ActsFrom : NameLists → Setting → Held → Held → ℕ → List ℕ → List Item → Type 0
 ActsFrom names set held left number text items =
     (w : World) → Stands set held w → ActsIn names set left number text items w

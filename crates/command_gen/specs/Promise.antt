@@ -82,7 +82,7 @@ GenWrote mac n to_tell k0 k1 status =
     GenStarved k0 k1 status ⊎ GenWith mac n to_tell k0 k1 status
 
 -- The command `gen` for n samples, of its sink at the start (k0) and at the end (k1). Whatever the
--- images are, its status is that of the workload where no write failed and memory sufficed, and
+-- images are, its status is that of the workload if no write failed and memory sufficed, and
 -- that is 0. Status 5 comes exactly of one write that failed.
 pub record GenPromise (mac : Mac) (n : ℕ) (to_tell : Bool) (k0 k1 : SinkAt) (status : ℕ) : Type 0 where
   pub says : GenWrote mac n to_tell k0 k1 status

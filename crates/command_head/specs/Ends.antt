@@ -1,4 +1,4 @@
--- How the rest of a command ends where memory runs out, or where the text gives no deployment.
+-- How the rest of a command ends if memory runs out, or if the text gives no deployment.
 use Rattle.std.specs.Prelude.{ℕ, ◌≡◌, Bool}
 use Rattle.command_promise.specs.Told.{CommandAt, out_of_memory, CommandEnds}
 use Rattle.sx_io.specs.Streams.{SinkAt}
@@ -11,7 +11,7 @@ pub record RanOut (m1 m2 : CommandAt) (status : ℕ) : Type 0 where
   pub six : status ≡ out_of_memory
   pub same : m2 ≡ m1
 
--- That a rule is broken is reported without memory; where there was none for a deployment, nothing
+-- That a rule is broken is reported without memory; if there was none for a deployment, nothing
 -- was written.
 abbrev pub EndsRefused : Bool → SinkAt → SinkAt → ℕ → DeployError → Type 0
 EndsRefused to_tell k0 k1 status (Fault f) =

@@ -9,6 +9,6 @@ abbrev pub IsFound : Head → Type 0
 IsFound (Found text more) = Unit {0}
 IsFound _ = ⊥
 
--- memory runs out only where there is a head: that there is none is reported without memory
+-- memory runs out only if there is a head: that there is none is reported without memory
 abbrev pub RunsOutBehindHead : ℕ → List Answer → Type 0
 RunsOutBehindHead status answers = status ≡ out_of_memory → IsFound (head answers)

@@ -8,7 +8,7 @@ use Rattle.command_promise.specs.declared.head.HeadFault.{HeadFault}
 use Rattle.command_promise.specs.declared.head.HeadFault.TheVariants.{TooLong, NoMark, Failed, OutOfMemory}
 use Rattle.command_head.specs.Refused.{fault_output}
 
--- That there is no head is reported without memory; where there was none for a head, nothing was
+-- That there is no head is reported without memory; if there was none for a head, nothing was
 -- written.
 abbrev pub EndsHeadless : Bool → SinkAt → SinkAt → ℕ → HeadFault → Type 0
 EndsHeadless to_tell k0 k1 status TooLong =

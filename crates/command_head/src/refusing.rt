@@ -83,7 +83,7 @@ fn fault_line(fault: DeployFault) -> Text
     text
 }
 
-/// Writes why a text gives no deployment: which rule is broken, and where. Nothing is written where
+/// Writes why a text gives no deployment: which rule is broken, and where. Nothing is written if
 /// memory ran out for a deployment.
 pub fn refuse<K: Sink>(error: DeployError, output: &mut K) -> u8
     ensures { EndsRefused K.tells (K.at output.old) (K.at output.new) result error }
@@ -94,7 +94,7 @@ pub fn refuse<K: Sink>(error: DeployError, output: &mut K) -> u8
     }
 }
 
-/// Writes why an input has no head. Nothing is written where memory ran out for a head.
+/// Writes why an input has no head. Nothing is written if memory ran out for a head.
 pub fn refuse_head<K: Sink>(fault: HeadFault, output: &mut K) -> u8
     ensures { EndsHeadless K.tells (K.at output.old) (K.at output.new) result fault }
 {

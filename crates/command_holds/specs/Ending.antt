@@ -30,7 +30,7 @@ EndsOf to_tell k0 k1 status d text = (decision : Decision)
     → CommandEnds to_tell k0 k1 status (holds_property decision (means.property d.names d.app text))
     × (status ≡ 0 → NeverProperty d (means.property d.names d.app text)))
 
--- whatever was read before, where this text is the head
+-- whatever was read before, if this text is the head
 abbrev pub EndsBehind : Bool → Bool → SourceAt → SourceAt → Ahead → SinkAt → SinkAt → ℕ → List ℕ
     → Meanings → Decision → Type 0
 EndsBehind tells to_tell s1 s2 now k0 k1 status text means decision = (s0 : SourceAt)

@@ -30,7 +30,7 @@ pub data Decision : Type 0 where
   Holds : Decision
   Unknown : (words : List ℕ) → Decision
 
--- the line where nothing was shown
+-- the line if nothing was shown
 unfoldable pub unknown_line : List ℕ → List ℕ
 unknown_line words = line (codes "unknown " ++ words)
 

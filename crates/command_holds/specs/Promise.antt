@@ -33,7 +33,7 @@ abbrev pub NeverBehind : Meanings → Head → Type 0
 NeverBehind means (Found text more) = NeverFound means (means.deployment text) more
 NeverBehind means _ = ⊥
 
--- Memory runs out only where there is a head. Status 0 says that the property is never broken.
+-- Memory runs out only if there is a head. Status 0 says that the property is never broken.
 pub record SaysOf (means : Meanings) (status : ℕ) (answers : List Answer) : Type 0 where
   pub memory : status ≡ out_of_memory → IsFound (head answers)
   pub never : status ≡ 0 → NeverBehind means (head answers)

@@ -12,7 +12,7 @@ use Rattle.command_promise.specs.declared.head.HeadFault.TheVariants as fault
 use Rattle.command_promise.specs.Head.{Head, Found, TooLong, NoMark, Unread, head, head_lines}
 
 -- What a call took of the input, and answered: the head, and the answers to come after it; or why
--- there is none. Memory runs out only where there is a head: that it is too long, or has no mark,
+-- there is none. Memory runs out only if there is a head: that it is too long, or has no mark,
 -- is found without memory.
 abbrev pub HeadRead : Bool → SourceAt → SourceAt → Ahead → Result (List ℕ) HeadFault → Type 0
 HeadRead tells s0 s1 now (Ok text) =

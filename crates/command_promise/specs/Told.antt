@@ -26,15 +26,15 @@ pub record CommandAt : Type 0 where
 abbrev pub command_at : SourceAt → SinkAt → CommandAt
 command_at source sink = record { source = source; sink = sink }
 
--- the exit status where a read failed
+-- the exit status if a read failed
 abbrev pub read_failed : ℕ
 read_failed = 4
 
--- the exit status where a write failed
+-- the exit status if a write failed
 abbrev pub write_failed : ℕ
 write_failed = 5
 
--- the exit status where memory ran out
+-- the exit status if memory ran out
 abbrev pub out_of_memory : ℕ
 out_of_memory = 6
 
@@ -42,12 +42,12 @@ out_of_memory = 6
 unfoldable pub read_line : List ℕ
 read_line = codes "fault read" ++ 10 ∷ []
 
--- what is defined where a read failed and nothing else is due
+-- what is defined if a read failed and nothing else is due
 abbrev pub unread_output : Output
 unread_output = record { text = read_line; status = read_failed }
 
--- All that is defined was written, and the status is the defined one; but where a write failed or
--- memory ran out, only a prefix of it was. One write failed where the status says so, and else none
+-- All that is defined was written, and the status is the defined one; but if a write failed or
+-- memory ran out, only a prefix of it was. One write failed if the status says so, and else none
 -- did.
 pub record CommandEnds (to_tell : Bool) (k0 k1 : SinkAt) (status : ℕ) (o : Output) : Type 0 where
   pub whole : (status ≡ write_failed → ⊥) → (status ≡ out_of_memory → ⊥) → (status ≡ o.status)

@@ -66,10 +66,10 @@ fn keep_line(text: &mut Vec<u8>, is_kept: bool, line: &[u8]) -> bool
     }
 }
 
-/// The bytes before the next line `%%`, each line with one newline. `TooLong` exactly where the
-/// bytes that were taken are too many or hold a line that is too long, `NoMark` exactly where no
-/// read failed and there is no mark, `Failed` only where the source's count of faults rose.
-/// `OutOfMemory` comes only where the text is whole.
+/// The bytes before the next line `%%`, each line with one newline. `TooLong` exactly if the
+/// bytes that were taken are too many or hold a line that is too long, `NoMark` exactly if no
+/// read failed and there is no mark, `Failed` only if the source's count of faults rose.
+/// `OutOfMemory` comes only if the text is whole.
 pub fn read_text<S: Source>(
     alloc: Global,
     lines: &mut Lines,

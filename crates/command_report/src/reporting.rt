@@ -90,9 +90,9 @@ fn report_told<C: Reports, S: Source, K: Sink>(alloc: Global, input: &mut S, out
 }
 
 /// A command that reports on a deployment: the input is a deployment and the line `%%`. What follows
-/// that line isn't judged, and at most 4,096 bytes of it are read. Gives the exit status: 0 where
-/// the deployment keeps the rules, 1 where it breaks one or there is no head, 4 where a read failed,
-/// 5 where a write failed, and 6 where memory ran out.
+/// that line isn't judged, and at most 4,096 bytes of it are read. Gives the exit status: 0 if
+/// the deployment keeps the rules, 1 if it breaks one or there is no head, 4 if a read failed,
+/// 5 if a write failed, and 6 if memory ran out.
 pub fn report_over<C: Reports, S: Source, K: Sink>(
     alloc: Global,
     input: &mut S,

@@ -63,7 +63,7 @@ abbrev pub run_may : Assembler → Deployed → List Answer → List ℕ → Typ
 run_may assemble d earlier text =
     MayRunOut (judged_line assemble d.names (length earlier + 1) text)
 
--- what is `run`'s own after the head; it is cut short only where memory runs out
+-- what is `run`'s own after the head; it is cut short only if memory runs out
 abbrev pub run_part : Assembler → Mac → OwnPart
 run_part assemble mac = record {
   output = run_deployed assemble mac;

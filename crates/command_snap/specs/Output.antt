@@ -45,7 +45,7 @@ answers_from names set lines number (answer.Line text ∷ more) =
     on_query names set lines number (judged_query names (length lines) number text)
     (answers_from names set lines (number + 1) more)
 
--- The images and the answers. Where the schedule breaks a rule, or a read failed before it ended,
+-- The images and the answers. If the schedule breaks a rule, or a read failed before it ended,
 -- that alone is said.
 abbrev pub asked_output : NameLists → Setting → List ℕ → Asking → Output
 asked_output names set images (Asks lines more) =
@@ -53,7 +53,7 @@ asked_output names set images (Asks lines more) =
 asked_output names set images (Breaks rule number) = broken_output rule number
 asked_output names set images Unread = unread_output
 
--- what is written where these lines of the schedule have come
+-- what is written if these lines of the schedule have come
 unfoldable pub snap_from : NameLists → Setting → List ℕ → List Line → List Answer → Output
 snap_from names set images before answers =
     asked_output names set images (asking names before answers)

@@ -7,7 +7,7 @@ use Rattle.command_snap.specs.Output.{snap_deployed}
 use Rattle.command_snap.specs.Status.{snap_status}
 use Rattle.command_snap.specs.Wants.{snap_may}
 
--- what is `snap`'s own after the head; it is cut short only where memory runs out
+-- what is `snap`'s own after the head; it is cut short only if memory runs out
 abbrev pub snap_part : Mac → OwnPart
 snap_part mac = record {
   output = snap_deployed mac;

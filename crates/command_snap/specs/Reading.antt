@@ -20,7 +20,7 @@ abbrev pub on_line : List Line → Result Line ℕ → (List Line → Asking) �
 on_line before (Err rule) rest = Breaks rule (length before + 1)
 on_line before (Ok line) rest = rest (before ++ line ∷ [])
 
--- The schedule from the line on that follows these. Where the input ends without the mark, no query
+-- The schedule from the line on that follows these. If the input ends without the mark, no query
 -- comes after it.
 abbrev pub asking : NameLists → List Line → List Answer → Asking
 asking names before [] = Asks before (End ∷ [])

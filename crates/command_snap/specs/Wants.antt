@@ -9,7 +9,7 @@ use Rattle.command_world.specs.Schedule.{judged_line}
 use Rattle.command_world.specs.Turning.{MayRunOut}
 use Rattle.command_snap.specs.Input.{judged_query}
 
--- where a line stands: after so many lines of the schedule; or after the mark of a schedule of so
+-- where a line is: after so many lines of the schedule; or after the mark of a schedule of so
 -- many lines, and so many queries
 pub data Place : Type 0 where
   InSchedule : ℕ → Place

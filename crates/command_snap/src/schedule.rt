@@ -61,7 +61,7 @@ fn keep<B: Copied, T: Tag + Copy>(
     }
 }
 
-/// The images and `end`, where no queries came. It takes no memory.
+/// The images and `end`, if no queries came. It takes no memory.
 fn answer_none<K: Sink>(output: &mut K, images: &[u8]) -> u8
     ensures ends { CommandEnds K.tells (K.at output.old) (K.at output.new) result
         (behind images.now ended_output) }

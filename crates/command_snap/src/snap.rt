@@ -1,5 +1,5 @@
-//! The command `snap`: after the head it keeps a schedule, and answers queries about where its run
-//! stands after any line.
+//! The command `snap`: after the head it keeps a schedule, and answers queries about its run after
+//! any line.
 
 ghost use Rattle.std.specs.Prelude.{◌≡◌, IfOk, [], length};
 ghost use Rattle.command_promise.specs.Told.{command_at};
@@ -23,7 +23,8 @@ use sx_paged::PagedBus;
 use sx_snap::Timeline;
 use sx_tag::Tag;
 
-/// A checkpoint comes after each so many lines, so a query performs fewer lines than this.
+/// A checkpoint comes after each so many lines, so a query performs fewer lines than this. The
+/// longest schedule has 8 of them, each a world of its own, in 180 MB; more would take more.
 const EVERY: u32 = 8192;
 
 /// The timeline of a deployment with these images of its modules, without a line.

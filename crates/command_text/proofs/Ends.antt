@@ -29,6 +29,6 @@ faults_of {tells} {to_tell} {m0} {m1} {status} {F} {also} never told = record {
   no_write = λ other. told-no-write-fault told other;
 }
 
--- all lines of a text stand, where nothing of it is left
+-- all lines of a text are written if nothing of it is left
 pub all_lines : (text whole left : List ℕ) → text ++ left ≡ whole → left ≡ [] → text ≡ whole
 all_lines text whole left h e = sym (append-nil text) ∙ ap (λ (v : List ℕ). text ++ v) (sym e) ∙ h

@@ -12,7 +12,7 @@ use sx_io::{Failed, Sink, put_all};
 /// The most bytes that are written together.
 pub const MOST: usize = 8192;
 
-/// The most bytes of a line, with what comes before it and its newline.
+/// The most bytes of a line: 128 of an item or of a schedule's line, `> ` before it and a newline.
 const LONGEST_LINE: usize = 131;
 
 /// Text that is kept, to be written together.

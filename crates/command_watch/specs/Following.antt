@@ -51,7 +51,7 @@ TurnsFrom to_tell k0 k1 old new number item turned = (p : PropertyTree) (items :
     → Stands p items old → number ≡ length items + 1
     → TurnsItem to_tell k0 k1 p items item new turned
 
--- That a property breaks a rule is reported without memory; where there was none for a property,
+-- That a property breaks a rule is reported without memory; if there was none for a property,
 -- nothing was written.
 abbrev pub RefusesText : Bool → SinkAt → SinkAt → ℕ → PropertyError → Type 0
 RefusesText to_tell k0 k1 status (Fault f) =

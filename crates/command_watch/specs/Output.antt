@@ -35,7 +35,7 @@ kept_text items = line (codes "kept " ++ decimal (length (before items)))
 abbrev pub kept_output : List Item → Output
 kept_output items = record { text = kept_text items; status = 0 }
 
--- where no item breaks it: the last lines, by where the trace ends
+-- if no item breaks it: the last lines, by where the trace ends
 abbrev pub stop_output : List Item → Stop → Output
 stop_output items Whole = kept_output items
 stop_output items Unread = unread_output

@@ -56,7 +56,7 @@ input_of m0 = scan watch_lines Ended [] m0.source.rest
 
 -- The command `watch`, whatever texts and lines are said to mean. What was written is what is
 -- defined for the lines that were taken, and nothing was read once the line was whole at which it
--- ended (`told`); no more was taken than must be (`streams`). Where no read and no write failed,
+-- ended (`told`); no more was taken than must be (`streams`). If no read and no write failed,
 -- all is as it is defined for the whole input (`exact`). Status 0 says that the input was read to
 -- its end (`read_all`), that the trace is whole, and that no item before the first that is forged
 -- breaks the property (`kept`); status 12 that an item does (`broken`), and `exact` that its number

@@ -22,7 +22,7 @@ use sx_trace::items::Item;
 use sx_trace::names::Names;
 use sx_watch::property::Property;
 
-/// Takes an item with this number. Where it breaks the property, writes that and stops.
+/// Takes an item with this number. If it breaks the property, writes that and stops.
 fn turn<K: Sink>(
     alloc: Global,
     output: &mut K,

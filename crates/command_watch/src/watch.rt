@@ -25,7 +25,7 @@ use sx_deploy::deployment::{Deployment, read_deployment};
 use sx_io::{Lines, Sink, Source};
 use sx_watch::reading::{PropertyError, read_property};
 
-/// Writes why a text gives no property. Nothing is written where memory ran out for one.
+/// Writes why a text gives no property. Nothing is written if memory ran out for one.
 fn refuse_text<K: Sink>(error: PropertyError, output: &mut K) -> u8
     ensures { RefusesText K.tells (K.at output.old) (K.at output.new) result error }
 {

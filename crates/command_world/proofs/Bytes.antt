@@ -7,7 +7,7 @@ use Rattle.std.proofs.lemmas.Option.{same_Some, slice_get-map, slice_get_read, s
 use Rattle.sx_image.specs.declared.image.Image.{Image}
 use Rattle.sx_image.specs.InMemory.{texts_of}
 
--- each number of a list is a byte, whichever stands where it has none
+-- each number of a list is a byte, whatever is read past its end
 pub all_fit : (xs : List ℕ) → ((k : ℕ) → get_or xs k 0 < 256) → All (λ b. b < 256) xs
 all_fit xs h = λ k d lt. fits xs h k d lt
   where

@@ -1,4 +1,4 @@
--- What is written where a line of a schedule breaks a rule.
+-- What is written if a line of a schedule breaks a rule.
 use Rattle.std.specs.Prelude.{ℕ, List, ◌++◌, codes, decimal, ◌+◌}
 use Rattle.command_promise.specs.Told.{Output}
 use Rattle.command_text.specs.Output.{line}

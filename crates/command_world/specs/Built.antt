@@ -15,7 +15,7 @@ texts_from d p (q ∷ qs) (l ∷ ls) =
     compiled_text l q.tree (ends_of d.app p) ∷ texts_from d (p + 1) qs ls
 texts_from d p _ _ = []
 
--- the image of the p-th module, where it is deployed: it realizes the module with its ends, and its
+-- the image of the p-th module, if it is deployed: it realizes the module with its ends, and its
 -- text is the one that the compiler makes
 pub record IsBuilt (mac : Mac) (d : Deployed) (q : PartTree) (layout : Layout) (provider p : ℕ)
     (image : Image) : Type 0 where

@@ -1,4 +1,4 @@
--- What the next line of a schedule does, and what is written where it breaks a rule.
+-- What the next line of a schedule does, and what is written if it breaks a rule.
 use Rattle.std.specs.Prelude.{ℕ, Result, Ok, Err, ◌≡◌}
 use Rattle.spec_run.specs.Setting.{Setting}
 use Rattle.sx_sched.specs.Lines.{Line}

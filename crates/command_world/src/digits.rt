@@ -6,7 +6,8 @@ ghost use Rattle.hex.specs.Hex.{encode_lower, lower_digits};
 
 use std::alloc::AllocError;
 
-/// The most bytes whose digits are appended at once.
+/// The most bytes whose digits are appended at once. They are made on the stack, so that no second
+/// list is asked for.
 const BLOCK: usize = 256;
 
 /// The digit of a number below 16.

@@ -37,7 +37,7 @@ pub record Callee : Type 0 where
   pub section : Section
   pub node : State
 
--- the module stands protected on its node in this world, and no module runs there
+-- the module is protected on its node in this world, and no module runs there
 pub record StandsIdle (set : Setting) (w : World) (c : Callee) : Type 0 where
   pub part : slice_get set.app.parts c.number ≡ Some c.part
   pub sited : slice_get set.sites c.number ≡ Some c.site

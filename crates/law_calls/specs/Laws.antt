@@ -20,7 +20,7 @@ use Rattle.law_calls.specs.Calls.{HasReturned, HasReset}
 
 -- What one call does, whatever its entry and its windows, and in whatever state the module is.
 
--- in every run a module that stands protected where no module runs is callable
+-- in every run a protected module on whose node no module runs is callable
 abbrev pub CallableInRuns : Type 0
 CallableInRuns =
     (set : Setting) (lines : List Line) (c : Callee) → IsSoundSetting set → LinesInForm set lines
@@ -51,8 +51,8 @@ items_of set w line = (after_line set (line_counted w) line).items
 abbrev pub IsWithinBudget : Setting → World → Line → Type 0
 IsWithinBudget set w line = list_any is_budget (items_of set w line) ≡ false
 
--- In every run, where a module stands protected and no module runs on its node: `finish` never
--- shows `budget` where PC is the module's entry, and `call` of the module never does.
+-- In every run, if a module is protected and no module runs on its node: `finish` never shows
+-- `budget` if PC is the module's entry, and `call` of the module never does.
 abbrev pub NeverBudget : Type 0
 NeverBudget =
     (set : Setting) (lines : List Line) (c : Callee) → IsSoundSetting set → LinesInForm set lines

@@ -5,7 +5,7 @@ ghost use Rattle.law_calls.specs.FourCalls.{SampleCalled};
 ghost use Rattle.law_calls.specs.Laws.{CallableInRuns, CallReturns, CallViolates, NeverBudget};
 ghost use Rattle.law_calls.specs.Laws.{MarksGoOn};
 
-/// In every run, a module that stands protected where no module runs is callable.
+/// In every run, a protected module on whose node no module runs is callable.
 pub fn callable_in_runs()
     ensures { CallableInRuns }
 {}
@@ -20,8 +20,8 @@ pub fn call_violates()
     ensures { CallViolates }
 {}
 
-/// In every run, no `call` of a module that stands protected, and no `finish` from its entry, shows
-/// `budget`, where no module runs before.
+/// In every run, no `call` of a protected module, and no `finish` from its entry, shows `budget`,
+/// if no module runs on the node before.
 pub fn never_budget()
     ensures { NeverBudget }
 {}

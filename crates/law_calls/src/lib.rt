@@ -1,6 +1,6 @@
 //! What one call of a deployed module does in a run.
 //!
-//! Where a module stands protected and no module runs on its node, a `call` does what its
+//! If a module is protected and no module runs on its node, a `call` does what its
 //! invocation says and nothing else. It shows the items of the invocation's marks, and then `done`
 //! or the node's reset; it never uses up its steps; and it leaves the node as the invocation says.
 //! So it is for every entry, every window and every state of the module.

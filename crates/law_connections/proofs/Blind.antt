@@ -27,7 +27,7 @@ abbrev pub AreZero : Section → List ℕ → List ℕ → Type 0
 AreZero x m n = (k : ℕ) → in_private x k ≡ true → (slice_index m k ≡ 0) × (slice_index n k ≡ 0)
 
 -- A table that came of another: nothing that was hidden is in the open, and each of its sections
--- stood before, or has its text of before and private bytes of 0.
+-- was live before, or has its text of before and private bytes of 0.
 pub record Grown (hides : Section → Bool) (live after : List Section) (m0 m n : List ℕ) : Type 0 where
   pub hidden : (k : ℕ) → Unhidden hides after k → Unhidden hides live k
   pub known : (x : Section) → Lives after x → Lives live x ⊎ ((text_at m x.layout ≡ text_at m0 x.layout) × AreZero x m n)

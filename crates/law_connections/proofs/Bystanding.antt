@@ -150,7 +150,7 @@ module _ (mac nac : Mac) (kind : Kind) (s : State) (n key : List ℕ) (u : Secti
 
   -- What is there afterwards.
 
-  -- what a section's text is, where it stood before and stands now
+  -- a section that was live before and is live now has the text of before
   text_kept : (after : State) → Framed s.sections.live (own_of s) s.mem after.mem ⊎ (after ≡ reset s) → (z : Section) → Lives s.sections.live z → Lives after.sections.live z
       → text_at after.mem z.layout ≡ text_at s.mem z.layout
   text_kept after (inl f) z l g =

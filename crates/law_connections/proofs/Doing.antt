@@ -49,7 +49,7 @@ use Rattle.law_connections.proofs.Between.{Between, SameTurn, outside_mid}
 use Rattle.law_connections.proofs.Ledgers.{SameLedger}
 use Rattle.law_connections.proofs.Worlds.{SameAt, SameWorld, with_same, packet_same}
 
--- a section that stands after an act from outside stood before
+-- a section that is live after an act from outside was live before
 pub stood_before : (set : Setting) (x : Act) (s : State) → (x ≡ act.Step → ⊥) → (sec : Section) → Lives (acted set.mac x s).state.sections.live sec → Lives s.sections.live sec
 stood_before set x s ne sec l = elim (act_outside set x s ne) [
   | inl same ↦ subst (λ (z : State). Lives z.sections.live sec) same l

@@ -105,8 +105,8 @@ OutsidersSeeTheSame = (mac nac : Mac) (sites : List Site) (n : ℕ) (s t : State
     → ((step mac s).shown ≡ (step nac t).shown)
     × AlikeOutside mac nac (sites_on sites n) (step mac s).state (step nac t).state
 
--- A deployed module that stands after a step of both nodes: it stood before and its private bytes
--- are as before, in each node; or all of them are 0.
+-- A deployed module that is live after a step of both nodes: it was live before and its private
+-- bytes are as before, in each node; or all of them are 0.
 abbrev pub IsUntouched : Kind → (s t u v : State) → Section → Type 0
 IsUntouched kind s t u v x =
     (Lives s.sections.live x × (is_deployed kind s.mem x ≡ true)

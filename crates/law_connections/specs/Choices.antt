@@ -43,7 +43,7 @@ abbrev pub IsChosen : List Choice → Choice → Type 0
 IsChosen [] x = ⊥
 IsChosen (c ∷ cs) x = (x ≡ c) ⊎ IsChosen cs x
 
--- Every list of choices is a moving of keys; where no two keys are the same each key gets the
+-- Every list of choices is a moving of keys; if no two keys are the same each key gets the
 -- chosen one; and a key in none of them stays.
 abbrev pub ChoicesMove : Type 0
 ChoicesMove = (cs : List Choice) → AreKeys cs

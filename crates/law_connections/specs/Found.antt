@@ -14,7 +14,7 @@ NoKeyFound a move = RunKeepsTo a (λ k. (move k ≡ k) × (IsDeployedKey a k →
     (λ n boot provider identity.
     IsDeployedKey a (module_key a.mac (list_at a.keys n) boot provider identity) → ⊥)
 
--- Between a setting and one that has other keys in place of its own, nothing is guessed where no
+-- Between a setting and one that has other keys in place of its own, nothing is guessed if no
 -- key is found.
 abbrev pub KeysFound : Type 0
 KeysFound = (a b : Setting) (move : List ℕ → List ℕ) (lines : List Line) → IsMoved a move b

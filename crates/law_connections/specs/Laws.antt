@@ -17,7 +17,7 @@ HidesKeys a = (m : ℕ) (q : PartTree) (site : Site) → slice_get a.app.parts m
     → slice_get a.sites m ≡ Some site → (mac : Mac) → IsTag mac
     → ShowsNoKey mac q.tree (ends_of a.app m) (image_at site)
 
--- Where no image shows a key, the keys of connections are unseen in the run of every schedule.
+-- If no image shows a key, the keys of connections are unseen in the run of every schedule.
 abbrev pub LinksUnseen : Type 0
 LinksUnseen = (a : Setting) (lines : List Line) → IsLawfulSetting a → HidesKeys a
     → LinesInForm a lines → LinksAreUnseen a lines
@@ -28,6 +28,6 @@ RealizesAlways a = (m : ℕ) (q : PartTree) (site : Site) → slice_get a.app.pa
     → slice_get a.sites m ≡ Some site → (mac : Mac) → IsTag mac
     → Realizes mac q.tree (ends_of a.app m) (image_at site)
 
--- Where each image does, there is a setting for every choice of other keys.
+-- If each image does, there is a setting for every choice of other keys.
 abbrev pub UnlinksAll : Type 0
 UnlinksAll = (a : Setting) → IsLawfulSetting a → RealizesAlways a → HasMoved a

@@ -73,7 +73,7 @@ identity_in mem x = let l = x.layout in
     identity (public_bytes l mem) l.pub_from l.pub_to l.priv_from l.priv_to
 
 -- The next step of the n-th node, of code of no deployed module, keeps to such keys and modules:
--- where it wraps or unwraps with 16 bytes that it may read, they are such a key, and where it
+-- if it wraps or unwraps with 16 bytes that it may read, they are such a key, and if it
 -- admits a module that isn't deployed, this is such a one, by boot, provider and identity.
 pub record KeepsTo (a : Setting) (IsKey : List ℕ → Type 0) (IsModule : ℕ → ℕ → List ℕ → Type 0)
     (n : ℕ) (s : State) : Type 0 where
@@ -103,7 +103,7 @@ SameModule a b n boot provider identity =
 abbrev pub NothingGuessed : Setting → Setting → List Line → Type 0
 NothingGuessed a b = RunKeepsTo a (λ k. SameTags a.mac k b.mac k) (SameModule a b)
 
--- The runs show the same up to the first `forged`, and where there is none they come to worlds that
+-- The runs show the same up to the first `forged`, and if there is none they come to worlds that
 -- are the same outside deployed modules.
 abbrev pub RunsAlike : Setting → Setting → List Line → Type 0
 RunsAlike a b lines =

@@ -151,7 +151,7 @@ entered m boot header body own ledger (inr v) =
           (sym both) (made_in ledger [] (made_entry (maker.Module m) NO_TARGET 0 header body))),
     )
 
--- A state in which a node stood at a moment until the k-th.
+-- A state that a node had at a moment until the k-th.
 pub record Stood (set : Setting) (lines : List Line) (k n : ℕ) (s : State) : Type 0 where
   pub j : ℕ
   pub past : Moment

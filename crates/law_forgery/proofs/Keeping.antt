@@ -227,7 +227,7 @@ other_keyed set Past n a s form ne all h = elim (act_outside set a s ne) [
   ]
 ]
 
--- Worlds. `Past n` are the states in which the n-th node stood until now.
+-- Worlds. `Past n` are the states that the n-th node had until now.
 
 abbrev pub AllKeyed : Setting → (ℕ → State → Type 0) → World → Type 0
 AllKeyed set Past w = (n : ℕ) (s : State) → slice_get w.nodes n ≡ Some s → NodeKeyed set (Past n) n s

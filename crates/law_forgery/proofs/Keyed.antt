@@ -228,7 +228,7 @@ module _ (set : Setting) (w : World) (n : ℕ) (s : State) (sound : IsSoundSetti
           (touch_marks set (step set.mac s).shown.touch)
           (key_event m sec found lives is (ap (λ o. Rattle.std.specs.Option.option_and_then (deployed set.sites n s.mem) o) found ∙ e) (step set.mac s).shown.event refl)
 
--- The invariant of a node. `Past` are the states in which the node stood until now.
+-- The invariant of a node. `Past` are the states that the node had until now.
 
 pub record KeyedTurn (set : Setting) (Past : State → Type 0) (m : ℕ) (q : PartTree) (site : Site) (sec : Section) (s : State) : Type 0 where
   pub turn : InTurn set m q site sec s
@@ -254,7 +254,7 @@ later_keyed set Past Later n s f h = record {
       record { turn = k.turn; stood = f k.turn.before k.stood; start = k.start; marks = k.marks };
 }
 
--- a section that stands before and after an act of other code
+-- a section that is live before and after an act of other code
 pub record Kept (n : ℕ) (s t : State) (sec : Section) : Type 0 where
   pub private : private_bytes sec.layout t.mem ≡ private_bytes sec.layout s.mem
   pub public : public_bytes sec.layout t.mem ≡ public_bytes sec.layout s.mem

@@ -44,7 +44,7 @@ use Rattle.law_forgery.proofs.Turns.{setup_of, turn_of, InTurn, NodeTurns}
 
 -- A step.
 
--- a section that runs after a quiet step stood before it
+-- a section that runs after a quiet step was live before it
 pub stood : (mac : Mac) (s : State) (sec : Section) → IsNode s → violation_of (step mac s).shown.event ≡ None → sec.id ≢ 0 → own_of s ≡ sec.id
     → Lives (step mac s).state.sections.live sec → Lives s.sections.live sec
 stood mac s sec node quiet nz own lives = by (sections_after mac s quiet)

@@ -27,7 +27,7 @@ pub data KeyName : Type 0 where
   OfModule : (m boot : ℕ) → KeyName
   OfLink : (link epoch : ℕ) → KeyName
 
--- the key of a module at a boot of its node; none where there is no such module
+-- the key of a module at a boot of its node; none if there is no such module
 abbrev pub key_at : Setting → ℕ → Option Site → List ℕ
 key_at set boot None = []
 key_at set boot (Some site) = key_of set site boot
@@ -97,7 +97,7 @@ ForgedUnmade = (set : Setting) → IsSoundSetting set → (lines : List Line) �
     → LinesInForm set lines → (k : ℕ) (now : Moment) (who : Option ℕ)
     → FirstForged set lines k now who → Forgery set lines k now.world who
 
--- and where the items of a run have a first `forged`, there is the moment that shows it
+-- and if the items of a run have a first `forged`, there is the moment that shows it
 abbrev pub ForgedShown : Type 0
 ForgedShown = (set : Setting) (lines : List Line) (front rest : List Item) (who : Option ℕ)
     → (run set (switched_on set) lines).items ≡ front ++ item.Forged who ∷ rest → NoForged front

@@ -45,7 +45,7 @@ HasTags table set = (n boot provider : ℕ) (identity message : List ℕ)
     → table (name_of set n boot provider identity) message
     ≡ set.mac (module_key set.mac (list_at set.keys n) boot provider identity) message
 
--- no tag tells a setting and the one with names apart, where the table has its tags
+-- no tag tells a setting and the one with names apart, if the table has its tags
 abbrev pub NamesAgree : Type 0
 NamesAgree = (table : Mac) (set : Setting) → length set.secret ≡ 16 → HasTags table set
     → AgreeOnTags set (named_setting table set)

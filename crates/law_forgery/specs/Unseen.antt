@@ -23,8 +23,8 @@ abbrev pub RunsKeysUnseen : Type 0
 RunsKeysUnseen = (a b : Setting) (lines : List Line) → AgreeOnTags a b
     → ShowTheSame (run a (switched_on a) lines) (run b (switched_on b) lines)
 
--- So many lines are done one after the other, and whoever makes them chooses each by all that then
--- stands, but for the keys of nodes and modules.
+-- So many lines are done one after the other, and whoever makes them chooses each by all that
+-- there is then, but for the keys of nodes and modules.
 abbrev pub played : Setting → (World → Line) → ℕ → World → Acted
 played set choose zero w = only w []
 played set choose (suc n) w =

@@ -1,4 +1,4 @@
--- Where the program's honest run stands, and that its readings and deliveries follow the course.
+-- How far the program's honest run is, and that its readings and deliveries follow the course.
 use Rattle.std.proofs.Common.{◌≡◌, ℕ, zero, suc, ◌+◌, ◌*◌, ◌≤◌, ◌==◌, inl, inr, Bool, true, if◌then◌else◌, List, [], ◌∷◌, ◌++◌, length, length-append, Option}
 use Rattle.std.proofs.Common.{Some, None, slice_get, append_assoc, refl, sym, ◌∙◌, ap, subst, arith}
 use Rattle.std.specs.Prelude.{cond, option_and_then, option_map, slice_index_or}
@@ -43,7 +43,7 @@ use Rattle.law_honest.proofs.Handing.{made_outs, numbers, numbers_append, receiv
 use Rattle.law_honest.proofs.Enough.{most_lines, still_at}
 use Rattle.sx_model.specs.State.{contains}
 
--- It stands as a course does after so many readings: the packets of the values on their way wait in order. No event sends more than 16
+-- It is as far as a course after so many readings: the packets of the values on their way wait in order. No event sends more than 16
 -- values.
 pub record Tracks (set : Setting) (c : Course) (k : ℕ) (h : Honest) : Type 0 where
   pub stands : Stands set h.world c
@@ -343,7 +343,7 @@ module _ (set : Setting) (sound : IsLawfulSetting set) (room : HasRoom set) (wor
         (then_fares set h.world sensing (settles set MOST_LINES) ls more (Tracks set after (k + 1)) Q sensing_fares (settles_stay set MOST_LINES)
         (λ played. settles_fares MOST_LINES after (k + 1) sensing.honest played.whole played.holds))
 
-  -- All readings: where it stands, nothing waits any more.
+  -- All readings: after them nothing waits any more.
   pub record IsPlayed (rs : List Sampling) (c : Course) (k : ℕ) (h : Honest) : Type 0 where
     pub course : Course
     pub comes : played app MOST_LINES rs c ≡ Some course

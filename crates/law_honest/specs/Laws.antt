@@ -1,5 +1,5 @@
 -- What holds of the honest run that the program makes: it says the lines of the honest schedule,
--- and where no line is left out they show what the source alone predicts.
+-- and if no line is left out they show what the source alone predicts.
 use Rattle.std.specs.Prelude.{ℕ, ◌≡◌, ◌<◌, false, List, length, take, nat_lt}
 use Rattle.std.specs.Prelude.{All, Ok}
 use Rattle.sx_tag.specs.Mac.{Mac, IsTag}
@@ -31,7 +31,7 @@ pub record IsDriveable (set : Setting) (readings : List Reading) : Type 0 where
   pub are_readings : All (IsReading set.app) readings
 
 -- Whatever the readings are, the run says the first 65,536 lines of the honest schedule, each with
--- what it shows; and a line is left out exactly where there are more.
+-- what it shows; and a line is left out exactly if there are more.
 pub record SaysSchedule (set : Setting) (readings : List Reading) : Type 0 where
   pub said : (honest_run set readings).said ≡ told set (switched_on set)
       (take MOST_LINES (honest_schedule set.app (samplings_of readings)))
@@ -52,12 +52,12 @@ pub record DrivesHonestly (set : Setting) (readings : List Reading) (c : Course)
   pub delivers : Delivers set.app (samplings_of readings)
       (items_of (honest_run set readings).said)
 
--- so it is where the course has at most 65,536 lines
+-- so it is if the course has at most 65,536 lines
 abbrev pub HonestIsDriven : Type 0
 HonestIsDriven = (set : Setting) (readings : List Reading) (c : Course) → IsDriveable set readings
     → IsHonest set.app (samplings_of readings) c → DrivesHonestly set readings c
 
--- and where no line was left out there is such a course
+-- and if no line was left out there is such a course
 abbrev pub DrivenIsHonest : Type 0
 DrivenIsHonest = (set : Setting) (readings : List Reading) → IsDriveable set readings
     → (honest_run set readings).honest.long ≡ false

@@ -9,18 +9,18 @@ ghost use Rattle.law_honest.specs.Laws.{
 };
 
 /// The run says the first 65,536 lines of the honest schedule, each with what it shows; a line is
-/// left out exactly where there are more.
+/// left out exactly if there are more.
 pub fn schedule_is_said()
     ensures { ScheduleIsSaid }
 {}
 
-/// Where the course of the readings has at most 65,536 lines, no line is left out: the run says the
+/// If the course of the readings has at most 65,536 lines, no line is left out: the run says the
 /// honest schedule with what its lines show, which is what the source predicts, and so it delivers.
 pub fn honest_is_driven()
     ensures { HonestIsDriven }
 {}
 
-/// Where no line was left out, the readings have such a course.
+/// If no line was left out, the readings have such a course.
 pub fn driven_is_honest()
     ensures { DrivenIsHonest }
 {}

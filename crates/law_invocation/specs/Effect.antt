@@ -48,7 +48,7 @@ one_packet su v k e ends = record {
   pieces = event_packet su e v ∷ [];
 }
 
--- the packet of the k-th end, where it is open and its number is below the last
+-- the packet of the k-th end, if it is open and its number is below the last
 abbrev pub packet_made : Setup → ℕ → ℕ → List EndState → Effect
 packet_made su v k ends =
     let e = end_of ends k in
@@ -62,7 +62,7 @@ packets_made su output v k (e ∷ es) ends =
     (packets_made su output v (k + 1) es)
     else packets_made su output v (k + 1) es ends
 
--- a write to the module's device, where it has one
+-- a write to the module's device, if it has one
 abbrev pub emit_marks : Option ℕ → ℕ → List Mark
 emit_marks None v = []
 emit_marks (Some k) v = Actuated k v ∷ []

@@ -33,7 +33,7 @@ low_end = 0x0200
 abbrev pub low_call : ℕ → Call
 low_call e = asked e low_input low_output
 
--- no section and no device begins in low memory; the module's own section is one that stands
+-- no section and no device begins in low memory; the module's own section is live
 pub record IsLowFree (su : Setup) (devices : List Window) : Type 0 where
   pub lives : Lives su.live su.section
   pub sections : (x : Section) → Lives su.live x → (low_end ≤ x.layout.pub_from)
@@ -59,11 +59,11 @@ pub record InvocationGives (su : Setup) (e : ℕ) (p : Progress) (st : ModuleSta
         pieces = pieces;
       })
 
--- the index of a device, where there is one
+-- the index of a device, if there is one
 abbrev pub index_in : Option (ℕ × Window) → Option ℕ
 index_in None = None
 index_in (Some d) = Some d.0
 
--- the index of the module's own device, where it has one
+-- the index of the module's own device, if it has one
 abbrev pub own_device : Setup → List Window → Option ℕ
 own_device su devices = index_in (own_window su devices)

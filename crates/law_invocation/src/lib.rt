@@ -3,10 +3,10 @@
 //!
 //! `specs/Gives.antt` says what it means that an invocation gives something, with the caller's
 //! windows in low memory, where no section and no device begins; read it first. `specs/Effect.antt`
-//! has what a handler's acts make, as a function of them, and `specs/Laws.antt` the laws. No code
-//! stands here: `spec_invocation` has the definition of an invocation.
+//! has what a handler's acts make, as a function of them, and `specs/Laws.antt` the laws. There is
+//! no code here; `spec_invocation` has the definition of an invocation.
 //!
-//! `proofs/Making.antt` is the core: where a handler makes few packets, none of its copies is
+//! `proofs/Making.antt` is the core: if a handler makes few packets, none of its copies is
 //! refused. `proofs/Worked.antt` meets the premises of the laws on a small application.
 #![tactic(auto)]
 

@@ -21,14 +21,14 @@ pub record SameBut (n : ℕ) (s : Section) (w v : World) : Type 0 where
   pub same : Same s node twin
   pub rest : v ≡ with_node w n twin w.ledger w.steps
 
--- where it is a step of the n-th node, it is no instruction of s's own code that is let run
+-- if it is a step of the n-th node, it is no instruction of s's own code that is let run
 abbrev pub IsForeign : Happening → ℕ → Section → State → Type 0
 IsForeign x n s a = x ≡ Step n → Foreign s a
 
--- What happens changes no private byte of s, which stands on the n-th node, and reads none.
+-- What happens changes no private byte of s, a live section of the n-th node, and reads none.
 pub record LeavesAlone (set : Setting) (x : Happening) (w : World) (n : ℕ) (s : Section)
     (a : State) : Type 0 where
-  -- the node afterwards: s stands with its private bytes as before, or the node was reset
+  -- the node afterwards: s is live with its private bytes as before, or the node was reset
   pub left : State
   pub there : slice_get (done set x w).world.nodes n ≡ Some left
   pub kept : Untouched s a left
@@ -37,8 +37,8 @@ pub record LeavesAlone (set : Setting) (x : Happening) (w : World) (n : ℕ) (s 
   pub blind : (v : World) → SameBut n s w v → ((done set x w).items ≡ (done set x v).items)
       × SameBut n s (done set x w).world (done set x v).world
 
--- Each thing that a script does leaves alone each section that stands on a node before it, unless
--- it is an instruction of that section's own code.
+-- Each thing that a script does leaves alone each section that is live before it, unless it is an
+-- instruction of that section's own code.
 abbrev pub AllGuarded : Setting → Script → World → Type 0
 AllGuarded set End w = Unit {0}
 AllGuarded set (Do x rest) w =

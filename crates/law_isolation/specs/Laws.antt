@@ -27,7 +27,7 @@ ScriptsGuarded =
 abbrev pub RunsGuarded : Type 0
 RunsGuarded = (set : Setting) (lines : List Line) → GuardedRun set lines
 
--- nothing that a script does is an instruction of s's own code, while s stands on the n-th node
+-- nothing that a script does is an instruction of s's own code, while s is live on the n-th node
 abbrev pub AllForeign : Setting → ℕ → Section → Script → World → Type 0
 AllForeign set n s End w = Unit {0}
 AllForeign set n s (Do x rest) w =

@@ -21,13 +21,13 @@ abbrev pub ends : (Look → Bool) → Look → Option Look → Bool
 ends stops a None = true
 ends stops a (Some b) = not (b.boot == a.boot) || stops b
 
--- where there is such a node
+-- if there is such a node
 abbrev pub where_node : Option Look → (Look → Script) → Script → Script
 where_node None some none = none
 where_node (Some a) some none = some a
 
 -- at most this many steps of a node, and then what is in `last`; they end after a reset, or
--- where `stops` says so
+-- if `stops` says so
 abbrev pub steps : (Look → Bool) → List Happening → ℕ → ℕ → (List Look → Script) → List Look
     → Script
 steps stops last n zero rest now = all last rest now
@@ -40,7 +40,7 @@ steps stops last n (suc k) rest now =
 abbrev pub finishing : ℕ → (List Look → Script) → List Look → Script
 finishing n = steps (λ a. a.cur == 0) (Show (item.Budget n) ∷ []) n FINISH_STEPS
 
--- where no module of the node runs
+-- if no module of the node runs
 abbrev pub unless_running : ℕ → (List Look → Script) → (List Look → Script) → List Look → Script
 unless_running n doing rest now =
     where_node (slice_get now n) (λ a. if a.cur == 0 then doing now else

@@ -6,7 +6,7 @@ use Rattle.spec_run.specs.State.{World, Acted, switched_on}
 use Rattle.spec_run.specs.Acts.{only, then_}
 use Rattle.law_isolation.specs.Happening.{Happening, done}
 
--- all of a node that tells how a script goes on: the module that runs, 0 where none does, and how
+-- all of a node that tells how a script goes on: the module that runs, 0 if none does, and how
 -- often the node was reset
 pub record Look : Type 0 where
   pub cur : ℕ
@@ -31,6 +31,6 @@ abbrev pub performed : Setting → Script → World → Acted
 performed set End w = only w []
 performed set (Do x rest) w = then_ (done set x w) (λ v. performed set (rest (looks v)) v)
 
--- where a run stands when a script was performed from power-on
+-- the world after a script that was performed from power-on
 abbrev pub after : Setting → Script → World
 after set script = (performed set script (switched_on set)).world

@@ -19,13 +19,13 @@ pub fn runs_guarded()
     ensures { RunsGuarded }
 {}
 
-/// Where none of a section's own instructions comes, worlds that differ in its private bytes alone
+/// If none of a section's own instructions comes, worlds that differ in its private bytes alone
 /// show the same.
 pub fn runs_blind()
     ensures { RunsBlind }
 {}
 
-/// Where none of a section's own instructions comes, it keeps its private bytes, unless its node is
+/// If none of a section's own instructions comes, it keeps its private bytes, unless its node is
 /// reset.
 pub fn runs_keep()
     ensures { RunsKeep }

@@ -19,7 +19,7 @@ pub record HasWords (l : Layout) : Type 0 where
 abbrev pub identity_with : List ℕ → Layout → List ℕ
 identity_with text l = identity text l.pub_from l.pub_to l.priv_from l.priv_to
 
--- identities differ where texts or layouts do
+-- identities differ if texts or layouts do
 abbrev pub IdentitiesDiffer : Type 0
 IdentitiesDiffer = (t u : List ℕ) (l m : Layout) → HasWords l → HasWords m
     → identity_with t l ≡ identity_with u m → (t ≡ u) × (l ≡ m)

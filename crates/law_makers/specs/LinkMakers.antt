@@ -64,7 +64,7 @@ SeesNoLink a make n = (b : Setting) → IsLawfulSetting b → Unlinked a b → L
     × (upto_forged (run b (switched_on b) (made b make n).lines).items
     ≡ upto_forged (run a (switched_on a) (made a make n).lines).items)
 
--- So it is where no image shows a key.
+-- So it is if no image shows a key.
 abbrev pub LinkMakersSeeTheSame : Type 0
 LinkMakersSeeTheSame = (a : Setting) (make : Maker) (n : ℕ) → IsLawfulSetting a → HidesKeys a
     → SeesNoLink a make n

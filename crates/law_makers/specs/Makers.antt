@@ -59,7 +59,7 @@ forges set make n = list_any is_forged (run set (switched_on set) (made set make
 abbrev pub distinguisher : Setting → Maker → ℕ → Mac → Bool
 distinguisher set make n oracle = forges (named_setting oracle set) make n
 
--- Where the oracle has the tags of the key tree, it says exactly whether the run forges.
+-- If the oracle has the tags of the key tree, it says exactly whether the run forges.
 abbrev pub DistinguisherIsRun : Type 0
 DistinguisherIsRun = (set : Setting) (make : Maker) (n : ℕ) (oracle : Mac) → length set.secret ≡ 16
     → HasTags oracle set → distinguisher set make n oracle ≡ forges set make n

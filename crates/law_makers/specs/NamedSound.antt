@@ -17,7 +17,7 @@ RealizesUnder = (secret : List ℕ) (mac : Mac) → IsTagUnder secret mac
     → (tree : ModuleTree) (ends : List End) (image : Image)
     → ((nac : Mac) → IsTag nac → Realizes nac tree ends image) → Realizes mac tree ends image
 
--- So the setting with names is sound, whatever lawful table its tags stand in: the laws of runs hold
+-- So the setting with names is sound, whatever lawful table has its tags: the laws of runs hold
 -- of it, too.
 abbrev pub NamedIsSound : Type 0
 NamedIsSound = (set : Setting) (table : Mac) → IsSoundSetting set → RealizesAlways set → IsTag table

@@ -27,7 +27,7 @@ ShowsNoLink a lines = (b : Setting) → IsLawfulSetting b → Unlinked a b → N
     → slice_get (run a (switched_on a) lines).world.nodes n ≡ Some s
     → slice_get (run b (switched_on b) lines).world.nodes n ≡ Some t → t.regs ≡ s.regs
 
--- So it is where no image shows a key.
+-- So it is if no image shows a key.
 abbrev pub RegistersShowNoLink : Type 0
 RegistersShowNoLink = (a : Setting) (lines : List Line) → IsLawfulSetting a → HidesKeys a
     → LinesInForm a lines → ShowsNoLink a lines

@@ -39,7 +39,7 @@ pub fn registers_show_no_link()
     ensures { RegistersShowNoLink }
 {}
 
-/// Identities differ where texts or layouts do.
+/// Identities differ if texts or layouts do.
 pub fn identities_differ()
     ensures { IdentitiesDiffer }
 {}

@@ -91,7 +91,7 @@ pub record Shows (r : Row) (s : Model) (cells : List ℕ) : Type 0 where
 
 -- what the item gives a sensor from outside is one of the table's values, and so is what it gives
 -- an
--- actuator where the property hears of it
+-- actuator if the property hears of it
 abbrev pub IsGiven : PropertyTree → Table → Item → Type 0
 IsGiven o t (Sense d v) = IsAmong (at t.given d) v
 IsGiven o t (Raw d v) = (input_of o (about.Raw d) ≡ None) ⊎ IsAmong (at t.given d) (v % 65536)

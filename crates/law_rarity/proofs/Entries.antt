@@ -1,4 +1,4 @@
--- A table of tags: what stands at an entry, and that all else is as before.
+-- A table of tags: what is at an entry, and that all else is as before.
 use Rattle.std.proofs.Common.{◌≡◌, ◌≢◌, ℕ, zero, suc, ◌+◌, ◌*◌, ◌^◌, ◌%◌, ◌/◌, ◌<◌, ◌&&◌, Bool, true, false, cond, bytes_eq, List, [], ◌∷◌, ◌++◌, length, take, drop, Option, Some, None, refl, sym, ◌∙◌, ap, ap₂, subst, arith}
 use Rattle.std.specs.Prelude.{slice_get}
 use Rattle.std.proofs.lemmas.Bool.{true≢false, and_parts, and_from}
@@ -61,7 +61,7 @@ abbrev pub index_of : Setting → List Entry → List ℕ → List ℕ → Optio
 index_of set [] key message = None
 index_of set (e ∷ es) key message = cond (has set e key message) (Some 0) (more (index_of set es key message))
 
--- what stands there
+-- what is there
 pub record Found (set : Setting) (es : List Entry) (key message : List ℕ) (i : ℕ) : Type 0 where
   pub entry : Entry
   pub there : slice_get es i ≡ Some entry

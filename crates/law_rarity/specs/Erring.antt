@@ -18,7 +18,7 @@ use Rattle.law_counting.specs.Counting.{IsTable, count}
 use Rattle.law_rarity.specs.Tables.{tabled, with_tags}
 use Rattle.law_rarity.specs.Covering.{all_answers, AnswersBelow}
 
--- the item is a `forged` of the deployer, who took an answer
+-- the item is a `forged` of the deployer, which took an answer
 abbrev pub is_answer_forged : Option Item → Bool
 is_answer_forged (Some (item.Forged None)) = true
 is_answer_forged _ = false
@@ -50,8 +50,8 @@ KeepsTo set make n boots q =
     (t : List ℕ) → IsTable (length es) (2 ^ 128) t
     → Keeps (with_tags set es t) (made (with_tags set es t) make n).lines boots q
 
--- Over a table of random tags of all answers, whatever stands beside it, it says so for at most the
--- part q / 2^128 of all tables.
+-- Over a table of random tags of all answers, whatever the other tags are, it says so for at most
+-- the part q / 2^128 of all tables.
 abbrev pub DistinguisherSeldomErrs : Type 0
 DistinguisherSeldomErrs = (set : Setting) (base : Mac) (make : Maker) (n boots q : ℕ)
     → IsSoundSetting set → RealizesAlways set → IsTag base → length set.secret ≡ 16 → n ≤ 65536

@@ -110,7 +110,7 @@ low_after s t sections devices low = record {
   devices = subst (λ (z : List Window). Rattle.std.specs.Prelude.All (λ at. 512 ≤ at) (places_of z)) (sym devices) low.devices;
 }
 
--- the module stands as before, in another state
+-- the module is there as before, in another state
 pub served_after : (set : Setting) (m : ℕ) (q : PartTree) (site : Site) (sec : Section) (s t : State) (st new : ModuleState)
     → IsServed set m q site sec s st → Serves sec s t → StandsProtected (image_at site) sec t → state_on set m q site t ≡ new → IsServed set m q site sec t new
 served_after set m q site sec s t st new h v stands state = record {
@@ -139,7 +139,7 @@ served_low set m q site sec s st h = record {
   free = λ at lt. no_device_low s.devices 0 at h.low.devices lt;
 }
 
--- after bytes were put below 0x0200 it stands as before
+-- after bytes were put below 0x0200 it is there as before
 pub served_put : (set : Setting) (m : ℕ) (q : PartTree) (site : Site) (sec : Section) (s : State) (st : ModuleState) (at : ℕ) (bytes : List ℕ)
     → IsServed set m q site sec s st → at + length bytes ≤ 512 → IsServed set m q site sec (with_mem s (put_bytes s.mem at bytes)) st
 served_put set m q site sec s st at bytes h le =

@@ -1,4 +1,4 @@
--- The set-up, module by module: where a world stands after some of them, and that the next one is set up.
+-- The set-up, module by module: what the world is after some of them, and that the next one is set up.
 use Rattle.std.proofs.Common.{◌≡◌, ◌≢◌, ℕ, zero, suc, ◌+◌, ◌%◌, ◌<◌, ◌≤◌, inl, inr, ◌==◌, ◌&&◌, true, false, List, [], ◌∷◌, ◌++◌, length, length-append}
 use Rattle.std.proofs.Common.{map, Option, Some, None, refl, sym, ◌∙◌, ap, subst, arith}
 use Rattle.std.specs.Prelude.{All, count_by, nat_lt, slice_get, slice_index, slice_set}
@@ -222,7 +222,7 @@ module _ (set : Setting) (sound : IsLawfulSetting set) (room : HasRoom set) (bef
         module_set_up set w k q site s None sound loadable (ap shapes ns.devices ∙ shapes_on (windows_at n set.app.devices set.places)) far.asks few asked
         (ap (λ z. slice_get z k) far.attested ∙ marks_next k set.app.parts q part_at) (λ c. ap (λ z. slice_index z c) far.epochs ∙ zero_epochs set.app.links c)
 
-    -- where the world then stands
+    -- the world after that
     module _ (z : SetsUp set w k q site s) where
       abbrev t : State
       t = z.after

@@ -1,4 +1,4 @@
--- The forms of the set-up, which nobody has to believe. Begin with Settled: a world that stands as the course of
+-- The forms of the set-up, which nobody has to believe. Begin with Settled: a world that is as the course of
 -- an honest run says. ByLine is what each line shows; the others say what each line, and each part of the lines, does.
 pub mod Loaded
 pub mod Served

@@ -7,7 +7,7 @@
 //! wrong, whatever the tag function, the images and the places are.
 //!
 //! There is no code here. In `proofs/` read `forms/Settled.antt` first: the world after the set-up
-//! stands as the course of the honest run says.
+//! is as the course of the honest run says.
 #![tactic(auto)]
 
 pub mod laws;

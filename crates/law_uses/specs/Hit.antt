@@ -38,7 +38,7 @@ pub record IsFreshHit (set : Setting) (lines : List Line) (k : ℕ) (now : Momen
       (0x54 ∷ length header ∷ (header ++ cipher)))) ≡ true
   pub fresh : NeverGiven set lines k boot site header cipher
 
--- where the first `forged` comes with an answer, the answer is a fresh hit
+-- if the first `forged` comes with an answer, the answer is a fresh hit
 abbrev pub AnswersHitFresh : Type 0
 AnswersHitFresh = (set : Setting) → IsSoundSetting set → (lines : List Line)
     → LinesInForm set lines → (k : ℕ) (now : Moment) (who : Option ℕ)

@@ -1,4 +1,4 @@
--- Where a step unwraps, it tried.
+-- If a step unwraps, it tried.
 use Rattle.std.specs.Prelude.{◌≡◌, ℕ, true, List, ◌∷◌, ◌++◌, length, take, slice_get, slice_index}
 use Rattle.std.specs.Prelude.{bytes_eq, Some}
 use Rattle.sx_tag.specs.Wrap.{crypt, padded}

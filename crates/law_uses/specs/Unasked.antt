@@ -14,7 +14,7 @@ pub record DifferAt (mac nac : Mac) (key rest : List ℕ) : Type 0 where
   pub others : (k m : List ℕ) → (k ≡ key → m ≡ 0x54 ∷ rest → ⊥) → mac k m ≡ nac k m
   pub size : length (mac key (0x54 ∷ rest)) ≡ length (nac key (0x54 ∷ rest))
 
--- the use doesn't give this entry, and where it tries the entry it misses both
+-- the use doesn't give this entry, and if it tries the entry it misses both
 abbrev pub Spares : Setting → Mac → (key rest : List ℕ) → Use → Type 0
 Spares set nac key rest (Gives whose kind r) =
     key_held set whose ≡ key → kind ∷ r ≡ 0x54 ∷ rest → ⊥

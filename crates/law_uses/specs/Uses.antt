@@ -69,7 +69,7 @@ given set whose header body =
     ∷ Gives whose 0x54
     (length header ∷ (header ++ crypt set.mac (key_held set whose) header body)) ∷ []
 
--- a tag is tried, and where it is right the stream is given
+-- a tag is tried, and if it is right the stream is given
 abbrev pub tried : Setting → Holder → (header cipher tag : List ℕ) → List Use
 tried set whose header cipher tag =
     Tries whose 0x54 (length header ∷ (header ++ cipher)) tag
@@ -150,7 +150,7 @@ instruction_uses set n s code (Some own) =
     else if code == 5 then unwrap_uses set n s own
     else []
 
--- a step of the n-th node, where PC is let run and is at a module instruction
+-- a step of the n-th node, if PC is let run and is at a module instruction
 abbrev pub step_uses : Setting → ℕ → Option State → List Use
 step_uses set n None = []
 step_uses set n (Some s) =
@@ -175,7 +175,7 @@ grants_uses set [] = []
 grants_uses set (g ∷ gs) =
     grant_uses set g (slice_get set.sites g.holder) ++ grants_uses set gs
 
--- an answer to an open ask is tried, and where it is accepted set-key packets are given
+-- an answer to an open ask is tried, and if it is accepted set-key packets are given
 abbrev pub verdict_uses : Setting → World → ℕ → Site → ℕ → List ℕ → Option (List ℕ) → List Use
 verdict_uses set w m site boot answer None = []
 verdict_uses set w m site boot answer (Some ask) =

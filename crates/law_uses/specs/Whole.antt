@@ -13,7 +13,7 @@ use Rattle.law_forgery.specs.Unseen.{ShowTheSame}
 use Rattle.law_uses.specs.Uses.{Holder, Sizes, SameUse, SameUses, uses, key_held}
 use Rattle.law_uses.specs.UsesAlone.{DifferInTags, AnswerAlike}
 
--- where each use of a script has the same answer in both, both show the same, and the worlds after
+-- if each use of a script has the same answer in both, both show the same, and the worlds after
 -- it differ in keys alone
 abbrev pub ScriptsAlone : Type 0
 ScriptsAlone = (a b : Setting) (script : Script) → DifferInTags a b
@@ -38,7 +38,7 @@ SizesAreAlike = (a b : Setting) → IsTag a.mac → IsTag b.mac → (whose : Hol
     (header body : List ℕ) → SameUse a b (Sizes whose header body)
 
 -- A setting with another tag function that derives the same keys: all keys are the same, so that a
--- use has the same answer where the two functions give the same under this very key.
+-- use has the same answer if the two functions give the same under this very key.
 abbrev pub DeriveTheSame : Mac → Mac → Type 0
 DeriveTheSame mac nac = (key rest : List ℕ) → mac key (0x4B ∷ rest) ≡ nac key (0x4B ∷ rest)
 

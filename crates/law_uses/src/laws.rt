@@ -20,7 +20,7 @@ pub fn given_are_logged()
     ensures { GivenAreLogged }
 {}
 
-/// So does a whole script, where all its uses have the same answers.
+/// So does a whole script, if all its uses have the same answers.
 pub fn scripts_alone()
     ensures { ScriptsAlone }
 {}
@@ -75,7 +75,7 @@ pub fn forged_is_hit()
     ensures { ForgedIsHit }
 {}
 
-/// Where the first `forged` comes with an answer, its tag was given at no moment before.
+/// If the first `forged` comes with an answer, its tag was given at no moment before.
 pub fn answers_hit_fresh()
     ensures { AnswersHitFresh }
 {}

@@ -32,17 +32,17 @@ const MISUSED: u8 = 2;
 ///
 /// The commands are `run`, `check`, `explain`, `watch`, `drive`, `snap`, `holds`, `gen N` for 1 to
 /// 8,000 samples, `asm A` and `dis A` with an address A, `lines`, `describe` and `batch`. All but
-/// `gen`, `asm` and `dis` read a deployment and the line `%%` after it. `check` writes where each module
-/// stands, and `end`. `run` writes each module's image, `trace`, the items of the schedule that
+/// `gen`, `asm` and `dis` read a deployment and the line `%%` after it. `check` writes where each
+/// module is, and `end`. `run` writes each module's image, `trace`, the items of the schedule that
 /// follows, one a line, and `end`; a line's items are written before the next line is read.
-/// `explain` reads such an output behind the deployment, and writes which item caused which, how
+/// `explain` reads such an output after the deployment, and writes which item caused which, how
 /// many are legal, and `end`. `watch` reads a property, a second line `%%` and such an output, and
-/// writes which item is the first that breaks the property, or how many were watched where none
+/// writes which item is the first that breaks the property, or how many were watched if none
 /// does, and `end`. `drive` reads readings, each a sensor and its value: it writes the images, the
 /// honest run with each line of its schedule after `> ` and the items that the line shows, how many
 /// steps of nodes it took, and `end`; what a reading shows is written before the next line is read.
 /// `snap` reads a schedule, a second line `%%` and queries: it writes the images, the answers about
-/// where the run stands after any of its lines, and `end`. `holds` reads a property and a second
+/// the run after any of its lines, and `end`. `holds` reads a property and a second
 /// line `%%`: it writes `holds` and `end` only if no run breaks the property before its first
 /// forged item, and else where it gave up. `gen` reads nothing: it writes the images of a stated
 /// deployment and what it counted in the run of a stated schedule that carries this many samples,

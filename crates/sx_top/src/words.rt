@@ -32,7 +32,7 @@ pub(crate) enum Command {
     Gen(u32),
     /// The listing of a text's code for this address.
     Asm(u16),
-    /// The listing of code that stands from this address on.
+    /// The listing of code that is at this address.
     Dis(u16),
 }
 

@@ -25,7 +25,7 @@ use Rattle.law_setup.proofs.forms.ByLine.{asking_shown, keys_shown}
 use Rattle.law_setup.proofs.forms.Served.{IsServed, Moves, Serves}
 use Rattle.law_setup.proofs.forms.Acting.{first_end, first_grant}
 
--- lines were acted for a module, which then stands in this state; what they showed, and the packets,
+-- lines were acted for a module, which is then in this state; what they showed, and the packets,
 -- the deployer's record and the ledger after them
 pub record DoesFor (set : Setting) (w : World) (m : ℕ) (q : PartTree) (site : Site) (sec : Section) (s : State) (st : ModuleState) (lines : List Line)
     (items : List Item) (shown : List (List Item)) (ps : List (List ℕ)) (d : DeployerState) (made : List Made) : Type 0 where

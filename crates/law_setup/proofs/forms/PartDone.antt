@@ -34,7 +34,7 @@ first_state set m q = record {
   ends = map (first_end set) (ends_of set.app m);
 }
 
--- The module was set up: its node has one more section, where it stands with all ends open; the
+-- The module was set up: its node has one more section, where it is with all ends open; the
 -- bytes of the other sections are as before, and the lines showed what the source predicts.
 pub record SetsUp (set : Setting) (w : World) (m : ℕ) (q : PartTree) (site : Site) (s : State) : Type 0 where
   pub after : State
@@ -58,8 +58,8 @@ pub record SetsUp (set : Setting) (w : World) (m : ℕ) (q : PartTree) (site : S
       (w.ledger ++ vouched_entry m w.deployer.asks
       ∷ map (set_key_entry set) (grants_at w.deployer.epochs m (ends_of set.app m)))
 
--- The m-th module, which may be loaded, is set up where the deployer asked as many modules as stand
--- before it, never attested it, and all connections are in epoch 0.
+-- The m-th module, which may be loaded, is set up if the deployer asked as many modules as come
+-- before it and never attested it, and all connections are in epoch 0.
 abbrev pub ModuleSetUp : Type 0
 ModuleSetUp = (set : Setting) (w : World) (m : ℕ) (q : PartTree) (site : Site) (s : State) (old : Option (List ℕ))
     → IsLawfulSetting set → IsLoadable set w m q site s

@@ -1,4 +1,4 @@
--- A module that stands at its node while it is set up, and what is done there for it.
+-- A module that is loaded at its node while it is set up, and what is done there for it.
 use Rattle.std.specs.Prelude.{◌≡◌, ◌≢◌, ℕ, List, slice_get, slice_set, Some}
 use Rattle.sx_rules.specs.declared.section.Section.{Section}
 use Rattle.sx_rules.specs.Access.{Lives}
@@ -44,7 +44,7 @@ pub record Serves (sec : Section) (s t : State) : Type 0 where
   pub others : (x : Section) → Lives s.sections.live x → sec.id ≢ x.id
       → private_bytes x.layout t.mem ≡ private_bytes x.layout s.mem
 
--- the m-th module stands at its node, in this state and with the key that the deployer computes;
+-- the m-th module is loaded at its node, in this state and with the key that the deployer computes;
 -- no module runs there, and the node was never reset
 pub record IsServed (set : Setting) (m : ℕ) (q : PartTree) (site : Site) (sec : Section) (s : State) (st : ModuleState) : Type 0 where
   pub part : slice_get set.app.parts m ≡ Some q

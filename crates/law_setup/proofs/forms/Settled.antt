@@ -1,4 +1,4 @@
--- A world that stands as a course of an honest run says, and what the set-up does.
+-- A world that is as a course of an honest run says, and what the set-up does.
 use Rattle.std.specs.Prelude.{◌≡◌, ℕ, ◌+◌, true, false, if◌then◌else◌, ◌==◌, List, [], ◌∷◌, ◌++◌, length, map}
 use Rattle.std.specs.Prelude.{slice_get, slice_index_or, Some, None, All}
 use Rattle.sx_lang.specs.declared.sides.Side.{Side}
@@ -80,7 +80,7 @@ pub record NodeStands (set : Setting) (n : ℕ) (sites : List Site) (s : State) 
   pub devices : shapes s.devices ≡ windows_at n set.app.devices set.places
   pub stale : All (λ d. d.fresh ≡ false) s.devices
 
--- a module's text stands at its node, and its private section represents this state
+-- a module's text is in its node's memory, and its private section represents this state
 pub record ModuleStands (set : Setting) (m : ℕ) (q : PartTree) (site : Site) (st : ModuleState) (s : State) : Type 0 where
   pub text : public_bytes site.layout s.mem ≡ site.text
   pub state : state_of q.tree (ends_of set.app m) (private_bytes site.layout s.mem) ≡ st
@@ -106,7 +106,7 @@ pub record HasAttested (set : Setting) (d : DeployerState) : Type 0 where
   pub attested : d.attested ≡ map (λ p. Some 0) set.app.parts
   pub epochs : d.epochs ≡ map (λ l. 0) set.app.links
 
--- A world that stands as a course says.
+-- A world that is as a course says.
 pub record Settled (set : Setting) (w : World) (c : Course) : Type 0 where
   pub as_many : length w.nodes ≡ length set.keys
   pub nodes : (n : ℕ) (s : State) → slice_get w.nodes n ≡ Some s → NodeStands set n set.sites s
@@ -120,8 +120,8 @@ pub record Settled (set : Setting) (w : World) (c : Course) : Type 0 where
       → IsOnItsWay set w (setup_packets set.app + length c.past + length before) x.link
       (count_over x.link (c.past ++ before)) x.value
 
--- From power-on the lines of the set-up show what the source predicts, and lead to a world that
--- stands as the course does at its start.
+-- From power-on the lines of the set-up show what the source predicts, and lead to a world that is
+-- as the course says at its start.
 pub record IsSetUp (set : Setting) : Type 0 where
   pub items : (run set (switched_on set) (setup_schedule set.app)).items ≡ setup_items set.app
   pub settled : Settled set (run set (switched_on set) (setup_schedule set.app)).world (course_start set.app)

@@ -7,7 +7,7 @@ use Rattle.command_deploy.proofs.Given.{Gave}
 use Rattle.command_drive.proofs.Between.{Between}
 use Rattle.command_drive.proofs.lines.read_lines.Given as goal
 
--- Wherever the run stood at first, what is left is what is defined from the next line on where it stands now.
+-- Whichever run there was at first, what is left is what is defined from the next line on in the run that there is now.
 abbrev pub invariant-lines : goal.invariant-lines
 invariant-lines g l = record {
   few : l.number ≤ 65537;

@@ -5,7 +5,7 @@ use Rattle.spec_run.specs.Accepted.{setting}
 use Rattle.command_run.proofs.Between.{Between}
 use Rattle.command_run.proofs.schedule.run_lines.Given as goal
 
--- Whatever came before, what is left is what is defined from the next line on, in the world that stands now.
+-- Whatever came before, what is left is what is defined from the next line on, in the world that there is now.
 abbrev pub invariant-lines : goal.invariant-lines
 invariant-lines g l =
     let d = deployed_as l.deployment in
