@@ -85,7 +85,7 @@ opened_by mac key header cipher tag plain e = by (bytes_eq tag (take 16 (mac key
     by false t e = absurd cc
 
 -- what is unwrapped is the body whose cipher it is
-body_back : (secret : List ℕ) (mac : Mac) (key header cipher plain body : List ℕ) (n : ℕ) → IsTagUnder secret mac → length body ≡ n → n ≤ 32 → crypt mac key header body ≡ cipher
+pub body_back : (secret : List ℕ) (mac : Mac) (key header cipher plain body : List ℕ) (n : ℕ) → IsTagUnder secret mac → length body ≡ n → n ≤ 32 → crypt mac key header body ≡ cipher
     → plain ≡ padded (crypt mac key header cipher) → take n plain ≡ body
 body_back secret mac key header cipher plain body n tag long few c is =
     let back : crypt mac key header cipher ≡ body = ap (crypt mac key header) (sym c) ∙ crypt_twice secret mac key header body tag (omega (arith, long, few)) in
@@ -229,11 +229,15 @@ module _ (set : Setting) (lines : List Line) (k : ℕ) (w : World) (n : ℕ) (s 
               (tail_stands su before.devices before.mem at 16 (call_at before).input packet e);
         }
 
+    -- a key is unwrapped under the own key
+    opens_own : (id : ℕ) → (step set.mac s).shown.event ≡ event.Unwrapped id → is_set_key_header (header_of x) ≡ true → x.own_key ≡ true
+    opens_own id e sk = own_told su (call_at before) (progress_at su before) (header_of x) (body_of x) x.own_key sk (told id e)
+
     opens : s.boot ≤ 65536 → (who : Option ℕ) (id : ℕ) → who ≡ Some m → (step set.mac s).shown.event ≡ event.Unwrapped id → is_set_key_header (header_of x) ≡ true
         → is_made w.ledger (made_entry maker.Deployer m (step set.mac s).state.boot (header_of x) (body_of x)) ≡ false → Forgery set lines k w who
     opens few who id named e sk none =
         let t = told id e in
-        let mine : x.own_key ≡ true = own_told su (call_at before) (progress_at su before) (header_of x) (body_of x) x.own_key sk t in
+        let mine : x.own_key ≡ true = opens_own id e sk in
         let f : KeyedFrom su (call_at before) (progress_at su before) (header_of x) (body_of x) =
         subst (λ (b : Bool). Told su (call_at before) (progress_at su before) (mark.Unwrapped (header_of x) (body_of x) b)) mine t in
         let right : key_at set s.boot (slice_get set.sites m) ≡ own.key = ap (key_at set s.boot) r.sited ∙ sym (section_key set n s own r.site all lives r.at) in
@@ -346,6 +350,10 @@ module _ (set : Setting) (lines : List Line) (k : ℕ) (w : World) (n : ℕ) (s 
             let o = runner_found f.0 f.1 in
             unwraps f.0 o.0 o.1 f.1 (unwrap_quiet v.shown.event f.3 f.4) few who f.3 f.2 f.4 f.5
       ]
+
+  -- a module's code unwraps a key under its own
+  pub step_opens_own : (m id : ℕ) → module_of set.sites n s (own_of s) ≡ Some m → (step set.mac s).shown.event ≡ event.Unwrapped id → is_set_key_header (header_of x) ≡ true → x.own_key ≡ true
+  step_opens_own m id runs e = let o = runner_found m runs in opens_own m o.0 o.1 runs (unwrap_quiet (step set.mac s).shown.event id e) id e
 
   -- what the module's code wraps
   pub step_sends : (m id : ℕ) → module_of set.sites n s (own_of s) ≡ Some m → (step set.mac s).shown.event ≡ event.Wrapped id → SendsOwn set m (header_of x) (body_of x)

@@ -1,6 +1,6 @@
 -- Where a step unwraps, it tried.
-use Rattle.std.proofs.Common.{◌≡◌, ℕ, ◌-◌, ◌++◌, Bool, true, false, cond, not, ◌==◌, ◌&&◌, ◌||◌, inl, bytes_eq, List, [], ◌∷◌, length, take, slice_index, Option, Some, None, is_some, Result, Ok, Err, refl, sym, ◌∙◌, ap, subst}
-use Rattle.std.specs.Prelude.{nat_le, replicate}
+use Rattle.std.proofs.Common.{◌≡◌, ℕ, ◌-◌, ◌++◌, Bool, true, false, cond, not, ◌==◌, ◌&&◌, ◌||◌, inl, inr, bytes_eq, List, [], ◌∷◌, length, take, slice_index, Option, Some, None, is_some, Result, Ok, Err, refl, sym, ◌∙◌, ap, subst}
+use Rattle.std.specs.Prelude.{nat_le, replicate, slice_get}
 use Rattle.std.specs.List.{list_any}
 use Rattle.std.proofs.lemmas.List.{take_at}
 use Rattle.sx_rules.specs.declared.access.Access.TheVariants.{Read, Write}
@@ -16,6 +16,7 @@ use Rattle.sx_tag.specs.Wrap.{crypt, padded, wrap_tag, unwrapped}
 use Rattle.spec_machine.specs.declared.kinds.Event.{Event}
 use Rattle.spec_machine.specs.declared.kinds.Event.TheVariants as event
 use Rattle.spec_machine.specs.Memory.{word, bytes_from, put_bytes}
+use Rattle.spec_machine.proofs.Lengths.{length-bytes_from}
 use Rattle.spec_machine.specs.Ranges.{passes_end, meets_device}
 use Rattle.spec_machine.specs.Plan.{Plan, Done, Tell, Stop, Fetch, Load, Store, Need, Writable, Bytes, Put}
 use Rattle.spec_machine.specs.Rows.{program}
@@ -30,13 +31,17 @@ use Rattle.spec_machine.proofs.Events.{IsTold, Tells, tells_program}
 use Rattle.spec_run.specs.Setting.{Setting}
 use Rattle.spec_run.specs.State.{switched_on}
 use Rattle.spec_run.specs.Ledger.{header_of, body_of}
-use Rattle.law_isolation.specs.Happening.{Happening}
+use Rattle.law_isolation.specs.Happening.{Happening, Step}
+use Rattle.law_isolation.specs.Script.{Script}
+use Rattle.law_forgery.specs.Moments.{moment_from}
+use Rattle.law_forgery.specs.Moments.{Moment as Happened}
 use Rattle.law_forgery.proofs.Instructions.{behind, opens}
 use Rattle.law_uses.specs.Uses.{Holder, Held, key_held, Use, Tries, tried, reading, in_reach, section_holder, attest_uses, key_uses, wrap_uses, unwrap_uses, instruction_uses, step_uses, uses_at}
 use Rattle.law_uses.specs.GivenLogged.{IsUse}
 use Rattle.law_uses.specs.Tried.{UnwrapsAreTried}
 use Rattle.law_uses.proofs.Stepping.{section_key_held}
 use Rattle.law_uses.proofs.Keeping.{on_kept}
+use Rattle.law_uses.proofs.Giving.{IsHolder}
 use Rattle.law_uses.proofs.Logged.{kept_at}
 
 -- Plans that never tell of an unwrap.
@@ -125,6 +130,10 @@ module _ (set : Setting) (n : ℕ) (s : State) where
     pub right : bytes_eq tag (wrap_tag set.mac (key_held set whose) header cipher) ≡ true
     pub regs : List ℕ
     pub stands : Moment
+    pub section : Section
+    pub found : section_of s.sections.live (own_of s) ≡ Some section
+    pub owner : IsHolder set n s section whose
+    pub long : length cipher ≡ slice_index s.regs 13
     pub ends : o ≡ Module regs stands s.sections (event.Unwrapped (own_of s)) (exchanged s.regs header (take (slice_index s.regs 13) (padded (crypt set.mac (key_held set whose) header cipher))))
 
   abbrev Opens : Outcome → List Use → Type 0
@@ -147,10 +156,10 @@ module _ (set : Setting) (n : ℕ) (s : State) where
   never : (p : Plan) (us : List Use) → Never p → Runs p us
   never p us h = shut (exec g.sections g.own p start) us (never_runs g.sections g.own p h start)
 
-  reads : (at m : ℕ) (us : List ℕ → List Use) (k : List ℕ → Plan) → ((bs : List ℕ) → Runs (k bs) (us bs)) → Runs (Bytes at m k) (reading s at m us)
+  reads : (at m : ℕ) (us : List ℕ → List Use) (k : List ℕ → Plan) → ((bs : List ℕ) → length bs ≡ m → Runs (k bs) (us bs)) → Runs (Bytes at m k) (reading s at m us)
   reads at m us k f =
       let bs = bytes_from s.mem at m in
-      by_test (may_range s.sections.live (own_of s) Read at m) (us bs) (exec g.sections g.own (k bs) start) bad.Read (f bs)
+      by_test (may_range s.sections.live (own_of s) Read at m) (us bs) (exec g.sections g.own (k bs) start) bad.Read (f bs (length-bytes_from s.mem at m))
 
   tested_open : (bs : List Buffer) (us : List Use) (p : Plan) → Runs p us → Runs (tested g bs p) (in_reach s bs us)
   tested_open bs us p h =
@@ -161,11 +170,11 @@ module _ (set : Setting) (n : ℕ) (s : State) where
   answer_never : (v : ℕ) → Never (answer g v)
   answer_never v = λ id e. absurd cc
 
-  module _ (x : Section) (own : x.key ≡ key_held set (section_holder n s x)) where
-    key_open : (c : Bool) (us : Holder → List Use) (rest : List ℕ → Plan) → ((who : Holder) → Runs (rest (key_held set who)) (us who))
+  module _ (x : Section) (found : section_of s.sections.live (own_of s) ≡ Some x) (own : x.key ≡ key_held set (section_holder n s x)) where
+    key_open : (c : Bool) → own_key s.regs ≡ c → (us : Holder → List Use) (rest : List ℕ → Plan) → ((who : Holder) → IsHolder set n s x who → Runs (rest (key_held set who)) (us who))
         → Runs (cond c (rest x.key) (Bytes (slice_index g.regs 9) 16 rest)) (cond c (us (section_holder n s x)) (reading s (slice_index s.regs 9) 16 (λ key. us (Held key))))
-    key_open true us rest f = subst (λ (z : List ℕ). Runs (rest z) (us (section_holder n s x))) (sym own) (f (section_holder n s x))
-    key_open false us rest f = reads (slice_index g.regs 9) 16 (λ key. us (Held key)) rest (λ key. f (Held key))
+    key_open true e us rest f = subst (λ (z : List ℕ). Runs (rest z) (us (section_holder n s x))) (sym own) (f (section_holder n s x) (inl (e, refl)))
+    key_open false e us rest f = reads (slice_index g.regs 9) 16 (λ key. us (Held key)) rest (λ key long. f (Held key) (inr (key, e, refl)))
 
     abbrev plain : Holder → List ℕ → List ℕ → List ℕ
     plain who ad cipher = take (slice_index g.regs 13) (padded (crypt set.mac (key_held set who) ad cipher))
@@ -176,19 +185,33 @@ module _ (set : Setting) (n : ℕ) (s : State) where
     abbrev ended : Holder → List ℕ → List ℕ → Outcome
     ended who ad cipher = Module (concluded g.regs 1) (stood who ad cipher) s.sections (event.Unwrapped (own_of s)) (exchanged g.regs ad (plain who ad cipher))
 
-    put_open : (who : Holder) (ad cipher tag : List ℕ) (d : Bool) → bytes_eq tag (wrap_tag set.mac (key_held set who) ad cipher) ≡ true → Opens (cond d (ended who ad cipher) (Violated bad.Write)) (tried set who ad cipher tag)
-    put_open who ad cipher tag true e =
-        λ id q. record { whose = who; header = ad; cipher = cipher; tag = tag; is = inl refl; right = e; regs = concluded g.regs 1; stands = stood who ad cipher; ends = refl }
-    put_open who ad cipher tag false e = λ id q. absurd cc
+    module _ (who : Holder) (owner : IsHolder set n s x who) (ad cipher tag : List ℕ) (long : length cipher ≡ slice_index s.regs 13) where
+      put_open : (d : Bool) → bytes_eq tag (wrap_tag set.mac (key_held set who) ad cipher) ≡ true → Opens (cond d (ended who ad cipher) (Violated bad.Write)) (tried set who ad cipher tag)
+      put_open true e = λ id q. record {
+        whose = who;
+        header = ad;
+        cipher = cipher;
+        tag = tag;
+        is = inl refl;
+        right = e;
+        regs = concluded g.regs 1;
+        stands = stood who ad cipher;
+        section = x;
+        found = found;
+        owner = owner;
+        long = long;
+        ends = refl;
+      }
+      put_open false e = λ id q. absurd cc
 
-    opened_open : (who : Holder) (ad cipher tag : List ℕ) → Runs (opened g ad (unwrapped set.mac (key_held set who) ad cipher tag)) (tried set who ad cipher tag)
-    unfolding unwrapped
-    opened_open who ad cipher tag = by (bytes_eq tag (wrap_tag set.mac (key_held set who) ad cipher)) refl
-      where
-        by : (c : Bool) → bytes_eq tag (wrap_tag set.mac (key_held set who) ad cipher) ≡ c
-            → Runs (opened g ad (cond c (Some (padded (crypt set.mac (key_held set who) ad cipher))) None)) (tried set who ad cipher tag)
-        by true e = put_open who ad cipher tag (may_each s.sections.live (own_of s) Write (slice_index g.regs 14) (plain who ad cipher)) e
-        by false e = never (answer g 0) (tried set who ad cipher tag) (answer_never 0)
+      opened_open : Runs (opened g ad (unwrapped set.mac (key_held set who) ad cipher tag)) (tried set who ad cipher tag)
+      unfolding unwrapped
+      opened_open = by (bytes_eq tag (wrap_tag set.mac (key_held set who) ad cipher)) refl
+        where
+          by : (c : Bool) → bytes_eq tag (wrap_tag set.mac (key_held set who) ad cipher) ≡ c
+              → Runs (opened g ad (cond c (Some (padded (crypt set.mac (key_held set who) ad cipher))) None)) (tried set who ad cipher tag)
+          by true e = put_open (may_each s.sections.live (own_of s) Write (slice_index g.regs 14) (plain who ad cipher)) e
+          by false e = never (answer g 0) (tried set who ad cipher tag) (answer_never 0)
 
     unwrap_open : Runs (unwrap set.mac g x) (unwrap_uses set n s x)
     unwrap_open =
@@ -199,12 +222,12 @@ module _ (set : Setting) (n : ℕ) (s : State) where
         let p = with_key g x (behind g rest) in
         by_test (nat_le (slice_index g.regs 11) 32 && nat_le (slice_index g.regs 13) 32) (in_reach s (buffers s.regs) (key_uses n s x vs)) (exec g.sections g.own (tested g (buffers g.regs) p) start) bad.Range
         (tested_open (buffers g.regs) (key_uses n s x vs) p
-        (key_open (own_key g.regs) vs (behind g rest) (λ who.
+        (key_open (own_key g.regs) refl vs (behind g rest) (λ who owner.
         reads (slice_index g.regs 10) (slice_index g.regs 11) (λ ad. reading s (slice_index s.regs 12) (slice_index s.regs 13) (λ text. us who ad text))
-        (λ ad. Bytes (slice_index g.regs 12) (slice_index g.regs 13) (λ text. rest (key_held set who) ad text)) (λ ad.
-        reads (slice_index g.regs 12) (slice_index g.regs 13) (λ text. us who ad text) (λ text. rest (key_held set who) ad text) (λ text.
-        reads (slice_index g.regs 15) 16 (λ tag. cond may (tried set who ad text tag) []) (opens g set.mac (key_held set who) ad text) (λ tag.
-        by_test may (tried set who ad text tag) (exec g.sections g.own (opened g ad (unwrapped set.mac (key_held set who) ad text tag)) start) bad.Write (opened_open who ad text tag)))))))
+        (λ ad. Bytes (slice_index g.regs 12) (slice_index g.regs 13) (λ text. rest (key_held set who) ad text)) (λ ad short.
+        reads (slice_index g.regs 12) (slice_index g.regs 13) (λ text. us who ad text) (λ text. rest (key_held set who) ad text) (λ text long.
+        reads (slice_index g.regs 15) 16 (λ tag. cond may (tried set who ad text tag) []) (opens g set.mac (key_held set who) ad text) (λ tag sixteen.
+        by_test may (tried set who ad text tag) (exec g.sections g.own (opened g ad (unwrapped set.mac (key_held set who) ad text tag)) start) bad.Write (opened_open who owner ad text tag long)))))))
 
     attested_never : (tag : List ℕ) (o : Option Section) → Never (attested set.mac g x tag o)
     attested_never tag None = answer_never 0
@@ -255,9 +278,9 @@ module _ (set : Setting) (n : ℕ) (s : State) where
         let r5 = cond (code == 5) (unwrap set.mac g x) r6 in
         let u5 = cond (code == 5) (unwrap_uses set n s x) [] in
         pick (code == 2) (attest_uses n s x) (cond (code == 4) (wrap_uses set n s x) u5) (attest set.mac g x) (cond (code == 4) (wrap set.mac g x) r5)
-        (never (attest set.mac g x) (attest_uses n s x) (attest_never x (keys x e)))
-        (pick (code == 4) (wrap_uses set n s x) u5 (wrap set.mac g x) r5 (never (wrap set.mac g x) (wrap_uses set n s x) (wrap_never x (keys x e)))
-        (pick (code == 5) (unwrap_uses set n s x) [] (unwrap set.mac g x) r6 (unwrap_open x (keys x e))
+        (never (attest set.mac g x) (attest_uses n s x) (attest_never x e (keys x e)))
+        (pick (code == 4) (wrap_uses set n s x) u5 (wrap set.mac g x) r5 (never (wrap set.mac g x) (wrap_uses set n s x) (wrap_never x e (keys x e)))
+        (pick (code == 5) (unwrap_uses set n s x) [] (unwrap set.mac g x) r6 (unwrap_open x e (keys x e))
         (never r6 [] (both (code == 6) h (answer g g.caller) (answer_never (holder g.sections.live (slice_index g.regs 9))) (answer_never g.caller)))))
 
     row_open : (code : ℕ) → Runs (module_row set.mac code g) (instruction_uses set n s code (section_of s.sections.live (own_of s)))
@@ -329,25 +352,45 @@ module _ (set : Setting) (n : ℕ) (s : State) where
     pub step_tries : (id : ℕ) → (step set.mac s).shown.event ≡ event.Unwrapped id → Tried (attempt set.mac s) (step_uses set n (Some s))
     step_tries id e = attempt_open id (settled_event (attempt set.mac s) id e)
 
-tag_is : (mac : Mac) (key header cipher tag : List ℕ) → bytes_eq tag (wrap_tag mac key header cipher) ≡ true → bytes_eq tag (take 16 (mac key (0x54 ∷ length header ∷ (header ++ cipher)))) ≡ true
+pub tag_is : (mac : Mac) (key header cipher tag : List ℕ) → bytes_eq tag (wrap_tag mac key header cipher) ≡ true → bytes_eq tag (take 16 (mac key (0x54 ∷ length header ∷ (header ++ cipher)))) ≡ true
 unfolding wrap_tag
 tag_is mac key header cipher tag h = h
 
+-- what was exchanged
+module _ (set : Setting) (n : ℕ) (s : State) (us : List Use) (t : Tried set n s (attempt set.mac s) us) where
+  abbrev pub opened_body : List ℕ
+  opened_body = take (slice_index s.regs 13) (padded (crypt set.mac (key_held set t.whose) t.header t.cipher))
+
+  pub exchange_is : (step set.mac s).state.exchange ≡ exchanged s.regs t.header opened_body
+  exchange_is = ap (λ (o : Outcome). (settled_step s o).state.exchange) t.ends
+
+  pub header_is : header_of (step set.mac s).state.exchange ≡ t.header
+  header_is = ap header_of exchange_is ∙ take_at t.header (replicate (32 - length t.header) 0) (length t.header) refl
+
+  pub body_is : body_of (step set.mac s).state.exchange ≡ opened_body
+  body_is = ap body_of exchange_is ∙ take_at opened_body (replicate (32 - length opened_body) 0) (length opened_body) refl
+
+-- a step that unwraps at a moment
+module _ (set : Setting) (script : Script) (k : ℕ) (now : Happened) (at : moment_from set k script (switched_on set) ≡ Some now) (n id : ℕ) (s : State)
+    (next : now.next ≡ Step n) (here : slice_get now.world.nodes n ≡ Some s) (e : (step set.mac s).shown.event ≡ event.Unwrapped id) where
+  abbrev pub tried_at : Tried set n s (attempt set.mac s) (step_uses set n (Some s))
+  tried_at = step_tries set n s (section_key_held set n s (kept_at set k script (switched_on set) now (on_kept set) at n s here).keys (own_of s)) id e
+
+  pub use_at : (u : Use) → IsUse u (step_uses set n (Some s)) → IsUse u (uses_at set now.next now.world)
+  use_at u i =
+      subst (λ (y : Happening). IsUse u (uses_at set y now.world)) (sym next)
+      (subst (λ (o : Option State). IsUse u (step_uses set n o)) (sym here) i)
+
 pub unwraps_are_tried : UnwrapsAreTried
 unwraps_are_tried set script k now at n id s next here e =
-    let kept = kept_at set k script (switched_on set) now (on_kept set) at in
-    let t = step_tries set n s (section_key_held set n s (kept n s here).keys (own_of s)) id e in
-    let plain = take (slice_index s.regs 13) (padded (crypt set.mac (key_held set t.whose) t.header t.cipher)) in
-    let x : (step set.mac s).state.exchange ≡ exchanged s.regs t.header plain = ap (λ (o : Outcome). (settled_step s o).state.exchange) t.ends in
+    let t = tried_at set script k now at n id s next here e in
     record {
       whose = t.whose;
       header = t.header;
       cipher = t.cipher;
       tag = t.tag;
-      is =
-          subst (λ (y : Happening). IsUse (Tries t.whose 0x54 (length t.header ∷ (t.header ++ t.cipher)) t.tag) (uses_at set y now.world)) (sym next)
-          (subst (λ (o : Option State). IsUse (Tries t.whose 0x54 (length t.header ∷ (t.header ++ t.cipher)) t.tag) (step_uses set n o)) (sym here) t.is);
+      is = use_at set script k now at n id s next here e (Tries t.whose 0x54 (length t.header ∷ (t.header ++ t.cipher)) t.tag) t.is;
       right = tag_is set.mac (key_held set t.whose) t.header t.cipher t.tag t.right;
-      header_is = ap header_of x ∙ take_at t.header (replicate (32 - length t.header) 0) (length t.header) refl;
-      body_is = ap body_of x ∙ take_at plain (replicate (32 - length plain) 0) (length plain) refl;
+      header_is = header_is set n s (step_uses set n (Some s)) t;
+      body_is = body_is set n s (step_uses set n (Some s)) t;
     }

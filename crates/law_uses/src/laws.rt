@@ -3,7 +3,7 @@
 ghost use Rattle.law_forgery.specs.Unseen.{KeysUnseen};
 ghost use Rattle.law_uses.specs.Fresh.{ForgedWasNotGiven, UnmadeWasNotGiven};
 ghost use Rattle.law_uses.specs.GivenLogged.{GivenAreLogged, HeldAreLogged};
-ghost use Rattle.law_uses.specs.Hit.{AnswersHitFresh, ForgedIsHit};
+ghost use Rattle.law_uses.specs.Hit.{ForgedIsHit, ModuleTagsHitFresh};
 ghost use Rattle.law_uses.specs.Tried.{UnwrapsAreTried};
 ghost use Rattle.law_uses.specs.Unasked.{UnaskedIsUnseen};
 ghost use Rattle.law_uses.specs.UsesAlone.{UsesAlone};
@@ -75,9 +75,10 @@ pub fn forged_is_hit()
     ensures { ForgedIsHit }
 {}
 
-/// If the first `forged` comes with an answer, its tag was given at no moment before.
-pub fn answers_hit_fresh()
-    ensures { AnswersHitFresh }
+/// Where the first `forged` comes before an `attested` or an `open`, its tag was given at no moment
+/// before.
+pub fn module_tags_hit_fresh()
+    ensures { ModuleTagsHitFresh }
 {}
 
 /// The law `keys_unseen` of law_forgery, as a case of this.
