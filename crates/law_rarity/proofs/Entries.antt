@@ -176,7 +176,7 @@ module _ (set : Setting) where
   }
 
   pub put_differs : (es : List Entry) (t : List ℕ) (i v : ℕ) (e : Entry) → slice_get es i ≡ Some e
-      → DifferAt (tabled set es t) (tabled set es (put t i v)) (key_of_entry set e) (length e.header ∷ (e.header ++ e.cipher))
+      → DifferAt (tabled set es t) (tabled set es (put t i v)) (key_of_entry set e) e.rest
   put_differs es t i v e there = record {
     others = λ key message ne. put_others es t i v e there key message ne;
     size = put_long es t i v (key_of_entry set e) (message_of e);

@@ -1,6 +1,6 @@
 -- What is wrapped with one header is one body: a key's header has the connection and its epoch, and an
 -- event's has its number.
-use Rattle.std.proofs.Common.{◌≡◌, ℕ, zero, suc, ◌+◌, ◌*◌, ◌/◌, ◌%◌, ◌<◌, ◌≤◌, ◌⊎◌, inl, inr, Bool, true, false, List, [], ◌∷◌, ◌++◌, Option, Some, None, refl, sym, ◌∙◌, ap, subst, arith}
+use Rattle.std.proofs.Common.{◌≡◌, ◌==◌, ℕ, zero, suc, ◌/◌, ◌%◌, ◌⊎◌, inl, inr, Bool, true, false, List, [], ◌∷◌, length, Option, Some, None, refl, sym, ◌∙◌, ap, subst, arith}
 use Rattle.std.specs.Prelude.{slice_get, if◌then◌else◌}
 use Rattle.sx_trace.specs.declared.items.Item.{Item}
 use Rattle.sx_trace.specs.declared.items.Item.TheVariants as item
@@ -12,15 +12,14 @@ use Rattle.sx_model.specs.order.State.{Model, power_on}
 use Rattle.sx_model.specs.order.Step.{step as model_step}
 use Rattle.sx_model.specs.Legal.{is_forged}
 use Rattle.sx_wire.specs.Headers.{set_key_header, is_ask, is_event_header, last_in, value_in}
-use Rattle.spec_machine.specs.State.{State}
 use Rattle.spec_run.specs.Setting.{Setting}
-use Rattle.spec_run.specs.Ledger.{Made, is_made}
+use Rattle.spec_run.specs.Ledger.{Made}
 use Rattle.spec_run.specs.Deployer.{grant_header, connection_key}
 use Rattle.spec_run.specs.State.{World, Acted, switched_on}
 use Rattle.spec_run.specs.Run.{run}
 use Rattle.spec_run.specs.Law.{IsSoundSetting, LinesInForm}
 use Rattle.spec_run.proofs.tie.Lists.{some_inj}
-use Rattle.spec_run.proofs.tie.Verdicts.{Fares, judge, judge_on, Verdict, Broken, Over, Going}
+use Rattle.spec_run.proofs.tie.Verdicts.{Fares, judge, judge_on, Verdict, Over}
 use Rattle.spec_run.proofs.tie.Tied.{Tied, Known, WasSent, place_in}
 use Rattle.spec_run.proofs.tie.Start.{starts_tied}
 use Rattle.spec_run.proofs.acts.Compose.{ActsWalk, keeps_run}
@@ -28,13 +27,13 @@ use Rattle.spec_run.proofs.acts.Counting.{counts_lines}
 use Rattle.spec_run.proofs.ActsKeep.{are_wordly}
 use Rattle.spec_run.proofs.acts.Walks.{Walks}
 use Rattle.spec_run.proofs.ActsWalk.{Always, Easy, acts_walk, each_all, each_walks}
-use Rattle.law_isolation.specs.Happening.{Happening, done}
+use Rattle.law_isolation.specs.Happening.{done}
 use Rattle.law_isolation.specs.Script.{Script, End, Do, looks, performed}
 use Rattle.law_isolation.specs.Lines.{script_of}
 use Rattle.law_isolation.proofs.Guarding.{on_placed}
 use Rattle.law_isolation.proofs.Performing.{is_performed}
-use Rattle.law_forgery.specs.Moments.{Moment, moment_from, moment, shown_at, IsAmong, NoForged, NoneBefore}
-use Rattle.law_forgery.specs.Logged.{IsWord, IsLogged}
+use Rattle.law_forgery.specs.Moments.{Moment, moment_from, shown_at, IsAmong, NoForged, NoneBefore}
+use Rattle.law_forgery.specs.Logged.{IsLogged}
 use Rattle.law_forgery.proofs.Accepting.{ask_long}
 use Rattle.law_forgery.proofs.Reaching.{lines_form}
 use Rattle.law_forgery.proofs.Logging.{AllLogged, done_logged, starts_logged}

@@ -1,5 +1,5 @@
 -- A maker's run over tables is a play that is blind: a moment's try of an entry that no moment before gave is an attempt.
-use Rattle.std.proofs.Common.{◌≡◌, ℕ, zero, suc, ◌+◌, ◌^◌, ◌<◌, ◌≤◌, ◌||◌, not, ◌⊎◌, inl, inr, Bool, true, false, cond, bytes_eq, List, [], ◌∷◌, ◌++◌, length, take, Option, Some, None, refl, sym, ◌∙◌, ap, ap₂, subst, arith}
+use Rattle.std.proofs.Common.{◌≡◌, ℕ, zero, suc, ◌^◌, ◌<◌, ◌≤◌, ◌||◌, not, ◌⊎◌, inl, inr, Bool, true, false, cond, bytes_eq, List, [], ◌∷◌, length, take, Option, Some, None, refl, sym, ◌∙◌, ap, ap₂, subst, arith}
 use Rattle.std.specs.Prelude.{slice_get}
 use Rattle.std.proofs.lemmas.Bool.{true≢false, and_parts, or_parts, eq-eqb, cases_eq}
 use Rattle.std.proofs.lemmas.Slice.Eq.{bytes_eq-Decides}
@@ -156,7 +156,7 @@ module _ (set : Setting) (es : List Entry) (make : Maker) (n : ℕ) where
     there = (get_some es i low).1
 
     abbrev tail : List ℕ
-    tail = length e.header ∷ (e.header ++ e.cipher)
+    tail = e.rest
 
     -- a tag that isn't the number at the entry isn't right
     wrong : index_of set es (key_of_entry set e) (message_of e) ≡ Some i → (u : List ℕ) → IsTable (length es) (2 ^ 128) u → (tag : List ℕ) → (at u i ≡ number tag → ⊥)

@@ -1,16 +1,14 @@
 -- A first `forged` is a hit of an entry that wasn't given, so few tables lead to one.
-use Rattle.std.proofs.Common.{◌≡◌, ℕ, zero, suc, ◌+◌, ◌-◌, ◌*◌, ◌^◌, ◌<◌, ◌≤◌, ◌==◌, ◌||◌, not, ◌⊎◌, inl, inr, Bool, true, false, cond, bytes_eq, List, [], ◌∷◌, ◌++◌, length, take, Option, Some, None, refl, sym, ◌∙◌, ap, ap₂, subst, arith}
+use Rattle.std.proofs.Common.{◌≡◌, ℕ, zero, suc, ◌+◌, ◌-◌, ◌*◌, ◌^◌, ◌<◌, ◌≤◌, ◌||◌, not, ◌⊎◌, inl, inr, Bool, true, false, bytes_eq, List, [], ◌∷◌, ◌++◌, length, take, Option, Some, None, refl, sym, ◌∙◌, ap, subst, arith}
 use Rattle.std.specs.Prelude.{slice_get}
-use Rattle.std.proofs.lemmas.Bool.{true≢false, and_parts, or_from, eq-eqb, eqb-true, cases_eq}
+use Rattle.std.proofs.lemmas.Bool.{true≢false, and_parts, or_from, eq-eqb, cases_eq}
 use Rattle.std.proofs.lemmas.List.{length-append}
 use Rattle.std.proofs.lemmas.Slice.Eq.{bytes_eq-Decides}
-use Rattle.spec_run.specs.Setting.{Setting, Site}
+use Rattle.spec_run.specs.Setting.{Setting}
 use Rattle.sx_tag.specs.Keys.{module_key}
-use Rattle.sx_deployer.specs.Granting.{grants_after}
-use Rattle.spec_run.specs.Deployer.{list_at, accepts, after_acceptance}
+use Rattle.spec_run.specs.Deployer.{list_at}
 use Rattle.spec_run.specs.Law.{IsSoundSetting}
-use Rattle.spec_run.proofs.tie.Lists.{some_inj}
-use Rattle.law_counting.specs.Counting.{IsTable, at, put, one, sum_all, count}
+use Rattle.law_counting.specs.Counting.{IsTable, at, one, sum_all, count}
 use Rattle.law_counting.specs.Guesses.{Attempt, misses, all_miss}
 use Rattle.law_counting.proofs.Sums.{sum_le, sum_add, sum_one}
 use Rattle.law_counting.proofs.Hits.{few_guesses_hit}
@@ -18,21 +16,16 @@ use Rattle.law_counting.proofs.Lines.{entry_below}
 use Rattle.law_forgery.specs.Moments.{Moment, moment}
 use Rattle.law_forgery.specs.Forgery.{key_at}
 use Rattle.law_connections.specs.Laws.{RealizesAlways}
-use Rattle.std.specs.Option.{option_flatten}
-use Rattle.spec_run.specs.State.{World}
-use Rattle.law_isolation.specs.Happening.{Happening, Answer}
-use Rattle.law_uses.specs.Uses.{Holder, key_held, Use, Gives, Tries, Sizes, grants_uses, verdict_uses, answer_uses, uses_at, uses, module_holder}
+use Rattle.law_uses.specs.Uses.{Holder, key_held, Use, Gives, Tries, Sizes, uses, module_holder}
 use Rattle.law_uses.specs.GivenLogged.{IsUse}
 use Rattle.law_uses.specs.Hit.{IsFreshHit}
-use Rattle.law_uses.proofs.Hit.{answers_hit_fresh}
 use Rattle.law_uses.proofs.Whole.{module_key_same as keys_same}
 use Rattle.law_makers.specs.Makers.{Maker, made}
 use Rattle.law_rarity.specs.Tables.{Entry, key_of_entry, message_of, bytes_of, tabled, with_tags}
-use Rattle.law_rarity.specs.Rare.{ForgesAt, AreAnswers, MakesForm, ForgeriesAreRare}
+use Rattle.law_rarity.specs.Rare.{HitsAt, HaveBoots, MakesInRange, ForgeriesAreRare}
 use Rattle.law_rarity.specs.Names.{HasNames}
-use Rattle.law_rarity.proofs.Names.{head_of, its_own}
-use Rattle.law_rarity.proofs.Asked.{NoTries, TriesFirst, tries_first}
-use Rattle.law_rarity.proofs.Entries.{number, number_of, has, has_from, has_parts, index_of, Found, index_there, index_found, tag_at, tabled_others, put_close}
+use Rattle.law_rarity.proofs.Names.{head_of, is_tried_at, its_own}
+use Rattle.law_rarity.proofs.Entries.{number, number_of, has, has_from, has_parts, index_of, Found, index_there, index_found, tag_at, tabled_others}
 use Rattle.law_rarity.proofs.Playing.{attempt_of, given, any_gives, uses_of, tries, play, key_under, attempts, is_blind}
 use Rattle.law_rarity.proofs.Tabled.{with_tags_sound}
 
@@ -44,41 +37,14 @@ pub record Giving (set : Setting) (e : Entry) (us : List Use) : Type 0 where
   pub is : IsUse (Gives who kind rest) us
   pub has_it : has set e (key_held set who) (kind ∷ rest) ≡ true
 
-no_try : (us : List Use) → NoTries us → (who : Holder) (rest tag : List ℕ) → IsUse (Tries who 0x54 rest tag) us → ⊥
-no_try [] f who rest tag x = x
-no_try (Gives c k t ∷ us) f who rest tag (inl e) = absurd cc
-no_try (Gives c k t ∷ us) f who rest tag (inr x) = no_try us f who rest tag x
-no_try (Tries c k t w ∷ us) f who rest tag x = f
-no_try (Sizes c t w ∷ us) f who rest tag (inl e) = absurd cc
-no_try (Sizes c t w ∷ us) f who rest tag (inr x) = no_try us f who rest tag x
-
-made_long : (set : Setting) (make : Maker) (n : ℕ) → length (made set make n).lines ≡ n
+pub made_long : (set : Setting) (make : Maker) (n : ℕ) → length (made set make n).lines ≡ n
 made_long set make zero = refl
 made_long set make (suc n) =
     let m = made set make n in
     length-append m.lines (make m.sights ∷ []) ∙ (let l = made_long set make n in omega (arith, l))
 
--- what an answer tries is the tag of the open ask
-tries_ask : (set : Setting) (w : World) (m boot p : ℕ) (ask : List ℕ) → option_flatten (slice_get w.deployer.open_asks m) ≡ Some ask → TriesFirst (uses_at set (Answer m boot p) w)
-    → (who : Holder) (rest tag : List ℕ) → IsUse (Tries who 0x54 rest tag) (uses_at set (Answer m boot p) w) → rest ≡ length ask ∷ (ask ++ [])
-tries_ask set w m boot p ask asked first who rest tag i = by (slice_get set.sites m) (slice_get w.packets p) first i
-  where
-    verdict : (site : Site) (answer : List ℕ) (z : Option (List ℕ)) → z ≡ Some ask → TriesFirst (verdict_uses set w m site boot answer z)
-        → IsUse (Tries who 0x54 rest tag) (verdict_uses set w m site boot answer z) → rest ≡ length ask ∷ (ask ++ [])
-    verdict site answer None e f i = absurd i
-    verdict site answer (Some x) e f (inl h) = let is : length x ∷ (x ++ []) ≡ rest = cc in sym is ∙ ap (λ (y : List ℕ). length y ∷ (y ++ [])) (some_inj x ask e)
-    verdict site answer (Some x) e f (inr i) =
-        let last = option_flatten (slice_get w.deployer.attested m) in
-        let gs = grants_after set.app (after_acceptance set.app.links w.deployer m boot last) m boot last in
-        absurd (no_try (cond (accepts set site w.deployer m boot answer (Some x) last) (grants_uses set gs) []) f who rest tag i)
-
-    by : (o : Option Site) (q : Option (List ℕ)) → TriesFirst (answer_uses set w m boot o q) → IsUse (Tries who 0x54 rest tag) (answer_uses set w m boot o q) → rest ≡ length ask ∷ (ask ++ [])
-    by None q f i = absurd i
-    by (Some site) None f i = absurd i
-    by (Some site) (Some answer) f i = verdict site answer (option_flatten (slice_get w.deployer.open_asks m)) asked f i
-
 module _ (set : Setting) (es : List Entry) (make : Maker) (n q : ℕ) (sound : IsSoundSetting set) (always : RealizesAlways set) (named : HasNames set)
-    (asks : AreAnswers es) (few : n ≤ 65536) (form : MakesForm set es make n) where
+    (boots : HaveBoots es) (few : n ≤ 65536) (range : MakesInRange set es make n) where
   abbrev with_ : List ℕ → Setting
   with_ t = with_tags set es t
 
@@ -99,9 +65,15 @@ module _ (set : Setting) (es : List Entry) (make : Maker) (n q : ℕ) (sound : I
       by (Tries who kind rest tag) f g rec = further (rec g)
       by (Sizes who header body) f g rec = further (rec g)
 
-  module _ (t : List ℕ) (table : IsTable (length es) (2 ^ 128) t) (f : ForgesAt es (with_ t) (made (with_ t) make n).lines q) where
+  module _ (t : List ℕ) (table : IsTable (length es) (2 ^ 128) t) (f : HitsAt es (with_ t) (made (with_ t) make n).lines q) where
+    abbrev hit : IsFreshHit (with_ t) (made (with_ t) make n).lines f.k f.now
+    hit = f.hit
+
+    abbrev tail : List ℕ
+    tail = length hit.header ∷ (hit.header ++ hit.cipher)
+
     abbrev e : Entry
-    e = f.entry
+    e = record { m = hit.m; boot = hit.boot; rest = tail }
 
     -- the first entry with its key and its message
     first : (k : ℕ) × (index_of set es (key_of_entry set e) (message_of e) ≡ Some k)
@@ -116,24 +88,14 @@ module _ (set : Setting) (es : List Entry) (make : Maker) (n q : ℕ) (sound : I
     abbrev d : Entry
     d = there.entry
 
-    abbrev tail : List ℕ
-    tail = length e.header ∷ (e.header ++ e.cipher)
-
-    hit : IsFreshHit (with_ t) (made (with_ t) make n).lines f.k f.now e.m e.boot
-    hit = answers_hit_fresh (with_ t) (with_tags_sound set sound always es t) (made (with_ t) make n).lines (form t table) f.k f.now f.who f.first e.m e.boot f.packet f.next
-
-    -- what it tries is the entry's tag
-    same_rest : length hit.header ∷ (hit.header ++ hit.cipher) ≡ tail
-    same_rest =
-        tries_ask (with_ t) f.now.world e.m e.boot f.packet e.header f.asked
-        (subst (λ (x : Happening). TriesFirst (uses_at (with_ t) x f.now.world)) f.next
-        (tries_first (with_ t) (tabled set es (put t f.i 0)) (put_close set es t f.i 0) f.now))
-        (module_holder hit.site e.boot) (length hit.header ∷ (hit.header ++ hit.cipher)) hit.tag
-        (subst (λ (x : Happening). IsUse (Tries (module_holder hit.site e.boot) 0x54 (length hit.header ∷ (hit.header ++ hit.cipher)) hit.tag) (uses_at (with_ t) x f.now.world)) f.next hit.is)
-        ∙ ap (λ (c : List ℕ). length e.header ∷ (e.header ++ c)) (sym (asks f.i e f.there).cipher)
-
     key_is : key_held set (module_holder hit.site e.boot) ≡ key_of_entry set e
     key_is = ap (key_at set e.boot) (sym hit.sited)
+
+    whole : IsSoundSetting (with_ t)
+    whole = with_tags_sound set sound always es t
+
+    place : (hit.site.node < length set.keys) ⊎ (head_of tail ≡ 18)
+    place = (is_tried_at (with_ t) whole (made (with_ t) make n).lines (range t table) (let l = made_long (with_ t) make n in omega (arith, l, few)) f.k f.now f.at hit.site hit.boot tail hit.tag hit.is).place
 
     named_too : HasNames (with_ t)
     named_too n boot provider id = key_in_table n boot provider id ∙ named n boot provider id
@@ -163,29 +125,28 @@ module _ (set : Setting) (es : List Entry) (make : Maker) (n q : ℕ) (sound : I
                 let kind : u.kind ≡ 0x54 = cc in
                 let rest : u.rest ≡ tail = cc in
                 let whose : u.who ≡ module_holder hit.site e.boot =
-                its_own (with_ t) named_too (with_tags_sound set sound always es t) (made (with_ t) make n).lines (form t table) (let l = made_long (with_ t) make n in omega (arith, l, few)) j past here
-                u.who u.kind u.rest (ap head_of rest ∙ eqb-true (length e.header) 18 (and_parts (length e.header == 18) _ (asks f.i e f.there).ask).0) e.m hit.site e.boot hit.sited (asks f.i e f.there).boot
-                (key_under set es make n t u.who ∙ p.0 ∙ sym there.key_is ∙ sym key_is ∙ sym (key_under set es make n t (module_holder hit.site e.boot))) past.next u.is in
+                its_own (with_ t) named_too whole (made (with_ t) make n).lines (range t table) (let l = made_long (with_ t) make n in omega (arith, l, few)) j past here
+                u.who u.kind u.rest e.m hit.site e.boot hit.sited (boots f.i e f.there) (subst (λ (r : List ℕ). (hit.site.node < length set.keys) ⊎ (head_of r ≡ 18)) (sym rest) place)
+                (key_under set es make n t u.who ∙ p.0 ∙ sym there.key_is ∙ sym key_is ∙ sym (key_under set es make n t (module_holder hit.site e.boot))) u.is in
                 absurd (hit.fresh j past (omega (arith, le)) here
-                (subst (λ (r : List ℕ). IsUse (Gives (module_holder hit.site e.boot) 0x54 r) (uses (with_ t) past)) (rest ∙ sym same_rest)
+                (subst (λ (r : List ℕ). IsUse (Gives (module_holder hit.site e.boot) 0x54 r) (uses (with_ t) past)) rest
                 (subst (λ (k : ℕ). IsUse (Gives (module_holder hit.site e.boot) k u.rest) (uses (with_ t) past)) kind
                 (subst (λ (w : Holder). IsUse (Gives w u.kind u.rest) (uses (with_ t) past)) whose u.is))))
 
     attempt : tries set es make n t f.k ≡ Some (attempt_of i hit.tag)
     attempt =
-        attempts set es make n t f.k f.now f.first.at i (not_given f.k (omega arith)) (module_holder hit.site e.boot) 0x54 (length hit.header ∷ (hit.header ++ hit.cipher)) hit.tag hit.is
-        (ap₂ (λ (x y : List ℕ). index_of set es x y) key_is (ap (λ (r : List ℕ). 0x54 ∷ r) same_rest) ∙ first.1)
+        attempts set es make n t f.k f.now f.at i (not_given f.k (omega arith)) (module_holder hit.site e.boot) 0x54 tail hit.tag hit.is
+        (ap (λ (x : List ℕ). index_of set es x (0x54 ∷ tail)) key_is ∙ first.1)
 
     -- its number is the table's
     right : at t i ≡ number hit.tag
     right =
         let key = key_of_entry set e in
-        let whole : bytes_eq hit.tag (take 16 (tabled set es t key (message_of e))) ≡ true =
-        subst (λ (r : List ℕ). bytes_eq hit.tag (take 16 (tabled set es t key (0x54 ∷ r))) ≡ true) same_rest
-        (subst (λ (z : List ℕ). bytes_eq hit.tag (take 16 (tabled set es t z (0x54 ∷ length hit.header ∷ (hit.header ++ hit.cipher)))) ≡ true)
-        (key_under set es make n t (module_holder hit.site e.boot) ∙ key_is) hit.right) in
+        let right : bytes_eq hit.tag (take 16 (tabled set es t key (message_of e))) ≡ true =
+        subst (λ (z : List ℕ). bytes_eq hit.tag (take 16 (tabled set es t z (0x54 ∷ tail))) ≡ true)
+        (key_under set es make n t (module_holder hit.site e.boot) ∙ key_is) hit.right in
         let tag : hit.tag ≡ bytes_of 16 (at t i) =
-        (bytes_eq-Decides hit.tag (take 16 (tabled set es t key (message_of e)))).0 whole
+        (bytes_eq-Decides hit.tag (take 16 (tabled set es t key (message_of e)))).0 right
         ∙ ap (take 16) (tag_at set es (2 ^ 128) t table key (message_of e) i first.1) in
         sym (ap number tag ∙ number_of (at t i) (entry_below (length es) (2 ^ 128) t table i there.low))
 
@@ -210,7 +171,7 @@ module _ (set : Setting) (es : List Entry) (make : Maker) (n q : ℕ) (sound : I
             let m = subst (λ (x : Option Attempt). misses x t ≡ true) attempt (each q g f.soon) in
             absurd (true≢false (sym m ∙ ap not (eq-eqb (at t i) (number hit.tag) right)))
 
-  rare : (p : List ℕ → Bool) → q ≤ 2 ^ 128 → ((t : List ℕ) → IsTable (length es) (2 ^ 128) t → p t ≡ true → ForgesAt es (with_ t) (made (with_ t) make n).lines q)
+  rare : (p : List ℕ → Bool) → q ≤ 2 ^ 128 → ((t : List ℕ) → IsTable (length es) (2 ^ 128) t → p t ≡ true → HitsAt es (with_ t) (made (with_ t) make n).lines q)
       → count (length es) (2 ^ 128) p * 2 ^ 128 ≤ q * (2 ^ 128) ^ length es
   rare p le forges =
       let w : ℕ = 2 ^ 128 in
@@ -239,4 +200,4 @@ module _ (set : Setting) (es : List Entry) (make : Maker) (n q : ℕ) (sound : I
           omega (arith, a, b, d, many)
 
 pub forgeries_are_rare : ForgeriesAreRare
-forgeries_are_rare set es make n q sound always named asks few form le p forges = rare set es make n q sound always named asks few form p le forges
+forgeries_are_rare set es make n q sound always named boots few range le p hits = rare set es make n q sound always named boots few range p le hits

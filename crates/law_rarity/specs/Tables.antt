@@ -1,16 +1,16 @@
 -- Random numbers in place of some tags.
 use Rattle.std.specs.Prelude.{ℕ, zero, suc, ◌%◌, ◌/◌, ◌&&◌, if◌then◌else◌, List, [], ◌∷◌, ◌++◌}
-use Rattle.std.specs.Prelude.{length, drop, bytes_eq}
+use Rattle.std.specs.Prelude.{drop, bytes_eq}
 use Rattle.sx_tag.specs.Mac.{Mac}
 use Rattle.spec_run.specs.Setting.{Setting}
 use Rattle.law_forgery.specs.Forgery.{OfModule, key_named}
 
--- what a tag is of: a header and a cipher, under the key of the m-th module at a boot of its node
+-- what a tag over `T` is of: the bytes after the `T`, under the key of the m-th module at a boot of
+-- its node
 pub record Entry : Type 0 where
   pub m : ℕ
   pub boot : ℕ
-  pub header : List ℕ
-  pub cipher : List ℕ
+  pub rest : List ℕ
 
 -- the entry's key
 abbrev pub key_of_entry : Setting → Entry → List ℕ
@@ -18,7 +18,7 @@ key_of_entry set e = key_named set (OfModule e.m e.boot)
 
 -- the message that its tag is over
 abbrev pub message_of : Entry → List ℕ
-message_of e = 0x54 ∷ length e.header ∷ (e.header ++ e.cipher)
+message_of e = 0x54 ∷ e.rest
 
 -- a number as so many bytes, the lowest first
 abbrev pub bytes_of : ℕ → ℕ → List ℕ

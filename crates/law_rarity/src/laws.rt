@@ -1,7 +1,7 @@
 //! How rare forgeries are. Each law is a function that does nothing: its contract is the law.
 
-ghost use Rattle.law_rarity.specs.Covering.{AllAreAnswers};
-ghost use Rattle.law_rarity.specs.Erring.{AnswersAreTold, DistinguisherSeldomErrs};
+ghost use Rattle.law_rarity.specs.Covering.{AllHaveBoots};
+ghost use Rattle.law_rarity.specs.Erring.{DistinguisherSeldomErrs, ForgersAreTold};
 ghost use Rattle.law_rarity.specs.Names.{NamedHasNames};
 ghost use Rattle.law_rarity.specs.Once.{PadsOnce};
 ghost use Rattle.law_rarity.specs.Rare.{ForgeriesAreRare};
@@ -11,20 +11,20 @@ pub fn named_has_names()
     ensures { NamedHasNames }
 {}
 
-/// Of all tables at most the part q / 2^128 leads to a run whose first `forged` comes with an answer.
+/// Of all tables at most the part q / 2^128 leads to a run that hits before its q-th moment.
 pub fn forgeries_are_rare()
     ensures { ForgeriesAreRare }
 {}
 
-/// The entries that are listed are answers.
-pub fn all_are_answers()
-    ensures { AllAreAnswers }
+/// The entries that are listed are of boots that a name can have.
+pub fn all_have_boots()
+    ensures { AllHaveBoots }
 {}
 
-/// Over the tags of the key tree the distinguisher says whether the first `forged` comes with an
-/// answer.
-pub fn answers_are_told()
-    ensures { AnswersAreTold }
+/// Over the tags of the key tree the distinguisher says whether the first `forged` comes before an
+/// `attested` or an `open`.
+pub fn forgers_are_told()
+    ensures { ForgersAreTold }
 {}
 
 /// Over a random table it seldom does.

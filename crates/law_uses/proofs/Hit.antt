@@ -2,7 +2,8 @@
 use Rattle.std.proofs.Common.{◌≡◌, ℕ, ◌+◌, ◌-◌, ◌*◌, ◌&&◌, ◌⊎◌, inl, inr, Bool, true, false, cond, List, [], ◌∷◌, ◌++◌, length, take, slice_index, bytes_eq, Option, Some, None, refl, sym, ◌∙◌, ap, ap₂, subst, arith}
 use Rattle.std.specs.Prelude.{slice_get}
 use Rattle.std.specs.Option.{option_flatten}
-use Rattle.std.proofs.lemmas.Bool.{true≢false, and_parts}
+use Rattle.std.proofs.lemmas.Bool.{true≢false, and_parts, and_from}
+use Rattle.std.proofs.lemmas.List.{append_assoc, append-nil}
 use Rattle.lemmas.proofs.Texts.{bytes_eq-same}
 use Rattle.sx_lang.specs.declared.sides.Side.TheVariants.{To}
 use Rattle.sx_trace.specs.declared.items.Item.{Item}
@@ -12,12 +13,10 @@ use Rattle.sx_model.specs.Legal.{is_forged}
 use Rattle.sx_ledger.specs.declared.entry.Maker.TheVariants as maker
 use Rattle.sx_ledger.specs.Made.{Made, NO_TARGET}
 use Rattle.sx_rules.specs.declared.section.Layout.{Layout}
-use Rattle.sx_rules.specs.declared.section.Section.{Section}
 use Rattle.sx_tag.specs.Wrap.{crypt, padded}
 use Rattle.sx_tag.proofs.UnwrapsWrapped.{length-crypt}
 use Rattle.sx_tag.specs.Mac.{Mac}
 use Rattle.sx_wire.specs.Headers.{is_set_key_header, is_event_header, link_in, epoch_in, last_in, value_in}
-use Rattle.spec_machine.specs.declared.kinds.Seen.{Seen}
 use Rattle.spec_machine.specs.declared.kinds.Event.{Event}
 use Rattle.spec_machine.specs.declared.kinds.Event.TheVariants as event
 use Rattle.spec_machine.specs.declared.kinds.Exchange.{Exchange}
@@ -26,13 +25,12 @@ use Rattle.spec_machine.specs.ModuleRows.{own_key}
 use Rattle.spec_machine.specs.State.{State}
 use Rattle.spec_machine.specs.Step.{own_of, attempt, step}
 use Rattle.spec_machine.specs.Acts.{put, set as set_register, take as take_from, irq}
-use Rattle.sx_image.specs.Watched.{violation_of}
 use Rattle.sx_sched.specs.Lines.{Line}
 use Rattle.spec_run.specs.Setting.{Setting, Site, module_of}
 use Rattle.spec_run.specs.Deployer.{key_of}
 use Rattle.spec_run.specs.Ledger.{made_entry, is_made, header_of, body_of}
 use Rattle.spec_run.specs.Law.{IsTagUnder, IsSoundSetting, LinesInForm}
-use Rattle.spec_run.specs.Observation.{touch_items, unless_made, side_in, has_end, sender_of, has_unwrapped, event_seen, observed}
+use Rattle.spec_run.specs.Observation.{touch_items, unless_made, side_in, has_end, sender_of, has_unwrapped, event_seen}
 use Rattle.spec_run.specs.State.{World, Acted}
 use Rattle.spec_run.specs.Acts.{at_node, after_step, done_on, after_take, after_interrupt, after_answer}
 use Rattle.spec_run.proofs.Tags.{lawful, is_lawful}
@@ -49,11 +47,10 @@ use Rattle.law_forgery.proofs.Forging.{among_append, touches_not, UnwrapKinds, e
 use Rattle.law_forgery.proofs.Forgeries.{body_back, step_opens_own}
 use Rattle.law_forgery.proofs.Showing.{or_not, at_not, take_not, irq_not, give_not, sense_not}
 use Rattle.law_forgery.proofs.Unmade.{Holds, holds}
-use Rattle.law_uses.specs.Uses.{Holder, Held, OfSection, key_held, Use, Tries, section_holder, module_holder, step_uses, answer_uses, verdict_uses, uses_at}
+use Rattle.law_uses.specs.Uses.{Holder, OfSection, key_held, Use, Tries, section_holder, module_holder, step_uses, answer_uses, verdict_uses, uses_at}
 use Rattle.law_uses.specs.GivenLogged.{IsUse}
-use Rattle.law_uses.specs.Hit.{IsHit, ForgedIsHit, IsFreshHit, warned, is_of_module, ModuleTagsHitFresh}
+use Rattle.law_uses.specs.Hit.{ForgedIsHit, IsFreshHit, warned, is_of_module, ModuleTagsHitFresh}
 use Rattle.law_uses.proofs.Fresh.{unmade_was_not_given}
-use Rattle.law_uses.proofs.Giving.{IsHolder}
 use Rattle.law_uses.proofs.Trying.{Tried, tag_is, exchange_is, header_is, body_is, tried_at, use_at}
 
 -- What shows a `forged`: code of a module that unwraps, or an answer that the deployer accepts.
@@ -178,7 +175,7 @@ forged_is_hit set sound lines form k now who f = elim (forged_comes set sound li
       }
 ]
 
--- Of the items that follow a `forged`, an `open` alone is of a set-key packet.
+-- Where it warns of no `take`, a module's unwrap that shows it is of a set-key packet.
 
 pub forged_named : (i : Item) → is_forged i ≡ true → (who : Option ℕ) × (i ≡ item.Forged who)
 forged_named (item.Forged who) e = (who, refl)
@@ -192,21 +189,20 @@ warned_behind (x ∷ xs) ys none = by (is_forged x) refl (warned_behind xs ys (�
     by true e rec = let n = forged_named x e in absurd (none n.0 (inl n.1))
     by false e rec = rec
 
-module _ (app : AppTree) (m boot : ℕ) (header body : List ℕ) (ledger : List Made) where
-  opened_item : is_of_module (warned (has_unwrapped app m boot header body ledger)) ≡ true → is_set_key_header header ≡ true
-  opened_item h = by (is_set_key_header header && has_end app m (link_in header) (side_in header)) refl (is_event_header header && has_end app m (link_in header) To) h
+module _ (app : AppTree) (m boot : ℕ) (header body : List ℕ) (ledger : List Made) (more : List Item) where
+  opened_item : UnwrapKinds app m boot header body ledger → is_of_module (warned (has_unwrapped app m boot header body ledger ++ more)) ≡ true → is_set_key_header header ≡ true
+  opened_item (inl a) h = a.0
+  opened_item (inr a) h =
+      by (is_set_key_header header && has_end app m (link_in header) (side_in header)) refl (is_event_header header && has_end app m (link_in header) To)
+      (and_from (is_event_header header) (has_end app m (link_in header) To) a.0 a.1) (is_made ledger (made_entry (maker.Module (sender_of app (link_in header))) NO_TARGET 0 header body)) a.2 h
     where
-      taken_not : (b : Bool) → is_of_module (warned (unless_made (Some m) b (item.Take m (link_in header) (65536 * epoch_in header + last_in header) (value_in body)))) ≡ true → ⊥
-      taken_not true h = true≢false (sym h)
-      taken_not false h = true≢false (sym h)
-
-      by : (p : Bool) → (is_set_key_header header && has_end app m (link_in header) (side_in header)) ≡ p → (q : Bool)
+      by : (p : Bool) → (is_set_key_header header && has_end app m (link_in header) (side_in header)) ≡ p → (q : Bool) → q ≡ true → (made : Bool) → made ≡ false
           → is_of_module (warned (cond p (unless_made (Some m) (is_made ledger (made_entry maker.Deployer m boot header body)) (item.Open m (link_in header) (side_in header) (epoch_in header)))
-          (cond q (unless_made (Some m) (is_made ledger (made_entry (maker.Module (sender_of app (link_in header))) NO_TARGET 0 header body))
-          (item.Take m (link_in header) (65536 * epoch_in header + last_in header) (value_in body))) []))) ≡ true → is_set_key_header header ≡ true
-      by true e q h = (and_parts (is_set_key_header header) _ e).0
-      by false e true h = absurd (taken_not (is_made ledger (made_entry (maker.Module (sender_of app (link_in header))) NO_TARGET 0 header body)) h)
-      by false e false h = absurd (true≢false (sym h))
+          (cond q (unless_made (Some m) made (item.Take m (link_in header) (65536 * epoch_in header + last_in header) (value_in body))) []) ++ more)) ≡ true → is_set_key_header header ≡ true
+      by true e q f made g h = (and_parts (is_set_key_header header) _ e).0
+      by false e true f false g h = absurd (true≢false (sym h))
+      by false e true f true g h = absurd cc
+      by false e false f made g h = absurd cc
 
 -- a key that the deployer hadn't made
 key_kind : (app : AppTree) (m boot : ℕ) (header body : List ℕ) (ledger : List Made) → is_set_key_header header ≡ true → UnwrapKinds app m boot header body ledger
@@ -327,8 +323,8 @@ module _ (set : Setting) (sound : IsSoundSetting set) (lines : List Line) (form 
         }
 
   -- the items of an unwrap
-  unwrap_items : (u : Unwrapping set now) → is_of_module (warned (shown_at set now)) ≡ true → is_set_key_header (header_of (step set.mac u.s).state.exchange) ≡ true
-  unwrap_items u e =
+  unwrap_items : (u : Unwrapping set now) (more : List Item) → is_of_module (warned (shown_at set now ++ more)) ≡ true → is_set_key_header (header_of (step set.mac u.s).state.exchange) ≡ true
+  unwrap_items u more e =
       let v = step set.mac u.s in
       let y = v.state.exchange in
       let touched = touch_items set.app u.n (Some u.m) v.shown.touch in
@@ -338,11 +334,16 @@ module _ (set : Setting) (sound : IsSoundSetting set) (lines : List Line) (form 
       ∙ ap (λ (o : Option State). (at_node now.world (after_step set now.world u.n) o).items) u.here
       ∙ ap (λ (o : Option ℕ). touch_items set.app u.n o v.shown.touch ++ (event_seen set u.n o v.state now.world.ledger v.shown.event).items) u.runs
       ∙ ap (λ (a : Event). touched ++ (event_seen set u.n (Some u.m) v.state now.world.ledger a).items) u.event_is in
-      opened_item set.app u.m v.state.boot (header_of y) (body_of y) now.world.ledger
-      (ap is_of_module (sym (ap warned items ∙ warned_behind touched unwrapped_ (λ b a. touches_not b set.app u.n (Some u.m) v.shown.touch a))) ∙ e)
+      opened_item set.app u.m v.state.boot (header_of y) (body_of y) now.world.ledger more u.kinds
+      (ap is_of_module (sym (ap (λ (z : List Item). warned (z ++ more)) items ∙ ap warned (append_assoc touched unwrapped_ more)
+      ∙ warned_behind touched (unwrapped_ ++ more) (λ b a. touches_not b set.app u.n (Some u.m) v.shown.touch a))) ∙ e)
+
+  pub hits_fresh : (more : List Item) → is_of_module (warned (shown_at set now ++ more)) ≡ true → IsFreshHit set lines k now
+  hits_fresh more e = elim (forged_comes set sound lines form k now who f) [
+    | inl u ↦ opened u (unwrap_items u more e)
+    | inr a ↦ accepted a
+  ]
 
 pub module_tags_hit_fresh : ModuleTagsHitFresh
-module_tags_hit_fresh set sound lines form k now who f e = elim (forged_comes set sound lines form k now who f) [
-  | inl u ↦ opened set sound lines form k now who f u (unwrap_items set sound lines form k now who f u e)
-  | inr a ↦ accepted set sound lines form k now who f a
-]
+module_tags_hit_fresh set sound lines form k now who f e =
+    hits_fresh set sound lines form k now who f [] (ap (λ (z : List Item). is_of_module (warned z)) (append-nil (shown_at set now)) ∙ e)
