@@ -42,7 +42,7 @@ LINKS = [f"law_connections.{law}" for law in ("LinksUnseen.LinksAreUnseen", "Unl
 PROPERTIES = ["sx_watch.Text.IsProperty", "sx_watch.Watched.broken_at"]
 # How seldom a `forged` comes: counts of tables, makers of schedules, and what their distinguishers say.
 ODDS = [
-    "law_rarity.Erring.AnswersAreTold", "law_rarity.Erring.DistinguisherSeldomErrs",
+    "law_rarity.Erring.ForgersAreTold", "law_rarity.Erring.DistinguisherSeldomErrs",
     "law_counting.Pads.CiphersAreRandom", "law_rarity.Once.PadsOnce",
     *(f"law_makers.{law}" for law in (
         "Makers.MakersSeeTheSame", "Makers.DistinguisherIsRun", "Makers.DistinguisherKnowsNoKey",
@@ -54,11 +54,11 @@ ODDS = [
 # to believe these there.
 USES = [
     "law_counting.Guesses.FewGuessesHit",
-    "law_rarity.Rare.ForgeriesAreRare", "law_rarity.Covering.AllAreAnswers", "law_rarity.Names.NamedHasNames",
+    "law_rarity.Rare.ForgeriesAreRare", "law_rarity.Covering.AllHaveBoots", "law_rarity.Names.NamedHasNames",
     *(f"law_uses.{law}" for law in (
         "UsesAlone.UsesAlone", "Whole.ScriptsAlone", "Whole.RunsAlone", "Whole.KeysAreHeld",
         "GivenLogged.GivenAreLogged", "GivenLogged.HeldAreLogged",
-        "Fresh.UnmadeWasNotGiven", "Fresh.ForgedWasNotGiven", "Unasked.UnaskedIsUnseen", "Hit.ForgedIsHit", "Hit.AnswersHitFresh",
+        "Fresh.UnmadeWasNotGiven", "Fresh.ForgedWasNotGiven", "Unasked.UnaskedIsUnseen", "Hit.ForgedIsHit", "Hit.ModuleTagsHitFresh",
     )),
 ]
 # Promises of docs/GUARANTEES.md with the statements that carry them; `*` is every definition of a file. tools/contracts.py lists what they reach.
