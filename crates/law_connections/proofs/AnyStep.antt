@@ -20,7 +20,7 @@ use Rattle.spec_run.specs.Setting.{Setting, Site, is_at_site, deployed, module_o
 use Rattle.spec_run.specs.State.{World}
 use Rattle.spec_run.specs.Acts.{after_step}
 use Rattle.spec_run.specs.Run.{is_reset}
-use Rattle.spec_run.specs.Law.{IsLawfulSetting}
+use Rattle.spec_run.specs.Law.{IsSoundSetting}
 use Rattle.spec_run.proofs.tie.Lists.{get_within}
 use Rattle.spec_run.proofs.steps.Entry.{at_site, held_by}
 use Rattle.spec_run.proofs.steps.Steps.{nonzero}
@@ -39,7 +39,7 @@ use Rattle.law_connections.proofs.Stepping.{GuessesNone, site_deployed, stepped,
 use Rattle.law_connections.proofs.Going.{StepDone, both_reset}
 use Rattle.law_connections.proofs.Going as going
 
-module _ (a : Setting) (nac : Mac) (keys : List (List ℕ)) (secret : List ℕ) (sound : IsLawfulSetting a) (sound2 : IsLawfulSetting (second a nac keys secret))
+module _ (a : Setting) (nac : Mac) (keys : List (List ℕ)) (secret : List ℕ) (sound : IsSoundSetting a) (sound2 : IsSoundSetting (second a nac keys secret))
     (unlinked : Unlinked a (second a nac keys secret)) (hides : HidesKeys a) where
   abbrev b : Setting
   b = second a nac keys secret
@@ -80,7 +80,7 @@ module _ (a : Setting) (nac : Mac) (keys : List (List ℕ)) (secret : List ℕ) 
         let order = (and_parts _ (in_order s.sections.live s.cur (pc_of s)) (and_parts (word_outside s.sections.live (pc_of s)) _ e).1).1 in
         let number : p.0 ≡ m = let i = p.2 in omega (arith, i) in
         let sited : slice_get a.sites m ≡ Some p.1 = subst (λ (k : ℕ). slice_get a.sites k ≡ Some p.1) number p.3 in
-        let q = get_some a.app.parts m (let i = get_within a.sites m p.1 sited in let j = sound.sound.sites in omega (arith, i, j)) in
+        let q = get_some a.app.parts m (let i = get_within a.sites m p.1 sited in let j = sound.sites in omega (arith, i, j)) in
         let place = at_site n s.mem sec p.1 p.4 in
         let dep = site_deployed a.sites n s.mem sec m p.1 sited p.4 in
         let idle : s.cur ≡ 0 = elim ta.node.runner [ inl z ↦ z | inr own ↦ absurd (h.rests sec l.0 dep (own ∙ sym l.1)) ] in

@@ -1,5 +1,5 @@
 -- A deployed module's turn in mid-run, in both runs: how the two nodes are related.
-use Rattle.std.proofs.Common.{◌≡◌, ℕ, ◌+◌, ◌-◌, ◌*◌, ◌<◌, ◌≤◌, ◌==◌, ◌&&◌, ◌||◌, not, Bool, true, false, inl, inr, ◌⊎◌, List, [], ◌∷◌, slice_index, refl, sym, ◌∙◌, ap, ap₂, subst, arith, map}
+use Rattle.std.proofs.Common.{◌≡◌, ℕ, ◌+◌, ◌*◌, ◌<◌, ◌≤◌, ◌==◌, ◌&&◌, ◌||◌, not, Bool, true, false, inl, inr, ◌⊎◌, List, [], ◌∷◌, slice_index, refl, sym, ◌∙◌, ap, ap₂, subst, arith, map}
 use Rattle.std.specs.Prelude.{nat_le, nat_lt}
 use Rattle.std.proofs.lemmas.Bool.{and_parts, cases_lt, ltb-true, not-true, true≢false}
 use Rattle.sx_mean.specs.Working.{plain_at}
@@ -20,7 +20,7 @@ use Rattle.spec_invocation.specs.Marks as mark
 use Rattle.sx_image.specs.Watched.{Watched, watch}
 use Rattle.sx_image.specs.Realizes.{Underway, Aborted, Exited}
 use Rattle.spec_run.specs.Setting.{Setting}
-use Rattle.spec_run.specs.Law.{IsLawfulSetting}
+use Rattle.spec_run.specs.Law.{IsSoundSetting, image_at}
 use Rattle.spec_run.proofs.steps.Entry.{at_site, quiet_left}
 use Rattle.law_calls.proofs.Middle.{Middle, first_middle}
 use Rattle.sx_tmpl.specs.Unseen.{HoldsNoKey, InSlotKey, StepShowsNone}
@@ -28,7 +28,9 @@ use Rattle.sx_tmpl.proofs.Running.Owned.{in_private_yes}
 use Rattle.sx_tmpl.specs.Steady.{Abreast, AreOpen, Twins, keyless}
 use Rattle.sx_tmpl.proofs.Texts.Entering.{bytes_from_get}
 use Rattle.law_connections.specs.Unlinked.{Unlinked}
+use Rattle.sx_mean.specs.Ends.{ends_of}
 use Rattle.law_connections.specs.Laws.{HidesKeys}
+use Rattle.law_connections.proofs.Realizing.{shows_under}
 use Rattle.law_connections.proofs.Outside.{AlikeOutside, Kind, SameSections, is_deployed, sites_on}
 use Rattle.law_connections.proofs.Opened.{outside_open, same_hides}
 use Rattle.law_connections.proofs.Twice.{IsMark}
@@ -145,11 +147,11 @@ module _ (a : Setting) (nac : Mac) (keys : List (List ℕ)) (secret : List ℕ) 
       next = e.beside.outside.next;
     }
 
-    module _ (sound : IsLawfulSetting a) (sound2 : IsLawfulSetting (second a nac keys secret)) (unlinked : Unlinked a (second a nac keys secret)) where
+    module _ (sound : IsSoundSetting a) (sound2 : IsSoundSetting (second a nac keys secret)) (unlinked : Unlinked a (second a nac keys secret)) where
       size_is : e.sec.layout.priv_to ≡ e.sec.layout.priv_from + module_data_size e.q.tree (ends_count a nac keys secret e)
       size_is =
           let place = at_site e.site.node e.s.mem e.sec e.site e.at in
-          let dep = sound.sound.deployed e.m e.q e.site e.part e.sited in
+          let dep = sound.deployed e.m e.q e.site e.part e.sited in
           ap (λ (l : Layout). l.priv_to) place.layout ∙ dep.data_size
           ∙ ap (λ (l : Layout). l.priv_from + module_data_size e.q.tree (ends_count a nac keys secret e)) (sym place.layout)
 
@@ -212,8 +214,8 @@ module _ (a : Setting) (nac : Mac) (keys : List (List ℕ)) (secret : List ℕ) 
         abreast = record { nodes = begin_twins; event = refl; marks = tt };
         bound = _;
         bound2 = _;
-        comes = (hides e.m e.q e.site e.part e.sited a.mac sound.tag).runs e.sec e.s (enters_a a nac keys secret e sound sound2 unlinked);
-        comes2 = (hides e.m e.q e.site e.part e.sited nac sound2.tag).runs (mate a nac keys secret e) (later a nac keys secret e) (enters_b a nac keys secret e sound sound2 unlinked);
+        comes = (shows_under a.secret a.mac sound.tag e.q.tree (ends_of a.app e.m) (image_at e.site) (hides e.m e.q e.site e.part e.sited)).runs e.sec e.s (enters_a a nac keys secret e sound sound2 unlinked);
+        comes2 = (shows_under secret nac sound2.tag e.q.tree (ends_of a.app e.m) (image_at e.site) (hides e.m e.q e.site e.part e.sited)).runs (mate a nac keys secret e) (later a nac keys secret e) (enters_b a nac keys secret e sound sound2 unlinked);
         runs = λ out. quiet_left e.sec.id out.left;
         runs2 = λ out. quiet_left e.sec.id out.left;
         granted = λ header k is. absurd is;

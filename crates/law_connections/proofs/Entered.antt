@@ -24,7 +24,7 @@ use Rattle.spec_invocation.specs.Progress.{Progress, Invoked}
 use Rattle.sx_image.specs.Image.{Enters, StandsProtected, call_at, progress_at, public_bytes}
 use Rattle.spec_run.specs.Setting.{Setting, Site, same_layout, is_at_site, deployed, windows_at}
 use Rattle.spec_run.specs.Deployer.{key_of}
-use Rattle.spec_run.specs.Law.{IsLawfulSetting, IsDeployedModule, image_at, devices_of}
+use Rattle.spec_run.specs.Law.{IsSoundSetting, IsDeployedModule, image_at, devices_of}
 use Rattle.spec_run.proofs.steps.Entry.{at_site, shapes_on, has_devices_same}
 use Rattle.spec_run.proofs.steps.Foreign.{position_some}
 use Rattle.law_forgery.proofs.Turns.{setup_of, NodeTurns}
@@ -50,11 +50,11 @@ mate_lives mac nac hides (z ∷ xs) (y ∷ ys) x h l = elim l [
 ]
 
 -- A deployed module that rests and whose entry PC is at, in one run.
-module _ (set : Setting) (sound : IsLawfulSetting set) (m : ℕ) (q : PartTree) (site : Site) (part : slice_get set.app.parts m ≡ Some q) (sited : slice_get set.sites m ≡ Some site)
+module _ (set : Setting) (sound : IsSoundSetting set) (m : ℕ) (q : PartTree) (site : Site) (part : slice_get set.app.parts m ≡ Some q) (sited : slice_get set.sites m ≡ Some site)
     (s : State) (sec : Section) (turns : NodeTurns set site.node s) (lives : Lives s.sections.live sec) (at : is_at_site site.node s.mem sec site ≡ true)
     (idle : s.cur ≡ 0) (entry : pc_of s ≡ site.layout.pub_from) where
   dep : IsDeployedModule set m q site
-  dep = sound.sound.deployed m q site part sited
+  dep = sound.deployed m q site part sited
 
   pub stands_there : StandsProtected (image_at site) sec s
   stands_there =
@@ -191,7 +191,7 @@ module _ (a : Setting) (nac : Mac) (keys : List (List ℕ)) (secret : List ℕ) 
           marks = tt;
         }
 
-    module _ (sound : IsLawfulSetting a) (sound2 : IsLawfulSetting (second a nac keys secret)) (unlinked : Unlinked a (second a nac keys secret)) where
+    module _ (sound : IsSoundSetting a) (sound2 : IsSoundSetting (second a nac keys secret)) (unlinked : Unlinked a (second a nac keys secret)) where
       pub own_tags : (rest : List ℕ) → a.mac e.sec.key (0x54 ∷ rest) ≡ nac e.other (0x54 ∷ rest)
       own_tags rest =
           ap (λ (z : List ℕ). a.mac z (0x54 ∷ rest)) own_key_is ∙ unlinked.tags e.m e.s.boot e.site rest e.sited ∙ ap (λ (z : List ℕ). nac z (0x54 ∷ rest)) (sym mate_key_is)

@@ -10,7 +10,7 @@ use Rattle.sx_sched.specs.Lines.{Line}
 use Rattle.spec_run.specs.Setting.{Setting}
 use Rattle.spec_run.specs.State.{World, nodes_from, switched_on}
 use Rattle.spec_run.specs.Run.{run}
-use Rattle.spec_run.specs.Law.{IsLawfulSetting, LinesInForm}
+use Rattle.spec_run.specs.Law.{IsSoundSetting, LinesInForm}
 use Rattle.spec_run.proofs.tie.Lists.{some_inj}
 use Rattle.law_isolation.specs.Happening.{done}
 use Rattle.law_isolation.specs.Script.{Script, End, Do, looks}
@@ -20,7 +20,7 @@ use Rattle.law_forgery.specs.Moments.{Moment, moment_from, shown_at, NoForged}
 use Rattle.law_forgery.proofs.Reaching.{starts_turning}
 use Rattle.sx_deploy.proofs.Sound.{sound}
 use Rattle.spec_run.specs.Accepted.{setting_of, sites_of}
-use Rattle.spec_run.proofs.accepted.Settled.{lawfully}
+use Rattle.spec_run.proofs.accepted.Settled.{settled}
 use Rattle.spec_run.proofs.accepted.FormedLines.{lines_in_form}
 use Rattle.law_connections.specs.Unlinked.{Unlinked}
 use Rattle.law_connections.specs.Accepted.{AcceptedUnseen}
@@ -112,14 +112,14 @@ module _ (a : Setting) (nac : Mac) (keys : List (List ℕ)) (secret : List ℕ) 
     deployer = h.deployer;
   }
 
-  of_second : (lines : List Line) → IsLawfulSetting a → IsLawfulSetting (second a nac keys secret) → Unlinked a (second a nac keys secret) → HidesKeys a
+  of_second : (lines : List Line) → IsSoundSetting a → IsSoundSetting (second a nac keys secret) → Unlinked a (second a nac keys secret) → HidesKeys a
       → LinesInForm a lines → NothingGuessed a (second a nac keys secret) lines
       → RunsAlike a (second a nac keys secret) lines
   of_second lines first_sound sound2 unlinked hides form guess =
       let start : SameRun a nac keys secret (switched_on a) (switched_on b) = record {
         same = record { nodes = λ n. nodes_same 0 a.keys keys unlinked.count n n; packets = refl; deployer = refl; lines = refl; ledger = tt };
-        first = starts_turning a first_sound.sound;
-        second = starts_turning b sound2.sound;
+        first = starts_turning a first_sound;
+        second = starts_turning b sound2;
       } in
       let none : NoGuesses a b (script_of a lines) (switched_on a) =
       of_moments a b (script_of a lines) (switched_on a) (λ k now e none n s is here runs. guess k now e none n s is here runs) in
@@ -132,7 +132,7 @@ pub links_unseen : LinksUnseen
 links_unseen a lines first_sound hides form b sound2 unlinked guess =
     let is = unlinked.rest in
     subst (λ (z : Setting). RunsAlike a z lines) (sym is)
-    (of_second a b.mac b.keys b.secret lines first_sound (subst IsLawfulSetting is sound2) (subst (Unlinked a) is unlinked) hides form
+    (of_second a b.mac b.keys b.secret lines first_sound (subst IsSoundSetting is sound2) (subst (Unlinked a) is unlinked) hides form
     (subst (λ (z : Setting). NothingGuessed a z lines) is guess))
 
 -- An accepted deployment.
@@ -140,5 +140,5 @@ links_unseen a lines first_sound hides form b sound2 unlinked guess =
 pub accepted_unseen : AcceptedUnseen
 accepted_unseen text d read mac texts tag images hides lines are =
     let acc = sound text d read in
-    links_unseen (setting_of mac d texts) lines (lawfully mac d texts acc images tag) hides
+    links_unseen (setting_of mac d texts) lines (settled mac d texts acc images tag) hides
     (lines_in_form mac d (sites_of d.app.parts d.layouts d.providers texts) acc lines are)

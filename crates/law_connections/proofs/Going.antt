@@ -1,5 +1,5 @@
 -- A step of a deployed module's turn, in both runs.
-use Rattle.std.proofs.Common.{◌≡◌, ◌≢◌, ℕ, suc, ◌+◌, ◌*◌, ◌≤◌, ◌==◌, ◌&&◌, Bool, true, false, if◌then◌else◌, inl, inr, ◌⊎◌, List, [], ◌∷◌, ◌++◌}
+use Rattle.std.proofs.Common.{◌≡◌, ℕ, suc, ◌+◌, ◌*◌, ◌≤◌, ◌==◌, ◌&&◌, Bool, true, false, if◌then◌else◌, inl, inr, ◌⊎◌, List, [], ◌∷◌, ◌++◌}
 use Rattle.std.proofs.Common.{length, slice_index, Some, None, refl, sym, ◌∙◌, ap, ap₂, subst, arith}
 use Rattle.std.specs.Prelude.{slice_get}
 use Rattle.std.proofs.lemmas.Bool.{and_parts, cases_eq, cases_lt, eq-eqb, eqb-true, true≢false, and_right}
@@ -39,7 +39,7 @@ use Rattle.spec_run.specs.Observation.{Observed, has_end, side_in}
 use Rattle.spec_run.specs.State.{World, Acted}
 use Rattle.spec_run.specs.Acts.{after_step, with_node}
 use Rattle.spec_run.specs.Run.{is_reset}
-use Rattle.spec_run.specs.Law.{IsLawfulSetting}
+use Rattle.spec_run.specs.Law.{IsSoundSetting}
 use Rattle.spec_run.proofs.steps.Entry.{at_site}
 use Rattle.spec_run.proofs.steps.Bystanders.{at_site_same, apart_self}
 use Rattle.spec_run.proofs.steps.Machine.{onward, violates}
@@ -146,7 +146,7 @@ done_same m x y e f regs is = ap (done_items m y) is ∙ by e
     by (event.Unwrapped id) = refl
     by (event.Left id) = ap (λ (g : List ℕ). item.Done m (slice_index g 12) (slice_index g 13) ∷ []) regs
 
-module _ (a : Setting) (nac : Mac) (keys : List (List ℕ)) (secret : List ℕ) (sound : IsLawfulSetting a) (sound2 : IsLawfulSetting (second a nac keys secret))
+module _ (a : Setting) (nac : Mac) (keys : List (List ℕ)) (secret : List ℕ) (sound : IsSoundSetting a) (sound2 : IsSoundSetting (second a nac keys secret))
     (unlinked : Unlinked a (second a nac keys secret)) where
   abbrev b : Setting
   b = second a nac keys secret
@@ -163,9 +163,9 @@ module _ (a : Setting) (nac : Mac) (keys : List (List ℕ)) (secret : List ℕ) 
   one_site n mem x m k q site other part sited sited2 at at2 =
       let p = at_site n mem x site at in
       let r = at_site n mem x other at2 in
-      elim (sound.sound.apart m k site other sited sited2 (p.node ∙ sym r.node)) [
+      elim (sound.apart m k site other sited sited2 (p.node ∙ sym r.node)) [
         | inl e ↦ sym e
-        | inr d ↦ absurd (apart_self site.layout.pub_from site.layout.pub_to (bounds_of site.layout (sound.sound.deployed m q site part sited).bounds)
+        | inr d ↦ absurd (apart_self site.layout.pub_from site.layout.pub_to (bounds_of site.layout (sound.deployed m q site part sited).bounds)
             (subst (λ (z : Layout). apart site.layout.pub_from site.layout.pub_to z.pub_from z.pub_to ≡ true) (sym r.layout ∙ p.layout) d.0))
       ]
 
@@ -479,8 +479,8 @@ module _ (a : Setting) (nac : Mac) (keys : List (List ℕ)) (secret : List ℕ) 
                 let on2 = is_out nac On_b (Aborted rb) Out_b l (watched_next nac v h.ns) cy in
                 let sa = sections_a pw pv quiet quiet2 go on on2 in
                 let sb = sections_b pw pv quiet quiet2 go on on2 in
-                let one = after_as a sound.sound e.m e.q e.site e.part e.sited e.sec e.s (stands_a a nac keys secret e sound sound2 unlinked) ra w u h.ms h.first pw.0.inside quiet sa in
-                let two = after_as b sound2.sound e.m e.q e.site e.part e.sited mt t (stands_b a nac keys secret e sound sound2 unlinked) rb z v h.ns h.other pv.0.inside quiet2 sb in
+                let one = after_as a sound e.m e.q e.site e.part e.sited e.sec e.s (stands_a a nac keys secret e sound sound2 unlinked) ra w u h.ms h.first pw.0.inside quiet sa in
+                let two = after_as b sound2 e.m e.q e.site e.part e.sited mt t (stands_b a nac keys secret e sound sound2 unlinked) rb z v h.ns h.other pv.0.inside quiet2 sb in
                 let seen = seen_same pw pv quiet quiet2 go on on2 w.ledger z.ledger same.ledger in
                 let o = marks_observed a.app n e.m e.s.boot dm w.ledger in
                 let p = marks_observed a.app n e.m e.s.boot dn z.ledger in

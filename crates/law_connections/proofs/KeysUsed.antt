@@ -7,8 +7,7 @@ use Rattle.std.proofs.lemmas.List.{length-append}
 use Rattle.sx_mean.specs.Offsets.{end_key_at}
 use Rattle.sx_mean.specs.Ends.{ends_of}
 use Rattle.sx_rules.specs.Access.{Sections, outside_private}
-use Rattle.sx_tag.specs.Mac.{Mac, GivesTags}
-use Rattle.sx_tag.proofs.UnwrapsWrapped.{length-crypt}
+use Rattle.sx_tag.specs.Mac.{Mac}
 use Rattle.sx_tag.specs.Wrap.{crypt, padded, unwrapped, wrap_tag, wrapped}
 use Rattle.spec_machine.specs.Memory.{bytes_from, even, word}
 use Rattle.spec_machine.proofs.Lengths.{length-bytes_from}
@@ -25,7 +24,8 @@ use Rattle.spec_invocation.specs.Pieces.{tag_size}
 use Rattle.sx_image.specs.Image.{private_bytes}
 use Rattle.sx_image.specs.Watched.{Watched}
 use Rattle.spec_run.specs.Setting.{Setting}
-use Rattle.spec_run.specs.Law.{IsLawfulSetting}
+use Rattle.spec_run.specs.Law.{IsTagUnder, IsSoundSetting}
+use Rattle.law_forgery.proofs.Accepting.{crypt_long}
 use Rattle.law_forgery.specs.Tags.{SameTags}
 use Rattle.law_forgery.proofs.Instructions.{wrapped_same, unwrapped_same}
 use Rattle.sx_lower.proofs.Slots.{end_among}
@@ -63,20 +63,20 @@ opened_self regs None (Some y) e = absurd cc
 opened_self regs (Some x) None e = absurd cc
 opened_self regs (Some x) (Some y) e = inl cc
 
-own_opened : (mac nac : Mac) (k l ad cipher tag regs : List ℕ) → GivesTags mac → GivesTags nac → length cipher ≤ 32 → ((rest : List ℕ) → mac k (0x54 ∷ rest) ≡ nac l (0x54 ∷ rest))
+own_opened : (mac nac : Mac) (first second k l ad cipher tag regs : List ℕ) → IsTagUnder first mac → IsTagUnder second nac → length cipher ≤ 32 → ((rest : List ℕ) → mac k (0x54 ∷ rest) ≡ nac l (0x54 ∷ rest))
     → own_key regs ≡ true → SameOpened regs (unwrapped mac k ad cipher tag) (unwrapped nac l ad cipher tag)
 unfolding unwrapped wrap_tag
-own_opened mac nac k l ad cipher tag regs one two few tags own =
+own_opened mac nac first second k l ad cipher tag regs one two few tags own =
     subst (λ (t : List ℕ). SameOpened regs (if bytes_eq tag (take 16 (mac k (0x54 ∷ length ad ∷ (ad ++ cipher)))) then Some (padded (crypt mac k ad cipher)) else None)
     (if bytes_eq tag (take 16 t) then Some (padded (crypt nac l ad cipher)) else None)) (tags (length ad ∷ (ad ++ cipher)))
     (by (bytes_eq tag (take 16 (mac k (0x54 ∷ length ad ∷ (ad ++ cipher))))))
   where
     by : (c : Bool) → SameOpened regs (if c then Some (padded (crypt mac k ad cipher)) else None) (if c then Some (padded (crypt nac l ad cipher)) else None)
-    by true = inr (own, padded_length (crypt mac k ad cipher) (crypt nac l ad cipher) (length-crypt mac k ad cipher one few ∙ sym (length-crypt nac l ad cipher two few)))
+    by true = inr (own, padded_length (crypt mac k ad cipher) (crypt nac l ad cipher) (crypt_long first mac k ad cipher one few ∙ sym (crypt_long second nac l ad cipher two few)))
     by false = tt
 
 module _ (a : Setting) (nac : Mac) (keys : List (List ℕ)) (secret : List ℕ) (e : Entry a nac keys secret)
-    (sound : IsLawfulSetting a) (sound2 : IsLawfulSetting (second a nac keys secret)) (unlinked : Unlinked a (second a nac keys secret)) where
+    (sound : IsSoundSetting a) (sound2 : IsSoundSetting (second a nac keys secret)) (unlinked : Unlinked a (second a nac keys secret)) where
   abbrev L : ℕ → List ℕ → List ℕ → Type 0
   L = Linked a nac keys secret
 
@@ -187,7 +187,7 @@ module _ (a : Setting) (nac : Mac) (keys : List (List ℕ)) (secret : List ℕ) 
         let one = seal_of su e.s.mem (watched_as a nac keys secret u ms last) (word u.mem (pc_of u)) 0x1385 is refl p in
         let few = (one.opened refl (eqb-true (slice_index u.regs 9) 0 own)).1 in
         let size = length-bytes_from u.mem (slice_index u.regs 12) (slice_index u.regs 13) in
-        own_opened a.mac nac e.sec.key e.other header body tag u.regs sound.tag.width sound2.tag.width (omega (arith, few, size)) (own_tags a nac keys secret e sound sound2 unlinked) own
+        own_opened a.mac nac a.secret secret e.sec.key e.other header body tag u.regs sound.tag sound2.tag (omega (arith, few, size)) (own_tags a nac keys secret e sound sound2 unlinked) own
     opens_as is false own =
         let one = seal_of su e.s.mem (watched_as a nac keys secret u ms last) (word u.mem (pc_of u)) 0x1385 is refl p in
         let two = seal_of sv e.mem (watched_as a nac keys secret v ns last) (word v.mem (pc_of v)) 0x1385 (word_same ∙ is) refl q in

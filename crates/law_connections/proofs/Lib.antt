@@ -5,7 +5,10 @@
 -- Between: where it is entered in Entered, its invocation in Twice, the keys that it uses in KeysUsed;
 -- what its marks show over the ledgers is Ledgers. AnyStep has both kinds of steps. That there are
 -- settings with other keys: Moved to Compiling; what a guess then is, Guessing. Worked is a case that
--- meets the premises.
+-- meets the premises. Invoking and Realizing are about tag functions that are lawful where they make
+-- tags.
+pub mod Invoking
+pub mod Realizing
 pub mod Moved
 pub mod Unlinking
 pub mod Finding

@@ -17,7 +17,7 @@ use Rattle.spec_run.specs.State.{World, Acted}
 use Rattle.spec_run.specs.Acts.{only, then_, at_node, after_step}
 use Rattle.spec_run.specs.Run.{is_reset, steps_of, finish, FINISH_STEPS, put_on, put_pieces, Register, set_on, set_all, protect_registers, call_registers, unless_busy, load, call}
 use Rattle.spec_run.specs.Run.{after_line, line_counted, run}
-use Rattle.spec_run.specs.Law.{IsLawfulSetting, LineInForm, LinesInForm}
+use Rattle.spec_run.specs.Law.{IsSoundSetting, LineInForm, LinesInForm}
 use Rattle.spec_run.proofs.tie.Lists.{get_within}
 use Rattle.law_isolation.specs.Happening.{Happening, Step, Put, Set, Take, Give, Forge, Sense, Irq, Reset, Ask, Answer, Show, done}
 use Rattle.law_isolation.specs.Script.{Script, End, Do, Look, look, looks}
@@ -45,7 +45,7 @@ abbrev pub NoGuesses : Setting → Setting → Script → World → Type 0
 NoGuesses a b End w = Unit {0}
 NoGuesses a b (Do x rest) w = GuessesNow a b x w × (NoForged (done a x w).items → NoGuesses a b (rest (looks (done a x w).world)) (done a x w).world)
 
-module _ (a : Setting) (nac : Mac) (keys : List (List ℕ)) (secret : List ℕ) (sound : IsLawfulSetting a) (sound2 : IsLawfulSetting (second a nac keys secret))
+module _ (a : Setting) (nac : Mac) (keys : List (List ℕ)) (secret : List ℕ) (sound : IsSoundSetting a) (sound2 : IsSoundSetting (second a nac keys secret))
     (unlinked : Unlinked a (second a nac keys secret)) (hides : HidesKeys a) where
   abbrev b : Setting
   b = second a nac keys secret
@@ -73,7 +73,7 @@ module _ (a : Setting) (nac : Mac) (keys : List (List ℕ)) (secret : List ℕ) 
   pub goes_one : (x : Happening) (rest : List Look → Script) (w v : World) → Beside w v → InForm x → ((n : ℕ) → x ≡ Step n → ⊥) → NoGuesses a b (Do x rest) w → Goes rest (done a x w) (done b x v)
   goes_one x rest w v h form ne g =
       let d = outside_done a nac keys secret unlinked w v h x ne in (
-        acted_same a nac keys secret (done a x w) (done b x v) d.0 (λ clean. record { same = d.1; first = done_turns a x w sound.sound form h.first; second = done_turns b x v sound2.sound form h.second }),
+        acted_same a nac keys secret (done a x w) (done b x v) d.0 (λ clean. record { same = d.1; first = done_turns a x w sound form h.first; second = done_turns b x v sound2 form h.second }),
         λ clean. g.1 (clean_none (done a x w).items clean),
       )
 
@@ -86,8 +86,8 @@ module _ (a : Setting) (nac : Mac) (keys : List (List ℕ)) (secret : List ℕ) 
       let d = any_done a nac keys secret sound sound2 unlinked hides n s t w v node (h.first n s here) (h.second n t there) guess here there h.same in (
         acted_same a nac keys secret (after_step a w n s) (after_step b v n t) d.items (λ clean. record {
           same = d.worlds clean;
-          first = subst (λ (o : Option State). AllTurn a (at_node w (after_step a w n) o).world) here (done_turns a (Step n) w sound.sound tt h.first);
-          second = subst (λ (o : Option State). AllTurn b (at_node v (after_step b v n) o).world) there (done_turns b (Step n) v sound2.sound tt h.second);
+          first = subst (λ (o : Option State). AllTurn a (at_node w (after_step a w n) o).world) here (done_turns a (Step n) w sound tt h.first);
+          second = subst (λ (o : Option State). AllTurn b (at_node v (after_step b v n) o).world) there (done_turns b (Step n) v sound2 tt h.second);
         }),
         d.reset,
         d.cur,
@@ -261,8 +261,8 @@ module _ (a : Setting) (nac : Mac) (keys : List (List ℕ)) (secret : List ℕ) 
   call_goes m e input output rest w v h form (Some site) sited g =
       let n = site.node in
       let regs = call_registers site e input output in
-      let q = get_some a.app.parts m (let i = get_within a.sites m site sited in let j = sound.sound.sites in omega (arith, i, j)) in
-      let dep = sound.sound.deployed m q.0 site q.1 sited in
+      let q = get_some a.app.parts m (let i = get_within a.sites m site sited in let j = sound.sites in omega (arith, i, j)) in
+      let dep = sound.deployed m q.0 site q.1 sited in
       let low : site.layout.pub_from < 65536 = let x = dep.text_end in let y = dep.text in omega (arith, x, y) in
       unless_goes n (all (setting_of n regs) (finishing n rest)) rest (λ u. then_ (set_all n regs u) (finish a n)) (λ u. then_ (set_all n regs u) (finish b n)) w v h
       (λ s here idle k. goes_then (finishing n rest) rest (set_all n regs w) (set_all n regs v) (finish a n) (finish b n)
@@ -337,8 +337,8 @@ module _ (a : Setting) (nac : Mac) (keys : List (List ℕ)) (secret : List ℕ) 
     where
       words_at : (m : ℕ) (site : Site) → slice_get a.sites m ≡ Some site → Words (protect_registers site)
       words_at m site sited =
-          let q = get_some a.app.parts m (let i = get_within a.sites m site sited in let j = sound.sound.sites in omega (arith, i, j)) in
-          let dep = sound.sound.deployed m q.0 site q.1 sited in
+          let q = get_some a.app.parts m (let i = get_within a.sites m site sited in let j = sound.sites in omega (arith, i, j)) in
+          let dep = sound.deployed m q.0 site q.1 sited in
           let te = dep.text_end in
           let de = dep.data_end in
           let x = dep.text in

@@ -1,12 +1,11 @@
 -- How two runs are related whose settings are unlinked, and what opens in them.
-use Rattle.std.proofs.Common.{◌≡◌, ℕ, ◌+◌, ◌*◌, ◌/◌, ◌%◌, true, List, ◌∷◌, length, length-take-le, sym, subst, arith}
+use Rattle.std.proofs.Common.{◌≡◌, ℕ, ◌+◌, ◌*◌, ◌/◌, ◌%◌, true, List, length, sym, subst, arith}
 use Rattle.std.specs.Prelude.{slice_get, slice_index, Some}
 use Rattle.sx_mean.specs.Application.{PartTree}
 use Rattle.sx_mean.specs.Ends.{ends_of}
 use Rattle.sx_rules.specs.declared.section.Section.{Section}
 use Rattle.sx_rules.specs.Access.{Lives}
-use Rattle.sx_tag.specs.Mac.{Mac, IsTag, GivesTags}
-use Rattle.sx_tag.specs.Keys.{kdf}
+use Rattle.sx_tag.specs.Mac.{Mac}
 use Rattle.sx_tag.specs.Wrap.{crypt}
 use Rattle.spec_machine.specs.State.{State}
 use Rattle.spec_invocation.specs.Protocol.{set_key_size}
@@ -17,16 +16,14 @@ use Rattle.spec_run.specs.Setting.{Setting, Site, is_at_site}
 use Rattle.sx_wire.specs.Headers.{set_key_header}
 use Rattle.sx_tmpl.specs.Unseen.{HoldsNoKey}
 use Rattle.spec_run.specs.Deployer.{key_of, connection_key}
+use Rattle.spec_run.specs.Law.{IsTagUnder}
 use Rattle.law_forgery.specs.Tags.{SameTags, rekeyed}
+use Rattle.law_forgery.proofs.Accepting.{key_long}
 use Rattle.law_forgery.proofs.Fields.{field_key}
 use Rattle.law_connections.specs.Unlinked.{Unlinked}
 use Rattle.law_connections.proofs.Outside.{sites_on, is_deployed, AlikeOutside}
 use Rattle.law_connections.proofs.Twice.{key_in, SameEnds}
 use Rattle.law_connections.proofs.KeyPackets.{key_tells}
-
-key_length : (mac : Mac) (key part : List ℕ) → GivesTags mac → length (kdf mac key part) ≡ 16
-unfolding kdf
-key_length mac key part gives = length-take-le 16 (mac key (0x4B ∷ part)) (omega (arith, gives key (0x4B ∷ part)))
 
 -- A setting, and the one with another tag function, other keys and another secret.
 module _ (a : Setting) (nac : Mac) (keys : List (List ℕ)) (secret : List ℕ) where
@@ -73,15 +70,13 @@ module _ (a : Setting) (nac : Mac) (keys : List (List ℕ)) (secret : List ℕ) 
         (subst (λ (y : List ℕ). SameTags a.mac (field_key a field) nac y) (sym h.1)
         (subst (λ (f : ℕ). SameTags a.mac (field_key a f) nac (field_key second f)) parts (unlinked.links (field % 256) (field / 256))))
 
-    pub opens_linked : IsTag a.mac → IsTag nac → (m boot : ℕ) (site : Site) → slice_get a.sites m ≡ Some site → (packet : List ℕ) → length packet ≡ set_key_size
+    pub opens_linked : IsTagUnder a.secret a.mac → IsTagUnder secret nac → (m boot : ℕ) (site : Site) → slice_get a.sites m ≡ Some site → (packet : List ℕ) → length packet ≡ set_key_size
         → Opens (header_in packet) (key_in a.mac (key_of a site boot) packet) (key_in nac (key_of second site boot) packet)
     opens_linked one two m boot site sited packet size link epoch side e =
         let x = connection_key a link epoch in
         let y = connection_key second link epoch in
         let same : crypt a.mac (key_of a site boot) (header_in packet) x ≡ crypt nac (key_of second site boot) (header_in packet) y =
         subst (λ (h : List ℕ). crypt a.mac (key_of a site boot) h x ≡ crypt nac (key_of second site boot) h y) (sym e) (unlinked.pads m boot link epoch side site sited) in (
-          key_tells a.mac nac (key_of a site boot) (key_of second site boot) packet x y one.width two.width size
-              (key_length a.mac a.secret _ one.width) (key_length nac secret _ two.width) same,
-          key_tells nac a.mac (key_of second site boot) (key_of a site boot) packet y x two.width one.width size
-              (key_length nac secret _ two.width) (key_length a.mac a.secret _ one.width) (sym same),
+          key_tells a.mac nac a.secret secret (key_of a site boot) (key_of second site boot) packet x y one two size (key_long a link epoch one) (key_long second link epoch two) same,
+          key_tells nac a.mac secret a.secret (key_of second site boot) (key_of a site boot) packet y x two one size (key_long second link epoch two) (key_long a link epoch one) (sym same),
         )

@@ -35,7 +35,7 @@ use Rattle.spec_run.specs.Deployer.{list_at}
 use Rattle.spec_run.specs.State.{World, Acted}
 use Rattle.spec_run.specs.Observation.{Observed, observed, cause_of}
 use Rattle.spec_run.specs.Acts.{only, with_node, after_step}
-use Rattle.spec_run.specs.Law.{IsLawfulSetting, IsDeployedModule}
+use Rattle.spec_run.specs.Law.{IsSoundSetting, IsDeployedModule}
 use Rattle.spec_run.proofs.steps.Entry.{at_site}
 use Rattle.spec_run.proofs.steps.Foreign.{position_some}
 use Rattle.spec_run.proofs.steps.Machine.{machine_laws, violates, onward}
@@ -97,7 +97,7 @@ stopped_violates mac s stopped = outer (word_outside s.sections.live (pc_of s)) 
     outer true None e = inner (in_order s.sections.live s.cur (pc_of s)) e
     outer false d e = (bad.Fetch, refl)
 
-module _ (a : Setting) (nac : Mac) (keys : List (List ℕ)) (secret : List ℕ) (sound : IsLawfulSetting a) where
+module _ (a : Setting) (nac : Mac) (keys : List (List ℕ)) (secret : List ℕ) (sound : IsSoundSetting a) where
   abbrev b : Setting
   b = second a nac keys secret
 
@@ -189,7 +189,7 @@ module _ (a : Setting) (nac : Mac) (keys : List (List ℕ)) (secret : List ℕ) 
         by (inr zeros) =
             let len = x.layout.priv_to - x.layout.priv_from in
             let es = ends_of a.app m in
-            let dep : IsDeployedModule a m q site = sound.sound.deployed m q site part sited in
+            let dep : IsDeployedModule a m q site = sound.deployed m q site part sited in
             let place = at_site n (step a.mac s).state.mem x site at in
             let size : len ≡ module_data_size q.tree (length es) = ap (λ (y : Layout). y.priv_to - y.priv_from) place.layout ∙ omega (arith, dep.data_size) in
             let first : private_bytes x.layout (step a.mac s).state.mem ≡ replicate (module_data_size q.tree (length es)) 0 =

@@ -7,7 +7,7 @@ use Rattle.sx_sched.specs.Lines.{Line}
 use Rattle.sx_image.specs.Realizes.{Realizes}
 use Rattle.sx_compile.specs.Laws.{ShowsNoKey}
 use Rattle.spec_run.specs.Setting.{Setting, Site}
-use Rattle.spec_run.specs.Law.{IsLawfulSetting, LinesInForm, image_at}
+use Rattle.spec_run.specs.Law.{IsSoundSetting, IsLawfulSetting, LinesInForm, image_at}
 use Rattle.law_connections.specs.LinksUnseen.{LinksAreUnseen}
 use Rattle.law_connections.specs.Unlinks.{HasMoved}
 
@@ -19,7 +19,7 @@ HidesKeys a = (m : ℕ) (q : PartTree) (site : Site) → slice_get a.app.parts m
 
 -- If no image shows a key, the keys of connections are unseen in the run of every schedule.
 abbrev pub LinksUnseen : Type 0
-LinksUnseen = (a : Setting) (lines : List Line) → IsLawfulSetting a → HidesKeys a
+LinksUnseen = (a : Setting) (lines : List Line) → IsSoundSetting a → HidesKeys a
     → LinesInForm a lines → LinksAreUnseen a lines
 
 -- Each image realizes its module whatever the tag function is. Compiled images do.

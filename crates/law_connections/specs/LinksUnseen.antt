@@ -16,7 +16,7 @@ use Rattle.sx_image.specs.Image.{public_bytes}
 use Rattle.sx_sched.specs.Lines.{Line}
 use Rattle.spec_run.specs.Setting.{Setting, deployed, module_of}
 use Rattle.spec_run.specs.Deployer.{list_at}
-use Rattle.spec_run.specs.Law.{IsLawfulSetting}
+use Rattle.spec_run.specs.Law.{IsSoundSetting}
 use Rattle.spec_run.specs.State.{World, switched_on}
 use Rattle.spec_run.specs.Run.{run}
 use Rattle.law_isolation.specs.Happening.{Step}
@@ -115,5 +115,5 @@ RunsAlike a b lines =
 -- So the run of this schedule is like that of each sound setting whose connections have keys of
 -- their own, unless code of no deployed module guesses.
 abbrev pub LinksAreUnseen : Setting → List Line → Type 0
-LinksAreUnseen a lines = (b : Setting) → IsLawfulSetting b → Unlinked a b
+LinksAreUnseen a lines = (b : Setting) → IsSoundSetting b → Unlinked a b
     → NothingGuessed a b lines → RunsAlike a b lines

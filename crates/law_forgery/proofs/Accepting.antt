@@ -13,6 +13,7 @@ use Rattle.sx_rules.specs.Access.{Lives, section_of}
 use Rattle.sx_tag.specs.Mac.{Mac}
 use Rattle.sx_tag.specs.Keys.{kdf, module_key, identity}
 use Rattle.sx_tag.specs.Wrap.{xor_bytes, stream, crypt}
+use Rattle.sx_tag.proofs.UnwrapsWrapped.{length-crypt}
 use Rattle.spec_machine.specs.declared.kinds.Event.{Event}
 use Rattle.spec_machine.specs.declared.kinds.Event.TheVariants as event
 use Rattle.spec_machine.specs.Protect.{identity_at}
@@ -31,6 +32,7 @@ use Rattle.spec_run.specs.Ledger.{header_of, body_of}
 use Rattle.sx_wire.specs.Headers.{is_ask, is_set_key_header, is_event_header, begins}
 use Rattle.spec_run.specs.Deployer.{list_at, key_of, connection_key}
 use Rattle.spec_run.specs.Law.{IsTagUnder, IsSoundSetting}
+use Rattle.spec_run.proofs.Tags.{lawful, is_lawful}
 use Rattle.spec_run.proofs.tie.Lists.{some_inj, get_within}
 use Rattle.spec_run.proofs.steps.Entry.{at_site}
 use Rattle.law_forgery.proofs.Turns.{setup_of, turn_of, InTurn, NodeTurns}
@@ -56,6 +58,10 @@ crypt_none secret mac key ad body tag e = by body (stream mac key ad) (tag.tags 
     by [] s l e = refl
     by (b ∷ body) [] l e = absurd (omega (arith, l))
     by (b ∷ body) (x ∷ s) l e = absurd cc
+
+pub crypt_long : (secret : List ℕ) (mac : Mac) (key ad body : List ℕ) → IsTagUnder secret mac → length body ≤ 32 → length (crypt mac key ad body) ≡ length body
+unfolding crypt
+crypt_long secret mac key ad body tag few = length-crypt (lawful mac) key ad body (is_lawful secret mac tag).width few
 
 pub key_long : (set : Setting) (link epoch : ℕ) → IsTagUnder set.secret set.mac → length (connection_key set link epoch) ≡ 16
 unfolding kdf

@@ -1,23 +1,20 @@
 -- What a name tells.
-use Rattle.std.proofs.Common.{◌≡◌, ℕ, ◌+◌, ◌-◌, ◌<◌, ◌==◌, ◌&&◌, Bool, true, false, cond, zero, suc, List, [], ◌∷◌, ◌++◌, length, take, drop, refl, sym, ◌∙◌, ap, subst, arith, inl, inr, Option, Some, None}
-use Rattle.std.specs.Prelude.{slice_get, bytes_eq}
+use Rattle.std.proofs.Common.{◌≡◌, ℕ, ◌+◌, ◌-◌, ◌<◌, ◌==◌, Bool, true, false, cond, zero, suc, List, [], ◌∷◌, ◌++◌, length, take, drop, refl, sym, ◌∙◌, ap, subst, arith}
+use Rattle.std.specs.Prelude.{bytes_eq}
 use Rattle.std.specs.Int.{w16, w32, to_le_bytes, from_le_bytes}
 use Rattle.std.proofs.lemmas.Nat.{from_le_bytes-to_le_bytes_2}
 use Rattle.std.proofs.lemmas.Bool.{eq-eqb, eqb-true, eqb-false, and_from}
 use Rattle.std.proofs.lemmas.List.{length-append, append_cancel_left}
 use Rattle.lemmas.proofs.Texts.{bytes_eq-same}
 use Rattle.sx_rules.specs.declared.section.Layout.{Layout}
-use Rattle.sx_rules.specs.declared.section.Section.{Section}
-use Rattle.sx_tag.specs.Mac.{Mac, IsTag}
 use Rattle.sx_tag.specs.Keys.{identity, layout_bytes}
 use Rattle.spec_machine.specs.Memory.{bytes_from}
-use Rattle.spec_run.specs.Setting.{Setting, Site, same_layout, is_at_site, deployed}
+use Rattle.spec_run.specs.Setting.{same_layout, is_at_site}
 use Rattle.spec_run.specs.Deployer.{list_at}
 use Rattle.spec_run.proofs.steps.Foreign.{position_some}
-use Rattle.spec_run.proofs.steps.Entry.{layout_self}
-use Rattle.law_forgery.specs.Named.{code, names, name_of, named}
+use Rattle.law_forgery.specs.Named.{code, names}
 use Rattle.law_forgery.proofs.Tabling.{bytes_in, read_back}
-use Rattle.law_makers.specs.Impostors.{HasWords, identity_with, IdentitiesDiffer, ImpostorsHaveOtherNames, NamesAreUnlawful}
+use Rattle.law_makers.specs.Impostors.{identity_with, IdentitiesDiffer, ImpostorsHaveOtherNames, NamesAreUnlawful}
 
 -- where the ends are as long, the beginnings are one
 beginnings : (t u x y : List ℕ) → length x ≡ length y → t ++ x ≡ u ++ y → t ≡ u

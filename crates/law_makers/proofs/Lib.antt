@@ -3,6 +3,4 @@ pub mod Making
 pub mod Looking
 pub mod Timing
 pub mod Impostors
-pub mod Invoking
-pub mod Realizing
 pub mod NamedSound

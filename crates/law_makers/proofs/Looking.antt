@@ -2,15 +2,15 @@
 use Rattle.std.proofs.Common.{◌≡◌, ℕ, zero, suc, ◌<◌, ◌≤◌, List, [], ◌∷◌, ◌++◌, refl, sym, ◌∙◌, ap, ap₂, subst, arith}
 use Rattle.sx_sched.specs.Lines.{Line}
 use Rattle.spec_run.specs.Setting.{Setting}
-use Rattle.spec_run.specs.State.{World, switched_on}
+use Rattle.spec_run.specs.State.{switched_on}
 use Rattle.spec_run.specs.Run.{run}
-use Rattle.spec_run.specs.Law.{IsLawfulSetting, LinesInForm}
+use Rattle.spec_run.specs.Law.{IsSoundSetting, LinesInForm}
 use Rattle.law_forgery.specs.Moments.{NoForged}
 use Rattle.law_connections.specs.Unlinked.{Unlinked}
 use Rattle.law_connections.specs.LinksUnseen.{upto_forged, SameWorldOutside, NothingGuessed, RunsAlike}
 use Rattle.law_connections.specs.Laws.{HidesKeys, LinksUnseen}
 use Rattle.law_connections.proofs.Final.{links_unseen}
-use Rattle.law_makers.specs.LinkMakers.{Sight, sight, SameSights, Maker, LooksOutside, Made, more, made, LinkMakersSeeTheSame}
+use Rattle.law_makers.specs.LinkMakers.{Sight, sight, SameSights, Maker, LooksOutside, made, LinkMakersSeeTheSame}
 
 one_more : (a : Setting) (p q : List Sight) (x y : Sight) → SameSights a p q → y.items ≡ x.items → SameWorldOutside a x.world y.world
     → SameSights a (p ++ x ∷ []) (q ++ y ∷ [])
@@ -19,7 +19,7 @@ one_more a [] (z ∷ q) x y h e f = absurd h
 one_more a (z ∷ p) [] x y h e f = absurd h
 one_more a (z ∷ p) (u ∷ q) x y h e f = (h.0, h.1, one_more a p q x y h.2 e f)
 
-module _ (law : LinksUnseen) (a b : Setting) (make : Maker) (sound : IsLawfulSetting a) (hides : HidesKeys a) (sound2 : IsLawfulSetting b) (unlinked : Unlinked a b)
+module _ (law : LinksUnseen) (a b : Setting) (make : Maker) (sound : IsSoundSetting a) (hides : HidesKeys a) (sound2 : IsSoundSetting b) (unlinked : Unlinked a b)
     (looks : LooksOutside a make) where
   alike : (lines : List Line) → LinesInForm a lines → NothingGuessed a b lines → RunsAlike a b lines
   alike lines form none = law a lines sound hides form b sound2 unlinked none

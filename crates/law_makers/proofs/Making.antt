@@ -1,19 +1,17 @@
 -- Makers see the same, so over the tags of the key tree a distinguisher is the run.
-use Rattle.std.proofs.Common.{◌≡◌, ℕ, zero, suc, Bool, List, [], ◌∷◌, ◌++◌, length, refl, sym, ◌∙◌, ap, ap₂}
+use Rattle.std.proofs.Common.{◌≡◌, ℕ, zero, suc, List, [], ◌∷◌, ◌++◌, sym, ◌∙◌, ap, ap₂}
 use Rattle.std.specs.List.{list_any}
 use Rattle.sx_trace.specs.declared.items.Item.{Item}
-use Rattle.sx_tag.specs.Mac.{Mac}
 use Rattle.sx_model.specs.Legal.{is_forged}
 use Rattle.sx_sched.specs.Lines.{Line}
 use Rattle.spec_run.specs.Setting.{Setting}
 use Rattle.spec_run.specs.State.{World, switched_on}
 use Rattle.spec_run.specs.Run.{run}
 use Rattle.law_forgery.specs.Tags.{AgreeOnTags, rekeyed}
-use Rattle.law_forgery.specs.Unseen.{RunsKeysUnseen}
-use Rattle.law_forgery.specs.Named.{NamesAgree, HasTags, named, names, named_setting}
+use Rattle.law_forgery.specs.Named.{named, names, named_setting}
 use Rattle.law_forgery.proofs.Scripts.{runs_keys_unseen}
 use Rattle.law_forgery.proofs.Naming.{names_agree}
-use Rattle.law_makers.specs.Makers.{Sight, sight, Maker, Made, more, made, MakersSeeTheSame, forges, distinguisher, DistinguisherIsRun, DistinguisherKnowsNoKey}
+use Rattle.law_makers.specs.Makers.{Sight, sight, Made, more, made, MakersSeeTheSame, forges, DistinguisherIsRun, DistinguisherKnowsNoKey}
 
 same_sight : (a b : Setting) (lines : List Line) → AgreeOnTags a b → sight a lines ≡ sight b lines
 same_sight a b lines h =

@@ -10,8 +10,8 @@ use Rattle.law_forgery.specs.Tags.{rekeyed}
 use Rattle.law_forgery.specs.Named.{code, looked, named, names}
 use Rattle.law_forgery.proofs.Naming.{names_long}
 use Rattle.law_connections.specs.Laws.{RealizesAlways}
-use Rattle.law_makers.specs.NamedSound.{NamedIsSound}
-use Rattle.law_makers.proofs.Realizing.{realizes_under}
+use Rattle.law_makers.specs.NamedSound.{RealizesUnder, NamedIsSound}
+use Rattle.law_connections.proofs.Realizing.{realizes_so}
 
 module _ (secret : List ℕ) (table mac : Mac) (long : length secret ≡ 16) (tag : IsTagUnder secret mac) (lawful : IsTag table) where
   made : (key : List ℕ) (kind : ℕ) (rest : List ℕ) → kind ≢ 0x4B → (b c : Bool) → (kind == 0x4B) ≡ c
@@ -25,6 +25,13 @@ module _ (secret : List ℕ) (table mac : Mac) (long : length secret ≡ 16) (ta
     tags = λ key kind rest ne. made key kind rest ne (length key == 16) (kind == 0x4B) refl;
     derived = λ rest. subst (λ (b : Bool). IsTagBytes (cond b (mac secret (0x4B ∷ rest)) (looked table secret (0x4B ∷ rest)))) (sym (eq-eqb (length secret) 16 long)) (tag.derived rest);
   }
+
+pub realizes_under : RealizesUnder
+realizes_under secret mac tag tree ends image always = realizes_so secret mac tag tree ends image always
+
+names_long : (i n : ℕ) → length (names i n) ≡ n
+names_long i zero = refl
+names_long i (suc n) = ap suc (names_long (i + 1) n)
 
 -- a sound setting with other keys of nodes and another tag function
 pub sound_with : (set : Setting) → IsSoundSetting set → RealizesAlways set → (nac : Mac) (keys : List (List ℕ)) → length keys ≡ length set.keys → IsTagUnder set.secret nac

@@ -1,5 +1,5 @@
 -- Both are parts of what is compared.
-use Rattle.std.proofs.Common.{◌≡◌, sym, ap}
+use Rattle.std.proofs.Common.{sym, ap}
 use Rattle.spec_machine.specs.State.{State}
 use Rattle.spec_run.specs.State.{World}
 use Rattle.law_forgery.proofs.Scripts.{runs_keys_unseen}

@@ -5,7 +5,7 @@ use Rattle.sx_sched.specs.Lines.{Line}
 use Rattle.spec_run.specs.Setting.{Setting}
 use Rattle.spec_run.specs.State.{World, switched_on}
 use Rattle.spec_run.specs.Run.{run}
-use Rattle.spec_run.specs.Law.{IsLawfulSetting, LinesInForm}
+use Rattle.spec_run.specs.Law.{IsSoundSetting, LinesInForm}
 use Rattle.law_forgery.specs.Moments.{NoForged}
 use Rattle.law_connections.specs.Unlinked.{Unlinked}
 use Rattle.law_connections.specs.LinksUnseen.{upto_forged, SameWorldOutside, NothingGuessed}
@@ -56,7 +56,7 @@ made set make (suc n) = more set make (made set make n)
 -- Whoever doesn't see into deployed modules makes the same of both settings, as long as no `forged`
 -- is shown and nothing is guessed; and both then show the same up to the first `forged`.
 abbrev pub SeesNoLink : Setting → Maker → ℕ → Type 0
-SeesNoLink a make n = (b : Setting) → IsLawfulSetting b → Unlinked a b → LooksOutside a make
+SeesNoLink a make n = (b : Setting) → IsSoundSetting b → Unlinked a b → LooksOutside a make
     → ((k : ℕ) → k ≤ n → LinesInForm a (made a make k).lines)
     → ((k : ℕ) → k ≤ n → NothingGuessed a b (made a make k).lines)
     → ((k : ℕ) → k < n → NoForged (run a (switched_on a) (made a make k).lines).items)
@@ -66,5 +66,5 @@ SeesNoLink a make n = (b : Setting) → IsLawfulSetting b → Unlinked a b → L
 
 -- So it is if no image shows a key.
 abbrev pub LinkMakersSeeTheSame : Type 0
-LinkMakersSeeTheSame = (a : Setting) (make : Maker) (n : ℕ) → IsLawfulSetting a → HidesKeys a
+LinkMakersSeeTheSame = (a : Setting) (make : Maker) (n : ℕ) → IsSoundSetting a → HidesKeys a
     → SeesNoLink a make n

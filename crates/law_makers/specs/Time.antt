@@ -5,7 +5,7 @@ use Rattle.sx_sched.specs.Lines.{Line}
 use Rattle.spec_run.specs.Setting.{Setting}
 use Rattle.spec_run.specs.State.{switched_on}
 use Rattle.spec_run.specs.Run.{run}
-use Rattle.spec_run.specs.Law.{IsLawfulSetting, LinesInForm}
+use Rattle.spec_run.specs.Law.{IsSoundSetting, LinesInForm}
 use Rattle.law_forgery.specs.Tags.{AgreeOnTags}
 use Rattle.law_forgery.specs.Moments.{NoForged}
 use Rattle.law_connections.specs.Unlinked.{Unlinked}
@@ -22,12 +22,12 @@ StepsShowNoKey = (a b : Setting) (lines : List Line) → AgreeOnTags a b
 -- them, don't depend on keys of connections, as long as no `forged` is shown and nothing is
 -- guessed.
 abbrev pub ShowsNoLink : Setting → List Line → Type 0
-ShowsNoLink a lines = (b : Setting) → IsLawfulSetting b → Unlinked a b → NothingGuessed a b lines
+ShowsNoLink a lines = (b : Setting) → IsSoundSetting b → Unlinked a b → NothingGuessed a b lines
     → NoForged (run a (switched_on a) lines).items → (n : ℕ) (s t : State)
     → slice_get (run a (switched_on a) lines).world.nodes n ≡ Some s
     → slice_get (run b (switched_on b) lines).world.nodes n ≡ Some t → t.regs ≡ s.regs
 
 -- So it is if no image shows a key.
 abbrev pub RegistersShowNoLink : Type 0
-RegistersShowNoLink = (a : Setting) (lines : List Line) → IsLawfulSetting a → HidesKeys a
+RegistersShowNoLink = (a : Setting) (lines : List Line) → IsSoundSetting a → HidesKeys a
     → LinesInForm a lines → ShowsNoLink a lines

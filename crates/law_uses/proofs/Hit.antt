@@ -14,7 +14,6 @@ use Rattle.sx_ledger.specs.declared.entry.Maker.TheVariants as maker
 use Rattle.sx_ledger.specs.Made.{Made, NO_TARGET}
 use Rattle.sx_rules.specs.declared.section.Layout.{Layout}
 use Rattle.sx_tag.specs.Wrap.{crypt, padded}
-use Rattle.sx_tag.proofs.UnwrapsWrapped.{length-crypt}
 use Rattle.sx_tag.specs.Mac.{Mac}
 use Rattle.sx_wire.specs.Headers.{is_set_key_header, is_event_header, link_in, epoch_in, last_in, value_in}
 use Rattle.spec_machine.specs.declared.kinds.Event.{Event}
@@ -33,7 +32,6 @@ use Rattle.spec_run.specs.Law.{IsTagUnder, IsSoundSetting, LinesInForm}
 use Rattle.spec_run.specs.Observation.{touch_items, unless_made, side_in, has_end, sender_of, has_unwrapped, event_seen}
 use Rattle.spec_run.specs.State.{World, Acted}
 use Rattle.spec_run.specs.Acts.{at_node, after_step, done_on, after_take, after_interrupt, after_answer}
-use Rattle.spec_run.proofs.Tags.{lawful, is_lawful}
 use Rattle.spec_run.proofs.tie.Lists.{some_inj}
 use Rattle.spec_run.proofs.steps.Entry.{at_site}
 use Rattle.spec_run.proofs.steps.Machine.{onward}
@@ -42,7 +40,7 @@ use Rattle.law_isolation.specs.Lines.{script_of}
 use Rattle.law_forgery.specs.Moments.{Moment, moment, shown_at, IsAmong, FirstForged}
 use Rattle.law_forgery.specs.Forgery.{OfModule, WasWrapped}
 use Rattle.law_forgery.proofs.Reaching.{InForm, lines_form}
-use Rattle.law_forgery.proofs.Accepting.{crypt_none, key_long, key_begins, event_begins, ask_long, runner_at, unwrap_quiet}
+use Rattle.law_forgery.proofs.Accepting.{crypt_none, crypt_long, key_long, key_begins, event_begins, ask_long, runner_at, unwrap_quiet}
 use Rattle.law_forgery.proofs.Forging.{among_append, touches_not, UnwrapKinds, event_forged, AnswerForged, answers_forge}
 use Rattle.law_forgery.proofs.Forgeries.{body_back, step_opens_own}
 use Rattle.law_forgery.proofs.Showing.{or_not, at_not, take_not, irq_not, give_not, sense_not}
@@ -213,10 +211,6 @@ key_kind app m boot header body ledger sk (inr a) =
     let three = event_begins header a.0 in
     absurd (omega (arith, one, three))
 
-crypt_long : (secret : List ℕ) (mac : Mac) (key ad body : List ℕ) → IsTagUnder secret mac → length body ≡ 16 → length (crypt mac key ad body) ≡ 16
-unfolding crypt
-crypt_long secret mac key ad body tag long = length-crypt (lawful mac) key ad body (is_lawful secret mac tag).width (omega (arith, long)) ∙ long
-
 -- Under a module's key it is one that nobody had made.
 
 module _ (set : Setting) (sound : IsSoundSetting set) (lines : List Line) (form : LinesInForm set lines) (k : ℕ) (now : Moment) (who : Option ℕ) (f : FirstForged set lines k now who) where
@@ -288,7 +282,7 @@ module _ (set : Setting) (sound : IsSoundSetting set) (lines : List Line) (form 
     refuted body c (inl was) =
         let l = h.logged (made_entry maker.Deployer u.m u.s.boot z.header body) was in
         let long : length body ≡ 16 = ap (λ (y : Made). length y.body) l.1 ∙ key_long set l.0.«end».link l.0.epoch sound.tag in
-        let count : slice_index u.s.regs 13 ≡ 16 = sym z.long ∙ ap length (sym c) ∙ crypt_long set.secret set.mac (key_held set z.whose) z.header body sound.tag long in
+        let count : slice_index u.s.regs 13 ≡ 16 = sym z.long ∙ ap length (sym c) ∙ crypt_long set.secret set.mac (key_held set z.whose) z.header body sound.tag (omega (arith, long)) ∙ long in
         let plain = padded (crypt set.mac (key_held set z.whose) z.header z.cipher) in
         let same : body_of x ≡ body =
         body_is set u.n u.s us z

@@ -1,4 +1,4 @@
--- An image realizes its module where tags are lawful: the steps of a module derive no key.
+-- An image realizes its module, and shows no key, where tags are lawful: the steps of a module derive no key.
 use Rattle.std.proofs.Common.{◌≡◌, ℕ, ◌+◌, ◌-◌, ◌==◌, Bool, true, false, cond, not, ◌&&◌, ◌⊎◌, inl, inr, List, [], ◌∷◌, ◌++◌, slice_index, Option, Some, None, refl, sym, ◌∙◌, ap, subst, arith}
 use Rattle.std.specs.Prelude.{nat_le}
 use Rattle.std.specs.List.{list_any}
@@ -11,13 +11,14 @@ use Rattle.sx_rules.specs.declared.section.Section.{Section}
 use Rattle.sx_rules.specs.declared.admission.Refusal.{Refusal}
 use Rattle.sx_rules.specs.Access.{holder, section_of, in_order}
 use Rattle.sx_rules.specs.Admission.{refusal}
+use Rattle.sx_bus.specs.declared.devices.Window.{Window}
 use Rattle.sx_bus.specs.Devices.{places_of, device_at}
-use Rattle.sx_tag.specs.Mac.{Mac}
+use Rattle.sx_tag.specs.Mac.{Mac, IsTag}
 use Rattle.sx_tag.specs.Keys.{boot_key, attest_tag}
 use Rattle.sx_tag.specs.Wrap.{crypt, wrap_tag, unwrapped}
 use Rattle.spec_machine.specs.Memory.{word, bytes_from}
 use Rattle.spec_machine.specs.Ranges.{passes_end, meets_device}
-use Rattle.spec_machine.specs.Plan.{Plan, Need, Bytes, Writable}
+use Rattle.spec_machine.specs.Plan.{Plan, Done, Tell, Stop, Fetch, Load, Store, Need, Bytes, Writable, Put}
 use Rattle.spec_machine.specs.Run.{Moment, Outcome, Finished, Violated, Module, may_range, exec}
 use Rattle.spec_machine.specs.Given.{Given, own_section, untouched_with}
 use Rattle.spec_machine.specs.Rows.{program}
@@ -31,11 +32,15 @@ use Rattle.sx_image.specs.Reach.{Comes, Here, Next, Ends, Stepped, Goes, Stops}
 use Rattle.sx_image.specs.Realizes.{Underway, Aborted, Exited, Realizes, begins}
 use Rattle.sx_image.specs.Watched.{Watched, watch, watched_on, violation_of}
 use Rattle.spec_invocation.specs.Progress.{Invoked}
+use Rattle.spec_invocation.specs.Setup.{Setup}
 use Rattle.spec_invocation.specs.Invocation.{invoke}
 use Rattle.sx_lang.specs.Sizes.{module_cost}
+use Rattle.sx_tmpl.specs.Unseen.{MovesKey, PlanShowsNone, SealShowsNone, WordShowsNone, StepShowsNone}
+use Rattle.sx_tmpl.specs.Performs.{NodeRuns}
+use Rattle.sx_compile.specs.Laws.{ShowsNoKey}
+use Rattle.spec_run.specs.Law.{IsTagUnder}
 use Rattle.spec_run.proofs.Tags.{lawful, is_lawful}
-use Rattle.law_makers.specs.NamedSound.{RealizesUnder}
-use Rattle.law_makers.proofs.Invoking.{invoke_same}
+use Rattle.law_connections.proofs.Invoking.{invoke_same}
 
 -- a section was admitted, so that the next id is another, and nothing was violated
 abbrev Admits : ℕ → Outcome → Type 0
@@ -276,24 +281,75 @@ module _ (mac : Mac) where
       marks = h.marks;
     }
 
-    abbrev ComesBy : Mac → ℕ → Watched → Type 0
-    ComesBy m = Comes Watched Violation (watch m) (λ w. 1) (Under m) (Aborted result) (Left m)
+    -- a run whose moments are of the invocation
+    module _ (P Q : Watched → Type 0) (turn : (w : Watched) → P w → Q w) (still : (w : Watched) → P w → w.node.sections ≡ n.sections) where
+      abbrev First : ℕ → Watched → Type 0
+      First = Comes Watched Violation (watch (lawful mac)) (λ w. 1) P (Aborted result) (Left (lawful mac))
 
-    stays : {k : ℕ} {w : Watched} → ComesBy (lawful mac) k w → w.node.sections ≡ n.sections
-    stays (Here q) = q.sections
-    stays (Next p s c rest) = p.sections
-    stays (Ends p s c b) = p.sections
+      abbrev Second : ℕ → Watched → Type 0
+      Second = Comes Watched Violation (watch mac) (λ w. 1) Q (Aborted result) (Left mac)
 
-    turned : {k : ℕ} {w : Watched} → ComesBy (lawful mac) k w → ComesBy mac k w
-    turned {w = w} (Here q) = Here (left w q)
-    turned {w = w} (Next {t = t} p s c rest) = elim (watched_is w) [
-      | inl e ↦ Next (under w p) (sym e ∙ s) c (turned rest)
-      | inr h ↦ absurd (omega (arith, grows w t h s, ap (λ z. z.next) p.sections, ap (λ z. z.next) (stays rest)))
-    ]
-    turned {w = w} (Ends {v = v} p s c b) = elim (watched_is w) [
-      | inl e ↦ Ends (under w p) (sym e ∙ s) c b
-      | inr h ↦ absurd (stops w v h s)
-    ]
+      stays : {k : ℕ} {w : Watched} → First k w → w.node.sections ≡ n.sections
+      stays (Here q) = q.sections
+      stays {w = w} (Next p s c rest) = still w p
+      stays {w = w} (Ends p s c b) = still w p
+
+      turned : {k : ℕ} {w : Watched} → First k w → Second k w
+      turned {w = w} (Here q) = Here (left w q)
+      turned {w = w} (Next {t = t} p s c rest) = elim (watched_is w) [
+        | inl e ↦ Next (turn w p) (sym e ∙ s) c (turned rest)
+        | inr h ↦ absurd (omega (arith, grows w t h s, ap (λ z. z.next) (still w p), ap (λ z. z.next) (stays rest)))
+      ]
+      turned {w = w} (Ends {v = v} p s c b) = elim (watched_is w) [
+        | inl e ↦ Ends (turn w p) (sym e ∙ s) c b
+        | inr h ↦ absurd (stops w v h s)
+      ]
+
+    -- Steps that show no key.
+
+    abbrev one : Setup
+    one = setup_at (lawful mac) tree ends section n
+
+    abbrev two : Setup
+    two = setup_at mac tree ends section n
+
+    moves : (devices : List Window) (at : ℕ) (k : ℕ → Plan) → MovesKey one devices at k → MovesKey two devices at k
+    moves devices at k h = record { from = h.from; at = h.at; o = h.o; regs = h.regs; is = h.is; place = h.place; free = h.free; key = h.key }
+
+    plan_shows : (p : Plan) (x : Moment) → PlanShowsNone one p x → PlanShowsNone two p x
+    plan_shows (Done regs) x h = tt
+    plan_shows (Tell regs event exchange) x h = h
+    plan_shows (Stop v) x h = tt
+    plan_shows (Fetch at k) x h = λ w e. plan_shows (k w) x (h w e)
+    plan_shows (Load true at k) x (inl m) = inl (moves x.devices at k m)
+    plan_shows (Load true at k) x (inr h) = inr (h.0, λ v y e. plan_shows (k v) y (h.1 v y e))
+    plan_shows (Load false at k) x h = (h.0, λ v y e. plan_shows (k v) y (h.1 v y e))
+    plan_shows (Store wide at v k) x h = λ y e. plan_shows k y (h y e)
+    plan_shows (Need b v k) x h = λ e. plan_shows k x (h e)
+    plan_shows (Writable at m k) x h = h
+    plan_shows (Bytes at m k) x h = h
+    plan_shows (Put at bs k) x h = h
+
+    seal_shows : (w : Watched) (i : ℕ) (regs : List ℕ) → SealShowsNone one n.mem w i regs → SealShowsNone two n.mem w i regs
+    seal_shows w i regs h = record {
+      seals = h.seals;
+      key = elim h.key [ inl e ↦ inl e | inr k ↦ inr (k.0, k.1, k.2, record { is_open = k.3.is_open; key = k.3.key }) ];
+      header = h.header;
+      text = h.text;
+      bodiless = h.bodiless;
+      tag = h.tag;
+      opened = h.opened;
+    }
+
+    step_shows : (w : Watched) → StepShowsNone one n.mem w → StepShowsNone two n.mem w
+    step_shows w = by (is_module_word i)
+      where
+        i : ℕ
+        i = word w.node.mem (pc_of w.node)
+
+        by : (b : Bool) → WordShowsNone one n.mem w i b → WordShowsNone two n.mem w i b
+        by true h = seal_shows w i w.node.regs h
+        by false h = plan_shows (program i w.node.regs) (start w.node) h
 
   pub realizes : (tree : ModuleTree) (ends : List End) (image : Image) → Realizes (lawful mac) tree ends image → Realizes mac tree ends image
   realizes tree ends image h = record {
@@ -304,8 +360,25 @@ module _ (mac : Mac) where
         let result = invoke (setup_at (lawful mac) tree ends section n) (call_at n) (progress_at su n) in
         subst (λ (r : Invoked). Comes Watched Violation (watch mac) (λ w. 1) (Underway su r n) (Aborted r) (Exited su r n) (4096 + module_cost tree) (begins n))
         (invoke_same su (call_at n) (progress_at su n))
-        (turned tree ends section n result (h.runs section n enters));
+        (turned tree ends section n result (Under tree ends section n result (lawful mac)) (Under tree ends section n result mac) (under tree ends section n result) (λ w p. p.sections) (h.runs section n enters));
   }
 
-pub realizes_under : RealizesUnder
-realizes_under secret mac tag tree ends image always = realizes mac tree ends image (always (lawful mac) (is_lawful secret mac tag))
+  pub shows : (tree : ModuleTree) (ends : List End) (image : Image) → ShowsNoKey (lawful mac) tree ends image → ShowsNoKey mac tree ends image
+  shows tree ends image h = record {
+    runs = λ section n enters.
+        let su = setup_at mac tree ends section n in
+        let sv = setup_at (lawful mac) tree ends section n in
+        let result = invoke sv (call_at n) (progress_at su n) in
+        subst (λ (r : Invoked). NodeRuns su r n (Aborted r) (Exited su r n) (4096 + module_cost tree) (begins n))
+        (invoke_same su (call_at n) (progress_at su n))
+        (turned tree ends section n result (λ w. Underway sv result n w × StepShowsNone sv n.mem w) (λ w. Underway su result n w × StepShowsNone su n.mem w)
+        (λ w p. (under tree ends section n result w p.0, step_shows tree ends section n result w p.1)) (λ w p. p.0.sections) (h.runs section n enters));
+  }
+
+-- Of every lawful tag function, so of one that is lawful where it makes tags.
+module _ (secret : List ℕ) (mac : Mac) (tag : IsTagUnder secret mac) (tree : ModuleTree) (ends : List End) (image : Image) where
+  pub realizes_so : ((nac : Mac) → IsTag nac → Realizes nac tree ends image) → Realizes mac tree ends image
+  realizes_so always = realizes mac tree ends image (always (lawful mac) (is_lawful secret mac tag))
+
+  pub shows_under : ((nac : Mac) → IsTag nac → ShowsNoKey nac tree ends image) → ShowsNoKey mac tree ends image
+  shows_under hides = shows mac tree ends image (hides (lawful mac) (is_lawful secret mac tag))
