@@ -50,11 +50,11 @@ ODDS = [
         "Impostors.IdentitiesDiffer", "Impostors.ImpostorsHaveOtherNames", "Impostors.NamesAreUnlawful",
     )),
 ]
-# What a run asks of tags, players who guess, and tables of any tags: steps to the laws of ODDS, which don't speak of them, so that nobody has
-# to believe these there.
+# What a run asks of tags, players who guess, tables of any tags, and other keys in the place of those of connections: steps to the laws of ODDS,
+# which don't speak of them, so that nobody has to believe these there.
 USES = [
-    "law_counting.Guesses.FewGuessesHit",
-    "law_rarity.Rare.ForgeriesAreRare", "law_rarity.Covering.AllHaveBoots", "law_rarity.Names.NamedHasNames",
+    "law_counting.Guesses.FewGuessesHit", "law_counting.Meeting.FewMeet",
+    "law_rarity.Places.PlacesUnseen", "law_rarity.Places.PlacesRarelyHit", "law_rarity.Rare.ForgeriesAreRare", "law_rarity.Covering.AllHaveBoots", "law_rarity.Names.NamedHasNames",
     *(f"law_uses.{law}" for law in (
         "UsesAlone.UsesAlone", "Whole.ScriptsAlone", "Whole.RunsAlone", "Whole.KeysAreHeld",
         "GivenLogged.GivenAreLogged", "GivenLogged.HeldAreLogged",

@@ -63,7 +63,7 @@ module _ (a : Setting) where
   of_site top k None = false
   of_site top k (Some site) = any_below top (λ boot. bytes_eq k (key_of a site boot))
 
-  finds : ℕ → List ℕ → Bool
+  pub finds : ℕ → List ℕ → Bool
   finds top k = any_below (length a.sites) (λ m. of_site top k (slice_get a.sites m))
 
   finds_all : (top : ℕ) → (m boot : ℕ) (site : Site) → boot < top → slice_get a.sites m ≡ Some site → finds top (key_of a site boot) ≡ true
@@ -92,7 +92,7 @@ module _ (a : Setting) where
       by true e = absurd (none (finds_only top k e))
       by false e = refl
 
-  tells_apart : (top : ℕ) → ((boot : ℕ) → (boot % 4294967296) < top) → TellsApart a (finds top)
+  pub tells_apart : (top : ℕ) → ((boot : ℕ) → (boot % 4294967296) < top) → TellsApart a (finds top)
   tells_apart top below = record {
     sites = λ m boot site found.
         ap (finds top) (sym (key_mod site boot)) ∙ finds_all top m (boot % 4294967296) site (below boot) found;

@@ -23,23 +23,23 @@ use Rattle.spec_run.proofs.Tags.{tag_under}
 use Rattle.law_connections.specs.Laws.{RealizesAlways}
 use Rattle.law_connections.proofs.Moved.{TellsApart, mixed, change, moved, moved_setting, Moves}
 
-abbrev Bytes : List ℕ → Type 0
+abbrev pub Bytes : List ℕ → Type 0
 Bytes xs = All (λ b. b < 256) xs
 
 -- 1. bytes that are mixed
-mixed_length : (ts ds : List ℕ) → length (mixed ts ds) ≡ length ts
+pub mixed_length : (ts ds : List ℕ) → length (mixed ts ds) ≡ length ts
 mixed_length [] ds = refl
 mixed_length (t ∷ ts) [] = refl
 mixed_length (t ∷ ts) (d ∷ ds) = ap suc (mixed_length ts ds)
 
-mixed_bytes : (ts ds : List ℕ) → Bytes ts → Bytes ds → Bytes (mixed ts ds)
+pub mixed_bytes : (ts ds : List ℕ) → Bytes ts → Bytes ds → Bytes (mixed ts ds)
 mixed_bytes [] ds h k = h
 mixed_bytes (t ∷ ts) [] h k = h
 mixed_bytes (t ∷ ts) (d ∷ ds) h k = All-cons (λ b. b < 256) (bit_xor t d) (mixed ts ds)
     (xor_lt 8 t d (All-head (λ b. b < 256) t ts h) (All-head (λ b. b < 256) d ds k))
     (mixed_bytes ts ds (All-tail (λ b. b < 256) t ts h) (All-tail (λ b. b < 256) d ds k))
 
-xor_all : (xs ys : List ℕ) → Bytes xs → Bytes ys → Bytes (xor_bytes xs ys)
+pub xor_all : (xs ys : List ℕ) → Bytes xs → Bytes ys → Bytes (xor_bytes xs ys)
 xor_all [] ys h k = h
 xor_all (x ∷ xs) [] h k = All-nil (λ b. b < 256)
 xor_all (x ∷ xs) (y ∷ ys) h k = All-cons (λ b. b < 256) (bit_xor x y) (xor_bytes xs ys)
@@ -52,7 +52,7 @@ xor_back o n s = sym (
     ∙ xor_assoc (bit_xor s o) n n ∙ ap (bit_xor (bit_xor s o)) (xor_self n) ∙ xor_zero_r (bit_xor s o) ∙ xor_comm s o)
 
 -- a pad that differs as the bodies do gives the same cipher
-pads_back : (os ns ss : List ℕ) → length os ≡ length ns → length os ≤ length ss
+pub pads_back : (os ns ss : List ℕ) → length os ≡ length ns → length os ≤ length ss
     → xor_bytes os ss ≡ xor_bytes ns (mixed ss (xor_bytes os ns))
 pads_back [] [] ss e h = refl
 pads_back [] (n ∷ ns) ss e h = absurd (omega (arith, e))

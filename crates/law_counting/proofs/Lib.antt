@@ -5,3 +5,4 @@ pub mod Lines
 pub mod Hits
 pub mod Mixing
 pub mod Playing
+pub mod Meeting

@@ -17,3 +17,5 @@ pub mod Rare
 pub mod Covering
 pub mod Erring
 pub mod Once
+pub mod Placing
+pub mod Using

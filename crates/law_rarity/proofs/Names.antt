@@ -50,7 +50,7 @@ named_has_names set table n boot provider id =
     ∙ ap (λ (k : ℕ). list_at (names 0 k) n ++ code (to_le_bytes w32 boot) ∷ code (to_le_bytes w16 provider) ∷ code id ∷ []) (sym (names_long 0 (length set.keys)))
 
 -- past the last node there is no name
-past : (count i k : ℕ) → count ≤ k → list_at (names i count) k ≡ []
+pub past : (count i k : ℕ) → count ≤ k → list_at (names i count) k ≡ []
 past zero i k le = refl
 past (suc count) i k le =
     ap (λ (b : Bool). cond b (i ∷ []) (list_at (names (i + 1) count) (k - 1))) (ne_eqb k 0 (λ e. omega (arith, e, le)))

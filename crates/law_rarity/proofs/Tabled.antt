@@ -10,7 +10,7 @@ use Rattle.law_makers.proofs.NamedSound.{sound_with}
 use Rattle.law_rarity.specs.Tables.{Entry, bytes_of, tabled, with_tags}
 use Rattle.law_rarity.proofs.Entries.{has, tabled_others}
 
-written : (n v : ℕ) → AreBytes (bytes_of n v)
+pub written : (n v : ℕ) → AreBytes (bytes_of n v)
 written zero v = tt
 written (suc n) v = (omega arith, written n (v / 256))
 
@@ -21,7 +21,7 @@ dropped (suc n) [] h = tt
 dropped (suc n) (x ∷ xs) h = dropped n xs (λ k d lt. h (suc k) d (omega (arith, lt)))
 
 -- sixteen bytes in place of the first sixteen
-replaced : (v : ℕ) (tag : List ℕ) → IsTagBytes tag → IsTagBytes (bytes_of 16 v ++ drop 16 tag)
+pub replaced : (v : ℕ) (tag : List ℕ) → IsTagBytes tag → IsTagBytes (bytes_of 16 v ++ drop 16 tag)
 replaced v tag h = (
   length-append (bytes_of 16 v) (drop 16 tag) ∙ (let a = length-drop 16 tag in let b = h.0 in omega (arith, a, b)),
   all_bytes (bytes_of 16 v ++ drop 16 tag) (both_bytes (bytes_of 16 v) (drop 16 tag) (written 16 v) (dropped 16 tag h.1)),

@@ -4,6 +4,7 @@ ghost use Rattle.law_rarity.specs.Covering.{AllHaveBoots};
 ghost use Rattle.law_rarity.specs.Erring.{DistinguisherSeldomErrs, ForgersAreTold};
 ghost use Rattle.law_rarity.specs.Names.{NamedHasNames};
 ghost use Rattle.law_rarity.specs.Once.{PadsOnce};
+ghost use Rattle.law_rarity.specs.Places.{PlacesRarelyHit, PlacesUnseen};
 ghost use Rattle.law_rarity.specs.Rare.{ForgeriesAreRare};
 
 /// In a setting whose nodes hold names, the key of each module is its name.
@@ -35,4 +36,14 @@ pub fn distinguisher_seldom_errs()
 /// In a run without a `forged` no pad is used twice.
 pub fn pads_once()
     ensures { PadsOnce }
+{}
+
+/// Which keys stand in the place of those of connections is unseen, as long as none of them is used.
+pub fn places_unseen()
+    ensures { PlacesUnseen }
+{}
+
+/// Few tables of places have one that a run uses.
+pub fn places_rarely_hit()
+    ensures { PlacesRarelyHit }
 {}
