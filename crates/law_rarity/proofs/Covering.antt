@@ -95,7 +95,9 @@ all_have_boots modules i e there =
     let two = place_of (2 ^ 32) (of_boot one.k) one.i e one.there in
     let three = place_of 66 (of_size one.k two.k) two.i e two.there in
     let four = place_of (256 ^ three.k) (λ v. entry one.k two.k three.k v ∷ []) three.i e three.there in
-    subst (λ (z : Entry). z.boot < 2 ^ 32) (only (entry one.k two.k three.k four.k) four.i e four.there) two.low
+    let boot : two.k ≡ e.boot = ap (λ (z : Entry). z.boot) (only (entry one.k two.k three.k four.k) four.i e four.there) in
+    let low = two.low in
+    omega (arith, boot, low)
   where
     only : (x : Entry) (i : ℕ) (y : Entry) → slice_get (x ∷ []) i ≡ Some y → x ≡ y
     only x zero y e = some_inj x y e

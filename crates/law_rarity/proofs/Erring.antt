@@ -36,6 +36,12 @@ use Rattle.law_rarity.proofs.Covering.{all_cover, all_have_boots}
 use Rattle.law_rarity.proofs.Extending.{moment_before}
 use Rattle.law_rarity.proofs.Names.{named_has_names, names_short, is_tried_at}
 use Rattle.law_rarity.proofs.Tabled.{with_tags_sound}
+use Rattle.spec_run.specs.Accepted.{setting_of, sites_of}
+use Rattle.spec_run.proofs.accepted.Settled.{settled}
+use Rattle.spec_run.proofs.accepted.FormedLines.{lines_in_form}
+use Rattle.sx_deploy.proofs.Sound.{sound as whole_deployment}
+use Rattle.law_rarity.specs.Accepted.{AcceptedSeldomErrs}
+use Rattle.law_rarity.proofs.Lasting.{few_moments, low_answers}
 use Rattle.law_rarity.proofs.Rare.{made_long, forgeries_are_rare}
 
 -- Over the tags of the key tree.
@@ -182,3 +188,25 @@ distinguisher_seldom_errs set base make n q sound always tag long few keeps le =
           i = there.0;
           there = there.1;
         }
+
+-- An accepted deployment.
+
+pub accepted_seldom_errs : AcceptedSeldomErrs
+accepted_seldom_errs text d read long mac base texts lawful tag images always make n few lines =
+    let acc = whole_deployment text d read in
+    let set = setting_of mac d texts in
+    let sound = settled mac d texts acc images lawful in
+    let names = named_setting base set in
+    let es = all_entries (length d.app.parts) in
+    distinguisher_seldom_errs set base make n (2 ^ 37) sound always tag long few (λ t table.
+    let s = with_tags names es t in
+    let whole = with_tags_sound names (named_is_sound set base sound always tag long) always es t in
+    let ls = (made s make n).lines in
+    let size = made_long s make n in
+    record {
+      range = record {
+        form = lines_in_form mac d (sites_of d.app.parts d.layouts d.providers texts) acc ls (lines t table);
+        boots = low_answers s whole d.names ls (lines t table);
+      };
+      ends = few_moments s whole d.names ls (lines t table) (omega (arith, size, few));
+    }) (omega arith)

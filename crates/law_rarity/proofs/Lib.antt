@@ -15,6 +15,7 @@ pub mod Names
 pub mod Playing
 pub mod Rare
 pub mod Covering
+pub mod Lasting
 pub mod Erring
 pub mod Once
 pub mod Placing

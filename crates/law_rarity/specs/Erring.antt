@@ -39,11 +39,16 @@ pub record KeepsTo (set : Setting) (make : Maker) (n q : ℕ) (t : List ℕ) : T
 
 -- Over a table of random tags of all modules at all boots, whatever stands beside it, it says so
 -- for at most the part q / 2^128 of all tables.
+abbrev pub SeldomErrs : Setting → Mac → Maker → (n q : ℕ) → Type 0
+SeldomErrs set base make n q =
+    let es = all_entries (length set.app.parts) in
+    count (length es) (2 ^ 128) (λ t.
+    module_distinguisher set make n (tabled (named_setting base set) es t)) * 2 ^ 128
+    ≤ q * (2 ^ 128) ^ length es
+
 abbrev pub DistinguisherSeldomErrs : Type 0
 DistinguisherSeldomErrs = (set : Setting) (base : Mac) (make : Maker) (n q : ℕ)
     → IsSoundSetting set → RealizesAlways set → IsTag base → length set.secret ≡ 16 → n ≤ 65536
-    → let names = named_setting base set in
-    let es = all_entries (length set.app.parts) in
-    ((t : List ℕ) → IsTable (length es) (2 ^ 128) t → KeepsTo names make n q t) → q ≤ 2 ^ 128
-    → count (length es) (2 ^ 128) (λ t. module_distinguisher set make n (tabled names es t)) * 2 ^ 128
-    ≤ q * (2 ^ 128) ^ length es
+    → ((t : List ℕ) → IsTable (length (all_entries (length set.app.parts))) (2 ^ 128) t
+    → KeepsTo (named_setting base set) make n q t)
+    → q ≤ 2 ^ 128 → SeldomErrs set base make n q

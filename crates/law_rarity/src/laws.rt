@@ -1,5 +1,6 @@
 //! How rare forgeries are. Each law is a function that does nothing: its contract is the law.
 
+ghost use Rattle.law_rarity.specs.Accepted.{AcceptedSeldomErrs};
 ghost use Rattle.law_rarity.specs.Covering.{AllHaveBoots};
 ghost use Rattle.law_rarity.specs.Erring.{DistinguisherSeldomErrs, ForgersAreTold};
 ghost use Rattle.law_rarity.specs.Names.{NamedHasNames};
@@ -31,6 +32,11 @@ pub fn forgers_are_told()
 /// Over a random table it seldom does.
 pub fn distinguisher_seldom_errs()
     ensures { DistinguisherSeldomErrs }
+{}
+
+/// So it is for every accepted deployment, from its text on.
+pub fn accepted_seldom_errs()
+    ensures { AcceptedSeldomErrs }
 {}
 
 /// In a run without a `forged` no pad is used twice.
