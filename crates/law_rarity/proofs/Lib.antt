@@ -17,6 +17,7 @@ pub mod Rare
 pub mod Covering
 pub mod Lasting
 pub mod Erring
+pub mod Tracking
 pub mod Once
 pub mod Placing
 pub mod Using

@@ -41,81 +41,7 @@ use Rattle.law_forgery.proofs.Forgeries.{step_sends, event_long}
 use Rattle.law_forgery.proofs.Keyed.{among_right}
 use Rattle.law_forgery.proofs.Unmade.{holds, among_left}
 use Rattle.law_rarity.specs.Once.{PadsOnce}
-use Rattle.law_connections.proofs.Upto.{forged_is}
-
--- A run that shows no `forged` is tied to the source at its end.
-
-abbrev Any : Setting → Model → Item → Type 0
-Any set s i = Unit {0}
-
-easy : (set : Setting) → Easy Any set
-easy set = record {
-  reset = λ n c s. tt;
-  ask = λ m a s. tt;
-  attested = λ m b s. tt;
-  denied = λ m s. tt;
-  packet = λ k n s. tt;
-  forged = λ m s. tt;
-  busy = λ n s. tt;
-  skip = λ n s. tt;
-  budget = λ n s. tt;
-}
-
-any : (set : Setting) (s : Model) (items : List Item) → Walks (Any set) set.app s items
-any set s items = each_walks Any set s items (each_all (Always Any set) (λ i s. tt) items)
-
-keep : (set : Setting) → IsSoundSetting set → ActsWalk Any set
-keep set sound = acts_walk Any set (easy set) sound (λ w n s here mo t. any set mo _) (λ w d v x s dev sensor lt here mo t. any set mo _) (λ w n line s lt here mo t. any set mo _)
-
-still_head : (i : Item) (items : List Item) (b : Bool) (o : Option Model) (f : Model → Verdict) (good : Model → Type 0) → is_forged i ≡ b → NoForged (i ∷ items)
-    → ((u : Model) → Fares (f u) good → (t : Model) × good t) → Fares (if b then Over else judge_on o f) good → (t : Model) × good t
-still_head i items true o f good e none k h = let n = forged_is i e in absurd (none n.0 (inl n.1))
-still_head i items false None f good e none k h = absurd h
-still_head i items false (Some u) f good e none k h = k u h
-
-still : (app : AppTree) (s : Model) (items : List Item) (good : Model → Type 0) → NoForged items → Fares (judge app s items) good → (t : Model) × good t
-still app s [] good none h = (s, h)
-still app s (i ∷ items) good none h =
-    still_head i items (is_forged i) (model_step app s i) (λ t. judge app t items) good refl none
-    (λ u g. still app u items good (λ who m. none who (inr m)) g) h
-
--- At its end the ledger is a log, as at each moment.
-
--- what a moment shows is in the run
-moment_among : (set : Setting) (i : Item) (script : Script) (w : World) (j : ℕ) (past : Moment) → moment_from set j script w ≡ Some past
-    → IsAmong i (shown_at set past) → IsAmong i (performed set script w).items
-moment_among set i End w j past e m = absurd cc
-moment_among set i (Do x rest) w zero past e m =
-    among_left i (done set x w).items _ (subst (λ (z : Moment). IsAmong i (shown_at set z)) (sym (some_inj (record { next = x; world = w }) past e)) m)
-moment_among set i (Do x rest) w (suc j) past e m =
-    among_right i (done set x w).items _ (moment_among set i (rest (looks (done set x w).world)) (done set x w).world j past e m)
-
--- the last thing that a script does
-record Last (set : Setting) (script : Script) (w : World) : Type 0 where
-  k : ℕ
-  now : Moment
-  at : moment_from set k script w ≡ Some now
-  ends : (performed set script w).world ≡ (done set now.next now.world).world
-
-last : (set : Setting) (script : Script) (w : World) → ((performed set script w).world ≡ w) ⊎ Last set script w
-last set End w = inl refl
-last set (Do x rest) w = elim (last set (rest (looks (done set x w).world)) (done set x w).world) [
-  | inl same ↦ inr (record { k = 0; now = record { next = x; world = w }; at = refl; ends = same })
-  | inr l ↦ inr (record { k = suc l.k; now = l.now; at = l.at; ends = l.ends })
-]
-
-module _ (set : Setting) (sound : IsSoundSetting set) (lines : List Line) (form : LinesInForm set lines) where
-  ends_logged : NoForged (performed set (script_of set lines) (switched_on set)).items → AllLogged set (performed set (script_of set lines) (switched_on set)).world.ledger
-  ends_logged none = elim (last set (script_of set lines) (switched_on set)) [
-    | inl same ↦ subst (λ (w : World). AllLogged set w.ledger) (sym same) (starts_logged set)
-    | inr l ↦
-        let before : NoneBefore set lines l.k = λ j past lt at who m. none who (moment_among set (item.Forged who) (script_of set lines) (switched_on set) j past at m) in
-        let h = holds set lines sound l.k l.now (lines_form set lines sound form) l.at before in
-        subst (λ (w : World). AllLogged set w.ledger) (sym l.ends)
-        (done_logged set l.now.world
-        (λ n s g m id runs ev. step_sends set lines l.k l.now.world n s sound (h.turns n s g) (h.keyed n s g)
-        (record { j = l.k; past = l.now; early = omega arith; at = l.at; there = g }) h.logged g m id runs ev) h.logged l.now.next)
-  ]
+use Rattle.law_rarity.proofs.Tracking.{tied_then}
 
 -- Two entries with one header.
 
@@ -151,12 +77,14 @@ module _ (set : Setting) (mo : Model) (a b : Made) (header : a.header ≡ b.head
       x.1.1 ∙ ap (λ (z : ℕ). z % 256 ∷ z / 256 ∷ []) same ∙ sym y.1.1
 
 pub pads_once : PadsOnce
-pads_once set sound lines few form none a b ma mb same =
-    let is = is_performed set lines (switched_on set) (on_placed set) in
-    let logged : AllLogged set (run set (switched_on set) lines).world.ledger =
-    subst (λ (r : Acted). AllLogged set r.world.ledger) (sym is) (ends_logged set sound lines form (subst (λ (r : Acted). NoForged r.items) is none)) in
-    let t = still set.app (power_on set.app) (run set (switched_on set) lines).items (Tied set (run set (switched_on set) lines).world) none
-    (keeps_run Any set (keep set sound) (are_wordly set sound) (λ w line. counts_lines set w line) lines (switched_on set) (omega (arith, few)) form (power_on set.app) (starts_tied set sound)).0 in
+pads_once set sound lines few form k now at none a b ma mb same =
+    let ledger = (done set now.next now.world).world.ledger in
+    let h = holds set lines sound k now (lines_form set lines sound form) at (λ j past lt g. none j past (omega (arith, lt)) g) in
+    let logged : AllLogged set ledger =
+    done_logged set now.world
+    (λ n s g m id runs ev. step_sends set lines k now.world n s sound (h.turns n s g) (h.keyed n s g)
+    (record { j = k; past = now; early = omega arith; at = at; there = g }) h.logged g m id runs ev) h.logged now.next in
+    let t = tied_then set sound lines few form k now at (λ j past le g. none j past (omega (arith, le)) g) in
     one_body set t.0 a b same.3 a.maker (logged a ma)
     (subst (λ (z : Maker). IsLogged set z b) (sym same.0) (logged b mb))
     (t.1.ledger a ma)

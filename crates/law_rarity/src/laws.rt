@@ -39,7 +39,7 @@ pub fn accepted_seldom_errs()
     ensures { AcceptedSeldomErrs }
 {}
 
-/// In a run without a `forged` no pad is used twice.
+/// Until a `forged` is shown no pad is used twice.
 pub fn pads_once()
     ensures { PadsOnce }
 {}
