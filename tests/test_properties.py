@@ -11,8 +11,10 @@ from support import EXAMPLES, PROGRAM, Room, needs_program, program, sancus
 from sancus.cli import vacuity
 from sancus.model import language, solvers
 from sancus.model.described import described
+from sancus.model.moves import Moves
 from sancus.model.property import Property, watched_of
 from sancus.model.search import Search
+from sancus.model.system import System
 from sancus.model.texts import Input
 from sancus.runner import Runner
 
@@ -25,6 +27,37 @@ BRIGHT = (PROPERTIES / "bright.property").read_text()
 
 def items(text):
     return [watched_of(it) for it in text.split("\n") if it]
+
+
+@needs_program
+@unittest.skipUnless(solvers.are_there(), "berkeley-abc and cadical aren't installed")
+class Engines(Room):
+    """What the engines of others answer: examples/properties/README.md has it in its table."""
+
+    def asked(self, name):
+        plan = described(Runner([PROGRAM]), Input(LAMP.read_bytes()).head)
+        return plan, Property("", (PROPERTIES / f"{name}.property").read_text())
+
+    @needs_holds
+    def test_berkeley_abc_proves_what_intervals_cannot(self):
+        ran = sancus("holds", LAMP, PROPERTIES / "since_attested.property", "--seconds", "60", cwd=self.room)
+        self.assertEqual((ran.status, ran.lines[0]), (0, "holds (berkeley-abc)"))
+
+    def test_berkeley_abc_finds_the_run_that_breaks_one(self):
+        for name, last in (("last_reading", "down"), ("bulb", "bulb")):
+            with self.subTest(name):
+                plan, property = self.asked(name)
+                self.assertTrue(solvers.proof(plan, property, 60).is_broken)
+                found = solvers.Refuter(plan, property, solvers.Deadline(60)).found()
+                self.assertEqual(found.moves[-1].name, last)
+
+    def test_cadical_refuses_what_is_no_invariant(self):
+        plan, property = self.asked("since_attested")
+        system = System(Moves(plan, property, is_whole=False), 1, 0)
+        self.assertFalse(solvers.Invariant(system, []).is_inductive(solvers.Deadline(60)))
+        clauses = solvers.Clauses(system.circuit)
+        bit = 2 * system.circuit.latches[0]
+        self.assertEqual((clauses.can_be([bit], 60), clauses.can_be([bit, bit ^ 1], 60)), (True, False))
 
 
 class Meaning(unittest.TestCase):
@@ -147,16 +180,6 @@ class Answers(Room):
         )
         ran = self.holds(LAMP, counts, "--seconds", "1", "--moves", "30")
         self.assertEqual((ran.status, ran.lines[0]), (13, "unknown"))
-
-    @unittest.skipUnless(solvers.are_there(), "there is no berkeley-abc and no cadical")
-    def test_another_engine_is_named(self):
-        order = self.file(
-            "order.property",
-            "var dark; var off;\non sense light(v) { if v > 100 { assume !dark; } else { dark = 1; } }\n"
-            "on out lamp(v) { if v == 0 { off = 1; } else { if off { fail; } } }\n",
-        )
-        ran = self.holds(LAMP, order, "--seconds", "60")
-        self.assertEqual((ran.status, ran.lines[0]), (0, "holds (berkeley-abc)"))
 
     def test_what_no_legal_run_reaches(self):
         ran = self.holds(LAMP, self.file("it.property", "on out lamp(v) { if v > 1 { let x = v; } }\n"))

@@ -4,23 +4,27 @@ Of each false property a schedule shows it: at which item of its run the propert
 ones that a table proves the program proves too; the others `holds` mustn't refute.
 """
 
+import resource
 import unittest
 from pathlib import Path
 
 from slow import EXAMPLES, PROGRAM, Room, program
 from support import sancus
 
+from sancus.model import solvers
 from sancus.model.texts import Input
 
 PROPERTIES = Path(__file__).resolve().parent / "properties"
 KNOWS = bool(PROGRAM) and program("holds").out != b"fault usage\n"
 LIGHTING, PARKING = EXAMPLES / "lighting.txt", EXAMPLES / "parking" / "parking.toml"
-OTHERS = {
-    name: PROPERTIES / f"{file}.toml"
-    for name, file in (("D", "dose_repaired"), ("H", "heat"), ("V", "vote"), ("B2", "ack"), ("D1", "dose"))
-}
+FILES = {"D": "dose_repaired", "H": "heat", "V": "vote", "B2": "ack", "D1": "dose", "S": "spots"}
+OTHERS = {name: PROPERTIES / f"{file}.toml" for name, file in FILES.items()}
+# S1 has 256 states, and may take so many seconds of a processor.
+MOST_SECONDS = 5
 PROVED = "L1 L7 P1 P2 P3 D1' D3 D5 H2 V1 V4".split()
 TRUE = "L3 L6 L6g R2 P6".split()
+# (the remaining one, L3, counts)
+BY_ENGINES = "L6 L6g R2 P6".split()
 BROKEN = (
     ("L2", 43, "out lamp 1"),
     ("L4", 56, "out lamp 1"),
@@ -75,10 +79,23 @@ class Thirty(Room):
             with self.subTest(name):
                 self.assertEqual(self.answer(name).lines[0], "holds (proved)")
 
+    def test_a_property_with_many_states_takes_seconds(self):
+        text = b"%%\n".join(it.read_bytes() for it in (deployment("S1"), text_of("S1"))) + b"%%\n"
+        before = resource.getrusage(resource.RUSAGE_CHILDREN).ru_utime
+        ran = program("holds", text=text)
+        self.assertEqual((ran.status, ran.lines), (0, ["holds", "end"]))
+        self.assertLess(resource.getrusage(resource.RUSAGE_CHILDREN).ru_utime - before, MOST_SECONDS)
+
     def test_no_true_one_is_refuted(self):
         for name in TRUE:
             with self.subTest(name):
                 self.assertIn(self.answer(name, "--seconds", "5").lines[0].split(" ")[0], ("holds", "unknown"))
+
+    @unittest.skipUnless(solvers.are_there(), "berkeley-abc and cadical aren't installed")
+    def test_other_engines_prove_what_tables_cannot(self):
+        for name in BY_ENGINES:
+            with self.subTest(name):
+                self.assertEqual(self.answer(name, "--seconds", "600").lines[0], "holds (berkeley-abc)")
 
     def test_an_order_that_the_sources_leave_open(self):
         self.assertEqual(self.answer("B2").lines[0], "unconfirmed")
