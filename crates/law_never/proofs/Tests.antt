@@ -2,6 +2,7 @@
 use Rattle.std.proofs.Common.{◌≡◌, ℕ, zero, suc, ◌+◌, ◌≤◌, ◌⊎◌, inl, inr, ◌&&◌, ◌||◌, max, Bool, true, false, not, if◌then◌else◌, List, [], ◌∷◌, Option, Some}
 use Rattle.std.proofs.Common.{None, refl, sym, ap, subst, arith}
 use Rattle.std.specs.Prelude.{nat_le, slice_get, unwrap_or}
+use Rattle.std.specs.List.{position_from}
 use Rattle.std.proofs.lemmas.Bool.{and_parts, eqb-true, leb-true, ltb-true, cases_lt}
 use Rattle.std.proofs.lemmas.Option.{same_Some}
 use Rattle.sx_model.specs.State.{Present}
@@ -14,7 +15,7 @@ use Rattle.law_never.proofs.Lists.{one_map, one_with}
 use Rattle.sx_watch.specs.declared.topics.Topic.TheVariants as about
 use Rattle.sx_watch.specs.declared.topics.Topic.{Topic}
 use Rattle.sx_watch.specs.Watched.{PropertyTree, input_of}
-use Rattle.sx_watch.specs.Topics.{place_from, same_topic}
+use Rattle.sx_watch.specs.Topics.{same_topic}
 
 pub or_false : (b c : Bool) → (b || c) ≡ true → b ≡ false → c ≡ true
 or_false true c h e = absurd cc
@@ -187,12 +188,12 @@ same_topic-true (about.Protect a) (about.Protect b) h = ap about.Protect (eqb-tr
 same_topic-true (about.Attested a) (about.Attested b) h = ap about.Attested (eqb-true a b h)
 same_topic-true a b h = absurd cc
 
-place_or_not : (topic : Topic) (n : ℕ) (us : List Topic) → (place_from topic n us ≡ None) ⊎ OneOf (λ u. same_topic topic u ≡ true) us
+place_or_not : (topic : Topic) (n : ℕ) (us : List Topic) → (position_from (same_topic topic) n us ≡ None) ⊎ OneOf (λ u. same_topic topic u ≡ true) us
 place_or_not topic n [] = inl refl
 place_or_not topic n (u ∷ us) = here (same_topic topic u) refl (place_or_not topic (n + 1) us)
   where
-    here : (b : Bool) → same_topic topic u ≡ b → (place_from topic (n + 1) us ≡ None) ⊎ OneOf (λ u. same_topic topic u ≡ true) us
-        → ((if b then Some n else place_from topic (n + 1) us) ≡ None) ⊎ ((same_topic topic u ≡ true) ⊎ OneOf (λ u. same_topic topic u ≡ true) us)
+    here : (b : Bool) → same_topic topic u ≡ b → (position_from (same_topic topic) (n + 1) us ≡ None) ⊎ OneOf (λ u. same_topic topic u ≡ true) us
+        → ((if b then Some n else position_from (same_topic topic) (n + 1) us) ≡ None) ⊎ ((same_topic topic u ≡ true) ⊎ OneOf (λ u. same_topic topic u ≡ true) us)
     here true e more = inr (inl e)
     here false e more = elim more [ inl k ↦ inl k | inr k ↦ inr (inr k) ]
 

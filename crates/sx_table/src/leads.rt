@@ -1,13 +1,14 @@
 //! Where the property goes.
 
 ghost use Rattle.std.specs.Prelude.{◌≡◌, IfOk, None, Some, map};
+ghost use Rattle.std.specs.List.{position_from};
 ghost use Rattle.sx_mean.specs.View.{app_as};
 ghost use Rattle.sx_span.specs.View.{paths_in};
 ghost use Rattle.sx_table.specs.Demands.{demand_as};
 ghost use Rattle.sx_table.specs.Leads.{are_quiet, each_led, finds, finds_in, is_led, is_quiet};
 ghost use Rattle.sx_table.specs.Leads.{leads_at, leads_on};
 ghost use Rattle.sx_table.specs.Rows.{row_as, table_as};
-ghost use Rattle.sx_watch.specs.Topics.{place_from, same_topic};
+ghost use Rattle.sx_watch.specs.Topics.{same_topic};
 ghost use Rattle.sx_watch.specs.Watched.{property_as};
 
 use crate::boxes::box_within;
@@ -41,7 +42,7 @@ fn same_topic(left: Topic, right: Topic) -> bool
 
 /// The number of the first of the property's inputs that is of this topic.
 pub fn input_of(topics: &[Topic], topic: Topic) -> Option<usize>
-    ensures { result ≡ place_from topic 0 topics.now }
+    ensures { result ≡ position_from (same_topic topic) 0 topics.now }
 {
     for n in 0..topics.len() {
         if same_topic(topic, topics[n]) {

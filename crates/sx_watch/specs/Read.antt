@@ -1,5 +1,6 @@
 -- What the call that reads a property answers.
-use Rattle.std.specs.Prelude.{◌≡◌, List, [], Result, Ok, Err}
+use Rattle.std.specs.Prelude.{◌≡◌, List, [], Option, Result, Ok, Err}
+use Rattle.std.specs.Option.{option_map_or}
 use Rattle.sx_watch.specs.declared.property.Property.{Property}
 use Rattle.sx_watch.specs.declared.reading.PropertyError.{PropertyError}
 use Rattle.sx_watch.specs.declared.reading.PropertyError.TheVariants.{Fault, OutOfMemory}
@@ -14,7 +15,7 @@ use Rattle.sx_mean.specs.Application.{AppTree}
 use Rattle.sx_check.specs.Rules.{first_broken}
 use Rattle.sx_watch.specs.declared.rewriting.Head.{Head}
 use Rattle.sx_watch.specs.declared.topics.Topic.{Topic}
-use Rattle.sx_watch.specs.Text.{second_from, topics_of, unless}
+use Rattle.sx_watch.specs.Text.{second_from, topics_of}
 use Rattle.sx_watch.specs.Watched.{PropertyTree, property_as}
 
 -- the answer is one that is meant, unless memory ran out
@@ -34,6 +35,11 @@ Gives (Err (Fault f)) meant = meant ≡ Err f
 abbrev pub no_module : ParseError → PropertyError
 no_module (parse.Fault f) = Fault (Syntax (at f))
 no_module parse.OutOfMemory = OutOfMemory
+
+-- what follows, unless there is a fault
+abbrev pub unless : {A : Type 0} → (A → PropertyFault) → Option A
+    → Result PropertyTree PropertyFault → Result PropertyTree PropertyFault
+unless fault found rest = option_map_or (λ x. Err (fault x)) found rest
 
 -- the property with this module and these topics, or the rule of the language that it breaks
 abbrev pub made : ModuleTree → List Topic → Result PropertyTree PropertyFault

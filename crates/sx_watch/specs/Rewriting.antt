@@ -1,6 +1,7 @@
 -- The module that a property's tokens stand for: each token becomes others at its own place.
-use Rattle.std.specs.Prelude.{ℕ, ◌||◌, Bool, true, false, if◌then◌else◌, List, [], ◌∷◌, ◌++◌}
-use Rattle.std.specs.Prelude.{Option, Some, None}
+use Rattle.std.specs.Prelude.{ℕ, ◌||◌, Bool, if◌then◌else◌, List, [], ◌∷◌, ◌++◌, map, codes}
+use Rattle.std.specs.Option.{option_map_or}
+use Rattle.std.specs.Str.{bytes_eq}
 use Rattle.sx_lex.specs.declared.tokens.Kind.{Kind}
 use Rattle.sx_lex.specs.declared.tokens.Kind.TheVariants.{Number, Name, Actuator, Input, Var, On}
 use Rattle.sx_lex.specs.declared.tokens.Kind.TheVariants.{If, Else, Emit, Semicolon, Equals, Open}
@@ -8,12 +9,11 @@ use Rattle.sx_lex.specs.declared.tokens.Kind.TheVariants.{Close, OpenBrace, Clos
 use Rattle.sx_lex.specs.declared.tokens.Place.{Place}
 use Rattle.sx_lex.specs.declared.tokens.Placed.{Placed}
 use Rattle.sx_lex.specs.Lexed.{start}
-use Rattle.sx_watch.specs.declared.words.TopicKind.{TopicKind}
 use Rattle.sx_watch.specs.declared.rewriting.Mode.{Mode}
 use Rattle.sx_watch.specs.declared.rewriting.Mode.TheVariants.{Plain, Head, Item, Failing, Assuming}
 use Rattle.sx_watch.specs.declared.rewriting.Head as heads
-use Rattle.sx_watch.specs.Words.{kind_of, has_value, is_fail, is_assume, is_left_out, ended}
-use Rattle.sx_watch.specs.Words.{unnamed, input_name, next}
+use Rattle.sx_watch.specs.Words.{kind_of, has_value, is_left_out, ended, unnamed, input_name}
+use Rattle.sx_watch.specs.Words.{next}
 
 -- `fail;` is `if !ended { } else { emit 1; }`, and `assume e;` is `if e { } else { !ended = 1; }`
 abbrev pub fail_begins : List Kind
@@ -25,63 +25,34 @@ assume_ends = OpenBrace ∷ CloseBrace ∷ Else ∷ OpenBrace ∷ Name ended ∷
 
 -- a statement's word is no other name
 abbrev pub is_reserved : List ℕ → Bool
-is_reserved w = is_fail w || is_assume w
+is_reserved w = bytes_eq w (codes "fail") || bytes_eq w (codes "assume")
 
 -- a token that is no name, where the language's own stand
 abbrev pub other : Kind → List Kind
 other k = if is_left_out k then Bad ∷ [] else k ∷ []
 
--- What a token becomes there, and how the next one is read: first of a name.
-abbrev pub plain_name : List ℕ → List Kind × Mode
-plain_name w = if is_fail w then (fail_begins, Failing)
-    else if is_assume w then (If ∷ [], Assuming) else (Name w ∷ [], Plain)
-
-abbrev pub plain : Kind → List Kind × Mode
-plain On = (On ∷ [], Head)
-plain (Name w) = plain_name w
-plain k = (other k, Plain)
-
--- The first word of a head is left out. What isn't one may not stand.
-abbrev pub of_kind : Option TopicKind → List Kind × Mode
-of_kind None = (Bad ∷ [], Plain)
-of_kind (Some kind) = ([], Item kind)
-
-abbrev pub head_word : Kind → List Kind × Mode
-head_word (Name w) = of_kind (kind_of w)
-head_word k = (Bad ∷ [], Plain)
-
--- The name after it is the input, with a parameter for none where its items have no value.
-abbrev pub of_input : Bool → ℕ → List Kind
-of_input true n = Name (input_name n) ∷ []
-of_input false n = Name (input_name n) ∷ Open ∷ Name unnamed ∷ Close ∷ []
-
-abbrev pub item_name : TopicKind → ℕ → Kind → List Kind
-item_name kind n (Name w) = if is_reserved w then Bad ∷ [] else of_input (has_value kind) n
-item_name kind n k = Bad ∷ []
-
--- after `fail`
-abbrev pub fail_end : Kind → List Kind
-fail_end Semicolon = Semicolon ∷ CloseBrace ∷ []
-fail_end k = Bad ∷ []
-
--- after `assume`, up to its end
-abbrev pub assumed : Kind → List Kind × Mode
-assumed Semicolon = (assume_ends, Plain)
-assumed OpenBrace = (Bad ∷ [], Assuming)
-assumed (Name w) = (if is_reserved w then Bad ∷ [] else Name w ∷ [], Assuming)
-assumed k = (other k, Assuming)
-
--- what a token becomes, behind this many heads, and how the next one is read
+-- What a token becomes, after this many heads, and how the next one is read. The first word of a
+-- head is left out, and the name after it becomes an input, with a parameter where its items have
+-- no value. What may not stand there becomes `Bad`.
 abbrev pub read_as : Mode → ℕ → Kind → List Kind × Mode
-read_as Plain n k = plain k
-read_as Head n k = head_word k
-read_as (Item kind) n k = (item_name kind n k, Plain)
-read_as Failing n k = (fail_end k, Plain)
-read_as Assuming n k = assumed k
+read_as Plain n On = (On ∷ [], Head)
+read_as Plain n (Name w) = if bytes_eq w (codes "fail") then (fail_begins, Failing)
+    else if bytes_eq w (codes "assume") then (If ∷ [], Assuming) else (Name w ∷ [], Plain)
+read_as Plain n k = (other k, Plain)
+read_as Head n (Name w) = option_map_or (λ kind. ([], Item kind)) (kind_of w) (Bad ∷ [], Plain)
+read_as (Item kind) n (Name w) = (
+  if is_reserved w then Bad ∷ [] else Name (input_name n)
+      ∷ (if has_value kind then [] else Open ∷ Name unnamed ∷ Close ∷ []),
+  Plain,
+)
+read_as Failing n Semicolon = (Semicolon ∷ CloseBrace ∷ [], Plain)
+read_as Assuming n Semicolon = (assume_ends, Plain)
+read_as Assuming n OpenBrace = (Bad ∷ [], Assuming)
+read_as Assuming n (Name w) = (if is_reserved w then Bad ∷ [] else Name w ∷ [], Assuming)
+read_as Assuming n k = (other k, Assuming)
+read_as _ n k = (Bad ∷ [], Plain)
 
-abbrev pub written : Mode → ℕ → Kind → List Kind
-written mode n k = (read_as mode n k).0
-
+-- how the next token is read
 abbrev pub mode_after : Mode → Kind → Mode
 mode_after mode k = (read_as mode 0 k).1
 
@@ -97,18 +68,17 @@ count_after _ n k = n
 
 -- tokens at one place
 abbrev pub placed : Place → List Kind → List Placed
-placed at [] = []
-placed at (k ∷ ks) = record { kind = k; place = at } ∷ placed at ks
+placed at ks = map (λ k. record { kind = k; place = at }) ks
 
 -- the heads of a property, from a token on
 abbrev pub heads_from : Mode → List Placed → List heads.Head
 heads_from mode [] = []
 heads_from mode (t ∷ ts) = head_at mode t.kind t.place ++ heads_from (mode_after mode t.kind) ts
 
--- what its tokens become, from a token on, behind this many heads
+-- what its tokens become, from a token on, after this many heads
 abbrev pub rewritten : Mode → ℕ → List Placed → List Placed
 rewritten mode n [] = []
-rewritten mode n (t ∷ ts) = placed t.place (written mode n t.kind)
+rewritten mode n (t ∷ ts) = placed t.place (read_as mode n t.kind).0
     ++ rewritten (mode_after mode t.kind) (count_after mode n t.kind) ts
 
 -- an input for each head, at its place
@@ -117,14 +87,12 @@ inputs_from n [] = []
 inputs_from n (h ∷ hs) =
     placed h.place (Input ∷ Name (input_name n) ∷ Semicolon ∷ []) ++ inputs_from (next n) hs
 
--- what is declared before the property's own tokens
-abbrev pub front : List heads.Head → List Placed
-front hs = placed start (Actuator ∷ Semicolon ∷ Var ∷ Name ended ∷ Semicolon ∷ [])
-    ++ inputs_from 0 hs
-
--- the heads of a property, and the tokens of its module
+-- the heads of a property
 abbrev pub heads_of : List Placed → List heads.Head
 heads_of ts = heads_from Plain ts
 
+-- the tokens of its module: what is declared for it, an input for each head, and what its own
+-- tokens become
 abbrev pub module_tokens : List Placed → List Placed
-module_tokens ts = front (heads_of ts) ++ rewritten Plain 0 ts
+module_tokens ts = (placed start (Actuator ∷ Semicolon ∷ Var ∷ Name ended ∷ Semicolon ∷ [])
+    ++ inputs_from 0 (heads_of ts)) ++ rewritten Plain 0 ts

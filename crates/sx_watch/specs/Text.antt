@@ -3,7 +3,7 @@ use Rattle.std.specs.Prelude.{◌≡◌, ◌⊎◌, ℕ, not, Bool, false, if◌
 use Rattle.std.specs.Prelude.{◌++◌, Option, Some, None, is_some, option_map, option_and_then}
 use Rattle.std.specs.Prelude.{Result, Ok, Err, slice_get, true, unwrap_or}
 use Rattle.std.specs.Option.{option_map_or, option_to_list}
-use Rattle.std.specs.List.{find, list_any}
+use Rattle.std.specs.List.{find, flat_map, list_any}
 use Rattle.sx_lang.specs.Tree.{ModuleTree}
 use Rattle.sx_lang.specs.declared.tree.DeviceKind.{DeviceKind}
 use Rattle.sx_lang.specs.declared.tree.DeviceKind.TheVariants.{Sensor, Actuator}
@@ -30,25 +30,19 @@ use Rattle.sx_watch.specs.Topics.{same_topic}
 use Rattle.sx_watch.specs.Watched.{PropertyTree}
 use Rattle.sx_watch.specs.Rewriting.{heads_of, module_tokens}
 
--- the device of this index, where it is an actuator
-abbrev pub if_actuator : List Bool → ℕ → Option ℕ
-if_actuator sensors d = if unwrap_or (slice_get sensors d) true then None else Some d
-
 -- the index of an actuator's name among the devices
 abbrev pub actuator_place : NameLists → List ℕ → Option ℕ
-actuator_place n w = option_and_then (if_actuator n.sensors) (names.place_of n.devices w)
+actuator_place n w = option_and_then (λ d. if unwrap_or (slice_get n.sensors d) true then None
+    else Some d) (names.place_of n.devices w)
 
 -- a module's part has a device of this kind
 abbrev pub drives : DeviceKind → PartTree → Bool
 drives kind p = option_map_or (same_kind kind) (declared_kind p.tree.decls) false
 
 -- the index of the name of a module with such a device
-abbrev pub if_drives : AppTree → DeviceKind → ℕ → Option ℕ
-if_drives app kind m =
-    if option_map_or (drives kind) (slice_get app.parts m) false then Some m else None
-
 abbrev pub driver_place : NameLists → AppTree → DeviceKind → List ℕ → Option ℕ
-driver_place n app kind w = option_and_then (if_drives app kind) (names.place_of n.modules w)
+driver_place n app kind w = option_and_then (λ m. if option_map_or (drives kind)
+    (slice_get app.parts m) false then Some m else None) (names.place_of n.modules w)
 
 -- the topic that the words of a head name, if there is one
 abbrev pub topic_named : NameLists → AppTree → TopicKind → List ℕ → Option Topic
@@ -67,15 +61,7 @@ topic_of n app h = topic_named n app h.kind h.name
 
 -- the topics of heads that name one
 abbrev pub topics_of : NameLists → AppTree → List Head → List Topic
-topics_of n app [] = []
-topics_of n app (h ∷ hs) = option_to_list (topic_of n app h) ++ topics_of n app hs
-
--- the first head whose words name no topic
-abbrev pub is_unknown : NameLists → AppTree → Head → Bool
-is_unknown n app h = not (is_some (topic_of n app h))
-
-abbrev pub first_unknown : NameLists → AppTree → List Head → Option Head
-first_unknown n app hs = find (is_unknown n app) hs
+topics_of n app hs = flat_map (λ h. option_to_list (topic_of n app h)) hs
 
 -- the topic is among these
 abbrev pub is_heard : List Topic → Option Topic → Bool
@@ -88,16 +74,13 @@ second_from n app earlier [] = None
 second_from n app earlier (h ∷ hs) = if is_heard earlier (topic_of n app h) then Some h
     else second_from n app (earlier ++ option_to_list (topic_of n app h)) hs
 
--- what follows, unless there is a fault
-abbrev pub unless : {A : Type 0} → (A → PropertyFault) → Option A
-    → Result PropertyTree PropertyFault → Result PropertyTree PropertyFault
-unless fault found rest = option_map_or (λ x. Err (fault x)) found rest
-
--- what a module with these heads is: a property, or the first rule that it breaks
+-- What a module with these heads is: a property, or the first rule that it breaks. Each head names
+-- a topic, no two the same, and the module keeps the rules of the language.
 abbrev pub judged : NameLists → AppTree → List Head → ModuleTree → Result PropertyTree PropertyFault
-judged n app hs tree = unless (λ h. Unknown h.place) (first_unknown n app hs)
-    (unless (λ h. Twice h.place) (second_from n app [] hs)
-    (unless Language (first_broken tree)
+judged n app hs tree =
+    option_map_or (λ h. Err (Unknown h.place)) (find (λ h. not (is_some (topic_of n app h))) hs)
+    (option_map_or (λ h. Err (Twice h.place)) (second_from n app [] hs)
+    (option_map_or (λ rule. Err (Language rule)) (first_broken tree)
     (Ok (record { tree = tree; topics = topics_of n app hs }))))
 
 -- what tokens that end here mean: what the module is that they stand for, or their first fault

@@ -1,31 +1,23 @@
 -- What is heard of the items of a trace.
-use Rattle.std.specs.Prelude.{ℕ, ◌+◌, ◌%◌, ◌==◌, Bool, false, if◌then◌else◌, List, [], ◌∷◌}
-use Rattle.std.specs.Prelude.{Option, Some, None}
+use Rattle.std.specs.Prelude.{ℕ, ◌%◌, ◌==◌, Bool, false, Option, Some, None}
 use Rattle.sx_trace.specs.declared.items.Item.{Item}
 use Rattle.sx_trace.specs.declared.items.Item.TheVariants.{Reset, Protect, Sense, Read, Drain}
 use Rattle.sx_trace.specs.declared.items.Item.TheVariants.{Attested, Take, Out, Raw}
 use Rattle.sx_watch.specs.declared.topics.Topic.{Topic}
 use Rattle.sx_watch.specs.declared.topics.Topic.TheVariants as topic
 
--- what is heard of an item: its topic, and its value, 0 where it has none
-pub record Notice : Type 0 where
-  pub topic : Topic
-  pub value : ℕ
-
-abbrev pub notice : Topic → ℕ → Option Notice
-notice t v = Some (record { topic = t; value = v })
-
--- what is heard of the item, if anything is; what other code writes is heard as a word
-abbrev pub heard_of : Item → Option Notice
-heard_of (Reset n cause) = notice (topic.Reset n) 0
-heard_of (Protect n (Some m)) = notice (topic.Protect m) 0
-heard_of (Sense d v) = notice (topic.Sense d) v
-heard_of (Read m v) = notice (topic.Read m) v
-heard_of (Drain d) = notice (topic.Drain d) 0
-heard_of (Attested m boot) = notice (topic.Attested m) 0
-heard_of (Take m c i v) = notice (topic.Take c) v
-heard_of (Out m v) = notice (topic.Out m) v
-heard_of (Raw d v) = notice (topic.Raw d) (v % 65536)
+-- what is heard of an item, if anything is: its topic, and its value, 0 where it has none; what
+-- other code writes is heard as a word
+abbrev pub heard_of : Item → Option (Topic × ℕ)
+heard_of (Reset n cause) = Some (topic.Reset n, 0)
+heard_of (Protect n (Some m)) = Some (topic.Protect m, 0)
+heard_of (Sense d v) = Some (topic.Sense d, v)
+heard_of (Read m v) = Some (topic.Read m, v)
+heard_of (Drain d) = Some (topic.Drain d, 0)
+heard_of (Attested m boot) = Some (topic.Attested m, 0)
+heard_of (Take m c i v) = Some (topic.Take c, v)
+heard_of (Out m v) = Some (topic.Out m, v)
+heard_of (Raw d v) = Some (topic.Raw d, v % 65536)
 heard_of _ = None
 
 -- two topics are the same
@@ -40,8 +32,3 @@ same_topic (topic.Reset a) (topic.Reset b) = a == b
 same_topic (topic.Protect a) (topic.Protect b) = a == b
 same_topic (topic.Attested a) (topic.Attested b) = a == b
 same_topic _ _ = false
-
--- the place of the topic's first mention, counted from a number
-abbrev pub place_from : Topic → ℕ → List Topic → Option ℕ
-place_from t n [] = None
-place_from t n (u ∷ us) = if same_topic t u then Some n else place_from t (n + 1) us

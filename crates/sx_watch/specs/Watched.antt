@@ -1,6 +1,8 @@
 -- What a property makes of the items of a trace, and when it is broken.
 use Rattle.std.specs.Prelude.{ℕ, ◌+◌, Bool, true, false, if◌then◌else◌, List, [], ◌∷◌}
 use Rattle.std.specs.Prelude.{Option, Some, None}
+use Rattle.std.specs.Option.{option_map_or}
+use Rattle.std.specs.List.{position_from}
 use Rattle.sx_lang.specs.Tree.{ModuleTree}
 use Rattle.sx_check.specs.Source.{source_tree}
 use Rattle.sx_mean.specs.declared.events.Act.{Act}
@@ -12,7 +14,7 @@ use Rattle.sx_mean.specs.React.{react}
 use Rattle.sx_trace.specs.declared.items.Item.{Item}
 use Rattle.sx_watch.specs.declared.topics.Topic.{Topic}
 use Rattle.sx_watch.specs.declared.property.Property.{Property}
-use Rattle.sx_watch.specs.Topics.{Notice, heard_of, place_from}
+use Rattle.sx_watch.specs.Topics.{heard_of, same_topic}
 
 -- a property: a module, and the topic that each of its inputs hears of
 pub record PropertyTree : Type 0 where
@@ -25,21 +27,17 @@ property_as p = record { tree = source_tree p.code; topics = p.topics.items }
 
 -- the input that hears of the topic, if there is one
 abbrev pub input_of : PropertyTree → Topic → Option ℕ
-input_of p t = place_from t 0 p.topics
+input_of p t = position_from (same_topic t) 0 p.topics
 
 -- what a module with these cells makes of a value for the input, if there is one
 abbrev pub hears : ModuleTree → List ℕ → Option ℕ → ℕ → HandlerState
 hears tree cells None v = record { locals = []; cells = cells; acts = [] }
 hears tree cells (Some j) v = react tree (event.Input j v) cells
 
--- what the property with these cells makes of what is heard, if anything is
-abbrev pub notices : PropertyTree → List ℕ → Option Notice → HandlerState
-notices p cells None = record { locals = []; cells = cells; acts = [] }
-notices p cells (Some n) = hears p.tree cells (input_of p n.topic) n.value
-
--- what it makes of an item
+-- what the property with these cells makes of an item
 abbrev pub watched : PropertyTree → List ℕ → Item → HandlerState
-watched p cells item = notices p cells (heard_of item)
+watched p cells item = option_map_or (λ n. hears p.tree cells (input_of p n.0) n.1) (heard_of item)
+    (hears p.tree cells None 0)
 
 -- an emit is among the acts
 abbrev pub has_emit : List Act → Bool

@@ -1,14 +1,14 @@
 -- A property that followed the items of a trace so far.
-use Rattle.std.specs.Prelude.{◌≡◌, ◌+◌, Bool, true, false, List, [], ◌∷◌, ◌++◌, length, Some}
+use Rattle.std.specs.Prelude.{◌≡◌, ℕ, ◌+◌, Bool, true, false, List, [], ◌∷◌, ◌++◌, length, Some}
 use Rattle.sx_trace.specs.declared.items.Item.{Item}
+use Rattle.sx_watch.specs.declared.topics.Topic.{Topic}
 use Rattle.sx_watch.specs.declared.watcher.Heard.{Heard}
 use Rattle.sx_watch.specs.declared.watcher.Watcher.{Watcher}
-use Rattle.sx_watch.specs.Topics.{Notice}
 use Rattle.sx_watch.specs.Watched.{PropertyTree, broken_at, broken_from, property_as}
 
 -- what the code heard as plain data
-abbrev pub noticed_as : Heard → Notice
-noticed_as h = record { topic = h.topic; value = h.value }
+abbrev pub noticed_as : Heard → Topic × ℕ
+noticed_as h = (h.topic, h.value)
 
 -- These items didn't break the property: whether others behind them do is found from the cells.
 pub record Follows (p : PropertyTree) (items : List Item) (w : Watcher) : Type 0 where

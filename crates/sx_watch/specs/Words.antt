@@ -30,13 +30,6 @@ has_value Protect = false
 has_value Attested = false
 has_value _ = true
 
--- the statements that properties have beside the language's own
-abbrev pub is_fail : List ℕ → Bool
-is_fail w = bytes_eq w (codes "fail")
-
-abbrev pub is_assume : List ℕ → Bool
-is_assume w = bytes_eq w (codes "assume")
-
 -- the words of the language that properties don't have
 abbrev pub is_left_out : Kind → Bool
 is_left_out Sensor = true

@@ -7,9 +7,9 @@ ghost use Rattle.std.specs.Option.{option_map_or, option_to_list};
 ghost use Rattle.sx_mean.specs.Application.{same_kind};
 ghost use Rattle.sx_mean.specs.View.{app_as};
 ghost use Rattle.sx_trace.specs.ValidNames.{are_valid};
-ghost use Rattle.sx_watch.specs.Text.{actuator_place, driver_place, drives, first_unknown};
-ghost use Rattle.sx_watch.specs.Text.{if_actuator, if_drives, is_heard, is_unknown};
-ghost use Rattle.sx_watch.specs.Text.{second_from, topic_named, topic_of, topics_of};
+ghost use Rattle.sx_watch.specs.Parts.{first_unknown, if_actuator, if_drives, is_unknown};
+ghost use Rattle.sx_watch.specs.Text.{actuator_place, driver_place, drives, is_heard, second_from};
+ghost use Rattle.sx_watch.specs.Text.{topic_named, topic_of, topics_of};
 ghost use Rattle.sx_watch.specs.Topics.{same_topic};
 
 use crate::rewriting::Head;

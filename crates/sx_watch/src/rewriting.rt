@@ -1,11 +1,11 @@
 //! The module that a property's tokens stand for. Each token becomes others at its own place.
 
 ghost use Rattle.std.specs.Prelude.{◌≡◌, ◌++◌, IfOk, OnOk, true};
-ghost use Rattle.sx_watch.specs.Rewriting.{assume_ends, assumed, count_after, fail_begins};
-ghost use Rattle.sx_watch.specs.Rewriting.{fail_end, front, head_word, item_name, other, plain};
-ghost use Rattle.sx_watch.specs.Rewriting.{head_at, heads_of, inputs_from, is_reserved};
-ghost use Rattle.sx_watch.specs.Rewriting.{mode_after, module_tokens, of_input, placed};
-ghost use Rattle.sx_watch.specs.Rewriting.{plain_name, rewritten, written};
+ghost use Rattle.sx_watch.specs.Rewriting.{assume_ends, count_after, fail_begins, head_at};
+ghost use Rattle.sx_watch.specs.Rewriting.{heads_of, inputs_from, is_reserved, mode_after};
+ghost use Rattle.sx_watch.specs.Rewriting.{module_tokens, other, placed, rewritten};
+ghost use Rattle.sx_watch.specs.Parts.{assumed, fail_end, front, head_word, item_name, of_input};
+ghost use Rattle.sx_watch.specs.Parts.{plain, written};
 
 use crate::words::{
     TopicKind, ended, has_value, input_name, is_assume, is_fail, is_left_out, kind_of, next,
@@ -98,7 +98,7 @@ fn is_reserved(word: &Name) -> bool
 }
 
 fn put_name(list: &mut Vec<Placed>, place: Place, word: Name) -> Result<(), AllocError>
-    ensures { OnOk result (list.new.items ≡ list.old.items ++ placed place (plain_name word).0) }
+    ensures { OnOk result (list.new.items ≡ list.old.items ++ placed place (plain (Kind.Name word)).0) }
 {
     if is_fail(&word) {
         put_fail(list, place)

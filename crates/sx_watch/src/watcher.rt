@@ -2,10 +2,11 @@
 
 ghost use Rattle.std.specs.Prelude.{◌≡◌, ◌<◌, [], IfOk, List, None, OnErr, OnOk, Some, false};
 ghost use Rattle.std.specs.Prelude.{option_map, true};
+ghost use Rattle.std.specs.List.{position_from};
 ghost use Rattle.sx_check.specs.Source.{source_tree};
 ghost use Rattle.sx_mean.specs.React.{input_names, nth};
 ghost use Rattle.sx_trace.specs.declared.items.Item.{Item as Listed};
-ghost use Rattle.sx_watch.specs.Topics.{heard_of, place_from};
+ghost use Rattle.sx_watch.specs.Topics.{heard_of, same_topic};
 ghost use Rattle.sx_watch.specs.Watched.{PropertyTree, has_emit, hears, property_as, watched};
 ghost use Rattle.sx_watch.specs.Watching.{Follows, Heeds, noticed_as};
 
@@ -62,7 +63,7 @@ fn heard_of(item: &Item) -> Option<Heard>
 
 /// The input that hears of the topic.
 fn place_of(topics: &[Topic], topic: Topic) -> Option<usize>
-    ensures { result ≡ place_from topic 0 topics.now }
+    ensures { result ≡ position_from (same_topic topic) 0 topics.now }
 {
     let mut place: usize = 0;
     for other in topics {

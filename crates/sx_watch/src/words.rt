@@ -2,8 +2,9 @@
 
 ghost use Rattle.std.specs.Prelude.{◌≡◌, ◌+◌, ◌≤◌};
 ghost use Rattle.std.specs.Str.{bytes_eq};
-ghost use Rattle.sx_watch.specs.Words.{ended, has_value, input_name, is_assume, is_fail};
-ghost use Rattle.sx_watch.specs.Words.{is_left_out, kind_of, next, unnamed};
+ghost use Rattle.sx_watch.specs.Words.{ended, has_value, input_name, is_left_out, kind_of};
+ghost use Rattle.sx_watch.specs.Words.{next, unnamed};
+ghost use Rattle.sx_watch.specs.Parts.{is_assume, is_fail};
 
 use sx_lang::names::Name;
 use sx_lex::tokens::Kind;
