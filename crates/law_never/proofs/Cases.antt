@@ -1,8 +1,10 @@
 -- What holds after an allowed item, by kinds.
 use Rattle.std.proofs.Common.{◌≡◌, ℕ, ◌+◌, ◌*◌, ◌/◌, ◌%◌, ◌==◌, ◌&&◌, ◌||◌, not, Bool, true, false, if◌then◌else◌, List, [], ◌∷◌, ◌++◌, Option, Some, None}
+use Rattle.std.proofs.Common.{subst}
 use Rattle.std.specs.Prelude.{IfSome, is_none, nat_le, slice_get}
 use Rattle.std.proofs.lemmas.Bool.{and_parts}
 use Rattle.sx_lang.specs.declared.sides.Side.TheVariants.{To}
+use Rattle.sx_mean.specs.declared.apps.AppDevice.{AppDevice}
 use Rattle.sx_mean.specs.declared.apps.Link.{Link}
 use Rattle.sx_mean.specs.declared.events.SourceEvent.TheVariants as event
 use Rattle.sx_mean.specs.Application.{AppTree, PartTree, is_sensor}
@@ -28,6 +30,16 @@ on_protect app s Q n m h =
 
 pub on_sense : (app : AppTree) (s : Model) (Q : Model → Type 0) (d v : ℕ) → Q (with_device s d (record { value = v; fresh = true })) → IfSome (step app s (Sense d v)) Q
 on_sense app s Q d v h = looked_up (slice_get app.devices d) _ _ (λ w _. tested (is_sensor w.kind) _ _ (λ _. h))
+
+-- a sensor of the application
+abbrev IsSensor : AppTree → ℕ → Type 0
+IsSensor app d = (x : AppDevice) × (slice_get app.devices d ≡ Some x) × (is_sensor x.kind ≡ true)
+
+-- what gets a value is one
+pub sensed_device : (app : AppTree) (s : Model) (d v : ℕ) (n : Model) → step app s (Sense d v) ≡ Some n → IsSensor app d
+sensed_device app s d v n is =
+    subst (λ (r : Option Model). IfSome r (λ _. IsSensor app d)) is
+    (looked_up (slice_get app.devices d) _ (λ _. IsSensor app d) (λ w found. tested (is_sensor w.kind) _ (λ _. IsSensor app d) (λ sensor. (w, found, sensor))))
 
 pub on_drain : (app : AppTree) (s : Model) (Q : Model → Type 0) (d : ℕ) → ((r : Reading) → Q (with_device s d (record r { fresh = false }))) → IfSome (step app s (Drain d)) Q
 on_drain app s Q d h =

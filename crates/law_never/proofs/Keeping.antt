@@ -24,15 +24,15 @@ use Rattle.law_never.specs.Intervals.{IsInside, AreInside, OneOf, AreActs, IsAlo
 use Rattle.law_never.specs.Demands as hd
 use Rattle.law_never.proofs.CheckedKeeps.{checked_keeps}
 use Rattle.law_never.specs.Same.{as_doing, as_interval, as_path, as_range, as_table, ways}
+use Rattle.law_never.specs.Laws.{NeverAccepted}
 use Rattle.law_never.specs.Never.{IsNeverBroken}
 use Rattle.law_never.proofs.Unbroken.{unbroken}
 use Rattle.sx_model.specs.Legal.{before}
 use Rattle.spec_run.specs.State.{switched_on}
 use Rattle.spec_run.specs.Run.{run}
-use Rattle.spec_run.specs.Setting.{Setting}
-use Rattle.spec_run.specs.Accepted.{setting_of}
+use Rattle.spec_run.proofs.AcceptedRuns.{of_accepted}
 use Rattle.law_never.proofs.Shutting.{shut_same, open_same}
-use Rattle.sx_watch.specs.Watched.{PropertyTree}
+use Rattle.sx_watch.specs.Watched.{PropertyTree, broken_at}
 
 lie : (box : List hi.Interval) (cells : List ℕ) → AreInside box cells → AllZip Lies cells (map as_range box)
 lie [] [] h = tt
@@ -72,15 +72,17 @@ ways_sound tree input i box v cells iv ic =
     one (react tree (event_of input v) cells) (react_within tree (event_in input (as_range i)) (map as_range box))
     (react_sound tree (event_of input v) (event_in input (as_range i)) cells (map as_range box) (event_lies input i v iv) (lie box cells ic))
 
--- With a table that passes the code's check no run of an accepted deployment breaks the property.
+-- With a table that passes the code's check no run breaks the property.
 pub never_broken : (app : AppTree) (o : PropertyTree) (t : TableTree) → (is_shut app o t && is_open app o t) ≡ true → IsNeverBroken app o
-never_broken app o t passed text d read same mac texts tag images lines few are =
-    let set : Setting = setting_of mac d texts in
-    let checked : (is_shut d.app o t && is_open d.app o t) ≡ true = ap (λ a. is_shut a o t && is_open a o t) same ∙ passed in
+never_broken app o t passed set sound lines few form same =
+    let checked : (is_shut set.app o t && is_open set.app o t) ≡ true = ap (λ a. is_shut a o t && is_open a o t) same ∙ passed in
     unbroken o (before (run set (switched_on set) lines).items)
-    (checked_keeps text d read ways o (as_table t) (record { property = ways_sound o.tree; parts = λ m q e. ways_sound q.tree })
-    (sym (ap (λ x. x && is_open d.app o t) (shut_same d.app o t) ∙ ap (λ y. hd.is_shut ways d.app o (as_table t) && y) (open_same d.app o t)) ∙ checked)
-    mac texts tag images lines few are)
+    (checked_keeps ways o (as_table t) set sound lines few form (record { property = ways_sound o.tree; parts = λ m q e. ways_sound q.tree })
+    (sym (ap (λ x. x && is_open set.app o t) (shut_same set.app o t) ∙ ap (λ y. hd.is_shut ways set.app o (as_table t) && y) (open_same set.app o t)) ∙ checked))
+
+-- From the text on.
+pub never_accepted : NeverAccepted
+never_accepted app p never = of_accepted (λ own items. own ≡ app → broken_at p items ≡ None) never
 
 pub shown_never : {E : Type 0} (app : AppTree) (o : PropertyTree) (t : TableTree) (r : Result Bool E) → IfOk r (λ b. b ≡ (is_shut app o t && is_open app o t))
     → IfOk r (λ b. b ≡ true → IsNeverBroken app o)

@@ -1,25 +1,21 @@
 -- What closed tables show.
 use Rattle.std.specs.Prelude.{◌≡◌, ℕ, ◌<◌, ◌≤◌, ◌⊎◌, ◌&&◌, true, List, length, Some, None}
-use Rattle.std.specs.Prelude.{slice_get, Ok}
-use Rattle.sx_tag.specs.Mac.{Mac, IsTag}
-use Rattle.sx_sched.specs.Lines.{Line}
-use Rattle.sx_deploy.specs.Deployment.{Deployed, IsRead}
+use Rattle.std.specs.Prelude.{slice_get}
 use Rattle.sx_mean.specs.declared.apps.AppDevice.{AppDevice}
 use Rattle.sx_mean.specs.Application.{AppTree, PartTree, is_sensor}
 use Rattle.sx_trace.specs.declared.items.Item.{Item}
-use Rattle.sx_model.specs.Legal.{Legal, before}
-use Rattle.spec_run.specs.State.{switched_on}
-use Rattle.spec_run.specs.Run.{run}
-use Rattle.spec_run.specs.Accepted.{setting_of, AreImages}
-use Rattle.spec_run.specs.AcceptedLaw.{AreLines}
+use Rattle.sx_model.specs.Legal.{Legal}
+use Rattle.spec_run.specs.Law.{OfRuns}
+use Rattle.spec_run.specs.AcceptedLaw.{OfAcceptedRuns}
 use Rattle.law_never.specs.Rules.{Each}
 use Rattle.law_never.specs.Intervals.{Reactions, IsSoundFor}
 use Rattle.law_never.specs.Tables.{Table, IsAmong, IsGiven, at}
 use Rattle.law_never.specs.Closed.{IsClosed}
 use Rattle.law_never.specs.Check.{is_open}
 use Rattle.law_never.specs.Demands.{is_shut}
+use Rattle.law_never.specs.Never.{IsNeverBroken}
 use Rattle.sx_watch.specs.declared.topics.Topic.TheVariants as about
-use Rattle.sx_watch.specs.Watched.{PropertyTree, input_of}
+use Rattle.sx_watch.specs.Watched.{PropertyTree, broken_at, input_of}
 use Rattle.law_never.specs.Kept.{Keeps}
 
 -- the ways are those of the property and of each module
@@ -42,15 +38,11 @@ pub record IsOpen (app : AppTree) (o : PropertyTree) (t : Table) : Type 0 where
   pub raw : (d : ℕ) → (input_of o (about.Raw d) ≡ None)
       ⊎ ((v : ℕ) → v < 65536 → IsAmong (at t.given d) v)
 
--- And in no run of an accepted deployment, whatever its schedule, before the first forged item.
-abbrev pub ClosedKeepsAccepted : Type 0
-ClosedKeepsAccepted = (text : List ℕ) (d : Deployed) → IsRead text (Ok d)
-    → (reacts : Reactions) (o : PropertyTree) (t : Table) → AreSound reacts d.app o
-    → IsClosed reacts d.app o t → IsOpen d.app o t
-    → (mac : Mac) (texts : List (List ℕ)) → IsTag mac → AreImages mac d texts
-    → (lines : List Line) → length lines ≤ 65536 → AreLines d.names lines
-    → Keeps o (before (run (setting_of mac d texts) (switched_on (setting_of mac d texts))
-    lines).items)
+-- And in no run of a sound setting, whatever its schedule, before the first forged item.
+abbrev pub ClosedKeepsInRuns : Type 0
+ClosedKeepsInRuns = (reacts : Reactions) (o : PropertyTree) (t : Table)
+    → OfRuns (λ app items. AreSound reacts app o → IsClosed reacts app o t → IsOpen app o t
+    → Keeps o items)
 
 -- a table that passes the check is closed, and open
 pub record Decides (reacts : Reactions) (app : AppTree) (o : PropertyTree)
@@ -62,13 +54,15 @@ abbrev pub CheckDecides : Type 0
 CheckDecides = (reacts : Reactions) (app : AppTree) (o : PropertyTree) (t : Table)
     → Decides reacts app o t
 
--- So a property whose table passes emits in no run of the deployment, whatever its schedule, before
+-- So a property whose table passes emits in no run of the setting, whatever its schedule, before
 -- the first forged item.
 abbrev pub CheckedKeeps : Type 0
-CheckedKeeps = (text : List ℕ) (d : Deployed) → IsRead text (Ok d)
-    → (reacts : Reactions) (o : PropertyTree) (t : Table) → AreSound reacts d.app o
-    → (is_shut reacts d.app o t && is_open d.app o t) ≡ true
-    → (mac : Mac) (texts : List (List ℕ)) → IsTag mac → AreImages mac d texts
-    → (lines : List Line) → length lines ≤ 65536 → AreLines d.names lines
-    → Keeps o (before (run (setting_of mac d texts) (switched_on (setting_of mac d texts))
-    lines).items)
+CheckedKeeps = (reacts : Reactions) (o : PropertyTree) (t : Table)
+    → OfRuns (λ app items. AreSound reacts app o
+    → (is_shut reacts app o t && is_open app o t) ≡ true → Keeps o items)
+
+-- From the text on: what no run breaks, no run of a deployment breaks that is accepted and has this
+-- application, whatever images realize its modules.
+abbrev pub NeverAccepted : Type 0
+NeverAccepted = (app : AppTree) (p : PropertyTree) → IsNeverBroken app p
+    → OfAcceptedRuns (λ own items. own ≡ app → broken_at p items ≡ None)
