@@ -39,7 +39,8 @@ use Rattle.command_head.specs.Found.{IsFound}
 use Rattle.command_head.specs.Headless.{EndsHeadless}
 use Rattle.command_head.specs.Refused.{fault_output}
 use Rattle.command_property.specs.Refused.{fault_words, no_property_output, refused_output}
-use Rattle.command_holds.specs.Output.{Decision, Unknown, Meanings, unknown_line, holds_all, holds_found, holds_head, holds_property, holds_second}
+use Rattle.command_holds.specs.Output.{Decision, Unknown, Meanings, unknown_line, holds_all}
+use Rattle.command_holds.specs.Parts.{holds_found, holds_head, holds_property, holds_second}
 use Rattle.command_holds.specs.Promise.{NeverBehind, NeverFound, NeverProperty, NeverSecond, SaysOf}
 use Rattle.command_holds.specs.Ending.{AnswersOf, DeployedEnds, EndsOf, GivesUp, TextEnds, ToldOf}
 

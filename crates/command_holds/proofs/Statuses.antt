@@ -7,7 +7,8 @@ use Rattle.sx_deploy.specs.Deployment.{Deployed}
 use Rattle.sx_entries.specs.declared.fault.DeployFault.{DeployFault}
 use Rattle.sx_watch.specs.declared.reading.PropertyFault.{PropertyFault}
 use Rattle.sx_watch.specs.Watched.{PropertyTree}
-use Rattle.command_holds.specs.Output.{Decision, Holds, Unknown, Meanings, holds_all, holds_found, holds_head, holds_property, holds_second}
+use Rattle.command_holds.specs.Output.{Decision, Holds, Unknown, Meanings, holds_all}
+use Rattle.command_holds.specs.Parts.{holds_found, holds_head, holds_property, holds_second}
 
 property_not_four : (decision : Decision) (r : Result PropertyTree PropertyFault) → (holds_property decision r).status ≡ 4 → ⊥
 property_not_four Holds (Ok p) e = omega (arith, e)

@@ -9,8 +9,8 @@ use Rattle.command_promise.specs.Head.{Found, Unread, head, head_lines}
 use Rattle.sx_deploy.specs.Deployment.{Deployed}
 use Rattle.sx_watch.specs.Watched.{PropertyTree}
 use Rattle.law_never.specs.Never.{IsNeverBroken}
-use Rattle.command_holds.specs.Output.{AreMeanings, Decision, Meanings, decided_output}
-use Rattle.command_holds.specs.Output.{holds_all, holds_property}
+use Rattle.command_holds.specs.Output.{AreMeanings, Decision, Meanings, decided_output, holds_all}
+use Rattle.command_holds.specs.Parts.{holds_property}
 use Rattle.command_holds.specs.Promise.{NeverProperty, SaysOf}
 
 -- nothing was shown, and that was written

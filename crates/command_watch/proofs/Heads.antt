@@ -41,7 +41,8 @@ use Rattle.command_explain.specs.Trace.{image_lines}
 use Rattle.command_explain.proofs.Heads.{told_also}
 use Rattle.command_watch.specs.Meant.{AreMeanings, Meanings}
 use Rattle.command_watch.specs.Following.{RefusesText, ReadsOn}
-use Rattle.command_watch.specs.Output.{behind_mark, watch_all, watch_found, watch_head, watch_judged, watch_lines, watch_property}
+use Rattle.command_watch.specs.Output.{behind_mark, watch_all, watch_lines}
+use Rattle.command_watch.specs.Parts.{watch_found, watch_head, watch_judged, watch_property}
 use Rattle.command_watch.proofs.Limits.{IsNone, end_longer, found_longer, longer_behind, none_longer, seen, seen_as, small, number_in, whole_behind}
 use Rattle.command_watch.proofs.Longer.{got_longer, reads_longer}
 
@@ -262,7 +263,7 @@ pub told_refused : {tells to_tell : Bool} {now : Ahead} {s : SourceAt} {k0 k1 : 
     → GivesOne (Err e) (IsProperty names app text) → RefusesText to_tell k0 k1 status e → (r : Result PropertyTree PropertyFault) → IsProperty names app text r
     → Rest tells to_tell image_lines now (command_at s k0) (command_at s k1) status (watch_judged item r)
 told_refused names app text item (property.Fault f) gives w r is = λ limit m0 defined aside noted b.
-    told-stop b (λ more. ends-same _ _ _ _ _ _ (ap (λ r. watch_judged item r more) (one_property names app text r (Err f) is gives)) w)
+    told-stop b (λ more. ends-same _ _ _ _ _ _ (ap (λ r. watch_judged item r more) (one_property names app text r (Err f) is gives)) w.0)
 told_refused {tells} {to_tell} {now} {s} {k0} {k1} {status} names app text item property.OutOfMemory gives w r is =
     rw (w.0, w.1) (λ limit m0 defined aside noted b. told-stop b (λ more. ends-out-of-memory to_tell k0 k0 (watch_judged item r more) (λ t. prefix-none k0.written k0.written _ refl) refl))
 

@@ -3,6 +3,7 @@
 -- lines, Statuses of the exit status. Limits, Longer and Heads lead to the trace, and Promised has
 -- what follows for the whole command.
 pub mod Between
+pub mod Cut
 pub mod Heads
 pub mod Limits
 pub mod Longer

@@ -22,7 +22,8 @@ use Rattle.command_explain.specs.declared.lines.TraceLine.TheVariants as kind
 use Rattle.command_explain.specs.Output.{broken_output}
 use Rattle.command_explain.specs.Trace.{Behind, Breaks, Missing, Start, Stop, Unread, Whole, image_line, judged_line, line_of, on_image, rule_behind, start, stop_behind, trace}
 use Rattle.command_watch.specs.Meant.{Meanings}
-use Rattle.command_watch.specs.Output.{broken_line, stop_output, unless_broken, watch_all, watch_found, watch_from, watch_head, watch_judged, watch_property, watch_start}
+use Rattle.command_watch.specs.Output.{broken_line, stop_output, unless_broken, watch_all, watch_from, watch_start}
+use Rattle.command_watch.specs.Parts.{watch_found, watch_head, watch_judged, watch_property}
 use Rattle.command_watch.proofs.Written.{said_bad, said_broken, said_item, said_last, said_unread}
 
 -- ---- where a read failed, its line is the last

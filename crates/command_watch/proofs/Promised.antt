@@ -1,12 +1,14 @@
 -- What follows for `watch` from what it wrote and read.
-use Rattle.std.proofs.Common.{◌≡◌, ◌∙◌, ℕ, Bool, List, [], ◌++◌, inl, inr, sym, ap, subst, arith}
-use Rattle.std.specs.Prelude.{IsTrue}
+use Rattle.std.proofs.Common.{◌≡◌, ◌∙◌, ◌⊎◌, ℕ, Bool, List, [], ◌++◌, inl, inr, sym, ap, subst, arith}
+use Rattle.std.specs.Prelude.{◌≢◌, IsTrue}
 use Rattle.std.proofs.lemmas.List.{append-nil}
+use Rattle.std.proofs.lemmas.Bool.{cases_eq}
+use Rattle.sx_io.specs.Streams.{SinkAt, SourceAt}
 use Rattle.sx_io.specs.Reading.{Answer, Broken, Ended, scan}
 use Rattle.command_promise.specs.Reads.{AtEnd, AtFault, Decides, Enough, Left}
-use Rattle.command_promise.specs.Told.{CommandAt, CommandEnds, Told}
+use Rattle.command_promise.specs.Told.{CommandAt, CommandEnds, Output, Told, out_of_memory, read_failed, write_failed}
 use Rattle.command_promise.proofs.Due.{streams-within}
-use Rattle.command_promise.proofs.Laws.{told-all, told-fault, told-no-write-fault, told-quiet, told-some, told-write-fault}
+use Rattle.command_promise.proofs.Laws.{ends-same, told-all, told-fault, told-no-write-fault, told-some, told-write-fault}
 use Rattle.command_promise.proofs.Endings.{faultless, unfinished}
 use Rattle.command_promise.specs.Head.{head}
 use Rattle.command_text.specs.Faults.{TellsFaults}
@@ -17,8 +19,9 @@ use Rattle.command_explain.proofs.Found.{are_meant as are_read, meant as read}
 use Rattle.command_watch.specs.Meant.{AreMeanings, Meanings}
 use Rattle.command_watch.specs.Output.{watch_all, watch_lines}
 use Rattle.command_watch.specs.Promise.{WatchPromise, input_of}
+use Rattle.command_watch.proofs.Cut.{settled}
 use Rattle.command_watch.proofs.Owing.{due_all}
-use Rattle.command_watch.proofs.Statuses.{head_not_two, head_twelve, head_zero, not_four, not_zero}
+use Rattle.command_watch.proofs.Statuses.{head_not_two, not_four, not_zero}
 
 -- what texts and lines mean
 pub meant : Meanings
@@ -38,45 +41,59 @@ faults_are {tells} {to_tell} {m0} {m1} {status} means told = record {
   no_write = λ other. told-no-write-fault told other;
 }
 
--- status 0 is that of the whole input
-whole_zero : (left : Left) (tells to_tell : Bool) (m0 m1 : CommandAt) (taken : List ℕ) (means : Meanings) (also : List Answer → Type 0) → IsTrue tells
-    → m0.source.rest ≡ taken ++ m1.source.rest
-    → Decides left tells watch_lines m0.source m1.source taken (λ answers. CommandEnds to_tell m0.sink m1.sink 0 (watch_all means answers) × also answers)
-    → (watch_all means (input_of m0)).status ≡ 0
-whole_zero AtEnd tells to_tell m0 m1 taken means also t e d =
-    let all : m0.source.rest ≡ taken = (e ∙ ap (λ (v : List ℕ). taken ++ v) (d.1 t).rest ∙ append-nil taken) in
-    ap (λ bytes. (watch_all means (scan watch_lines Ended [] bytes)).status) all ∙ sym (d.2.0.whole (λ x. omega (arith, x)) (λ x. omega (arith, x))).0
-whole_zero AtFault tells to_tell m0 m1 taken means also t e d =
-    absurd (not_zero means (scan watch_lines Broken [] taken) (unfinished watch_lines [] taken) (sym (d.2.0.whole (λ x. omega (arith, x)) (λ x. omega (arith, x))).0))
-whole_zero Enough tells to_tell m0 m1 taken means also t e d =
-    absurd (not_zero means (scan watch_lines Broken [] (taken ++ [])) (unfinished watch_lines [] (taken ++ []))
-    (sym ((d.2 Broken []).0.whole (λ x. omega (arith, x)) (λ x. omega (arith, x))).0))
+-- What is written, and the status, are those of the whole input.
+module _ (to_tell : Bool) (k0 k1 : SinkAt) (status : ℕ) (means : Meanings) (four : status ≢ read_failed) (five : status ≢ write_failed) where
+  -- what ends so, or memory ran out
+  ends_as : (o : Output) → CommandEnds to_tell k0 k1 status o → (status ≡ out_of_memory) ⊎ ((status ≡ o.status) × (IsTrue to_tell → k1.written ≡ k0.written ++ o.text))
+  ends_as o w =
+      elim (cases_eq status out_of_memory) [
+        | inl six ↦ inl six
+        | inr six ↦ inr (w.whole five six)
+      ]
 
-zero_is : {tells to_tell : Bool} {m0 m1 : CommandAt} {status : ℕ} {also : List Answer → Type 0} (means : Meanings)
-    → Told tells to_tell watch_lines m0 m1 status (watch_all means) also → IsTrue tells → status ≡ 0 → (watch_all means (input_of m0)).status ≡ 0
-zero_is {tells} {to_tell} {m0} {m1} {status} {also} means told t zero =
+  -- where a read failed, that isn't said
+  not_unread : (bytes : List ℕ) → status ≢ out_of_memory → CommandEnds to_tell k0 k1 status (watch_all means (scan watch_lines Broken [] bytes))
+      → (watch_all means (scan watch_lines Broken [] bytes)).status ≡ read_failed → ⊥
+  not_unread bytes six w e = four ((w.whole five six).0 ∙ e)
+
+  whole_input : (left : Left) (tells : Bool) (s0 s1 : SourceAt) (taken : List ℕ) (also : List Answer → Type 0) → IsTrue tells → s0.rest ≡ taken ++ s1.rest
+      → Decides left tells watch_lines s0 s1 taken (λ answers. CommandEnds to_tell k0 k1 status (watch_all means answers) × also answers)
+      → (status ≡ out_of_memory) ⊎ CommandEnds to_tell k0 k1 status (watch_all means (scan watch_lines Ended [] s0.rest))
+  whole_input AtEnd tells s0 s1 taken also t e d =
+      let P : List ℕ → Type 0 = λ bytes. CommandEnds to_tell k0 k1 status (watch_all means (scan watch_lines Ended [] bytes)) in
+      inr (subst P (sym (e ∙ ap (λ (v : List ℕ). taken ++ v) (d.1 t).rest ∙ append-nil taken)) d.2.0)
+  whole_input AtFault tells s0 s1 taken also t e d =
+      let P : List ℕ → Type 0 = λ bytes. CommandEnds to_tell k0 k1 status (watch_all means (scan watch_lines Ended [] bytes)) in
+      elim (cases_eq status out_of_memory) [
+        | inl six ↦ inl six
+        | inr six ↦ inr (subst P (sym e) (ends-same _ _ _ _ _ _ (sym (settled watch_lines (watch_all means) taken (due_all means) (not_unread taken six d.2.0) Ended s1.rest)) d.2.0))
+      ]
+  whole_input Enough tells s0 s1 taken also t e d =
+      let P : List ℕ → Type 0 = λ bytes. CommandEnds to_tell k0 k1 status (watch_all means (scan watch_lines Ended [] bytes)) in
+      inr (subst P (sym e) (d.2 Ended s1.rest).0)
+
+exact_of : {tells to_tell : Bool} {m0 m1 : CommandAt} {status : ℕ} {also : List Answer → Type 0} (means : Meanings)
+    → Told tells to_tell watch_lines m0 m1 status (watch_all means) also → IsTrue tells → status ≢ read_failed → status ≢ write_failed
+    → EndsAs to_tell m0 m1 status (watch_all means (input_of m0))
+exact_of {tells} {to_tell} {m0} {m1} {status} {also} means told t four five =
     let r = told.reads in
-    let P : ℕ → Type 0 = λ s. Decides r.left tells watch_lines m0.source m1.source r.taken (λ answers. CommandEnds to_tell m0.sink m1.sink s (watch_all means answers) × also answers) in
-    whole_zero r.left tells to_tell m0 m1 r.taken means also t (r.from_source t) (subst P zero r.decides)
-
--- a status that isn't that of lack of memory is the one that is defined
-status_is : (to_tell : Bool) (m0 m1 : CommandAt) (status : ℕ) (means : Meanings) → EndsAs to_tell m0 m1 status (watch_all means (input_of m0)) → status ≡ 12 → (watch_all means (input_of m0)).status ≡ 12
-status_is to_tell m0 m1 status means (inl six) twelve = absurd (omega (arith, six, twelve))
-status_is to_tell m0 m1 status means (inr all) twelve = sym all.0 ∙ twelve
+    elim (whole_input to_tell m0.sink m1.sink status means four five r.left tells m0.source m1.source r.taken also t (r.from_source t) r.decides) [
+      | inl six ↦ inl six
+      | inr w ↦ ends_as to_tell m0.sink m1.sink status means four five (watch_all means (input_of m0)) w
+    ]
 
 pub watch_promise : {tells to_tell : Bool} {m0 m1 : CommandAt} {status : ℕ}
-    → ((means : Meanings) → AreMeanings means → Told tells to_tell watch_lines m0 m1 status (watch_all means) (RunsOutBehindHead status)) → WatchPromise tells to_tell m0 m1 status
-watch_promise {tells} {to_tell} {m0} {m1} {status} told = record {
+    → ((means : Meanings) → AreMeanings means → Told tells to_tell watch_lines m0 m1 status (watch_all means) (RunsOutBehindHead status))
+    → (status ≡ out_of_memory → m1.sink ≡ m0.sink) → WatchPromise tells to_tell m0 m1 status
+watch_promise {tells} {to_tell} {m0} {m1} {status} told starved = record {
   told = told;
   streams = λ means is. streams-within watch_lines (watch_all means) (due_all means) (told means is);
   faults = faults_are meant (told meant are_meant);
   read_all = λ zero t.
       told-all (told meant are_meant) (λ five. omega (arith, zero, five)) (λ six. omega (arith, zero, six))
       (λ bytes e. not_zero meant (scan watch_lines Broken [] bytes) (unfinished watch_lines [] bytes) (sym e ∙ zero)) t;
-  exact = λ means is t quiet. told-quiet (told means is) t quiet.0 quiet.1;
-  kept = λ means is t zero. head_zero means (head (input_of m0)) (zero_is means (told means is) t zero);
-  broken = λ means is t quiet twelve.
-      head_twelve means (head (input_of m0)) (status_is to_tell m0 m1 status means (told-quiet (told means is) t quiet.0 quiet.1) twelve);
+  exact = λ means is. exact_of means (told means is);
+  memory = starved;
 }
 
 -- what was told doesn't end with the status for other words

@@ -18,8 +18,9 @@ use Rattle.command_explain.specs.declared.lines.TraceRule.TheVariants.{NoTrace}
 use Rattle.command_explain.specs.Trace.{Behind, Breaks, Missing, Start, Stop, Unread, Whole, image_line, on_image, start, trace}
 use Rattle.command_explain.proofs.Stops.{start_whole, trace_kept}
 use Rattle.command_watch.specs.Meant.{Meanings}
-use Rattle.command_watch.specs.Output.{stop_output, unless_broken, watch_all, watch_found, watch_from, watch_head, watch_judged, watch_property, watch_start}
-use Rattle.command_watch.specs.Promise.{IsBrokenTrace, IsKeptTrace, OfDeployment, OfInput, OfProperty, OfRest}
+use Rattle.command_watch.specs.Output.{stop_output, unless_broken, watch_all, watch_from, watch_start}
+use Rattle.command_watch.specs.Parts.{watch_found, watch_head, watch_judged, watch_property}
+use Rattle.command_watch.specs.Laws.{IsBrokenTrace, IsKeptTrace, OfDeployment, OfInput, OfProperty, OfRest}
 
 -- ---- what a status says of a trace
 

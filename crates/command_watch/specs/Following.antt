@@ -1,6 +1,6 @@
 -- What the parts of the command do. Nobody has to believe this file: it is for contracts of
 -- functions that aren't public.
-use Rattle.std.specs.Prelude.{◌≡◌, ℕ, ◌+◌, Bool, true, false, List, [], ◌∷◌, ◌++◌, length, Option}
+use Rattle.std.specs.Prelude.{◌≡◌, ◌≢◌, ℕ, ◌+◌, Bool, true, false, List, [], ◌∷◌, ◌++◌, length, Option}
 use Rattle.std.specs.Prelude.{Some, None}
 use Rattle.sx_io.specs.Streams.{SinkAt, SourceAt}
 use Rattle.sx_io.specs.Reading.{Answer}
@@ -55,7 +55,7 @@ TurnsFrom to_tell k0 k1 old new number item turned = (p : PropertyTree) (items :
 -- nothing was written.
 abbrev pub RefusesText : Bool → SinkAt → SinkAt → ℕ → PropertyError → Type 0
 RefusesText to_tell k0 k1 status (Fault f) =
-    CommandEnds to_tell k0 k1 status (refused_output (fault_words f))
+    CommandEnds to_tell k0 k1 status (refused_output (fault_words f)) × (status ≢ out_of_memory)
 RefusesText to_tell k0 k1 status OutOfMemory = (status ≡ out_of_memory) × (k1 ≡ k0)
 
 -- after this head of the input, of which nothing was written, the command does the rest

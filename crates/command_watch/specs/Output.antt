@@ -1,25 +1,18 @@
 -- What the command `watch` writes, and its exit status: a function of what texts of deployments and
 -- properties and lines of traces mean, and of the answers that the lines of its input give.
 use Rattle.std.specs.Prelude.{ℕ, ◌+◌, List, [], ◌∷◌, ◌++◌, codes, decimal, length, Option, Some}
-use Rattle.std.specs.Prelude.{None, Result, Ok, Err, if◌then◌else◌}
+use Rattle.std.specs.Prelude.{None, if◌then◌else◌}
 use Rattle.sx_io.specs.Reading.{Answer, Limit, longest}
 use Rattle.command_promise.specs.Told.{Output, unread_output}
-use Rattle.sx_entries.specs.declared.fault.Place.TheVariants.{Nowhere}
-use Rattle.sx_entries.specs.declared.fault.DeployFault.{DeployFault}
-use Rattle.sx_entries.specs.Fault.{fault}
-use Rattle.command_promise.specs.Head.{Head, Found, TooLong, NoMark, head, is_mark}
-use Rattle.command_promise.specs.Head as heads
+use Rattle.command_promise.specs.Head.{is_mark}
 use Rattle.sx_trace.specs.declared.items.Item.{Item}
 use Rattle.sx_model.specs.Legal.{before}
-use Rattle.sx_deploy.specs.Deployment.{Deployed}
 use Rattle.sx_explain.specs.Judging.{first_forged}
 use Rattle.command_text.specs.Output.{line, end_line}
-use Rattle.command_head.specs.Refused.{fault_output}
-use Rattle.command_property.specs.Refused.{fault_words, no_property_output, refused_output}
+use Rattle.command_property.specs.Input.{of_input}
 use Rattle.command_explain.specs.Output.{broken_output, forged_line}
 use Rattle.command_explain.specs.Trace.{Start, Behind, Missing, Stop, Whole, Unread, Breaks}
 use Rattle.command_explain.specs.Trace.{image_lines, start, trace}
-use Rattle.sx_watch.specs.declared.reading.PropertyFault.{PropertyFault}
 use Rattle.sx_watch.specs.Watched.{PropertyTree, broken_at}
 use Rattle.command_watch.specs.Meant.{Meanings}
 
@@ -57,34 +50,10 @@ abbrev pub watch_start : PropertyTree → (List ℕ → Option Item) → Start �
 watch_start p item (Behind more) = watch_from p item [] more
 watch_start p item (Missing stop) = stop_output [] stop
 
-abbrev pub watch_judged : (List ℕ → Option Item) → Result PropertyTree PropertyFault → List Answer
-    → Output
-watch_judged item (Ok p) more = watch_start p item (start 1 more)
-watch_judged item (Err f) more = refused_output (fault_words f)
-
--- after a deployment: the property's text is a head, too
-abbrev pub watch_property : Meanings → Deployed → Head → Output
-watch_property means d (Found text more) =
-    watch_judged (means.trace.item d.names) (means.property d.names d.app text) more
-watch_property means d TooLong = no_property_output
-watch_property means d NoMark = no_property_output
-watch_property means d heads.Unread = unread_output
-
--- of a deployment, or the rule that it breaks
-abbrev pub watch_found : Meanings → Result Deployed DeployFault → List Answer → Output
-watch_found means (Ok d) more = watch_property means d (head more)
-watch_found means (Err f) more = fault_output f
-
--- what `watch` writes of an input's head
-abbrev pub watch_head : Meanings → Head → Output
-watch_head means (Found text more) = watch_found means (means.trace.deployment text) more
-watch_head means TooLong = fault_output (fault 1 Nowhere)
-watch_head means NoMark = fault_output (fault 2 Nowhere)
-watch_head means heads.Unread = unread_output
-
 -- the command `watch`
 abbrev pub watch_all : Meanings → List Answer → Output
-watch_all means answers = watch_head means (head answers)
+watch_all means answers = of_input means.trace.deployment means.property
+    (λ d p more. watch_start p (means.trace.item d.names) (start 1 more)) answers
 
 -- how long lines may be: those of a head, and these after it
 abbrev pub behind_mark : Limit → Limit

@@ -12,6 +12,7 @@
 
 mod following;
 mod images;
+pub mod laws;
 mod text;
 mod trace;
 mod watch;

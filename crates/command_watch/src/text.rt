@@ -1,7 +1,7 @@
 //! The lines that `watch` writes. None of this takes memory.
 
-ghost use Rattle.std.specs.Prelude.{◌≡◌, List, length};
-ghost use Rattle.command_promise.specs.Told.{CommandEnds};
+ghost use Rattle.std.specs.Prelude.{◌≡◌, ◌≢◌, List, length};
+ghost use Rattle.command_promise.specs.Told.{CommandEnds, out_of_memory};
 ghost use Rattle.sx_trace.specs.declared.items.Item.{Item as Listed};
 ghost use Rattle.sx_model.specs.Legal.{before};
 ghost use Rattle.sx_watch.specs.Watched.{PropertyTree};
@@ -30,8 +30,9 @@ fn broken_text(number: u32) -> Text
 
 /// Writes that the item of this number breaks the property.
 pub(crate) fn finish_broken<K: Sink>(output: &mut K, number: u32) -> u8
-    ensures { CommandEnds K.tells (K.at output.old) (K.at output.new) result
+    ensures ends { CommandEnds K.tells (K.at output.old) (K.at output.new) result
         (broken_line number) }
+    ensures memory { result ≢ out_of_memory }
 {
     finish(output, broken_text(number).as_slice(), BROKEN)
 }
@@ -64,9 +65,10 @@ fn kept_text(following: &Following, count: u32) -> Text
 
 /// Writes that none of so many items breaks the property.
 pub(crate) fn finish_kept<K: Sink>(output: &mut K, following: &Following, count: u32) -> u8
-    ensures { (p : PropertyTree) (items : List Listed) → Stands p items following.now
+    ensures ends { (p : PropertyTree) (items : List Listed) → Stands p items following.now
         → count ≡ length items → CommandEnds K.tells (K.at output.old) (K.at output.new) result
         (kept_output items) }
+    ensures memory { result ≢ out_of_memory }
 {
     finish(output, kept_text(following, count).as_slice(), 0)
 }

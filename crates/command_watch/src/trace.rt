@@ -1,8 +1,8 @@
 //! The lines of a trace. The property follows each item, and the command ends at the first that
 //! breaks it.
 
-ghost use Rattle.std.specs.Prelude.{◌≡◌, ◌+◌, ◌<◌, [], IsTrue, List, length};
-ghost use Rattle.command_promise.specs.Told.{command_at};
+ghost use Rattle.std.specs.Prelude.{◌≡◌, ◌≢◌, ◌+◌, ◌<◌, [], IsTrue, List, length};
+ghost use Rattle.command_promise.specs.Told.{command_at, out_of_memory};
 ghost use Rattle.command_promise.specs.Parts.{Rest};
 ghost use Rattle.sx_trace.specs.declared.items.Item.{Item as Listed};
 ghost use Rattle.sx_trace.specs.ValidNames.{are_valid};
@@ -30,8 +30,10 @@ fn turn<K: Sink>(
     item: &Item,
     number: u32,
 ) -> Turned
-    ensures { TurnsFrom K.tells (K.at output.old) (K.at output.new) following.old following.new
+    ensures turns { TurnsFrom K.tells (K.at output.old) (K.at output.new) following.old following.new
         number item.now result }
+    ensures still { result ≡ Turned.On → K.at output.new ≡ K.at output.old }
+    ensures starved { result ≡ Turned.Stop out_of_memory → K.at output.new ≡ K.at output.old }
 {
     match following.item(alloc, item, number) {
         Ok(false) => Turned::On,
@@ -51,12 +53,13 @@ fn watch_end<S: Source, K: Sink>(
 ) -> u8
     requires names { IsTrue (are_valid names.now) }
     requires few { count < MOST_LINES }
-    ensures { (means : Meanings) (p : PropertyTree) (items : List Listed) → AreMeanings means
+    ensures rest { (means : Meanings) (p : PropertyTree) (items : List Listed) → AreMeanings means
         → Stands p items following.now → count ≡ length items
         → Rest S.tells K.tells trace_lines lines.old
         (command_at (S.at input.old) (K.at output.old))
         (command_at (S.at input.new) (K.at output.new)) result
         (λ more. stop_output items (stop_behind (means.item names.now) (count + 2) more)) }
+    ensures memory { result ≢ out_of_memory }
 {
     let mut into = [0; 4096];
     let number = count + 2;
@@ -78,12 +81,13 @@ fn watch_lines<S: Source, K: Sink>(
     following: &mut Following,
 ) -> u8
     requires names { IsTrue (are_valid names.now) }
-    ensures { (means : Meanings) (p : PropertyTree) → AreMeanings means
+    ensures rest { (means : Meanings) (p : PropertyTree) → AreMeanings means
         → Stands p [] following.old
         → Rest S.tells K.tells trace_lines lines.old
         (command_at (S.at input.old) (K.at output.old))
         (command_at (S.at input.new) (K.at output.new)) result
         (watch_from p (means.item names.now) []) }
+    ensures starved { result ≡ out_of_memory → K.at output.new ≡ K.at output.old }
 {
     let mut into = [0; 4096];
     let mut number: u32 = 1;
@@ -116,11 +120,12 @@ pub(crate) fn watch_trace<S: Source, K: Sink>(
     property: Property,
 ) -> u8
     requires names { IsTrue (are_valid names.now) }
-    ensures { (means : Meanings) → AreMeanings means
+    ensures rest { (means : Meanings) → AreMeanings means
         → Rest S.tells K.tells trace_lines lines.old
         (command_at (S.at input.old) (K.at output.old))
         (command_at (S.at input.new) (K.at output.new)) result
         (watch_from (property_as property) (means.item names.now) []) }
+    ensures starved { result ≡ out_of_memory → K.at output.new ≡ K.at output.old }
 {
     match Following::new(alloc, property) {
         Ok(mut following) => watch_lines(alloc, lines, input, output, names, &mut following),

@@ -2,7 +2,7 @@
 //! trace while it is read.
 
 ghost use Rattle.std.specs.Prelude.{◌≡◌, ℕ, IfErr, IfOk, IsTrue, List, Ok, OnErr};
-ghost use Rattle.command_promise.specs.Told.{Told, command_at};
+ghost use Rattle.command_promise.specs.Told.{Told, command_at, out_of_memory};
 ghost use Rattle.command_promise.specs.Parts.{Rest};
 ghost use Rattle.sx_trace.specs.ValidNames.{are_valid};
 ghost use Rattle.sx_mean.specs.View.{app_as};
@@ -12,7 +12,8 @@ ghost use Rattle.command_head.specs.Found.{RunsOutBehindHead};
 ghost use Rattle.command_explain.specs.Trace.{image_lines};
 ghost use Rattle.command_watch.specs.Meant.{AreMeanings, Meanings};
 ghost use Rattle.command_watch.specs.Following.{RefusesText, ReadsOn};
-ghost use Rattle.command_watch.specs.Output.{watch_all, watch_judged, watch_lines};
+ghost use Rattle.command_watch.specs.Output.{watch_all, watch_lines};
+ghost use Rattle.command_watch.specs.Parts.{watch_judged};
 ghost use Rattle.command_watch.specs.Promise.{WatchPromise};
 
 use crate::images::watch_images;
@@ -45,12 +46,13 @@ fn watch_text<S: Source, K: Sink>(
     deployment: &Deployment,
 ) -> u8
     requires names { IsTrue (are_valid deployment.now.names) }
-    ensures { (means : Meanings) → AreMeanings means
+    ensures rest { (means : Meanings) → AreMeanings means
         → Rest S.tells K.tells image_lines lines.old
         (command_at (S.at input.old) (K.at output.old))
         (command_at (S.at input.new) (K.at output.new)) result
         (watch_judged (means.trace.item deployment.now.names)
         (means.property deployment.now.names (app_as deployment.now.app) text.now)) }
+    ensures starved { result ≡ out_of_memory → K.at output.new ≡ K.at output.old }
 {
     match read_property(alloc, &deployment.names, &deployment.app, text) {
         Ok(property) => { watch_images(alloc, lines, input, output, &deployment.names, property) }
@@ -67,10 +69,11 @@ fn watch_deployed<S: Source, K: Sink>(
     deployment: &Deployment,
 ) -> u8
     requires names { IsTrue (are_valid deployment.now.names) }
-    ensures { (means : Meanings) (text : List ℕ) → AreMeanings means
+    ensures reads { (means : Meanings) (text : List ℕ) → AreMeanings means
         → means.trace.deployment text ≡ Ok (deployed_as deployment.now)
         → ReadsOn means text S.tells K.tells (S.at input.old) lines.old (K.at output.old)
         (command_at (S.at input.new) (K.at output.new)) result }
+    ensures starved { result ≡ out_of_memory → K.at output.new ≡ K.at output.old }
 {
     match read_text(alloc, lines, input) {
         Ok(text) => watch_text(alloc, &text, lines, input, output, deployment),
@@ -98,6 +101,7 @@ fn watch_read<S: Source, K: Sink>(
     ensures refused { IfErr read (λ error.
         EndsRefused K.tells (K.at output.old) (K.at output.new) result error) }
     ensures unread { OnErr read (S.at input.new ≡ S.at input.old) }
+    ensures starved { result ≡ out_of_memory → K.at output.new ≡ K.at output.old }
 {
     match read {
         Ok(deployment) => watch_deployed(alloc, lines, input, output, &deployment),
@@ -113,9 +117,10 @@ fn watch_head<S: Source, K: Sink>(
     input: &mut S,
     output: &mut K,
 ) -> u8
-    ensures { (means : Meanings) → AreMeanings means
+    ensures reads { (means : Meanings) → AreMeanings means
         → ReadsOn means text.now S.tells K.tells (S.at input.old) lines.old (K.at output.old)
         (command_at (S.at input.new) (K.at output.new)) result }
+    ensures starved { result ≡ out_of_memory → K.at output.new ≡ K.at output.old }
 {
     watch_read(alloc, read_deployment(alloc, text), lines, input, output)
 }
@@ -123,10 +128,11 @@ fn watch_head<S: Source, K: Sink>(
 /// What `watch` writes is what is defined for what it took. To say that there is no head takes no
 /// memory.
 fn watch_told<S: Source, K: Sink>(alloc: Global, input: &mut S, output: &mut K) -> u8
-    ensures { (means : Meanings) → AreMeanings means
+    ensures told { (means : Meanings) → AreMeanings means
         → Told S.tells K.tells watch_lines (command_at (S.at input.old) (K.at output.old))
         (command_at (S.at input.new) (K.at output.new)) result (watch_all means)
         (RunsOutBehindHead result) }
+    ensures starved { result ≡ out_of_memory → K.at output.new ≡ K.at output.old }
 {
     let mut lines = Lines::new();
     match read_head(alloc, &mut lines, input) {

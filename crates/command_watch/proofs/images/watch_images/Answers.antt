@@ -9,38 +9,41 @@ use Rattle.command_watch.specs.Output.{watch_start}
 use Rattle.command_watch.proofs.images.watch_images.Goals as goal
 
 pub lines-init : goal.lines-init
-lines-init g c = record { few = omega arith; begun = λ means is limit m0 defined aside noted b. b }
+lines-init g c = record { few = omega arith; begun = λ means is limit m0 defined aside noted b. b; still = refl }
 
-pub returns-in-End : goal.returns-in-End
-returns-in-End g c = λ means is limit m0 defined aside noted b.
+pub returns-in-End-clause-rest : goal.returns-in-End-clause-rest
+returns-in-End-clause-rest g c = λ means is limit m0 defined aside noted b.
     let f = start_from (watch_start (property_as c.args.property) (means.item c.args.names.now)) c.lines.number in
     told-end {f = f} refl (c.lines.invariant.begun means is limit m0 defined aside noted b) c.in-End.ensures.passes.next c.break_off.ensures.ends
 
-pub returns-in-TooLong : goal.returns-in-TooLong
-returns-in-TooLong g c = λ means is limit m0 defined aside noted b.
+pub returns-in-TooLong-clause-rest : goal.returns-in-TooLong-clause-rest
+returns-in-TooLong-clause-rest g c = λ means is limit m0 defined aside noted b.
     let f = start_from (watch_start (property_as c.args.property) (means.item c.args.names.now)) c.lines.number in
     told-too-long {f = f} refl (c.lines.invariant.begun means is limit m0 defined aside noted b) c.in-TooLong.ensures.passes.next c.break_off-in-TooLong.ensures.ends
 
-pub returns-in-Failed : goal.returns-in-Failed
+pub returns-in-Failed-clause-rest : goal.returns-in-Failed-clause-rest
 unfolding read_line
-returns-in-Failed g c = λ means is limit m0 defined aside noted b.
+returns-in-Failed-clause-rest g c = λ means is limit m0 defined aside noted b.
     let f = start_from (watch_start (property_as c.args.property) (means.item c.args.names.now)) c.lines.number in
     told-failed {f = f} refl (c.lines.invariant.begun means is limit m0 defined aside noted b) c.in-Failed.ensures.passes.next c.finish.ensures.ends
 
-pub returns-in-Trace : goal.returns-in-Trace
-returns-in-Trace g c = λ means is limit m0 defined aside noted b.
+pub returns-in-Trace-clause-rest : goal.returns-in-Trace-clause-rest
+returns-in-Trace-clause-rest g c = λ means is limit m0 defined aside noted b.
     let p = c.in-Text.ensures.passes in
     let is_trace = sym (passed_line c.in-Text.count c.pass.new.front p.into c.in-Trace.ensures.room p.fronts c.lines.number) ∙ sym c.in-Trace.ensures.line in
-    c.watch_trace.ensures means is limit m0 defined aside noted
+    c.watch_trace.ensures.rest means is limit m0 defined aside noted
     (behind_trace (watch_start (property_as c.args.property) (means.item c.args.names.now)) refl c.lines.number (c.lines.invariant.begun means is limit m0 defined aside noted b) p.next is_trace)
 
-pub returns-in-Other : goal.returns-in-Other
-returns-in-Other g c = λ means is limit m0 defined aside noted b.
+pub returns-in-Other-clause-rest : goal.returns-in-Other-clause-rest
+returns-in-Other-clause-rest g c = λ means is limit m0 defined aside noted b.
     let say = watch_start (property_as c.args.property) (means.item c.args.names.now) in
     let p = c.in-Text.ensures.passes in
     let is_other = sym (passed_line c.in-Text.count c.pass.new.front p.into c.in-Other.ensures.room p.fronts c.lines.number) ∙ sym c.in-Other.ensures.line in
     told-stop (given say refl c.lines.number (c.lines.invariant.begun means is limit m0 defined aside noted b) p.next)
     (λ more. ends-same _ _ _ _ _ _ (ap (λ l. say (on_image c.lines.number l more (start (c.lines.number + 1) more))) is_other) c.break_off-in-Other.ensures.ends)
+
+pub returns-in-Trace-clause-starved : goal.returns-in-Trace-clause-starved
+returns-in-Trace-clause-starved g c = λ six. c.watch_trace.ensures.starved six ∙ c.lines.invariant.still
 
 pub lines-preserved : goal.lines-preserved
 lines-preserved g c =
@@ -50,4 +53,5 @@ lines-preserved g c =
       few = omega (arith, few);
       begun = λ means is limit m0 defined aside noted b.
           behind_image (watch_start (property_as c.args.property) (means.item c.args.names.now)) refl c.lines.number (c.lines.invariant.begun means is limit m0 defined aside noted b) p.next is_image;
+      still = c.lines.invariant.still;
     }
