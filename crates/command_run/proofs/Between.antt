@@ -15,7 +15,7 @@ use Rattle.command_deploy.proofs.Given.{Gave}
 use Rattle.command_run.specs.declared.trace.Shown.{Shown}
 use Rattle.command_run.specs.Turns.{shown_from}
 
--- A world stands, and what is left is what is kept, and then what is defined from the next line on in it; and the lines before that were given.
+-- There is a world, and what is left is what is kept, and then what is defined from the next line on in it; and the lines before that were given.
 pub record Between (shown : Shown) (tells to_tell : Bool) (m1 m2 : CommandAt) (old new : Ahead) (names : NameLists) (set : Setting) (held : Held) (number : ℕ) (kept : List ℕ) : Type 0 where
   pub world : World
   pub stands : Stands set held world

@@ -65,7 +65,7 @@ pub record TurnsLine (shown : Shown) (to_tell : Bool) (k0 k1 : SinkAt) (kept mor
       (λ more. shown_from shown names set w number (answer.Line text ∷ more))
       turned (shown_from shown names set next (number + 1))
 
--- whatever world it stood at
+-- whatever world it was at
 abbrev pub TurnsFrom : Shown → Bool → SinkAt → SinkAt → List ℕ → List ℕ → NameLists → Setting
     → Held → Held → ℕ → List ℕ → Turned → Type 0
 TurnsFrom shown to_tell k0 k1 kept more_kept names set held left number text turned =

@@ -13,13 +13,13 @@ use Rattle.law_setup.proofs.forms.Settled.{Settled}
 use Rattle.law_setup.proofs.Runs.{run_append, shown_append}
 use Rattle.law_delivery.proofs.InWords.{InWords}
 
--- a world that is as a course says, whose values are words over connections that are there
+-- a world that agrees with a course, whose values are words over connections that are there
 pub record Stands (set : Setting) (w : World) (c : Course) : Type 0 where
   pub settled : Settled set w c
   pub told : IsTold set.app c
   pub words : InWords set.app c.plain
 
--- lines lead to a world that is as the later course says, and show the items that it has more, line by line these
+-- lines lead to a world that agrees with the later course, and show the items that it has more, line by line these
 pub record Leads (set : Setting) (w : World) (lines : List Line) (shown : List (List Item)) (c d : Course) : Type 0 where
   pub world : World
   pub items : List Item

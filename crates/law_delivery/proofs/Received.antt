@@ -1,4 +1,4 @@
--- A delivery in a world that is as a course says: the oldest packet is given, its receiver takes it, and what that sends is taken.
+-- A delivery in a world that agrees with a course: the oldest packet is given, its receiver takes it, and what that sends is taken.
 use Rattle.std.proofs.Common.{◌≡◌, ℕ, suc, ◌+◌, ◌*◌, ◌/◌, ◌%◌, ◌<◌, ◌≤◌, true, false, List, [], ◌∷◌, ◌++◌, length, length-append, map, Option, Some, slice_get}
 use Rattle.std.proofs.Common.{append_assoc, refl, sym, ◌∙◌, ap, subst, arith}
 use Rattle.std.specs.Prelude.{All, AllPairs, slice_index_or}

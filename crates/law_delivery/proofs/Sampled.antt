@@ -1,4 +1,4 @@
--- A reading in a world that is as a course says: the sensor gets its value, its driver reads it, and what it sends is taken.
+-- A reading in a world that agrees with a course: the sensor gets its value, its driver reads it, and what it sends is taken.
 use Rattle.std.proofs.Common.{◌≡◌, ℕ, zero, suc, ◌+◌, ◌<◌, ◌≤◌, inl, Bool, true, false, if◌then◌else◌, List, [], ◌∷◌, ◌++◌, length, length-append, map, Some}
 use Rattle.std.proofs.Common.{None, slice_get, refl, sym, ◌∙◌, ap, subst, arith}
 use Rattle.std.specs.Prelude.{All, AllPairs, slice_index_or}

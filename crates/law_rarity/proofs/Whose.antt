@@ -26,7 +26,7 @@ module _ (set : Setting) (n : ℕ) (s : State) (own : Section) where
   abbrev pub Whose : Holder → Type 0
   Whose who = (who ≡ section_holder n s own) ⊎ ((key : List ℕ) × (who ≡ Held key) × (length key ≡ 16))
 
-  -- what code unwraps: a header and a cipher that stand in memory, of 32 bytes at most
+  -- what code unwraps: a header and a cipher that are in memory, of 32 bytes at most
   pub record Unwrapped (rest : List ℕ) : Type 0 where
     pub header_fits : slice_index s.regs 11 ≤ 32
     pub cipher_fits : slice_index s.regs 13 ≤ 32

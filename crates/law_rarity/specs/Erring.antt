@@ -37,7 +37,7 @@ pub record KeepsTo (set : Setting) (make : Maker) (n q : ℕ) (t : List ℕ) : T
   pub ends : let s = with_tags set (all_entries (length set.app.parts)) t in
       moment s (made s make n).lines q ≡ None
 
--- Over a table of random tags of all modules at all boots, whatever stands beside it, it says so
+-- Over a table of random tags of all modules at all boots, whatever is beside it, it says so
 -- for at most the part q / 2^128 of all tables.
 abbrev pub SeldomErrs : Setting → Mac → Maker → (n q : ℕ) → Type 0
 SeldomErrs set base make n q =

@@ -44,7 +44,7 @@ pub fn pads_once()
     ensures { PadsOnce }
 {}
 
-/// Which keys stand in the place of those of connections is unseen, as long as none of them is used.
+/// Which keys are in the place of those of connections is unseen, as long as none of them is used.
 pub fn places_unseen()
     ensures { PlacesUnseen }
 {}

@@ -7,7 +7,7 @@
 //! wrong, whatever the tag function, the images and the places are.
 //!
 //! There is no code here. In `proofs/` read `forms/Settled.antt` first: the world after the set-up
-//! is as the course of the honest run says.
+//! agrees with the course of the honest run.
 #![tactic(auto)]
 
 pub mod laws;

@@ -31,7 +31,7 @@ pub most : MOST_LINES ≡ 65536
 unfolding MOST_LINES
 most = refl
 
--- so do the program's world and the world that it stands at
+-- so do the program's world and the world that it is at
 pub stands_lines : (set : Setting) (held : Held) (w : World) → Stands set held w → w.lines ≡ held.performed
 stands_lines set held w s =
     let counted : (run set (switched_on set) s.lines).world.lines ≡ 0 + length s.lines = run_counts set s.lines (switched_on set) in
@@ -43,7 +43,7 @@ stands_lines set held w s =
 abbrev pub line_part : Line → Part
 line_part line set h = performed line h (next set h.world line)
 
--- what a world's act asks of where the run stands
+-- what a world's act asks of where the run is
 pub goes_sound : (mac : Mac) (d : Deployment) (k : Kept) → GoesOn mac d k → IsSoundSetting (world_setting mac d k.world)
 goes_sound mac d k goes = subst (λ (s : Setting). IsSoundSetting s) goes.follows.setting goes.sound
 

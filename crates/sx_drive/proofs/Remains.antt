@@ -13,7 +13,7 @@ use Rattle.sx_drive.specs.Driving.{Kept, Follows, LosesNothing, SaysLast, Did, W
 abbrev pub Part : Type 0
 Part = Setting → Honest → Driven
 
--- Where the run stands, with this left of the whole, and what was said before.
+-- Where the run is, with this left of the whole, and what was said before.
 pub record At (mac : Mac) (d : Deployment) (old now : Kept) (before came : List Told) (set : Setting) (whole : Driven) (left : Part) : Type 0 where
   pub honest : Honest
   pub said : List Said

@@ -43,7 +43,7 @@ pub record Kept : Type 0 where
   pub long : Bool
   pub ran_out : Bool
 
--- the packets that the last line showed wait behind the others
+-- the packets that the last line showed wait after the others
 abbrev pub queued : Kept → Kept
 queued k = record {
   world = k.world;
@@ -77,7 +77,7 @@ left k = record {
   ran_out = k.ran_out;
 }
 
--- With the images of this setting it stands where an honest run does, and its world hasn't run out
+-- With the images of this setting it is where an honest run does, and its world hasn't run out
 -- of memory.
 pub record Follows (mac : Mac) (deployment : Deployment) (kept : Kept) (set : Setting)
     (h : Honest) : Type 0 where
@@ -89,7 +89,7 @@ pub record Follows (mac : Mac) (deployment : Deployment) (kept : Kept) (set : Se
   pub room : h.world.lines ≤ MOST_LINES
   pub memory : kept.world.ran_out ≡ false
 
--- It stands where some honest run of a deployment that is sound does, with images that realize their
+-- It is where some honest run of a deployment that is sound does, with images that realize their
 -- modules.
 pub record GoesOn (mac : Mac) (deployment : Deployment) (kept : Kept) : Type 0 where
   pub set : Setting
@@ -98,7 +98,7 @@ pub record GoesOn (mac : Mac) (deployment : Deployment) (kept : Kept) : Type 0 w
   pub deployed : IsSoundDeployment (deployed_as deployment)
   pub sound : IsSoundSetting set
 
--- what was said is a prefix of what is due, behind what was said before
+-- what was said is a prefix of what is due, after what was said before
 pub record SaysFront (before after due : List Said) : Type 0 where
   pub front : List Said
   pub rest : List Said
@@ -117,7 +117,7 @@ pub record SaysLast (left : Held) (said : List Said) : Type 0 where
 abbrev pub LosesNothing : Held → Held → List Said → List Said → Type 0
 LosesNothing old new before after = ((new ≡ old) × (after ≡ before)) ⊎ SaysLast new after
 
--- It stood where an honest run does, and stands where this leads, and all that this says was said.
+-- It was where an honest run does, and is where this leads, and all that this says was said.
 abbrev pub Did : Mac → Deployment → Kept → Kept → List Told → List Told
     → (Setting → Honest → Driven) → Type 0
 Did mac deployment old new before after act =

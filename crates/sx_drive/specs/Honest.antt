@@ -23,7 +23,7 @@ pub data Said : Type 0 where
   SaidLine : Line → Said
   SaidItem : Item → Said
 
--- where it stands: the world, the numbers of the packets that wait with the oldest first, what the
+-- where it is: the world, the numbers of the packets that wait with the oldest first, what the
 -- last line showed, and whether a line was due for which a schedule has no room
 pub record Honest : Type 0 where
   pub world : World
@@ -117,7 +117,7 @@ hands set entry x k h =
     then_ (says set (Give k x.node IN_WINDOW) h)
     (calls set entry x)
 
--- the packets that were shown wait behind the others
+-- the packets that were shown wait after the others
 abbrev pub queues : Honest → Driven
 queues h = still (record {
   world = h.world;
@@ -178,7 +178,7 @@ target_of app link = option_and_then (λ (l : Link). callee_at app l.to) (slice_
 abbrev pub receiver_of : AppTree → List ℕ → Option Callee
 receiver_of app packet = option_and_then (target_of app) (slice_get packet 2)
 
--- a packet is handed to its receiver, and what that makes waits behind the others
+-- a packet is handed to its receiver, and what that makes waits after the others
 abbrev pub receives : Setting → ℕ → Callee → Honest → Driven
 receives set k x h = then_ (hands set input_entry x k h) (collects set x.node)
 

@@ -80,7 +80,7 @@ pub(crate) fn packets_of(alloc: Global, items: &[Item]) -> Result<Vec<u32>, Allo
     Ok(packets)
 }
 
-/// Packets that were shown wait behind the others.
+/// Packets that were shown wait after the others.
 #[tactic(auto, using(crate::proofs::Shown::packets_next))]
 fn add_waiting(items: &[Item], waiting: &mut VecDeque<u32>) -> Result<(), AllocError>
     ensures { OnOk result (waiting.new.items ≡ waiting.old.items ++ packets_of items.now) }
@@ -165,7 +165,7 @@ impl<B: Copied, T: Tag> Honest<B, T> {
         Ok(())
     }
 
-    /// Packets that were shown wait behind the others.
+    /// Packets that were shown wait after the others.
     fn queue(&mut self) -> Result<(), AllocError>
         ensures ok { OnOk result (self.new ≡ queued self.old) }
         ensures world { self.new.world ≡ self.old.world }

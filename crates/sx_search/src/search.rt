@@ -466,7 +466,7 @@ fn close(
     Err(Halt::GivesUp(Reason::TooManyRounds))
 }
 
-/// Where the search stands.
+/// Where the search is.
 fn gap_at(alloc: Global, reason: Reason, search: &Search) -> Result<Gap, AllocError> {
     let cells = if search.row < search.table.rows.len() {
         Vec::from_slice(alloc, &search.table.rows[search.row].watch)?

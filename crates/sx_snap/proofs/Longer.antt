@@ -76,7 +76,7 @@ module _ (mac : Mac) (d : Deployed) where
             subst (λ (lines : List Line). StandsAfter set lines held) (sym (take_none (i * every))) (subst (λ (h : Held). StandsAfter set [] h) is here);
       }
 
-  -- a checkpoint stands after lines that are there
+  -- there is a checkpoint after lines that are there
   within : (t : Kept) (i : ℕ) (held : Held) → IsTimeline mac d t → slice_get t.checkpoints i ≡ Some held → i * t.every ≤ length t.lines
   within t i held is e =
       let lt = slice_get_within t.checkpoints i held e in

@@ -41,7 +41,7 @@ take_suc (x ∷ lines) (suc k) line e = ap (λ (xs : List Line). x ∷ xs) (take
 pub take_next : (lines : List Line) (k : ℕ) (line : Line) → slice_get lines k ≡ Some line → take (k + 1) lines ≡ take k lines ++ line ∷ []
 take_next lines k line e = let one : k + 1 ≡ suc k = omega arith in ap (λ (n : ℕ). take n lines) one ∙ take_suc lines k line e
 
--- a line was performed in a world that stands after those before
+-- a line was performed in a world that is after those before
 pub one_more : (set : Setting) (before : List Line) (line : Line) (held left : Held) → StandsAfter set before held
     → ((w : World) → Stands set held w → Stands set left (next set w line).world) → left.sites ≡ held.sites → left.performed ≡ held.performed + 1 → left.ran_out ≡ false
     → StandsAfter set (before ++ line ∷ []) left
@@ -76,7 +76,7 @@ taken_long lines zero h = refl
 taken_long [] (suc k) h = absurd (omega (arith, h))
 taken_long (x ∷ lines) (suc k) h = ap suc (taken_long lines k (omega (arith, h)))
 
--- the items of a line that was performed in a world that stands after those before
+-- the items of a line that was performed in a world that is after those before
 pub items_found : (mac : Mac) (d : Deployed) (sites : List Site) (lines : List Line) (at before : ℕ) (held : Held) (line : Line) (old new : List Item) → before ≡ at - 1
     → StandsAfter (setting mac d sites) (take before lines) held → slice_get lines before ≡ Some line → old ≡ []
     → ((w : World) → Stands (setting mac d held.sites) held w → new ≡ old ++ (next (setting mac d held.sites) w line).items) → new ≡ items_at (setting mac d sites) lines at
@@ -119,7 +119,7 @@ pub same_run : (mac : Mac) (d : Deployed) (a b : List Site) (ls ms : List Line) 
 same_run mac d a b ls ms n held here e f =
     subst (λ (s : List Site). StandsAfter (setting mac d s) (take n ms) held) e (subst (λ (l : List Line). StandsAfter (setting mac d a) (take n l) held) f here)
 
--- a world that stands has the nodes of the deployment
+-- a world that is reached has the nodes of the deployment
 pub nodes_long : (mac : Mac) (d : Deployed) (sites : List Site) (lines : List Line) (held : Held) → deployment.IsSoundDeployment d → IsSoundSetting (setting mac d sites)
     → StandsAfter (setting mac d sites) lines held → length held.running.nodes ≡ length d.names.nodes
 nodes_long mac d sites lines held acc sound here =

@@ -15,7 +15,7 @@ use Rattle.sx_world.specs.Standing.{Stands}
 use Rattle.sx_snap.specs.Kept.{Kept}
 use Rattle.sx_snap.specs.Timeline.{world_after}
 
--- The program's world stands where the run of these lines leads, and no act of it ran out of
+-- The program's world is where the run of these lines leads, and no act of it ran out of
 -- memory.
 pub record StandsAfter (set : Setting) (lines : List Line) (held : Held) : Type 0 where
   pub sites : held.sites ≡ set.sites
@@ -30,7 +30,7 @@ NextCheckpoint mac d t line (Some held) = (length t.lines + 1 ≡ length t.check
     × StandsAfter (setting mac d t.sites) (t.lines ++ line ∷ []) held
 
 -- A timeline of this deployment, which is sound and at whose sites its modules' images are: its
--- lines are in form, and each checkpoint stands after as many of them as its place says. There are
+-- lines are in form, and each checkpoint is after as many of them as its place says. There are
 -- as many checkpoints as the lines have room for.
 pub record IsTimeline (mac : Mac) (d : Deployed) (t : Kept) : Type 0 where
   pub sound : IsSoundDeployment d

@@ -4,7 +4,7 @@ use Rattle.sx_sched.specs.Lines.{Line}
 use Rattle.spec_run.specs.Setting.{Site}
 use Rattle.sx_world.specs.Held.{Held}
 
--- where its modules are deployed, its lines, after how many lines a checkpoint stands, and the
+-- where its modules are deployed, its lines, after how many lines there is a checkpoint, and the
 -- checkpoints, the first of them before all lines
 pub record Kept : Type 0 where
   pub sites : List Site

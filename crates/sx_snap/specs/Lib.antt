@@ -1,4 +1,4 @@
--- Begin with Timeline: where a run stands after any of its lines. Checkpoints and Kept are what the
+-- Begin with Timeline: where a run is after any of its lines. Checkpoints and Kept are what the
 -- program keeps of it; Laws is of the items of single lines.
 pub mod Kept
 pub mod Laws

@@ -1,4 +1,4 @@
--- Where a run stands after any of its lines, and which items lines show.
+-- Where a run is after any of its lines, and which items lines show.
 use Rattle.std.specs.Prelude.{ℕ, ◌-◌, List, [], take, slice_get, Option, Some, None}
 use Rattle.sx_trace.specs.declared.items.Item.{Item}
 use Rattle.sx_sched.specs.Lines.{Line}

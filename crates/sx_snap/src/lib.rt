@@ -1,4 +1,4 @@
-//! The lines of a run, and where it stands after any of them.
+//! The lines of a run, and where it is after any of them.
 //!
 //! A `Timeline` keeps the lines that were pushed, and after each so many of them a checkpoint: a
 //! world of its own. `seek` and `items` copy the nearest checkpoint at or before the line that is

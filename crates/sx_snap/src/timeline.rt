@@ -30,7 +30,7 @@ use sx_world::world::World;
 #[derive(Drop)]
 pub struct Timeline<B: Bus, T: Tag> {
     alloc: Global,
-    /// After how many lines a checkpoint stands.
+    /// After how many lines there is a checkpoint.
     every: u32,
     lines: Vec<Line>,
     /// The worlds before all lines, after the first `every` of them, and so on.
@@ -52,7 +52,7 @@ impl<B: Bus, T: Tag> Model for Timeline<B, T> {
     } };
 }
 
-/// Performs the lines from one index up to another in a world that stands after those before, and
+/// Performs the lines from one index up to another in a world that is after those before, and
 /// drops their items.
 fn replay<B: Copied, T: Tag>(
     alloc: Global,
@@ -84,7 +84,7 @@ fn replay<B: Copied, T: Tag>(
 
 impl<B: Copied, T: Tag + Copy> Timeline<B, T> {
     /// The timeline of a deployment with these images of its modules, without a line, where all
-    /// nodes were just switched on. A checkpoint will stand after each `every` lines, of which
+    /// nodes were just switched on. There will be a checkpoint after each `every` lines, of which
     /// there is at least one. It fails only where memory runs out.
     pub fn new(
         alloc: Global,

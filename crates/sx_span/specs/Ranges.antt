@@ -17,7 +17,7 @@ pub use Rattle.sx_span.specs.declared.pieces.ActRange.TheVariants.{SendIn, EmitI
 use Rattle.sx_span.specs.Intervals.{Interval, Lies, hull, only}
 use Rattle.sx_span.specs.Operators.{apply_range, combine_range}
 
--- a path through a handler: what is known where it stands
+-- a path through a handler: what is known where it is
 pub record Path : Type 0 where
   pub locals : List LocalRange
   pub cells : List Interval

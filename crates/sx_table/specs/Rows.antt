@@ -10,7 +10,7 @@ use Rattle.sx_table.specs.Boxes.{Interval}
 use Rattle.sx_table.specs.Places.{PlaceTree, covers_places, place_as}
 use Rattle.sx_table.specs.Stays.{Freed, Nobody, frees_module, is_set, item_lists, values_stay}
 
--- where the application may stand while the property's cells lie in a box, as plain data
+-- where the application may be while the property's cells lie in a box, as plain data
 pub record RowTree : Type 0 where
   pub watch : List Interval
   pub absent : List Bool

@@ -1,4 +1,4 @@
-//! Tables: where an application may stand while a property has seen what it has, and whether no
+//! Tables: where an application may be while a property has seen what it has, and whether no
 //! item
 //! leads out of one.
 //!

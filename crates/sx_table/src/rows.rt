@@ -12,7 +12,7 @@ use crate::stays::{Freed, frees_module, is_set, values_stay};
 use sx_mean::apps::App;
 use sx_span::intervals::Interval;
 
-/// Where the application may stand while the property's cells are in the box.
+/// Where the application may be while the property's cells are in the box.
 #[derive(Drop)]
 pub struct Row {
     /// Where the property's cells lie.

@@ -27,13 +27,13 @@ assume_ends = OpenBrace ∷ CloseBrace ∷ Else ∷ OpenBrace ∷ Name ended ∷
 abbrev pub is_reserved : List ℕ → Bool
 is_reserved w = bytes_eq w (codes "fail") || bytes_eq w (codes "assume")
 
--- a token that is no name, where the language's own stand
+-- a token that is no name, where the language's own are
 abbrev pub other : Kind → List Kind
 other k = if is_left_out k then Bad ∷ [] else k ∷ []
 
 -- What a token becomes, after this many heads, and how the next one is read. The first word of a
 -- head is left out, and the name after it becomes an input, with a parameter where its items have
--- no value. What may not stand there becomes `Bad`.
+-- no value. What may not be there becomes `Bad`.
 abbrev pub read_as : Mode → ℕ → Kind → List Kind × Mode
 read_as Plain n On = (On ∷ [], Head)
 read_as Plain n (Name w) = if bytes_eq w (codes "fail") then (fail_begins, Failing)

@@ -22,7 +22,7 @@ pub enum Mode {
     Plain,
     /// As the first word of a head.
     Head,
-    /// As the name behind the head's first word.
+    /// As the name after the head's first word.
     Item(TopicKind),
     /// As the end of `fail`.
     Failing,
@@ -37,7 +37,7 @@ pub struct Head {
     pub kind: TopicKind,
     /// The name of what these items are about.
     pub name: Name,
-    /// Where the name stands.
+    /// Where the name is.
     pub place: Place,
 }
 
@@ -209,7 +209,7 @@ fn put_assumed(list: &mut Vec<Placed>, place: Place, kind: Kind) -> Result<(), A
     }
 }
 
-/// Appends what a token becomes behind this many heads. The error says that memory ran out.
+/// Appends what a token becomes after this many heads. The error says that memory ran out.
 fn put_token(
     list: &mut Vec<Placed>,
     mode: Mode,

@@ -64,7 +64,7 @@ fn branch(alloc: Global) -> Result<Code, AllocError> {
     })
 }
 
-/// The word of zeros is the third of the routine behind the exit.
+/// The word of zeros is the third of the routine after the exit.
 fn branches(rt: &impl Abort, text: &[u8]) {
     assert!(rt; text.len() == 142);
     assert!(rt; &text[24..42] == BRANCH.as_slice() && &text[80..82] == [0, 0].as_slice());
@@ -103,7 +103,7 @@ fn a_branch_on_a_word_of_the_data(rt: HostRuntime) -> Result<(), Fail> {
     Ok(())
 }
 
-/// The text of `sending` as assembly by hand: the templates of the operations, and what stands once
+/// The text of `sending` as assembly by hand: the templates of the operations, and what occurs once
 /// in a text, where the private section begins at 0x6000.
 const SENDING: &str = "
 // the entry: SP and the caller's R12 to R15 are kept, and the stack begins
@@ -166,7 +166,7 @@ mov #2, r13
 mov #0x6070, r14
 mov #0x6072, r15
 wrap
-// the packet goes to the out-window, behind the pieces that were made, eight bytes a turn
+// the packet goes to the out-window, after the pieces that were made, eight bytes a turn
 mov &0x6004, r12
 add r12, r12
 add r12, r12

@@ -47,7 +47,7 @@ const MIDDLE: [End; 2] = [
     },
 ];
 
-/// Whether its parts stand as the text says.
+/// Whether its parts are as the text says.
 fn is_laid_out(d: &Deployment) -> bool {
     d.places.as_slice() == PLACES.as_slice()
         && d.providers.as_slice() == PROVIDERS.as_slice()

@@ -2,7 +2,7 @@
 //! faults of texts, of deployments and of the lines of schedules, and texts of the assembler with
 //! their bytes, are rows of `tests/rows`.
 //!
-//! They use what the crates give to everybody, and stand in a crate of their own, so that no crate
+//! They use what the crates give to everybody, and are in a crate of their own, so that no crate
 //! is proved a second time for its tests.
 //!
 //! Streams and lines: `io` has numbers and lines that are read in pieces, `told` texts that are

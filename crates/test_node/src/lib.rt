@@ -1,7 +1,7 @@
 //! Worked cases of the crates of a node, from single words to module instructions, as tests, of what
 //! no command prints. Whole steps are rows of `tests/rows`.
 //!
-//! They use what these crates give to everybody, and stand in a crate of their own since the tests
+//! They use what these crates give to everybody, and are in a crate of their own since the tests
 //! of a crate are proved together with all of it: so a change of a test proves no crate again.
 //!
 //! `words` reads and writes instructions, `calculations` works the table of arithmetic, `memories`

@@ -20,7 +20,7 @@ fn flat_memory(rt: HostRuntime) -> Result<(), Fail> {
     Ok(())
 }
 
-/// What stands at bytes beside a sensor's word and an actuator's, the first at 0x1000.
+/// What is at bytes beside a sensor's word and an actuator's, the first at 0x1000.
 const FOUND: [(u16, Option<u8>); 5] = [
     (0x0FFF, None),
     (0x1000, Some(0)),

@@ -5,7 +5,7 @@ use std::test::Fail;
 use sx_bus::{Bus, Copied, FlatBus};
 use sx_paged::PagedBus;
 
-// The calls of a memory stand in functions without a clause, so that a test carries nothing of
+// The calls of a memory are in functions without a clause, so that a test carries nothing of
 // what its earlier calls say.
 
 fn put<B: Bus>(bus: &mut B, at: u16, byte: u8) {

@@ -22,7 +22,7 @@ const MODULE: Layout = Layout {
     priv_to: 0x710,
 };
 
-// The calls of a table stand in functions without a clause, so that a test carries nothing of what
+// The calls of a table are in functions without a clause, so that a test carries nothing of what
 // its earlier calls say.
 
 fn admit(table: &mut Table, layout: Layout, places: &[u16]) -> Result<u16, Refusal> {
@@ -42,7 +42,7 @@ fn rights(table: &Table, code: u16, at: u16) -> [bool; 3] {
     ]
 }
 
-/// The rights of the module 1, and of other code, to bytes in and behind its sections.
+/// The rights of the module 1, and of other code, to bytes in and after its sections.
 const RIGHTS: [([bool; 3], [bool; 3], u16); 5] = [
     ([true, false, true], [true, false, true], 0x600),
     ([true, false, true], [true, false, true], 0x601),

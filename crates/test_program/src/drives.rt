@@ -88,10 +88,10 @@ out lamp 1
 done lamp 1 0
 ";
 
-/// Readings, the status, and what is said behind the set-up, in two parts.
+/// Readings, the status, and what is said after the set-up, in two parts.
 type Driven<'a> = (&'a [u8], u8, &'a [u8], &'a [u8]);
 
-/// Readings of the lighting whose second read fails: those of the whole lines before stand.
+/// Readings of the lighting whose second read fails: those of the whole lines before are.
 const BROKEN_OFF: [Driven; 5] = [
     (b"", 4, b"", b"fault read\n"),
     (b"light 120", 4, b"", b"fault read\n"),
@@ -108,7 +108,7 @@ const SECOND: Streams = Streams {
     write: 0,
 };
 
-/// Whether the lighting is driven so: the images stand before the set-up.
+/// Whether the lighting is driven so: the images are before the set-up.
 fn breaks_off(rt: &impl Abort, alloc: Global, row: &Driven) -> Result<(), Fail> {
     let said = joined(alloc, &[SETUP, row.2, row.3])?;
     let run = ended(alloc, "drive", &lighting(alloc, row.0)?, SECOND)?;

@@ -1,7 +1,7 @@
 //! Whole runs as tests that the program can't show: over streams that fail or come in pieces, and
 //! with a weak tag. All other runs are rows in `tests/rows`.
 //!
-//! They use what these crates give to everybody, and stand in a crate of their own since the tests
+//! They use what these crates give to everybody, and are in a crate of their own since the tests
 //! of a crate are proved together with all of it: so a change of a test proves no crate again.
 //!
 //! `inputs` has the words, the streams, and the lighting with a sample of light. `streams` has runs

@@ -129,7 +129,7 @@ const FAILING: [Failing; 25] = [
     ("dis 0", b"2645\n", 4096, 0, 400, 1, 5, b""),
     ("dis 0", b"2\n", 4096, 0, 400, 1, 5, b""),
     ("dis 0", b"26\n", 4096, 0, 400, 1, 5, b""),
-    // behind the second mark the answers to whole lines stand, before it nothing but a broken rule
+    // after the second mark the answers to whole lines are, before it nothing but a broken rule
     (
         "snap",
         b"%%\nreset n\n",

@@ -30,7 +30,7 @@ source = \"actuator; input show; on show(v) { emit v; }\"
 /// A trace, the status, and what is said of it.
 type Judged<'a> = (&'a [u8], u8, &'a [u8]);
 
-/// What stands behind the deployment before a read fails: the whole lines of it decide.
+/// What is after the deployment before a read fails: the whole lines of it decide.
 const UNREAD: [Judged; 13] = [
     (b"", 4, b"fault read\n"),
     (b"image eye 00\nimages", 4, b"fault read\n"),

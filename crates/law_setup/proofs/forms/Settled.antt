@@ -1,4 +1,4 @@
--- A world that is as a course of an honest run says, and what the set-up does.
+-- A world that agrees with a course of an honest run, and what the set-up does.
 use Rattle.std.specs.Prelude.{◌≡◌, ℕ, ◌+◌, true, false, if◌then◌else◌, ◌==◌, List, [], ◌∷◌, ◌++◌, length, map}
 use Rattle.std.specs.Prelude.{slice_get, slice_index_or, Some, None, All}
 use Rattle.sx_lang.specs.declared.sides.Side.{Side}
@@ -106,7 +106,7 @@ pub record HasAttested (set : Setting) (d : DeployerState) : Type 0 where
   pub attested : d.attested ≡ map (λ p. Some 0) set.app.parts
   pub epochs : d.epochs ≡ map (λ l. 0) set.app.links
 
--- A world that is as a course says.
+-- A world that agrees with a course.
 pub record Settled (set : Setting) (w : World) (c : Course) : Type 0 where
   pub as_many : length w.nodes ≡ length set.keys
   pub nodes : (n : ℕ) (s : State) → slice_get w.nodes n ≡ Some s → NodeStands set n set.sites s
