@@ -14,8 +14,8 @@ use Rattle.spec_grammar.specs.Tokens.{given_tokens}
 use Rattle.spec_grammar.specs.Grammar.{IsModule, IsFaultAt}
 use Rattle.spec_grammar.specs.Text.{place_of}
 use Rattle.sx_check.specs.Rules.{first_broken}
+use Rattle.sx_index.specs.Places as names
 use Rattle.sx_trace.specs.Names.{NameLists, sensor_place}
-use Rattle.sx_trace.specs.Names as names
 use Rattle.sx_mean.specs.Application.{AppTree, PartTree, declared_kind, same_kind}
 use Rattle.sx_watch.specs.declared.words.TopicKind.{TopicKind}
 use Rattle.sx_watch.specs.declared.words.TopicKind.TheVariants.{Sense, Read, Take, Out, Raw, Drain}
