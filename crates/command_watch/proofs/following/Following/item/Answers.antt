@@ -1,7 +1,7 @@
 use Rattle.std.proofs.Common.{◌∙◌, refl, sym}
 use Rattle.command_watch.proofs.Standing.{heeds_ok, rests_as, stops}
 use Rattle.command_watch.proofs.following.Following.item.Goals as goal
-use Rattle.sx_trace.proofs.Indexed.{none_of}
+use Rattle.sx_index.proofs.Indexed.{none_of}
 
 pub returns-then-is_some : goal.returns-then-is_some
 returns-then-is_some c = λ p items s counted. rests_as p items c.args.item.now c.args.self.now (sym c.is_some.ensures ∙ c.if-is_some.true) s
