@@ -102,18 +102,18 @@ value_given word value h = let few : value ≤ 32767 = number_within word 32767 
 reading_given : (d : Deployed) (first : List ℕ) (words : List (List ℕ)) (r : ReadingLine) → reading_in d first words ≡ Ok r → IsGiven d r
 reading_given d first words r h = by_word (ok_or (one_word words) WrongCount) h
   where
-    by_value : (device : ℕ) (v : Result ℕ ℕ) → IsDrivenSensor d device → ((value : ℕ) → v ≡ Ok value → value < 32768)
+    by_value : (device : ℕ) (v : Result ℕ ReadingRule) → IsDrivenSensor d device → ((value : ℕ) → v ≡ Ok value → value < 32768)
         → (v >>= (λ value. Ok (says.Reading device value))) ≡ Ok r → IsGiven d r
     by_value device (Ok value) is few e =
         let same : says.Reading device value ≡ r = cc in subst (λ (x : ReadingLine). IsGiven d x) same (is, few value refl)
     by_value device (Err rule) is few e = absurd (cc e)
 
-    by_sensor : (second : List ℕ) (s : Result ℕ ℕ) → ((device : ℕ) → s ≡ Ok device → IsDrivenSensor d device)
+    by_sensor : (second : List ℕ) (s : Result ℕ ReadingRule) → ((device : ℕ) → s ≡ Ok device → IsDrivenSensor d device)
         → (s >>= (λ device. value_in second >>= (λ value. Ok (says.Reading device value)))) ≡ Ok r → IsGiven d r
     by_sensor second (Ok device) is e = by_value device (value_in second) (is device refl) (value_given second) e
     by_sensor second (Err rule) is e = absurd (cc e)
 
-    by_word : (w : Result (List ℕ) ℕ)
+    by_word : (w : Result (List ℕ) ReadingRule)
         → (w >>= (λ second. sensor_in d first >>= (λ device. value_in second >>= (λ value. Ok (says.Reading device value))))) ≡ Ok r → IsGiven d r
     by_word (Ok second) e = by_sensor second (sensor_in d first) (sensor_given d first) e
     by_word (Err rule) e = absurd (cc e)
@@ -203,7 +203,7 @@ not_driven_there d device h =
 
 -- a sensor of this name, which a module drives, or doesn't
 pub given_there : (d : Deployed) (word : List ℕ) (device : ℕ) → sensor_place d.names word ≡ Some device → if_driven d.app device ≡ Some device
-    → ◌≡◌ {A = Result ℕ ℕ} (Ok device) (sensor_in d word)
+    → ◌≡◌ {A = Result ℕ ReadingRule} (Ok device) (sensor_in d word)
 given_there d word device e f = sym (ap (λ (o : Option ℕ). ok_or (option_and_then (if_driven d.app) o) NoSensor) e ∙ ap (λ (o : Option ℕ). ok_or o NoSensor) f)
 
 pub not_given : (d : Deployed) (word : List ℕ) (device : ℕ) → sensor_place d.names word ≡ Some device → if_driven d.app device ≡ None

@@ -7,6 +7,9 @@ use Rattle.command_drive.proofs.Named.{does_named, setup_named}
 use Rattle.command_drive.proofs.Playing.{does_lossless, does_say, done_follows, on_done}
 use Rattle.command_drive.proofs.parts.set_up.Goals as goal
 
+pub setup-drove-requires : goal.setup-drove-requires
+setup-drove-requires g c = record { going = λ _. c.requires.going }
+
 pub tell-requires-clause-named : goal.tell-requires-clause-named
 tell-requires-clause-named g c =
     let mac = g.T.Tag.mac in
