@@ -5,6 +5,7 @@ use Rattle.std.proofs.lemmas.Bool.{true≢false}
 use Rattle.sx_trace.specs.declared.items.Item.{Item}
 use Rattle.sx_trace.specs.declared.items.Item.TheVariants as item
 use Rattle.sx_model.specs.Legal.{is_forged}
+use Rattle.law_forgery.proofs.Forging.{forged_is}
 use Rattle.law_forgery.specs.Moments.{IsAmong, NoForged}
 use Rattle.law_connections.specs.LinksUnseen.{upto_forged}
 
@@ -73,11 +74,6 @@ any_upto (x ∷ items) = by (is_forged x) (any_upto items)
         → (c || list_any is_forged (if c then [] else upto_forged items)) ≡ (c || list_any is_forged items)
     by true e = refl
     by false e = e
-
--- an item that is forged
-pub forged_is : (i : Item) → is_forged i ≡ true → (who : Option ℕ) × (i ≡ item.Forged who)
-forged_is (item.Forged who) e = (who, refl)
-forged_is _ e = absurd (true≢false (sym e))
 
 pub none_clean : (items : List Item) → NoForged items → Clean items
 none_clean [] h = refl

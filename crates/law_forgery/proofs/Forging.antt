@@ -15,6 +15,7 @@ use Rattle.spec_machine.specs.declared.kinds.Touch.TheVariants as touch
 use Rattle.spec_machine.specs.declared.kinds.Event.{Event}
 use Rattle.spec_machine.specs.declared.kinds.Event.TheVariants as event
 use Rattle.spec_machine.specs.State.{State}
+use Rattle.sx_model.specs.Legal.{is_forged}
 use Rattle.sx_model.specs.Renewal.{may_attest}
 use Rattle.sx_mean.specs.Application.{AppTree}
 use Rattle.spec_run.specs.Setting.{Setting, Site, device_number}
@@ -27,6 +28,11 @@ use Rattle.spec_run.specs.Observation.{Observed, is_driver, read_item, write_ite
 use Rattle.spec_run.specs.State.{World}
 use Rattle.spec_run.specs.Acts.{with_deployer, key_given, keys_given, attested, after_denial, after_verdict, after_answer}
 use Rattle.law_forgery.specs.Moments.{IsAmong}
+
+-- an item that is forged
+pub forged_is : (i : Item) → is_forged i ≡ true → (who : Option ℕ) × (i ≡ item.Forged who)
+forged_is (item.Forged who) e = (who, refl)
+forged_is i e = absurd cc
 
 pub among_append : (i : Item) (xs ys : List Item) → IsAmong i (xs ++ ys) → IsAmong i xs ⊎ IsAmong i ys
 among_append i [] ys h = inr h

@@ -29,10 +29,6 @@ module _ (secret : List ℕ) (table mac : Mac) (long : length secret ≡ 16) (ta
 pub realizes_under : RealizesUnder
 realizes_under secret mac tag tree ends image always = realizes_so secret mac tag tree ends image always
 
-names_long : (i n : ℕ) → length (names i n) ≡ n
-names_long i zero = refl
-names_long i (suc n) = ap suc (names_long (i + 1) n)
-
 -- a sound setting with other keys of nodes and another tag function
 pub sound_with : (set : Setting) → IsSoundSetting set → RealizesAlways set → (nac : Mac) (keys : List (List ℕ)) → length keys ≡ length set.keys → IsTagUnder set.secret nac
     → IsSoundSetting (rekeyed set nac keys set.secret)

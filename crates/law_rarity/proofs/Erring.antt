@@ -22,7 +22,8 @@ use Rattle.law_forgery.specs.Forgery.{key_at}
 use Rattle.law_forgery.proofs.Scripts.{runs_keys_unseen}
 use Rattle.law_forgery.proofs.Naming.{names_agree}
 use Rattle.law_uses.specs.Hit.{IsFreshHit, warned, is_of_module}
-use Rattle.law_uses.proofs.Hit.{forged_named, warned_behind, hits_fresh}
+use Rattle.law_uses.proofs.Hit.{warned_behind, hits_fresh}
+use Rattle.law_forgery.proofs.Forging.{forged_is}
 use Rattle.law_counting.specs.Counting.{IsTable}
 use Rattle.law_makers.specs.Makers.{Made, made}
 use Rattle.law_makers.proofs.Making.{makers_see_the_same}
@@ -61,7 +62,7 @@ first_among (i ∷ items) = by (is_forged i) refl (first_among items)
   where
     by : (b : Bool) → is_forged i ≡ b → ((who : Option ℕ) × IsAmong (item.Forged who) items) ⊎ NoForged items
         → ((who : Option ℕ) × IsAmong (item.Forged who) (i ∷ items)) ⊎ NoForged (i ∷ items)
-    by true e rest = let n = forged_named i e in inl (n.0, inl n.1)
+    by true e rest = let n = forged_is i e in inl (n.0, inl n.1)
     by false e (inl f) = inl (f.0, inr f.1)
     by false e (inr none) = inr (λ who a. elim a [ inl same ↦ true≢false (sym (ap is_forged same) ∙ e) | inr more ↦ none who more ])
 

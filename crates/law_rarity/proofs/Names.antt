@@ -27,7 +27,7 @@ use Rattle.spec_run.proofs.tie.Lists.{get_within}
 use Rattle.law_isolation.specs.Happening.{Happening, Step, Answer}
 use Rattle.law_forgery.specs.Moments.{Moment, moment}
 use Rattle.law_forgery.specs.Named.{code, names, name_of}
-use Rattle.law_forgery.proofs.Naming.{is_name, key_named}
+use Rattle.law_forgery.proofs.Naming.{is_name, key_named, names_long}
 use Rattle.law_forgery.proofs.Boots.{boots_few}
 use Rattle.law_uses.specs.Uses.{Holder, Held, OfSection, key_held, Use, Gives, Tries, Sizes, step_uses, module_holder, grant_uses, grants_uses, verdict_uses, answer_uses, uses_at, uses}
 use Rattle.law_uses.specs.GivenLogged.{IsUse}
@@ -39,10 +39,6 @@ use Rattle.law_rarity.proofs.Asked.{NoTries, TriesFirst, tries_first}
 use Rattle.law_rarity.proofs.Dealing.{Deals, deals, accepted_deals, AllLow, grants_low}
 use Rattle.law_rarity.proofs.Words.{Stands, stands}
 use Rattle.law_rarity.proofs.Whose.{Whose, gives_owned, tries_owned}
-
-names_long : (i n : ℕ) → length (names i n) ≡ n
-names_long i zero = refl
-names_long i (suc n) = ap suc (names_long (i + 1) n)
 
 pub named_has_names : NamedHasNames
 named_has_names set table n boot provider id =

@@ -38,6 +38,7 @@ use Rattle.law_connections.proofs.Final.{links_unseen}
 use Rattle.law_makers.specs.Impostors.{identity_with}
 use Rattle.law_makers.proofs.Impostors.{name_at, impostors_have_other_names}
 use Rattle.law_makers.proofs.NamedSound.{sound_with, named_is_sound}
+use Rattle.law_counting.proofs.Lines.{entry_below}
 use Rattle.law_counting.specs.Counting.{IsTable, at}
 use Rattle.law_rarity.specs.Tables.{bytes_of}
 use Rattle.law_rarity.specs.Names.{HasNames}
@@ -83,12 +84,6 @@ place_found (v ∷ vs) (suc f) lt = by (bytes_eq (bytes_of 16 (at vs f)) (bytes_
     by : (b : Bool) → (j : ℕ) × (placed_at vs (bytes_of 16 (at vs f)) ≡ Some j) → (j : ℕ) × (cond b (Some 0) (more (placed_at vs (bytes_of 16 (at vs f)))) ≡ Some j)
     by true r = (0, refl)
     by false r = (suc r.0, ap more r.1)
-
-value : (n w : ℕ) (x : List ℕ) → IsTable n w x → (k : ℕ) → k < n → at x k < w
-value zero w x h k lt = absurd (omega (arith, lt))
-value (suc n) w [] h k lt = absurd h
-value (suc n) w (y ∷ x) h zero lt = h.0
-value (suc n) w (y ∷ x) h (suc k) lt = value n w x h.1 k (omega (arith, lt))
 
 table_long : (n w : ℕ) (t : List ℕ) → IsTable n w t → length t ≡ n
 table_long zero w [] h = refl
@@ -259,7 +254,7 @@ module _ (set : Setting) (base : Mac) (long : length set.secret ≡ 16) (sound :
       let there = h.low in
       let low2 : g.0 < FIELDS = omega (arith, there, size) in
       let same : at t f ≡ at t g.0 =
-      sym (number_of (at t f) (value FIELDS (2 ^ 128) t table f low)) ∙ ap number h.is ∙ number_of (at t g.0) (value FIELDS (2 ^ 128) t table g.0 low2) in
+      sym (number_of (at t f) (entry_below FIELDS (2 ^ 128) t table f low)) ∙ ap number h.is ∙ number_of (at t g.0) (entry_below FIELDS (2 ^ 128) t table g.0 low2) in
       g.1 ∙ ap (λ (i : ℕ). Some i) (sym (apart f g.0 low low2 same))
 
   no_place : (k : List ℕ) → IsNoPlace t k → placed_at t k ≡ None

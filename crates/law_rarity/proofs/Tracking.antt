@@ -30,7 +30,7 @@ use Rattle.law_isolation.specs.Happening.{Happening, Begin, Step, Put, Set, Take
 use Rattle.law_isolation.specs.Script.{Look, Script, End, Do, looks}
 use Rattle.law_isolation.specs.Lines.{all, ends, where_node, steps, finishing, unless_running, pieces, setting_of, loading, calling, line_script, script_of}
 use Rattle.law_forgery.specs.Moments.{Moment, moment_from, moment, shown_at, NoForged}
-use Rattle.law_uses.proofs.Hit.{forged_named}
+use Rattle.law_forgery.proofs.Forging.{forged_is}
 
 -- Acts of a run, and no more of their items than that they are legal.
 
@@ -58,7 +58,7 @@ keep set sound = acts_walk Any set (easy set) sound (λ w n s here mo t. any set
 
 still_head : (i : Item) (items : List Item) (b : Bool) (o : Option Model) (f : Model → Verdict) (good : Model → Type 0) → is_forged i ≡ b → NoForged (i ∷ items)
     → ((u : Model) → Fares (f u) good → (t : Model) × good t) → Fares (cond b Over (judge_on o f)) good → (t : Model) × good t
-still_head i items true o f good e none k h = let n = forged_named i e in absurd (none n.0 (inl n.1))
+still_head i items true o f good e none k h = let n = forged_is i e in absurd (none n.0 (inl n.1))
 still_head i items false None f good e none k h = absurd h
 still_head i items false (Some u) f good e none k h = k u h
 

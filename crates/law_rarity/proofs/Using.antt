@@ -11,6 +11,7 @@ use Rattle.spec_run.specs.Setting.{Setting}
 use Rattle.spec_run.specs.State.{World}
 use Rattle.law_isolation.specs.Happening.{Happening, Step}
 use Rattle.law_forgery.specs.Moments.{Moment, moment}
+use Rattle.law_counting.proofs.Lines.{entry_below}
 use Rattle.law_counting.specs.Counting.{IsTable, at, one, count}
 use Rattle.law_counting.specs.Processes.{is_in}
 use Rattle.law_counting.specs.Meeting.{meets}
@@ -107,12 +108,6 @@ none_twice (suc n) w values (v ∷ vs) table none e f le lf same = by e f le lf 
     by (suc d) zero le lf same rec = absurd (differs d (omega (arith, le)) (sym same))
     by (suc d) (suc g) le lf same rec = ap suc (rec d g (omega (arith, le)) (omega (arith, lf)) same)
 
-value : (n w : ℕ) (x : List ℕ) → IsTable n w x → (k : ℕ) → k < n → at x k < w
-value zero w x h k lt = absurd (omega (arith, lt))
-value (suc n) w [] h k lt = absurd h
-value (suc n) w (y ∷ x) h zero lt = h.0
-value (suc n) w (y ∷ x) h (suc k) lt = value n w x h.1 k (omega (arith, lt))
-
 module _ (a : Setting) (lines : List Line) (q : ℕ) (ends : moment a lines q ≡ None) (fields : ℕ) (same : fields ≡ FIELDS) (t : List ℕ) (table : IsTable fields (2 ^ 128) t)
     (none : meets (used a lines q) t ≡ false) where
   apart : AreApart t
@@ -123,7 +118,7 @@ module _ (a : Setting) (lines : List Line) (q : ℕ) (ends : moment a lines q �
     held = λ row own sec kind read f lt is.
         let key = bytes_from s.mem (slice_index s.regs 9) 16 in
         let low : f < fields = omega (arith, lt, same) in
-        let its : number key ≡ at t f = ap number is ∙ number_of (at t f) (value fields (2 ^ 128) t table f low) in
+        let its : number key ≡ at t f = ap number is ∙ number_of (at t f) (entry_below fields (2 ^ 128) t table f low) in
         let in_use : is_in (number key) (used_in (moment a lines k)) ≡ true =
         ap (λ (o : Option Moment). is_in (number key) (used_in o)) here
         ∙ ap (λ (x : Happening). is_in (number key) (used_at x now.world)) next

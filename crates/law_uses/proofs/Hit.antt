@@ -41,7 +41,7 @@ use Rattle.law_forgery.specs.Moments.{Moment, moment, shown_at, IsAmong, FirstFo
 use Rattle.law_forgery.specs.Forgery.{OfModule, WasWrapped}
 use Rattle.law_forgery.proofs.Reaching.{InForm, lines_form}
 use Rattle.law_forgery.proofs.Accepting.{crypt_none, crypt_long, key_long, key_begins, event_begins, ask_long, runner_at, unwrap_quiet}
-use Rattle.law_forgery.proofs.Forging.{among_append, touches_not, UnwrapKinds, event_forged, AnswerForged, answers_forge}
+use Rattle.law_forgery.proofs.Forging.{forged_is, among_append, touches_not, UnwrapKinds, event_forged, AnswerForged, answers_forge}
 use Rattle.law_forgery.proofs.Forgeries.{body_back, step_opens_own}
 use Rattle.law_forgery.proofs.Showing.{or_not, at_not, take_not, irq_not, give_not, sense_not}
 use Rattle.law_forgery.proofs.Unmade.{Holds, holds}
@@ -175,16 +175,12 @@ forged_is_hit set sound lines form k now who f = elim (forged_comes set sound li
 
 -- Where it warns of no `take`, a module's unwrap that shows it is of a set-key packet.
 
-pub forged_named : (i : Item) → is_forged i ≡ true → (who : Option ℕ) × (i ≡ item.Forged who)
-forged_named (item.Forged who) e = (who, refl)
-forged_named i e = absurd cc
-
 pub warned_behind : (xs ys : List Item) → ((who : Option ℕ) → IsAmong (item.Forged who) xs → ⊥) → warned (xs ++ ys) ≡ warned ys
 warned_behind [] ys none = refl
 warned_behind (x ∷ xs) ys none = by (is_forged x) refl (warned_behind xs ys (λ who a. none who (inr a)))
   where
     by : (b : Bool) → is_forged x ≡ b → warned (xs ++ ys) ≡ warned ys → cond b (slice_get (xs ++ ys) 0) (warned (xs ++ ys)) ≡ warned ys
-    by true e rec = let n = forged_named x e in absurd (none n.0 (inl n.1))
+    by true e rec = let n = forged_is x e in absurd (none n.0 (inl n.1))
     by false e rec = rec
 
 module _ (app : AppTree) (m boot : ℕ) (header body : List ℕ) (ledger : List Made) (more : List Item) where
