@@ -1,5 +1,6 @@
 """The command line: words, options, help, near misses, and the statuses of what is no command."""
 
+import re
 import subprocess
 import unittest
 
@@ -142,6 +143,22 @@ class NoCommand(Room):
     def test_every_word_has_what_it_does(self):
         for word in BY_NAME.values():
             self.assertTrue(word.does and not word.does.endswith("."))
+
+
+class Statuses(unittest.TestCase):
+    """The exit statuses are listed where each reader looks: at `top`, in FORMATS, and in the man page."""
+
+    def listed(self, path, begin, end):
+        text = (TOP / path).read_text()
+        text = text[text.index(begin) :]
+        return set(re.findall(r"^(?:/// )?\| (\d+) \|", text[: text.index(end)], re.MULTILINE))
+
+    def test_lists_agree(self):
+        program = self.listed("crates/sx_top/src/command.rt", "/// | Status |", "pub fn top")
+        self.assertEqual(self.listed("docs/FORMATS.md", "## Faults and statuses", "**If a write"), program)
+        front_end = self.listed("docs/FORMATS.md", "Statuses of the front end itself", "### Which build")
+        # (an interrupt ends any command with 130)
+        self.assertEqual({number for number, _ in manual.STATUSES}, (program | front_end) - {"130"})
 
 
 if __name__ == "__main__":
