@@ -6,7 +6,7 @@ What needs the program's commands `watch` and `holds` is passed over where the p
 import json
 import unittest
 
-from support import EXAMPLES, PROGRAM, Room, needs_program, program, sancus
+from support import EXAMPLES, HEAD, PROGRAM, Room, needs_program, program, sancus
 
 from sancus.cli import vacuity
 from sancus.model import language, solvers
@@ -210,6 +210,14 @@ class Answers(Room):
                 ran = self.holds(LAMP, self.file("it.property", source))
                 self.assertEqual((ran.status, ran.lines), (7, [f"fault property {fault}"]))
                 self.assertIn(said, ran.said)
+
+    def test_a_deployment_that_only_the_program_reads(self):
+        """TOML 1.1 has an escape that 1.0 hasn't: the program's answers stand, and a search says why there is none."""
+        head = self.file("x.toml", HEAD.replace(b'name = "eye"', b'name = "\\x65ye"'))
+        self.assertEqual(sancus("check", head).status, 0)
+        made = sancus("holds", head, PROPERTIES / "last_reading.property")
+        self.assertEqual((made.status, made.out), (122, b""))
+        self.says(made, "no TOML 1.0")
 
     def test_a_deployment_that_is_none(self):
         ran = self.holds(self.file("it.toml", "node = 1\n"), PROPERTIES / "bright.property")

@@ -14,7 +14,8 @@ from sancus.cli.output import print_lines, write
 from sancus.cli.program import Program
 from sancus.cli.say import Voice
 from sancus.kept import Build
-from sancus.status import INTERRUPTED, NO_ANSWER, USAGE, Ended
+from sancus.model.toml import NoToml
+from sancus.status import BAD_TEXT, INTERRUPTED, NO_ANSWER, USAGE, Ended
 
 OUT_OF_MEMORY = 6
 
@@ -326,6 +327,9 @@ def run(call: Sequence[str], top: str) -> int:
     except Ended as error:
         voice.must_say(*error.lines)
         return error.status
+    except NoToml as error:
+        voice.must_say(f"the deployment is no TOML 1.0, so its sources aren't read: {error}")
+        return BAD_TEXT
     except KeyboardInterrupt:
         return INTERRUPTED
     except MemoryError:

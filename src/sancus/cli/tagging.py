@@ -140,9 +140,12 @@ OPTIONS = ("epoch", "number", "value", "boot", "challenge")
 def holder_of(context: Context, given: Given, name: str) -> Holder:
     """The holder of the keys of a deployment that the program accepts."""
     head = Input(read_all(name)).head
-    tables, made = tables_of(head), described(context.program, head)
-    if tables is None or not made.is_accepted:
+    made = described(context.program, head)
+    if not made.is_accepted:
         raise Ended(BAD_TEXT, f"{name} has no deployment that is accepted: {made.last}; `sancus check` says why")
+    tables = tables_of(head)
+    if tables is None:
+        raise Ended(BAD_TEXT, f"{name} is no TOML 1.0, so its keys aren't read")
     return Holder(context, given, tables, made)
 
 

@@ -117,8 +117,11 @@ class Deployment:
                 self.nodes.append(name)
             case ["device", name, "node", node, "kind", kind, "at", at, "driver", driver]:
                 self.devices[name] = Device(name, node, kind, int(at, 16), None if driver == "-" else driver)
-            case ["module", name, "node", node, "provider", provider, "text", a, b, "data", c, d, *_, "cost", cost]:
-                text, data = range(int(a, 16), int(b, 16)), range(int(c, 16), int(d, 16))
+            case [
+                "module", name, "node", node, "provider", provider,
+                "text", begin, end, "data", first, last, "weight", _, "cost", cost,
+            ]:  # fmt: skip
+                text, data = range(int(begin, 16), int(end, 16)), range(int(first, 16), int(last, 16))
                 device = next((it for it in self.devices.values() if it.driver == name), None)
                 self.modules[name] = Module(name, node, int(provider), text, data, int(cost), device)
             case ["input", module, name]:

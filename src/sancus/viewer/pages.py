@@ -38,9 +38,9 @@ def drawn(data: Input, program: Program, command: str) -> Drawn:
 def read_of(head: bytes, program: Program) -> Texts:
     """What `describe` prints of a deployment, and the modules' sources; nothing of one that is refused."""
     answer, tables = program.answer(["describe"], head + b"%%\n"), tables_of(head)
-    if answer.status or not tables:
+    if answer.status:
         return {}
-    sources = {str(it["name"]): it["source"] for it in tables.modules}
+    sources = {str(it["name"]): it["source"] for it in tables.modules} if tables else {}
     return {"described": answer.output, "sources": json.dumps(sources).encode()}
 
 
