@@ -12,8 +12,9 @@ few lines of difference. valgrind counts: callgrind the instructions, and memche
                                     or on another processor than that of the figures
 
 The cases: `check` and `images` of the largest deployment, `steps` of code outside modules, `events` that are carried from
-the sensor to the bulb, `gen` of 1,000 samples, `lighting`, which is examples/lighting.txt, and `explain` of a trace of
-80,033 items; the long ones: `long`, a run of 64,026 lines, and `snap`, 64 queries about its lines.
+the sensor to the bulb, `gen` of 1,000 samples, `lighting`, which is examples/lighting.txt, `batch` of 100 schedules, each of which carries one event
+from its sensor to its bulb, and `explain` of a trace of 80,033 items; the long ones: `long`, a run of 64,026 lines, and `snap`, 64 queries about its
+lines. What one more schedule of `batch` takes is its count less that of `lighting`, over 99.
 
 Ends with status 1 if a count differs by more than one part in a hundred from its figure, or has none. `counting` says which program is measured.
 Behind the gate --gate is called: what takes other ways than it did keeps every promise, and shows here alone.
@@ -101,6 +102,13 @@ def events(samples):
     return lines
 
 
+def schedules(count):
+    """The lighting application with its keys set, and so many schedules that go on from there: each is the rest of its lines."""
+    lines = lighting()
+    begin = lines.index("sense light 120")
+    return lines[:begin] + count * ["%%", *lines[begin:]]
+
+
 def traced(schedule):
     """What `explain` reads: a deployment, and the trace of this schedule's run."""
     ran = subprocess.run([PROGRAM, "run"], input=joined(schedule), stdout=subprocess.PIPE, check=True).stdout.decode()
@@ -112,7 +120,8 @@ def inputs():
     """The words of each case's command, and its input. `images` compiles the largest deployment and runs nothing."""
     largest = deployment() + ["%%"]
     return {"check": (["check"], largest), "images": (["run"], largest), "steps": (["run"], steps()), "events": (["run"], events(500)),
-            "gen": (["gen", "1000"], []), "lighting": (["run"], lighting()), "explain": (["explain"], traced(events(8000)))}
+            "gen": (["gen", "1000"], []), "lighting": (["run"], lighting()), "batch": (["batch"], schedules(100)),
+            "explain": (["explain"], traced(events(8000)))}
 
 
 def long_inputs():

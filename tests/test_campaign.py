@@ -15,8 +15,10 @@ from unittest.mock import patch
 from support import EXAMPLES, PROGRAM, SANCUS, Room, needs_program, program, sancus
 
 from sancus import load
-from sancus.campaign import Layout, Reading
+from sancus.batch import answers
+from sancus.campaign import Layout, Reading, Worker, code_of, plan_of, run_chunk
 from sancus.cli.progress import line
+from sancus.runner import Runner
 
 PUMP = EXAMPLES / "campaign" / "pump.toml"
 ONCE = f"{EXAMPLES / 'campaign' / 'once.py'}:once"
@@ -40,6 +42,18 @@ def unknown(layout, random):
 
 def endless(layout, random):
     return ["put a 0x600 ff3f", "set a pc 0x600", *["run a 65535"] * 65000]
+
+
+def mixed(layout, random):
+    # (one in ten wants too much memory, and some break a rule)
+    if random.random() < 0.1:
+        return [f"forge {'00' * 384}"] * 20000
+    return ["reset a"] * random.randrange(4) + ["jump a"] * random.randrange(2)
+"""
+# A program that may have little memory.
+SMALL = """#!/bin/sh
+ulimit -v 6000
+exec {program} "$@"
 """
 
 
@@ -184,6 +198,72 @@ class Campaigns(Room):
         self.assertEqual(self.campaign("--seeds", "0..900").status, 0)
         self.assertLessEqual({*kept}, {*rows_of(self.rows)})
         self.assertEqual(self.seeds(), list(range(900)))
+
+
+class Counted(Runner):
+    """A program that counts how often it is started."""
+
+    starts = 0
+
+    def spawned(self, words, given, written):
+        Counted.starts += 1
+        return super().spawned(words, given, written)
+
+
+@needs_program
+class Together(Room):
+    """Schedules that one process runs have the rows that they have alone."""
+
+    def setUp(self):
+        super().setUp()
+        self.generators = self.file("generators.py", GENERATORS)
+        with patch.dict(os.environ, SANCUS_PROGRAM=PROGRAM):
+            self.app = load(PUMP)
+        self.app.program = Counted([PROGRAM], processor_seconds=1)
+
+    def starts(self, schedules):
+        """How many processes give the answers, which are those of one each."""
+        alone = [self.app.program.answer(["run"], self.app.input(it)) for it in schedules]
+        Counted.starts = 0
+        self.assertEqual(list(answers(self.app, schedules)), alone)
+        return Counted.starts
+
+    def test_drawn_schedules(self):
+        for kind in ("network", "hostile"):
+            worker = Worker(plan_of(self.app, kind, code_of(ONCE)))
+            schedules = [worker.schedule(worker.acts(seed)) for seed in range(50, 80)]
+            self.assertLessEqual(self.starts(schedules), 2)
+            rows = [row for seed in range(50, 80) for row in worker.rows([seed])]
+            self.assertEqual(list(worker.rows(range(50, 80))), rows)
+
+    def test_schedules_of_which_some_break_rules(self):
+        begun = b"# common\nreset a\n"
+        rest = [b"", b"reset b\n", b"reset b\njump a\nreset a\n", b"reset x\n", b"end\n", b"\n# word\nforge 00\n"]
+        self.assertLessEqual(self.starts([begun + it for it in rest]), 2)
+        self.assertLessEqual(self.starts(rest), 2)
+        # (a mark, a line that is too long, and a rule that the common lines break)
+        for odd in (b"%%\n", b"#" * 5000 + b"\n", b"%%\r\nreset a\n"):
+            self.assertGreater(self.starts([begun + it for it in (*rest, odd)]), len(rest) + 1)
+        self.assertGreater(self.starts([b"jump a\n" + it for it in rest]), len(rest))
+
+    def test_one_that_takes_too_long(self):
+        slow = b"put a 0x600 ff3f\nset a pc 0x600\n" + b"run a 65535\n" * 65000
+        alone = list(answers(self.app, [b"reset b\n", b"reset a\n"]))
+        found = list(answers(self.app, [b"reset b\n", slow, b"reset a\n"]))
+        self.assertEqual([it.status for it in found], [0, -signal.SIGXCPU, 0])
+        self.assertEqual([found[0], found[2]], alone)
+
+    def test_what_ends_a_campaign_comes_after_the_rows_before_it(self):
+        small = self.file("small", SMALL.format(program=PROGRAM))
+        small.chmod(0o755)
+        self.app.program = Runner([str(small)])
+        plan = plan_of(self.app, code_of(f"{self.generators}:mixed"))
+        chunk = run_chunk(plan, 0, 250)
+        at = len(chunk.rows)
+        self.assertRegex(chunk.words[0], f"^seed {at}: the program ended with status 6: packet [0-9]+ 384$")
+        worker = Worker(plan)
+        self.assertEqual(chunk.rows, [row for seed in range(at) for row in worker.rows([seed])])
+        self.assertEqual({it.outcome for it in chunk.rows}, {"", "broke off: fault schedule S3"})
 
 
 if __name__ == "__main__":

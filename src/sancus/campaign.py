@@ -13,20 +13,19 @@ import signal
 import sys
 import time
 import traceback
-from collections import deque
 from dataclasses import dataclass
 from functools import lru_cache, partial
 from pathlib import Path
 from random import Random
 from types import ModuleType
-from typing import Any, Callable, Deque, Dict, Iterable, Iterator, List, NamedTuple, Tuple, Union, get_args
+from typing import Any, Callable, Dict, Iterable, Iterator, List, NamedTuple, Optional, Tuple, Union, get_args
 
 from sancus import __version__
 from sancus.app import App, bytes_of
+from sancus.batch import BROKEN_OFF, WHOLE, answers
 from sancus.builds import sum_of, sum_of_file
 from sancus.errors import Fault, NoCampaign, NoProgram
 from sancus.model import campaign_acts, generators, scribe
-from sancus.model.asking import Answer
 from sancus.model.campaign_acts import Act, Carry, Change, Fate, Hold, Reading, Replay, Reset, Sample
 from sancus.model.generators import Drawing, NothingToDraw
 from sancus.model.scribe import Layout
@@ -41,8 +40,10 @@ __all__ = [
 ACTS = get_args(Act)
 # A chunk of seeds ends after so many seconds, so that little is lost with a process that is ended.
 SECONDS_A_CHUNK = 2.0
-# What `run` ends with if it is whole, if a line of the schedule breaks a rule, and if it is ended for its time.
-WHOLE, BROKEN_OFF, TOO_LONG = 0, 3, -signal.SIGXCPU
+# At most so many seeds run together.
+MOST_TOGETHER = 128
+# What a run ends with that is ended for its time.
+TOO_LONG = -signal.SIGXCPU
 
 
 @dataclass(frozen=True)
@@ -189,10 +190,12 @@ class Chunk:
     words: Tuple[str, ...] = ()
 
 
-def answers(app: App, schedules: Iterable[bytes]) -> Iterator[Answer]:
-    """What `run` prints of schedules of one deployment, each in a process of its own."""
-    for it in schedules:
-        yield app.program.answer(["run"], app.input(it))
+class Drawn(NamedTuple):
+    """A seed, how many acts it gives, and their schedule."""
+
+    seed: int
+    acts: int
+    schedule: bytes
 
 
 class Worker:
@@ -232,18 +235,19 @@ class Worker:
             raise NoCampaign(f"an act names {error}, which the deployment doesn't have") from None
 
     def rows(self, seeds: Iterable[int]) -> Iterator[Row]:
-        """The rows of seeds, each as soon as it is known."""
-        drawn: Deque[Tuple[int, List[Act], bytes]] = deque()
-
-        def schedules() -> Iterator[bytes]:
+        """The rows of seeds. If no schedule can be made of one, these are the rows before it, and then why."""
+        drawn: List[Drawn] = []
+        reason: Optional[NoCampaign] = None
+        try:
             for seed in seeds:
                 acts = self.acts(seed)
-                drawn.append((seed, acts, self.schedule(acts)))
-                yield drawn[-1][2]
-
-        for answer in answers(self.app, schedules()):
-            seed, acts, schedule = drawn.popleft()
-            yield self.row(seed, len(acts), Run(self.app, schedule, answer))
+                drawn.append(Drawn(seed, len(acts), self.schedule(acts)))
+        except NoCampaign as error:
+            reason = error
+        for it, answer in zip(drawn, answers(self.app, [it.schedule for it in drawn])):
+            yield self.row(it.seed, it.acts, Run(self.app, it.schedule, answer))
+        if reason:
+            raise reason
 
     def row(self, seed: int, acts: int, run: Run) -> Row:
         if run.status == TOO_LONG:
@@ -302,8 +306,10 @@ def run_chunk(plan: Plan, first: int, end: int) -> Chunk:
     rows: List[Row] = []
     until = time.monotonic() + SECONDS_A_CHUNK
     try:
-        for it in worker_of(plan).rows(range(first, end)):
-            rows.append(it)
+        worker = worker_of(plan)
+        for seeds in growing(first, end):
+            for it in worker.rows(seeds):
+                rows.append(it)
             if time.monotonic() > until:
                 break
     except Fault as error:
@@ -311,3 +317,13 @@ def run_chunk(plan: Plan, first: int, end: int) -> Chunk:
     except (NoCampaign, NoProgram) as error:
         return Chunk(rows, (end, end), (f"seed {first + len(rows)}: {error.words[0]}", *error.words[1:]))
     return Chunk(rows, (first + len(rows), end))
+
+
+def growing(first: int, end: int) -> Iterator[range]:
+    """The parts of a range of seeds that run together. Each is as long as all before it, up to a bound, so it takes about
+    as long."""
+    size = 1
+    while first < end:
+        yield range(first, min(first + size, end))
+        first += size
+        size = min(2 * size, MOST_TOGETHER)
