@@ -350,6 +350,7 @@ class Cases(unittest.TestCase):
         self.assertTrue(lines[2].endswith("     ^") and "a node: a b" in lines[3], lines)
         self.assertIn("^^\n", told(text + b"bytes a 0 65 1\n", "fault query Y6 1", "snap"))
         self.assertIn("the bytes pass 0xffff", told(text + b"bytes a 0xffff 2 1\n", "fault query Y6 1", "snap"))
+        self.assertIn(": what\n", told(text + b"what\n%%\n", "fault query Y3 1", "snap"))
 
     def test_nothing_is_told_of_other_lines(self):
         for line in (

@@ -2,22 +2,22 @@
 that are changed at random. SANCUS_SEED repeats the changes of an earlier run, which a failure names.
 """
 
-import json
 import os
 import random
 import re
-import shutil
-import subprocess
 import unittest
+from functools import lru_cache
 from itertools import takewhile
 from typing import Iterator, List, Tuple
 
-from support import EXAMPLES, PROGRAM, TOP, needs_program
+from support import EXAMPLES, PROGRAM, needs_program
 from test_rows import ROWS, rows_of
 
 from sancus.model import language, legality, rules, tables
-from sancus.model.deployment import Tables, tables_of
-from sancus.model.described import Deployment, described
+from sancus.model.asking import Answer
+from sancus.model.deployment import KINDS, Tables, tables_of
+from sancus.model.described import Deployment
+from sancus.model.described import described as described_by
 from sancus.model.faults import Teller
 from sancus.model.items import Item
 from sancus.model.texts import MOST_HEAD, Input, kept_of
@@ -32,24 +32,21 @@ POOL = (
     "65536 0xFFFF a b v x limit level bright // # %"
 ).split()
 RUNNER = Runner([PROGRAM])
-# Where the page's parser leaves the grammar in each source, or -1.
-PAGE = """
-const {readFileSync} = require("fs"), {runInNewContext} = require("vm");
-const code = readFileSync(process.argv[1], "utf8");
-const {Parser, NotInGrammar} = runInNewContext(`${code}; ({Parser, NotInGrammar})`);
-const leftAt = source => {
-  try {
-    new Parser(source).module();
-    return -1;
-  } catch (error) {
-    if (!(error instanceof NotInGrammar)) throw error;
-    return error.token.at;
-  }
-};
-process.stdout.write(JSON.stringify(JSON.parse(readFileSync(0, "utf8")).map(leftAt)));
-"""
 
 
+@lru_cache(maxsize=None)
+def answered(command: str, data: bytes) -> Answer:
+    """What the program answers, which is asked once: both twins are compared with it."""
+    return RUNNER.answer([command], data)
+
+
+@lru_cache(maxsize=None)
+def described(head: bytes) -> Deployment:
+    """A deployment as the program read it."""
+    return described_by(RUNNER, head)
+
+
+@lru_cache(maxsize=None)
 def given_in_rows(*commands: str) -> List[Input]:
     """The inputs of the rows of some commands that aren't long."""
     rows = [it for file in sorted(ROWS.glob("*.rows")) for it in rows_of(file)]
@@ -61,12 +58,13 @@ def given_in_rows(*commands: str) -> List[Input]:
 
 def in_deployment(head: bytes) -> Iterator[str]:
     """What the front end and `describe` say differently of a deployment."""
-    deployment, found = described(RUNNER, head), tables_of(head)
+    deployment, found = described(head), tables_of(head)
     if not found:
         return
     place = deployment.last.split()
     if deployment.is_accepted:
         yield from in_accepted(found, deployment)
+        yield from in_entries(found)
     elif place[2] == "D7":
         yield from in_grammar(found, *map(int, place[4:]))
     elif place[2] == "D8":
@@ -89,6 +87,15 @@ def in_accepted(found: Tables, deployment: Deployment) -> Iterator[str]:
         own = [(it.kind, it.name, it.value) for it in tree.cells()]
         if own != [(it.kind, it.name, it.length if it.kind == "array" else it.first) for it in module.variables]:
             yield f"{module.name} has other variables: {own}"
+
+
+def in_entries(found: Tables) -> Iterator[str]:
+    """What is said to be wrong with an entry of a deployment that is accepted."""
+    for kind, at in ((kind, at) for kind in KINDS for at, _ in enumerate(found.entries(kind))):
+        wrong = [*tables.keys(kind, found.entries(kind)[at]), *tables.names(kind, at, found)]
+        if kind in ("device", "module"):
+            wrong += (it for it in tables.places(kind, at, found) if not re.search("the next free place|has no room", it))
+        yield from (f"{kind} {at} is accepted, and it is said: {it}" for it in wrong)
 
 
 def in_grammar(found: Tables, index: int, line: int, column: int) -> Iterator[str]:
@@ -120,6 +127,11 @@ def left_at(source: str) -> int:
         return error.token.at
 
 
+def in_plain_quotes(source: str) -> bool:
+    """Whether a source stands in a deployment as it is."""
+    return '"""' not in source and "\\" not in source and not source.endswith('"')
+
+
 def changed(source: str, chance: random.Random) -> str:
     """A source with a few tokens left out, put in, replaced or exchanged."""
     tokens = TOKEN.findall(source)
@@ -147,7 +159,7 @@ def in_trace(head: bytes, trace: bytes) -> Iterator[str]:
     answer = RUNNER.answer(["explain"], head + b"%%\n" + trace)
     if answer.status not in (0, 8):
         return
-    deployment = described(RUNNER, head)
+    deployment = described(head)
     lines = trace.decode(errors="replace").split("\n")
     after = lines[lines.index("trace") + 1 :]
     texts = takewhile(lambda it: it not in ("end", "") and not it.startswith("fault "), after)
@@ -170,7 +182,7 @@ def in_trace(head: bytes, trace: bytes) -> Iterator[str]:
 
 def trace_of(data: Input) -> bytes:
     """The trace of a run that ends well, or nothing."""
-    answer = RUNNER.answer(["run"], data.data)
+    answer = answered("run", data.data)
     begin = answer.output.find(b"trace\n")
     return answer.output[begin:] if answer.status == 0 and begin >= 0 and len(answer.output) < 300_000 else b""
 
@@ -197,8 +209,9 @@ def changed_items(items: List[str], chance: random.Random) -> List[str]:
     return items
 
 
-@needs_program
-class Twin(unittest.TestCase):
+class Changes(unittest.TestCase):
+    """A test of what is changed at random."""
+
     def setUp(self) -> None:
         self.chance = random.Random(SEED)
 
@@ -206,11 +219,6 @@ class Twin(unittest.TestCase):
         """There are no differences; of the first ones each is shown with what it is about."""
         shown = [f"{what}\n{about}" for _, (what, about) in zip(range(3), found)]
         self.assertFalse(shown, f"SANCUS_SEED={SEED}: " + "\n\n".join(shown))
-
-    def test_deployments(self) -> None:
-        heads = {it.head: None for it in given_in_rows("check", "run", "drive", "explain", "snap") if len(it.head) < MOST_HEAD}
-        self.assertGreater(len(heads), 100)
-        self.agree((it, head[-400:].decode(errors="replace")) for head in heads for it in in_deployment(head))
 
     def changed_sources(self) -> List[str]:
         whole = filter(None, (tables_of(it.head) for it in given_in_rows("check", "run", "drive") if len(it.head) < 60_000))
@@ -220,17 +228,27 @@ class Twin(unittest.TestCase):
         self.assertGreater(len({*made}), SOURCES // 2)
         return made
 
-    def test_changed_sources(self) -> None:
-        plain = [it for it in self.changed_sources() if '"""' not in it and "\\" not in it and not it.endswith('"')]
-        self.agree((it, source) for source in plain for it in in_deployment(MODULE.format(source).encode()))
+    def changed_traces(self) -> List[Tuple[bytes, bytes]]:
+        """Deployments, each with a trace of it that was changed."""
+        inputs = [*given_in_rows("run"), *(Input(it.read_bytes()) for it in sorted(EXAMPLES.rglob("*.txt")))]
+        runs = [(it.head, trace_of(it)) for it in inputs if it.has_mark and len(it.data) < 100_000]
+        plain = [(head, trace.decode().split("\n")[1:-2]) for head, trace in runs if 10 < len(trace) < 20_000]
+        self.assertGreater(len(plain), 50)
+        chosen = [self.chance.choice(plain) for _ in range(TRACES)]
+        made = ((head, changed_items(items, self.chance)) for head, items in chosen if items)
+        return [(head, "\n".join(["trace", *items, "end", ""]).encode()) for head, items in made]
 
-    @unittest.skipUnless(shutil.which("node"), "there is no node")
-    def test_the_page(self) -> None:
-        sources = [it for it in self.changed_sources() if it.isascii()]
-        command = ["node", "-e", PAGE, str(TOP / "src/sancus/viewer/language.js")]
-        ran = subprocess.run(command, input=json.dumps(sources), capture_output=True, text=True, check=True)
-        pairs = zip(sources, json.loads(ran.stdout))
-        self.agree((f"the page leaves the grammar at {at}, not {left_at(it)}", it) for it, at in pairs if at != left_at(it))
+
+@needs_program
+class Twin(Changes):
+    def test_deployments(self) -> None:
+        heads = {it.head: None for it in given_in_rows("check", "run", "drive", "explain", "snap") if len(it.head) < MOST_HEAD}
+        self.assertGreater(len(heads), 100)
+        self.agree((it, head[-400:].decode(errors="replace")) for head in heads for it in in_deployment(head))
+
+    def test_changed_sources(self) -> None:
+        plain = filter(in_plain_quotes, self.changed_sources())
+        self.agree((it, source) for source in plain for it in in_deployment(MODULE.format(source).encode()))
 
     def test_traces(self) -> None:
         explained = [(it.head, it.rest) for it in given_in_rows("explain") if b"\ntrace\n" in b"\n" + it.rest]
@@ -238,13 +256,7 @@ class Twin(unittest.TestCase):
         self.agree((it, trace[-400:].decode(errors="replace")) for head, trace in [*explained, *run] if trace for it in in_trace(head, trace))
 
     def test_changed_traces(self) -> None:
-        inputs = [*given_in_rows("run"), *(Input(it.read_bytes()) for it in sorted(EXAMPLES.rglob("*.txt")))]
-        runs = [(it.head, trace_of(it)) for it in inputs if it.has_mark and len(it.data) < 100_000]
-        plain = [(head, trace.decode().split("\n")[1:-2]) for head, trace in runs if 10 < len(trace) < 20_000]
-        self.assertGreater(len(plain), 50)
-        chosen = [self.chance.choice(plain) for _ in range(TRACES)]
-        made = ((head, "\n".join(["trace", *changed_items(items, self.chance), "end", ""])) for head, items in chosen if items)
-        self.agree((it, trace[-400:]) for head, trace in made for it in in_trace(head, trace.encode()))
+        self.agree((it, trace[-400:].decode()) for head, trace in self.changed_traces() for it in in_trace(head, trace))
 
 
 if __name__ == "__main__":

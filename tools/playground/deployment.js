@@ -65,6 +65,8 @@ class Range {
 
   get told() { return `${this.what}, ${hex(this.begin)} to ${hex(this.end)},`; }
 
+  is({what, begin, end}) { return this.what === what && this.begin === begin && this.end === end; }
+
   // The part that two ranges share, in words, or nothing.
   shares(other) {
     const begin = Math.max(this.begin, other.begin), end = Math.min(this.end, other.end);

@@ -24,11 +24,18 @@ function entryLine(text, plan, kind, index) {
   return found((line, at) => at >= begun && names(line).includes(name))[before];
 }
 
+// Where a source begins from a place on: after a quote, or at the line after one; -1 if it isn't found as it is.
+function sourceStart(text, source, from) {
+  let at = text.indexOf(source, from);
+  while (at >= 0 && !/["']\n?$/.test(text.slice(Math.max(0, at - 2), at))) at = text.indexOf(source, at + 1);
+  return at;
+}
+
 // Line and column in the text of a place in a module's source.
 function placeInSource(text, plan, index, at) {
   const {source} = plan.by.module[index], begins = entryLine(text, plan, "module", index);
   const from = text.split("\n").slice(0, (begins ?? 1) - 1).join("\n").length;
-  const start = source ? text.indexOf(source, from) : -1;
+  const start = source ? sourceStart(text, source, from) : -1;
   return start < 0 ? {line: begins} : placeAt(text, start + at);
 }
 

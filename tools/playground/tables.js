@@ -128,8 +128,7 @@ function toldRoom(range, node, key, at) {
 
 // Where on its node sections of a module have room, one beside the other.
 function toldRooms(plan, module, wrong) {
-  const isWrong = it => wrong.some(({begin, end}) => it.begin === begin && it.end === end);
-  const taken = takenOn(plan, module.node).filter(it => !isWrong(it));
+  const taken = takenOn(plan, module.node).filter(it => !wrong.some(other => it.is(other)));
   return wrong.map(it => {
     const at = freePlace(it.end - it.begin, taken, it.begin);
     const key = it.what.startsWith("the public") ? "text" : "data" in module ? "data" : "at";
@@ -154,7 +153,7 @@ function badPlaces(kind, index, plan) {
   const others = plan.by.device.filter(it => it !== device && it.node === device.node && it.at === at);
   lines.push(...others.map(it => `the device ${it.name} is at ${hex(at)} too`));
   const own = plan.sections(plan.driverOf(device.name) ?? {})[1] ?? wordRange(device);
-  const taken = takenOn(plan, device.node).filter(it => it.begin !== own.begin || it.end !== own.end);
+  const taken = takenOn(plan, device.node).filter(it => !it.is(own));
   return [...lines, toldRoom(own, device.node, "at", freePlace(own.end - own.begin, taken, at))];
 }
 

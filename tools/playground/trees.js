@@ -15,18 +15,31 @@ function blocksOf(it) {
 }
 
 const walk = block => block.flatMap(it => [it, ...blocksOf(it).flatMap(walk)]);
-const subexpressions = it => [it, ...partsOf(it).flatMap(subexpressions)];
 
-const heightOf = it => 1 + Math.max(0, ...partsOf(it).map(heightOf));
+// An expression and all in it, from the left. (One of operators alone may be higher than calls may be nested; so below.)
+function subexpressions(whole) {
+  const left = [whole], found = [];
+  while (left.length) {
+    const it = left.pop();
+    found.push(it);
+    left.push(...partsOf(it).reverse());
+  }
+  return found;
+}
+
+function heightOf(whole) {
+  let level = [whole], count = 0;
+  for (; level.length; count++) level = level.flatMap(partsOf);
+  return count;
+}
+
 const blockSize = block => sum(walk(block).map(it => 1 + sum(expressionsOf(it).map(e => subexpressions(e).length))));
 const cellsIn = tree => tree.declared.filter(({kind}) => kind === "var" || kind === "array");
 const nodesOf = tree => cellsIn(tree).length + sum(tree.handlers.map(it => 1 + blockSize(it.body)));
 const cellsOf = tree => sum(cellsIn(tree).map(({kind, value}) => kind === "array" ? value : 1));
 
-function costOf(it) {
-  const own = it.kind === "element" ? 64 : it.kind === "combined" && it.sign === "*" ? 512 : 32;
-  return own + sum(partsOf(it).map(costOf));
-}
+const ownCost = it => it.kind === "element" ? 64 : it.kind === "combined" && it.sign === "*" ? 512 : 32;
+const costOf = it => sum(subexpressions(it).map(ownCost));
 
 const blockCost = block => sum(block.map(statementCost));
 

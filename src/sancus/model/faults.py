@@ -397,7 +397,10 @@ class Teller:
         return lines
 
     def second_mark(self) -> Optional[int]:
-        """The second line `%%`; looked for from the end, since a long schedule isn't kept whole."""
+        """The second line `%%`; the last one if the schedule isn't kept whole."""
+        found = self.line_after(b"%%", self.mark)
+        if found:
+            return found
         last = self.kept.lines_so_far() + 1
         for at in range(last, self.mark, -1):
             if self.kept.line(at) == b"%%":

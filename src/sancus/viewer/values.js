@@ -110,8 +110,10 @@ class Values {
     for (const {name} of this.plan.modulesOf(words[1])) add(name, {kind});
   }
 
-  // The module's variables after the row with this index; null if it isn't there, or has none.
-  after(module, index) {
+  // What is told of the module's variables after the row with this index; null if it isn't there, or has none.
+  after(module, index) { return this.stateAfter(module, index)?.told() ?? null; }
+
+  stateAfter(module, index) {
     const tree = this.trees.get(module);
     let state = null;
     for (const event of this.events.get(module) ?? []) {
@@ -121,7 +123,7 @@ class Values {
       const handler = state && tree.handlers.find(it => it.input === event.input);
       if (handler) state.handle(handler, event.value);
     }
-    return state?.told() ?? null;
+    return state;
   }
 
   // The variables of a row's modules in words, each with what it was before the row's line.
