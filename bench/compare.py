@@ -17,7 +17,12 @@ what the module instructions do.
     bench/compare.py                   the table
     bench/compare.py --instructions    the instructions a step alone
 """
-import re, resource, shutil, statistics, subprocess, sys
+import re
+import resource
+import shutil
+import statistics
+import subprocess
+import sys
 
 from counting import PROGRAM, counted, protected
 

@@ -19,7 +19,13 @@ lines. What one more schedule of `batch` takes is its count less that of `lighti
 Ends with status 1 if a count differs by more than one part in a hundred from its figure, or has none. `counting` says which program is measured.
 Behind the gate --gate is called: what takes other ways than it did keeps every promise, and shows here alone.
 """
-import json, os, re, shutil, subprocess, sys, tempfile
+import json
+import os
+import re
+import shutil
+import subprocess
+import sys
+import tempfile
 
 from counting import ENVIRONMENT, PROGRAM, TOP, counted, joined
 
@@ -81,7 +87,7 @@ def steps():
     """The node n of an empty deployment: the longest bytes that a line may have are put, and it is set, stepped and reset, as
     often as there may be modules."""
     schedule = ["%%"]
-    for k in range(MODULES):
+    for _ in range(MODULES):
         schedule += [f"put n 0x4000 {'0345' * 510}ff3f", "set n r5 7", "set n pc 0x4000", "run n 10000", "irq n 3", "reset n"]
     return schedule
 

@@ -119,7 +119,7 @@ def answer_as_child(
         if cwd:
             os.chdir(cwd)
         status = run(words, str(TOP))
-    except BaseException:
+    except BaseException:  # noqa: BLE001 (whatever it is, its status says so)
         traceback.print_exc()
         status = 99
     os._exit(status)

@@ -250,7 +250,7 @@ class Cases(unittest.TestCase):
                 self.assertNotEqual(text, LIGHTING)
                 lines = told(text, f"fault {fault}", word)
                 for it in words:
-                    if "^^^" == it and not PROGRAM and " S8" in fault:
+                    if it == "^^^" and not PROGRAM and " S8" in fault:
                         continue
                     self.assertIn(it, lines)
 

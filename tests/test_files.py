@@ -7,6 +7,7 @@ import signal
 import subprocess
 import unittest
 from contextlib import contextmanager
+from functools import partial
 from unittest.mock import patch
 
 from support import EXAMPLES, HEAD, LIGHTING, PROGRAM, SANCUS, Room, needs_program, program, sancus, usual_signals
@@ -273,7 +274,7 @@ class Streams(Room):
                     stdout=subprocess.PIPE,
                     stderr=subprocess.PIPE,
                     env={**os.environ, "SANCUS_PROGRAM": PROGRAM},
-                    preexec_fn=lambda: usual_signals(*ignoring),
+                    preexec_fn=partial(usual_signals, *ignoring),
                 )
                 process.stdin.write(b"%%\nreset n\n")
                 process.stdin.flush()

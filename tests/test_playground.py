@@ -70,7 +70,9 @@ class People(unittest.TestCase):
         return json.loads(ran.stdout)
 
     def test_a_schedule(self):
-        without_marks = lambda text: [it for it in text.splitlines() if not it.startswith("#=")]
+        def without_marks(text):
+            return [it for it in text.splitlines() if not it.startswith("#=")]
+
         day = (EXAMPLES / "parking" / "day.people").read_bytes()
         for text in (HEAD + b"%%\n" + DAY.encode(), PARKING + b"%%\n" + day):
             made, wanted = self.made(text), sancus("schedule", "-", text=text)

@@ -17,7 +17,10 @@ Not compared are data, the module instructions, which LLVM doesn't have, and `##
 Prints how many lines there were of each kind, and each form of instruction that LLVM refuses or gives other bytes for,
 with an example. Ends with status 1 where there is such a form that isn't among the known ones.
 """
-import re, subprocess, sys, tempfile
+import re
+import subprocess
+import sys
+import tempfile
 from collections import Counter
 
 # The words after each first word. Each is a line of its own where the instruction is shorter, so the next first word is

@@ -291,7 +291,8 @@ def base(repository):
 def main():
     repository = Repository()
     if sys.argv[1:]:
-        return repository.show("reached", repository.reached(sys.argv[1:]))
+        repository.show("reached", repository.reached(sys.argv[1:]))
+        return
     source = repository.reached(SOURCE)
     core = repository.reached(CORE)
     headline = repository.reached(CORE + HEADLINE, OF_FORGED)

@@ -12,7 +12,6 @@ import re
 import sys
 import textwrap
 from dataclasses import dataclass, field
-from pathlib import Path
 
 from believed import PROMISES, Repository, base
 from crate_lists import TOP, blocks, first_sentence, root_file

@@ -157,7 +157,8 @@ def main():
         (TOP / LIST).write_text(page())
     elif not wrong and (TOP / LIST).read_text() != page():
         wrong = [f"{LIST} isn't what `tools/crate_lists.py --write` makes"]
-    print("\n".join(wrong)) if wrong else None
+    for it in wrong:
+        print(it)
     sys.exit(bool(wrong))
 
 

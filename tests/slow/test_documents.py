@@ -251,7 +251,9 @@ def try_document(document):
             wrong = try_example(document.resolve(), room)
             return [f"{document.name}: " + (f"FAILED: {wrong}" if wrong else "ok")], bool(wrong)
         for start, words, lines in blocks(document.read_text()):
-            failed += try_block(words, lines, room, lambda what: said.append(f"{document.name}:{start}: {what}"))
+            block = []
+            failed += try_block(words, lines, room, block.append)
+            said += [f"{document.name}:{start}: {what}" for what in block]
     return said, failed
 
 

@@ -108,8 +108,7 @@ def made():
 
 def compared(page):
     """A page as it is compared: what it packs is unpacked, since packing is done otherwise by other libraries."""
-    unpack = lambda it: it[1] + gzip.decompress(base64.b64decode(it[2])).hex()
-    return PACKED.sub(unpack, page)
+    return PACKED.sub(lambda it: it[1] + gzip.decompress(base64.b64decode(it[2])).hex(), page)
 
 
 if __name__ == "__main__":

@@ -250,5 +250,6 @@ def holds(context: Context, given: Given) -> int:
     except Refused as error:
         return refused(context, error)
     context.voice.say(*of_outputs(question.deployment, question.property()), *answer.notes)
-    print_lines(json.dumps(as_object(question, answer))) if given.has("json") else print_lines(*told(question, answer))
+    lines = [json.dumps(as_object(question, answer))] if given.has("json") else told(question, answer)
+    print_lines(*lines)
     return answer.status

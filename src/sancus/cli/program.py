@@ -93,7 +93,8 @@ class Feeder:
                 self.close()
             return
         if not self.parts:
-            return self.close()
+            self.close()
+            return
         piece = self.parts[0].read()
         if piece:
             self.ends_whole = piece.endswith(b"\n")

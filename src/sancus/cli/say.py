@@ -25,7 +25,7 @@ class Voice:
     def must_say(self, *lines: str) -> None:
         """Says what also `--quiet` doesn't keep back: why there is no answer."""
         text = "".join(f"{self.name}: {plain(it[:LONGEST])[:LONGEST]}\n" for it in lines)
-        try:
+        try:  # noqa: SIM105 (contextlib takes a while to load)
             os.write(2, text.encode(errors="backslashreplace"))
         except OSError:
             # (nobody listens)

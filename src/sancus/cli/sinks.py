@@ -134,8 +134,7 @@ class TraceOnly(Lines):
 
     def line(self, line: bytes) -> bytes:
         if (
-            line.startswith(b"image ")
-            or line.startswith(b"fault deployment")
+            line.startswith((b"image ", b"fault deployment"))
             or line == b"fault read"
             and not self.has_begun
         ):

@@ -18,9 +18,7 @@ from sancus.model.causes import Explained, chosen, judged, must_be_judged, other
 from sancus.model.items import ITEMS
 from sancus.model.lines import run_by_line
 from sancus.model.numbers import number
-from sancus.model.shown import text_of
 from sancus.model.texts import Input, kept_of
-from sancus.status import BAD_TEXT, Ended
 
 
 def explain(deployment: str, trace: Part, program: Program) -> Explained:

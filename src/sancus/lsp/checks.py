@@ -5,7 +5,7 @@ from __future__ import annotations
 import os
 import select
 from contextlib import contextmanager
-from dataclasses import dataclass, field
+from dataclasses import dataclass
 from signal import SIGKILL
 from threading import Timer
 from typing import Any, Dict, Iterator, List, Optional

@@ -416,7 +416,7 @@ class Teller:
         text = self.kept.line(line) or b""
         lines += self.shown(line) if text else []
         if rule == "E1":
-            lines += guesses.of_trace(text, bytes(self.kept.first[:4096]))
+            lines += guesses.of_trace(text)
         if rule == "E2":
             lines += guesses.of_item(text, self.tables)
         return lines

@@ -55,7 +55,7 @@ def in_property(error: NotInGrammar) -> List[str]:
         return [f"a property is no module, so it has no `{found}`: its handlers stand at items, as `on sense light(v)`"]
     if error.expected == {"("}:
         return [f"these items have a value, which needs a name, as `(v)`: {' '.join(VALUED)}"]
-    if "(" == found and error.expected == {"{"}:
+    if found == "(" and error.expected == {"{"}:
         return [f"these items have no value, so no brackets: {' '.join(it for it in WATCHED if it not in VALUED)}"]
     return []
 
@@ -131,7 +131,7 @@ def of_head(command: str, first: bytes) -> List[str]:
         return ["this is the output of a run, and no deployment"]
     if begun.startswith(b"<"):
         return ["this looks like a page of HTML or XML, and a deployment is TOML"]
-    if begun.startswith(b"{") or begun.startswith(b"["):
+    if begun.startswith((b"{", b"[")):
         return ["this looks like JSON, and a deployment is TOML"] if begun[1:2] in b'"{\n ' else []
     return []
 
@@ -213,7 +213,7 @@ def of_item(line: bytes, tables: Optional[Tables]) -> List[str]:
     return []
 
 
-def of_trace(line: bytes, first: bytes) -> List[str]:
+def of_trace(line: bytes) -> List[str]:
     """What was given in place of a trace."""
     act = (line.split() or [b""])[0].decode(errors="replace")
     if not act:

@@ -8,7 +8,7 @@ from __future__ import annotations
 
 from typing import Callable, Dict, List, NamedTuple, Optional, Set, Tuple
 
-from sancus.model.described import Connection, Deployment
+from sancus.model.described import Deployment
 from sancus.model.meaning import Act, first_cells, react
 from sancus.model.property import Cells, Property, Watched, frozen, thawed
 from sancus.records import dataclass, field

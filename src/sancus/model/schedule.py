@@ -599,7 +599,8 @@ class Writer:
             if number(name) is not None:
                 raise Mistake(f"{name} is a number, and no name")
         if words[0] not in self.acts:
-            return self.plain(words, name)
+            self.plain(words, name)
+            return
         if name:
             raise Mistake(f"`{words[0]}` names its packets itself")
         least, most, form = FORMS[words[0]]

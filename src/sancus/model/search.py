@@ -322,5 +322,3 @@ class Search:
         return Found(
             self.deployment, self.property, names, attested, frontier.kind.is_whole, frontier.deploying, run, steps
         )
-
-

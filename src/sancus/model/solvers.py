@@ -132,7 +132,7 @@ class Invariant:
     def is_inductive(self, deadline: Deadline) -> bool:
         """Whether it holds of all states with so few words on their way, and none of them breaks the property."""
         own = excluded(self.circuit, self.cubes, self.latches)
-        if self.circuit.values([own], {it: 0 for it in self.circuit.latches}) != [1]:
+        if self.circuit.values([own], dict.fromkeys(self.circuit.latches, 0)) != [1]:
             return False
         after = excluded(self.circuit, self.cubes, self.circuit.next)
         good = self.circuit.both(after, self.system.bad ^ 1)
@@ -228,7 +228,7 @@ class Frames:
     def states(self) -> Iterator[Tuple[Dict[object, int], int, int, int]]:
         """At each step the state before it, its move, the value that is given, and whether it breaks the property."""
         system, c = self.system, self.system.circuit
-        latches = {it: 0 for it in c.latches}
+        latches = dict.fromkeys(c.latches, 0)
         roots = [*c.next, system.bad]
         for row in self.rows:
             given = dict(zip(c.inputs, (int(it == "1") for it in row)))

@@ -119,5 +119,3 @@ def of_actuator(moves: Moves) -> List[int]:
     for number in constants(moves.property.module):
         found.update((number, number + 1))
     return sorted(it for it in found if 0 <= it <= 65535)
-
-
