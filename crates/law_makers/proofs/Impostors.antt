@@ -11,6 +11,7 @@ use Rattle.sx_tag.specs.Keys.{identity, layout_bytes}
 use Rattle.spec_machine.specs.Memory.{bytes_from}
 use Rattle.spec_run.specs.Setting.{same_layout, is_at_site}
 use Rattle.spec_run.specs.Deployer.{list_at}
+use Rattle.spec_run.proofs.steps.Entry.{layout_self}
 use Rattle.spec_run.proofs.steps.Foreign.{position_some}
 use Rattle.law_forgery.specs.Named.{code, names}
 use Rattle.law_forgery.proofs.Tabling.{bytes_in, read_back}
