@@ -1,5 +1,5 @@
 -- What a moment asks under two tag functions that differ in tags over `T` alone: the same first, and where that has the same answer, all the same.
-use Rattle.std.proofs.Common.{◌≡◌, ◌≢◌, ℕ, ◌-◌, ◌==◌, Bool, true, false, cond, not, ◌&&◌, bytes_eq, List, [], ◌∷◌, ◌++◌, length, take, min, slice_index, Option, Some, None, refl, sym, ◌∙◌, ap, ap₂, arith}
+use Rattle.std.proofs.Common.{◌≡◌, ◌≢◌, ℕ, ◌-◌, ◌==◌, Bool, true, false, cond, not, ◌&&◌, bytes_eq, List, [], ◌∷◌, ◌++◌, length, min, slice_index, Option, Some, None, refl, sym, ◌∙◌, ap, ap₂, arith}
 use Rattle.std.specs.Prelude.{nat_le, slice_get}
 use Rattle.std.specs.List.{list_any}
 use Rattle.std.specs.Option.{option_flatten}
@@ -55,9 +55,6 @@ first_of (u ∷ us) = Some u
 abbrev pub TriesFirst : List Use → Type 0
 TriesFirst [] = Unit {0}
 TriesFirst (u ∷ us) = NoTries us
-
-unfolding crypt wrap_tag
-asked_tag mac key ask = refl
 
 module _ (a : Setting) (nac : Mac) (close : IsClose a.mac nac) where
   abbrev b : Setting

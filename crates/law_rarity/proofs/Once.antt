@@ -1,45 +1,23 @@
 -- What is wrapped with one header is one body: a key's header has the connection and its epoch, and an
 -- event's has its number.
-use Rattle.std.proofs.Common.{◌≡◌, ◌==◌, ℕ, zero, suc, ◌/◌, ◌%◌, ◌⊎◌, inl, inr, Bool, true, false, List, [], ◌∷◌, length, Option, Some, None, refl, sym, ◌∙◌, ap, subst, arith}
-use Rattle.std.specs.Prelude.{slice_get, if◌then◌else◌}
-use Rattle.sx_trace.specs.declared.items.Item.{Item}
-use Rattle.sx_trace.specs.declared.items.Item.TheVariants as item
-use Rattle.sx_sched.specs.Lines.{Line}
-use Rattle.sx_mean.specs.Application.{AppTree}
+use Rattle.std.proofs.Common.{◌≡◌, ℕ, ◌/◌, ◌%◌, inl, inr, true, List, [], ◌∷◌, Some, sym, ◌∙◌, ap, subst, arith}
+use Rattle.std.specs.Prelude.{slice_get}
 use Rattle.sx_ledger.specs.declared.entry.Maker.{Maker}
 use Rattle.sx_ledger.specs.declared.entry.Maker.TheVariants as maker
-use Rattle.sx_model.specs.order.State.{Model, power_on}
-use Rattle.sx_model.specs.order.Step.{step as model_step}
-use Rattle.sx_model.specs.Legal.{is_forged}
+use Rattle.sx_model.specs.order.State.{Model}
 use Rattle.sx_wire.specs.Headers.{set_key_header, is_ask, is_event_header, last_in, value_in}
 use Rattle.spec_run.specs.Setting.{Setting}
 use Rattle.spec_run.specs.Ledger.{Made}
 use Rattle.spec_run.specs.Deployer.{grant_header, connection_key}
-use Rattle.spec_run.specs.State.{World, Acted, switched_on}
-use Rattle.spec_run.specs.Run.{run}
-use Rattle.spec_run.specs.Law.{IsSoundSetting, LinesInForm}
 use Rattle.spec_run.proofs.tie.Lists.{some_inj}
-use Rattle.spec_run.proofs.tie.Verdicts.{Fares, judge, judge_on, Verdict, Over}
-use Rattle.spec_run.proofs.tie.Tied.{Tied, Known, WasSent, place_in}
-use Rattle.spec_run.proofs.tie.Start.{starts_tied}
-use Rattle.spec_run.proofs.acts.Compose.{ActsWalk, keeps_run}
-use Rattle.spec_run.proofs.acts.Counting.{counts_lines}
-use Rattle.spec_run.proofs.ActsKeep.{are_wordly}
-use Rattle.spec_run.proofs.acts.Walks.{Walks}
-use Rattle.spec_run.proofs.ActsWalk.{Always, Easy, acts_walk, each_all, each_walks}
+use Rattle.spec_run.proofs.tie.Tied.{Known, WasSent, place_in}
 use Rattle.law_isolation.specs.Happening.{done}
-use Rattle.law_isolation.specs.Script.{Script, End, Do, looks, performed}
-use Rattle.law_isolation.specs.Lines.{script_of}
-use Rattle.law_isolation.proofs.Guarding.{on_placed}
-use Rattle.law_isolation.proofs.Performing.{is_performed}
-use Rattle.law_forgery.specs.Moments.{Moment, moment_from, shown_at, IsAmong, NoForged, NoneBefore}
 use Rattle.law_forgery.specs.Logged.{IsLogged}
 use Rattle.law_forgery.proofs.Accepting.{ask_long}
 use Rattle.law_forgery.proofs.Reaching.{lines_form}
-use Rattle.law_forgery.proofs.Logging.{AllLogged, done_logged, starts_logged}
+use Rattle.law_forgery.proofs.Logging.{AllLogged, done_logged}
 use Rattle.law_forgery.proofs.Forgeries.{step_sends, event_long}
-use Rattle.law_forgery.proofs.Keyed.{among_right}
-use Rattle.law_forgery.proofs.Unmade.{holds, among_left}
+use Rattle.law_forgery.proofs.Unmade.{holds}
 use Rattle.law_rarity.specs.Once.{PadsOnce}
 use Rattle.law_rarity.proofs.Tracking.{tied_then}
 
