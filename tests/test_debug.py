@@ -197,7 +197,7 @@ class Snap(Room):
 @needs_program
 class Steps(Room):
     def test_after_many_lines(self):
-        """A line costs what it does itself, wherever it stands: the lines before it are done together."""
+        """A line costs what it does itself, wherever it is: the lines before it are done together."""
         head, _, lines = LIGHTING.partition(b"%%\n")
         call = b"call eye 3 0x300 0x400\n"
         before, _, after = lines.partition(call)
@@ -208,7 +208,7 @@ class Steps(Room):
         self.assertEqual(ran.lines[1:], sancus("steps", LIGHTING_FILE, "39").lines[1:])
 
     def test_near_a_copy(self):
-        """What is asked stands behind a line at which `snap` keeps a copy of the run, if there is room for that."""
+        """What is asked is after a line at which `snap` keeps a copy of the run, if there is room for that."""
         lines = [f"run a {it}" for it in range(1, 60_002)]
         made, asked = session.near_a_copy(lines, ["regs a 8193", "bytes a 0x10 2 8195"])
         self.assertEqual(asked, ["regs a 16384", "bytes a 0x10 2 16386"])

@@ -495,7 +495,7 @@ class Warnings(Room):
         self.assertEqual(sancus("run", "--quiet", self.file("x", text), program=self.fake()).said, "")
 
     def test_a_fault_comes_first(self):
-        """Warnings wait until the deployment is accepted, and stand below the fault of a schedule."""
+        """Warnings wait until the deployment is accepted, and come below the fault of a schedule."""
         text = LIGHTING.replace(b"secret", b"# secret")
         for word, last, status in (("run", "schedule S3 1", 3), ("check", "deployment D4 top", 1)):
             for words, piped in (((self.file("x", text),), b""), ((), text)):

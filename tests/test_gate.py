@@ -89,7 +89,7 @@ class Gate(Room):
 
 
 class Measures(unittest.TestCase):
-    """What is printed of the processor's instructions behind the gate."""
+    """What is printed of the processor's instructions after the gate."""
 
     def test_counts_that_are_far_from_their_figures(self):
         stored = {"run": {"instructions": 1000}}

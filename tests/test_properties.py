@@ -212,7 +212,7 @@ class Answers(Room):
                 self.assertIn(said, ran.said)
 
     def test_a_deployment_that_only_the_program_reads(self):
-        """TOML 1.1 has an escape that 1.0 hasn't: the program's answers stand, and a search says why there is none."""
+        """TOML 1.1 has an escape that 1.0 hasn't: the program answers, and a search says why there is none."""
         head = self.file("x.toml", HEAD.replace(b'name = "eye"', b'name = "\\x65ye"'))
         self.assertEqual(sancus("check", head).status, 0)
         made = sancus("holds", head, PROPERTIES / "last_reading.property")

@@ -128,7 +128,7 @@ def left_at(source: str) -> int:
 
 
 def in_plain_quotes(source: str) -> bool:
-    """Whether a source stands in a deployment as it is."""
+    """Whether a source can be in a deployment as it is."""
     return '"""' not in source and "\\" not in source and not source.endswith('"')
 
 

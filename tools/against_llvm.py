@@ -57,7 +57,7 @@ def listing(program, code):
 
 
 def operand(text, at):
-    """An operand whose word, if it has one, stands at this address, as LLVM has it; its form; and its words."""
+    """An operand whose word, if it has one, is at this address, as LLVM has it; its form; and its words."""
     if text.startswith("##"):
         return None, "##n", 1
     if text.startswith("#"):

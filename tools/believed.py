@@ -3,11 +3,11 @@
 
     tools/believed.py [CRATE.FILE.NAME..]      from these definitions on, where some are named
 
-What else stands in the files of specs/ that are reached is shown too, by name: no file should hold any.
+What else is in the files of specs/ that are reached is shown too, by name: no file should hold any.
 
-A definition is reached where its name stands in one that is reached. Its lines count without comments and imports;
+A definition is reached if its name is in one that is reached. Its lines count without comments and imports;
 the kit's own definitions don't count. Of some definitions a reader believes only that they are functions (FUNCTIONS);
-what stands behind these isn't reached. Two tiers: the core is about runs, for every sound setting and every list of
+what is beyond these isn't reached. Two tiers: the core is about runs, for every sound setting and every list of
 lines in form; the rest is what leads there from the text that is read, and to the text that is written. What `forged`
 and keys say (the crates law_forgery and law_connections, and what is reached through them alone) is counted by itself, and in no
 other number; of this, what the keys of connections show has a line of its own. So have what says how seldom a `forged` comes, and
@@ -88,7 +88,7 @@ OF_PROPERTIES = ("sx_watch", "law_never", "command_property", "command_watch", "
 FUNCTIONS = {("command_world.Compiled", "compiled_texts")}
 
 WORD = re.compile(r"[^\s(){}\[\],;:.=→λ∷×⊎≡≤<+*/%&|?!«»]+")
-# The operator `>>=`, which a `do` block stands for, as WORD finds it.
+# The operator `>>=`, which a `do` block means, as WORD finds it.
 BLOCK = ">>"
 HEAD = re.compile(r"^(?:(?:abbrev|unfoldable|pub|record|data|opaque)\s+)*(\S+)")
 IMPORT = re.compile(r"(?:pub )?use Rattle\.([\w.]+?)(?:\.\{([^}]*)\}| as (\w+))?$")
@@ -264,7 +264,7 @@ class Repository:
         return seen
 
     def beside(self, keys):
-        """The definitions of specs/ that stand in a file with one of these, and are none of them."""
+        """The definitions of specs/ that are in a file with one of these, and are none of them."""
         places = {self.definitions[key].place for key in keys}
         return [key for key, it in self.definitions.items()
                 if it.place in places and "/specs/" in it.place and key not in keys]

@@ -5,7 +5,7 @@ that each promise rests on.
     tools/contracts.py             prints a line if docs/CRATES.md isn't what these sources give, and nothing if it is
     tools/contracts.py --write     makes it again
 
-A call is public if its crate's root file lets others name it. `.ci/run` compares behind the gate.
+A call is public if its crate's root file lets others name it. `.ci/run` compares after the gate.
 """
 
 import re

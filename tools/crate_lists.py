@@ -5,7 +5,7 @@
     tools/crate_lists.py --write     makes crates/README.md again
 
 A crate must be in crates.txt after all crates that it depends on, and its root file must begin with a sentence that says what
-it is. crates/README.md has that sentence, by the blocks of crates.txt. `.ci/run` compares them behind the gate.
+it is. crates/README.md has that sentence, by the blocks of crates.txt. `.ci/run` compares them after the gate.
 """
 
 import re

@@ -10,7 +10,7 @@ SYSTEMS = "wrong-systems"
 
 @dataclass(frozen=True)
 class Change:
-    """One line or more of a file of a crate, and what stands in its place."""
+    """One line or more of a file of a crate, and what is put in its place."""
 
     file: str
     old: str
@@ -36,7 +36,7 @@ class Edit:
 
 
 def read_edit(path):
-    """The edit in a file. In one of a crate below, and in a wrong system, `\\n` in a text stands for the end of a line."""
+    """The edit in a file. In one of a crate below, and in a wrong system, `\\n` in a text is the end of a line."""
     judge = path.parent.name if path.parent.name != "must-fail" else path.parent.parent.name
     crate, file, old, changes = "" if judge == SYSTEMS else judge, None, None, []
     named = {"law": [], "lemma": []}
@@ -69,7 +69,7 @@ def systems_of(top=TOP):
 
 
 def apply(edit, top=TOP):
-    """The files that the edit changes, by their new texts; the first old text that doesn't stand there once is an error."""
+    """The files that the edit changes, by their new texts; the first old text that isn't there just once is an error."""
     texts = {}
     for change in edit.changes:
         path = top / "crates" / edit.crate / change.file

@@ -202,7 +202,7 @@ def words():
         if name == "watch":
             verb.add_argument("process", type=int, help="the number of the process rt ci")
         else:
-            verb.add_argument("words", nargs="*", help="words for rt ci; one such as --anew stands behind --")
+            verb.add_argument("words", nargs="*", help="words for rt ci; one such as --anew comes after --")
     verb = verbs.add_parser("table", help="prints the table of a file of times")
     verb.add_argument("file")
     verb.set_defaults(call=show)

@@ -1,5 +1,5 @@
 #!/usr/bin/env python3
-"""Lists lemmas of proof files that stand more than once: statements that are the same but for the names that they bind.
+"""Lists lemmas of proof files that are there more than once: statements that are the same but for the names that they bind.
 
     tools/lemma_copies.py [--all]     the ten most copied (or all); the last line counts the copies beyond the first
 

@@ -62,7 +62,7 @@ __attribute__((destructor)) static void tell(void) {
 """
 
 LIGHTING = (TOP / "examples/lighting.txt").read_bytes()
-# A schedule behind the deployment, and a query of each kind.
+# A schedule after the deployment, and a query of each kind.
 QUERIES = b"load logic\nreset a\n%%\nitems 2\nitems 1\nbytes a 0x6000 2 2\nregs a 1\nitems 3\n"
 
 LISTED = b"here: mov #9, &0x1000\nxor.b #1, &0x306\njmp here\n"

@@ -57,7 +57,7 @@ sha256 $(sum_of "$1")
 END
 }
 
-# The note's lines of release/sancus.wasm, where it stands: made of the program with the sum given.
+# The note's lines of release/sancus.wasm, if it is there: made of the program with the sum given.
 told_wasm() {
   [[ -f "$wasm" ]] || return 0
   cat <<END
@@ -104,7 +104,7 @@ check_note() {
   [[ ! -e "$wasm" && -z "$(noted wasm-of)" ]] || [[ "$(sum_of "$wasm")" == "$(noted wasm-sha256)" ]] ||
     die "release/sancus.wasm isn't the one that the note names: tools/release.sh wasm"
   [[ "$(list | sum_of)" == "$(noted sources)" ]] ||
-    die "release/ is of other sources than those that stand here: tools/release.sh make"
+    die "release/ is of other sources than those that are here: tools/release.sh make"
 }
 
 check() {

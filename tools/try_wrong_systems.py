@@ -33,7 +33,7 @@ TOP = Path(__file__).resolve().parent.parent
 MADE = "wrong_system"
 # The whole name of a module, or of something in one.
 NAMED = re.compile(r"\bRattle\.(\w+\.(?:specs|proofs)(?:\.[\w+]+)+)")
-# Written for single functions, so no other file stands on them.
+# Written for single functions, so no other file needs them.
 OF_FUNCTIONS = {"Answers", "Invariants", "Proof", "Lib"}
 ROOT = "//! Files that stand on a changed definition.\n#![tactic(auto)]\n"
 # The prover's lines about a lemma that it refuses, and about anything else that it doesn't accept.

@@ -32,7 +32,7 @@ class Repository(Room):
         self.write("crates.txt", "sancus_run: sx_top\n")
         self.write("HANDLES", "Handles allowed: none.\n")
         self.write("tests/test_nothing.py", NOTHING)
-        # (of what else runs after the gate, nothing stands here)
+        # (of what else runs after the gate, nothing is here)
         for name in ("try_wrong_bodies", "try_wrong_systems", "crate_lists", "contracts", "recursion"):
             self.write(f"tools/{name}.py", "")
         self.write("bench/instructions.py", "")

@@ -8,7 +8,7 @@ import unittest
 
 from slow import PROGRAM, needs_program, taken
 
-EVERY = 8192  # after so many lines a checkpoint stands
+EVERY = 8192  # after so many lines a checkpoint comes
 
 # Two lines, and then lines that each take 200 steps: an operation on a register, and a jump back to it. What else a query does takes less than one.
 FIRST = ["put n 0x4000 1553fe3f", "set n pc 0x4000"]

@@ -75,7 +75,7 @@ class Reader:
                 return value - (1 << shift) if is_signed and byte & 64 else value
 
     def raw(self):
-        """A number, as it stands."""
+        """A number, as it is."""
         start = self.at
         self.number()
         return self.data[start : self.at]

@@ -261,7 +261,7 @@ class Parser:
         self.token = next_token(data, 0, self.words)
         self.looked: Set[str] = set()
         self.open = 0
-        # the word before each block with the place behind its brace, and `assume` with the place behind its `;`
+        # the word before each block with the place after its brace, and `assume` with the place after its `;`
         self.places: List[Tuple[str, int]] = []
 
     def advance(self) -> Token:
