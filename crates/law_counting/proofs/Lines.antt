@@ -64,18 +64,12 @@ mem_few : (w : ℕ) (xs : List ℕ) → total w (λ v. one (mem v xs)) ≤ lengt
 mem_few w [] = let a : total w (λ v. 0) ≡ 0 = total_none w (λ v. 0) (λ v lt. refl) in omega (arith, a)
 mem_few w (x ∷ xs) =
     let a : total w (λ v. one (mem v (x ∷ xs))) ≤ total w (λ v. one (x == v) + one (mem v xs))
-    = total_le w (λ v. one (mem v (x ∷ xs))) (λ v. one (x == v) + one (mem v xs)) (λ v lt. either (x == v) (mem v xs)) in
+    = total_le w (λ v. one (mem v (x ∷ xs))) (λ v. one (x == v) + one (mem v xs)) (λ v lt. or_le (x == v) (mem v xs)) in
     let b : total w (λ v. one (x == v) + one (mem v xs)) ≡ total w (λ v. one (x == v)) + total w (λ v. one (mem v xs))
     = total_add w (λ v. one (x == v)) (λ v. one (mem v xs)) in
     let c : total w (λ v. one (x == v)) ≤ 1 = total_few w x in
     let d : total w (λ v. one (mem v xs)) ≤ length xs = mem_few w xs in
     omega (arith, a, b, c, d)
-  where
-    either : (p q : Bool) → one (p || q) ≤ one p + one q
-    either true true = omega arith
-    either true false = omega arith
-    either false true = omega arith
-    either false false = omega arith
 
 abbrev pub at_entry : ℕ → Option Attempt → Bool
 at_entry e None = false

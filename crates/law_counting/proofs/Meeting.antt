@@ -4,11 +4,7 @@ use Rattle.std.proofs.Math.Nat.{pow-suc, pow-zero}
 use Rattle.law_counting.specs.Counting.{total, sum_all, one, count}
 use Rattle.law_counting.specs.Processes.{is_in}
 use Rattle.law_counting.specs.Meeting.{meets, FewMeet}
-use Rattle.law_counting.proofs.Sums.{total_le, total_add, total_mul, total_const, total_few, sum_le, sum_add, sum_one}
-
-or_le : (b c : Bool) → one (b || c) ≤ one b + one c
-or_le true c = omega arith
-or_le false c = omega arith
+use Rattle.law_counting.proofs.Sums.{total_le, total_add, total_mul, total_const, total_few, sum_le, sum_add, sum_one, or_le}
 
 -- few numbers are among these values
 few_in : (w : ℕ) (values : List ℕ) → total w (λ v. one (is_in v values)) ≤ length values

@@ -1,8 +1,12 @@
 -- Sums over numbers and over tables.
-use Rattle.std.proofs.Common.{◌≡◌, ℕ, zero, suc, ◌+◌, ◌*◌, ◌^◌, ◌<◌, ◌≤◌, ◌==◌, List, [], ◌∷◌, refl, sym, ◌∙◌, ap, arith, ◌⊎◌, inl, inr}
+use Rattle.std.proofs.Common.{◌≡◌, ℕ, zero, suc, ◌+◌, ◌*◌, ◌^◌, ◌<◌, ◌≤◌, ◌==◌, ◌||◌, Bool, true, false, List, [], ◌∷◌, refl, sym, ◌∙◌, ap, arith, ◌⊎◌, inl, inr}
 use Rattle.std.proofs.Math.Nat.{pow-suc, pow-zero}
 use Rattle.std.proofs.lemmas.Bool.{ne_eqb, eq-eqb, cases_eq}
 use Rattle.law_counting.specs.Counting.{total, sum_all, one, IsTable, put}
+
+pub or_le : (b c : Bool) → one (b || c) ≤ one b + one c
+or_le true c = omega arith
+or_le false c = omega arith
 
 pub total_le : (w : ℕ) (f g : ℕ → ℕ) → ((v : ℕ) → v < w → f v ≤ g v) → total w f ≤ total w g
 total_le zero f g h = omega arith

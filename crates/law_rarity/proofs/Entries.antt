@@ -30,9 +30,9 @@ number_back (suc n) v lt =
 pub number_of : (v : ℕ) → v < 2 ^ 128 → number (bytes_of 16 v) ≡ v
 number_of v lt = number_back 16 v lt
 
-long : (n v : ℕ) → length (bytes_of n v) ≡ n
-long zero v = refl
-long (suc n) v = ap suc (long n (v / 256))
+pub bytes_long : (n v : ℕ) → length (bytes_of n v) ≡ n
+bytes_long zero v = refl
+bytes_long (suc n) v = ap suc (bytes_long n (v / 256))
 
 pub first_sixteen : (v : ℕ) (rest : List ℕ) → take 16 (bytes_of 16 v ++ rest) ≡ bytes_of 16 v
 first_sixteen v rest = refl

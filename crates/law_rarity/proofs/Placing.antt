@@ -43,7 +43,7 @@ use Rattle.law_counting.specs.Counting.{IsTable, at}
 use Rattle.law_rarity.specs.Tables.{bytes_of}
 use Rattle.law_rarity.specs.Names.{HasNames}
 use Rattle.law_rarity.specs.Places.{place_of, AreApart, IsNoPlace, UsesNoPlace, IsPlaced, PlacesUnseen}
-use Rattle.law_rarity.proofs.Entries.{number, number_of, first_sixteen}
+use Rattle.law_rarity.proofs.Entries.{number, number_of, bytes_long, first_sixteen}
 use Rattle.law_rarity.proofs.Tabled.{written, replaced}
 use Rattle.law_rarity.proofs.Words.{stands}
 use Rattle.law_rarity.proofs.Names.{past, named_has_names, names_short, site_range}
@@ -101,10 +101,6 @@ two_mod x =
     let a : x % 65536 % 256 ≡ x % 256 = omega arith in
     let b : x % 65536 / 256 % 256 ≡ x / 256 % 256 = omega arith in
     ap₂ (λ (y z : ℕ). y ∷ z ∷ []) a b
-
-bytes_long : (n v : ℕ) → length (bytes_of n v) ≡ n
-bytes_long zero v = refl
-bytes_long (suc n) v = ap suc (bytes_long n (v / 256))
 
 -- The keys above a module's are names, too.
 module _ (base mac : Mac) where
