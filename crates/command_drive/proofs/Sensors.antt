@@ -34,7 +34,7 @@ use Rattle.command_drive.proofs.Quiet.{AreReadings}
 
 -- ---- words
 
-ok_some : {A : Type 0} (o : Option A) (e : ℕ) (x : A) → ok_or o e ≡ Ok x → o ≡ Some x
+ok_some : {A : Type 0} (o : Option A) (e : ReadingRule) (x : A) → ok_or o e ≡ Ok x → o ≡ Some x
 ok_some None e x h = absurd (cc h)
 ok_some (Some y) e x h = let same : y ≡ x = cc in ap (λ z. Some z) same
 
