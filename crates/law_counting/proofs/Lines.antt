@@ -4,7 +4,7 @@ use Rattle.std.proofs.lemmas.Nat.{mul-le}
 use Rattle.std.proofs.lemmas.Bool.{true≢false, eqb-true, eqb-false, ne_eqb, eq-eqb, cases_eq, cases_Bool, and_parts, and_from, or_parts, not_from_false}
 use Rattle.law_counting.specs.Counting.{total, one, IsTable, at, put}
 use Rattle.law_counting.specs.Guesses.{Attempt, Play, misses, all_miss, IsBlind}
-use Rattle.law_counting.proofs.Sums.{total_le, total_same, total_add, total_const, total_none, total_few}
+use Rattle.law_counting.proofs.Sums.{or_le, total_le, total_same, total_add, total_const, total_none, total_few}
 
 -- 1. entries
 
