@@ -13,7 +13,7 @@ use Rattle.spec_run.specs.Law.{IsSoundSetting}
 use Rattle.spec_run.specs.State.{World, switched_on}
 use Rattle.spec_run.specs.Run.{FINISH_STEPS, Register, protect_registers, call_registers}
 use Rattle.spec_run.proofs.tie.Lists.{some_inj, get_within}
-use Rattle.law_isolation.specs.Happening.{Happening, Begin, Step, Put, Set, Take, Give, Forge, Sense, Irq, Reset, Ask, Answer, Show, done}
+use Rattle.law_isolation.specs.Happening.{Happening, Step, Put, Set, Take, Give, Forge, Sense, Irq, Reset, Ask, Answer, Show, done}
 use Rattle.law_isolation.specs.Script.{Look, Script, End, Do, looks}
 use Rattle.law_isolation.specs.Lines.{all, ends, where_node, steps, finishing, unless_running, pieces, setting_of, loading, calling, line_script, script_of}
 use Rattle.law_forgery.specs.Moments.{Moment, moment_from, moment}

@@ -1,5 +1,5 @@
 -- Each moment of a run that shows no `forged` leads to a world that is tied to the source.
-use Rattle.std.proofs.Common.{◌≡◌, ◌==◌, ℕ, zero, suc, ◌+◌, ◌/◌, ◌<◌, ◌≤◌, ◌⊎◌, inl, inr, Bool, true, false, cond, List, [], ◌∷◌, length, take, drop, Option, Some, None, refl, sym, ◌∙◌, ap, subst, arith}
+use Rattle.std.proofs.Common.{◌≡◌, ◌==◌, ℕ, zero, suc, ◌+◌, ◌/◌, ◌<◌, ◌≤◌, ◌⊎◌, inl, inr, Bool, true, false, cond, List, [], ◌∷◌, length, drop, Option, Some, None, refl, sym, ◌∙◌, subst, arith}
 use Rattle.std.specs.Prelude.{slice_get}
 use Rattle.sx_trace.specs.declared.items.Item.{Item}
 use Rattle.sx_trace.specs.declared.items.Item.TheVariants as item
@@ -18,16 +18,16 @@ use Rattle.spec_run.specs.Acts.{at_node}
 use Rattle.spec_run.specs.Run.{FINISH_STEPS, Register, protect_registers, call_registers, line_counted}
 use Rattle.spec_run.specs.Law.{IsSoundSetting, LineInForm, LinesInForm}
 use Rattle.spec_run.proofs.tie.Lists.{some_inj}
-use Rattle.spec_run.proofs.tie.Verdicts.{Fares, judge, judge_on, Verdict, Broken, Over, Going}
+use Rattle.spec_run.proofs.tie.Verdicts.{Fares, judge, judge_on, Verdict, Over}
 use Rattle.spec_run.proofs.tie.Tied.{Tied}
 use Rattle.spec_run.proofs.tie.Start.{starts_tied}
-use Rattle.spec_run.proofs.acts.Compose.{Walked, ActsWalk, IsWordly, keeps_run}
+use Rattle.spec_run.proofs.acts.Compose.{Walked, ActsWalk, keeps_run}
 use Rattle.spec_run.proofs.acts.Counting.{counts_lines}
 use Rattle.spec_run.proofs.ActsKeep.{are_wordly}
 use Rattle.spec_run.proofs.acts.Walks.{Walks}
 use Rattle.spec_run.proofs.ActsWalk.{Always, Easy, acts_walk, each_all, each_walks}
 use Rattle.law_isolation.specs.Happening.{Happening, Begin, Step, Put, Set, Take, Give, Forge, Sense, Irq, Reset, Ask, Answer, Show, done}
-use Rattle.law_isolation.specs.Script.{Look, Script, End, Do, looks}
+use Rattle.law_isolation.specs.Script.{Look, Script, Do, looks}
 use Rattle.law_isolation.specs.Lines.{all, ends, where_node, steps, finishing, unless_running, pieces, setting_of, loading, calling, line_script, script_of}
 use Rattle.law_forgery.specs.Moments.{Moment, moment_from, moment, shown_at, NoForged}
 use Rattle.law_forgery.proofs.Forging.{forged_is}
