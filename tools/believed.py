@@ -42,7 +42,7 @@ LINKS = [f"law_connections.{law}" for law in ("LinksUnseen.LinksAreUnseen", "Unl
 PROPERTIES = ["sx_watch.Text.IsProperty", "sx_watch.Watched.broken_at"]
 # How seldom a `forged` comes: counts of tables, makers of schedules, and what their distinguishers say.
 ODDS = [
-    "law_rarity.Erring.ForgersAreTold", "law_rarity.Erring.DistinguisherSeldomErrs", "law_rarity.Accepted.AcceptedSeldomErrs",
+    "law_rarity.Erring.ForgersAreTold", "law_rarity.Erring.DistinguisherSeldomErrs",
     "law_counting.Pads.CiphersAreRandom", "law_rarity.Once.PadsOnce",
     *(f"law_makers.{law}" for law in (
         "Makers.MakersSeeTheSame", "Makers.DistinguisherIsRun", "Makers.DistinguisherKnowsNoKey",
