@@ -3,7 +3,9 @@
 import doctest
 import os
 import re
+import sys
 import unittest
+from importlib import import_module
 from unittest.mock import patch
 
 from support import PROGRAM, TOP, needs_program
@@ -50,6 +52,15 @@ class Api(unittest.TestCase):
         page = sancus.load("examples/lighting.txt").run()._repr_html_()
         self.assertTrue(page.startswith('<iframe sandbox="allow-scripts"'))
         self.assertIn("&lt;!doctype html&gt;", page)
+
+    def test_what_an_extra_installs_is_named(self):
+        run = sancus.load("examples/lighting.txt").run()
+        with patch.dict(sys.modules, pandas=None, hypothesis=None):
+            sys.modules.pop("sancus.strategies", None)
+            with self.assertRaisesRegex(ImportError, r"pip install 'sancus-verified\[frame\]'"):
+                run.frame()
+            with self.assertRaisesRegex(ImportError, r"pip install 'sancus-verified\[search\]'"):
+                import_module("sancus.strategies")
 
     def test_a_forged_tag(self):
         run = sancus.load("examples/forged.txt").run()

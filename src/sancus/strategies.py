@@ -6,8 +6,11 @@ from __future__ import annotations
 
 from typing import List, Optional
 
-from hypothesis import strategies as st
-from hypothesis.strategies import SearchStrategy
+try:
+    from hypothesis import strategies as st
+    from hypothesis.strategies import SearchStrategy
+except ImportError:
+    raise ImportError("strategies need hypothesis: pip install 'sancus-verified[search]'") from None
 
 from sancus.app import App
 from sancus.campaign import Act, Carry, Change, Fate, Hold, Layout, Reading, Replay, Reset, Sample
