@@ -2,6 +2,7 @@
 use Rattle.std.proofs.Common.{◌≡◌, ℕ, ◌+◌, ◌*◌, ◌<◌, ◌≤◌, ◌==◌, ◌&&◌, ◌||◌, not, Bool, true, false, inl, inr, ◌⊎◌, List, [], ◌∷◌, slice_index, refl, sym, ◌∙◌, ap, ap₂, subst, arith, map}
 use Rattle.std.specs.Prelude.{nat_le, nat_lt}
 use Rattle.std.proofs.lemmas.Bool.{and_parts, cases_lt, ltb-true, not-true, true≢false}
+use Rattle.sx_mean.specs.Offsets.{end_at}
 use Rattle.sx_mean.specs.Working.{plain_at}
 use Rattle.sx_lang.specs.Sizes.{module_data_size}
 use Rattle.sx_rules.specs.declared.access.Access.TheVariants.{Read}
@@ -155,7 +156,7 @@ module _ (a : Setting) (nac : Mac) (keys : List (List ℕ)) (secret : List ℕ) 
           ap (λ (l : Layout). l.priv_to) place.layout ∙ dep.data_size
           ∙ ap (λ (l : Layout). l.priv_from + module_data_size e.q.tree (ends_count a nac keys secret e)) (sym place.layout)
 
-      room : 512 + 24 * ends_count a nac keys secret e ≤ private_size a nac keys secret e
+      room : end_at (ends_count a nac keys secret e) ≤ private_size a nac keys secret e
       room = omega (arith, size_is)
 
       -- a byte that may be a key's is no such place

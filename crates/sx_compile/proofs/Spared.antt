@@ -43,19 +43,19 @@ abbrev Slotted : ℕ → ℕ → ℕ → Type 0
 Slotted ends k d = (k < ends) × (d < 24) × ((d < 2) ⊎ (4 ≤ d))
 
 -- lies beside what spares the slots
-spared_byte : (ends o n k d : ℕ) → spares_slots ends o n ≡ true → Slotted ends k d → (512 + 24 * k + d < o) ⊎ (o + n ≤ 512 + 24 * k + d)
+spared_byte : (ends o n k d : ℕ) → spares_slots ends o n ≡ true → Slotted ends k d → (offsets.end_at k + d < o) ⊎ (o + n ≤ offsets.end_at k + d)
 spared_byte ends o n k d e in_slot =
     let one = in_slot.0 in
     let small = in_slot.1 in
     elim (or_cases (nat_le (o + n) 512) _ e) [
       | inl below ↦ let le = leb-true (o + n) 512 below in inr (omega (arith, le))
-      | inr rest ↦ elim (or_cases (nat_le (512 + 24 * ends) o) _ rest) [
-        | inl above ↦ let le = leb-true (512 + 24 * ends) o above in inl (omega (arith, le, one, small))
+      | inr rest ↦ elim (or_cases (nat_le (offsets.end_at ends) o) _ rest) [
+        | inl above ↦ let le = leb-true (offsets.end_at ends) o above in inl (omega (arith, le, one, small))
         | inr number ↦ at_number (and_parts ((o - 512) % 24 == 2) (nat_le n 2) number) in_slot.2
       ]
     ]
   where
-    at_place : (j : ℕ) → o ≡ 512 + 24 * j + 2 → n ≤ 2 → d < 24 → (d < 2) ⊎ (4 ≤ d) → (512 + 24 * k + d < o) ⊎ (o + n ≤ 512 + 24 * k + d)
+    at_place : (j : ℕ) → o ≡ offsets.end_number_at j → n ≤ 2 → d < 24 → (d < 2) ⊎ (4 ≤ d) → (offsets.end_at k + d < o) ⊎ (o + n ≤ offsets.end_at k + d)
     at_place j is few small (inl low) = elim (cases_lt j k) [
       | inl lt ↦ inr (omega (arith, is, few, lt))
       | inr ge ↦ inl (omega (arith, is, low, ge))
@@ -65,7 +65,7 @@ spared_byte ends o n k d e in_slot =
       | inr ge ↦ inr (omega (arith, is, few, high, ge))
     ]
 
-    at_number : (((o - 512) % 24 == 2) ≡ true) × (nat_le n 2 ≡ true) → (d < 2) ⊎ (4 ≤ d) → (512 + 24 * k + d < o) ⊎ (o + n ≤ 512 + 24 * k + d)
+    at_number : (((o - 512) % 24 == 2) ≡ true) × (nat_le n 2 ≡ true) → (d < 2) ⊎ (4 ≤ d) → (offsets.end_at k + d < o) ⊎ (o + n ≤ offsets.end_at k + d)
     at_number x beside =
         let two_ = eqb-true ((o - 512) % 24) 2 x.0 in
         let few = leb-true n 2 x.1 in
@@ -76,21 +76,21 @@ spared_byte ends o n k d e in_slot =
 
 pub word_spared : (ends : ℕ) (priv : List ℕ) (o x : ℕ) → o % 2 ≡ 0 → spares_slots ends o 2 ≡ true → SameSlots ends priv (put_word priv o x)
 word_spared ends priv o x even_ e k d one small beside =
-    get-put_other priv o x (512 + 24 * k + d) even_ (apart (spared_byte ends o 2 k d e (one, small, beside))) (apart_high (spared_byte ends o 2 k d e (one, small, beside)))
+    get-put_other priv o x (offsets.end_at k + d) even_ (apart (spared_byte ends o 2 k d e (one, small, beside))) (apart_high (spared_byte ends o 2 k d e (one, small, beside)))
   where
-    apart : (512 + 24 * k + d < o) ⊎ (o + 2 ≤ 512 + 24 * k + d) → 512 + 24 * k + d ≢ o
+    apart : (offsets.end_at k + d < o) ⊎ (o + 2 ≤ offsets.end_at k + d) → offsets.end_at k + d ≢ o
     apart (inl lt) = omega (arith, lt)
     apart (inr ge) = omega (arith, ge)
 
-    apart_high : (512 + 24 * k + d < o) ⊎ (o + 2 ≤ 512 + 24 * k + d) → 512 + 24 * k + d ≢ o + 1
+    apart_high : (offsets.end_at k + d < o) ⊎ (o + 2 ≤ offsets.end_at k + d) → offsets.end_at k + d ≢ o + 1
     apart_high (inl lt) = omega (arith, lt)
     apart_high (inr ge) = omega (arith, ge)
 
 -- bytes of a range that spares them
 bytes_spared : (ends : ℕ) (priv : List ℕ) (o n p : ℕ) (bs : List ℕ) → spares_slots ends o n ≡ true → o ≤ p → p + length bs ≤ o + n → SameSlots ends priv (put_bytes priv p bs)
-bytes_spared ends priv o n p bs e from to k d one small beside = put_other bs priv p (512 + 24 * k + d) (apart (spared_byte ends o n k d e (one, small, beside)))
+bytes_spared ends priv o n p bs e from to k d one small beside = put_other bs priv p (offsets.end_at k + d) (apart (spared_byte ends o n k d e (one, small, beside)))
   where
-    apart : (512 + 24 * k + d < o) ⊎ (o + n ≤ 512 + 24 * k + d) → (512 + 24 * k + d < p) ⊎ (p + length bs ≤ 512 + 24 * k + d)
+    apart : (offsets.end_at k + d < o) ⊎ (o + n ≤ offsets.end_at k + d) → (offsets.end_at k + d < p) ⊎ (p + length bs ≤ offsets.end_at k + d)
     apart (inl lt) = inl (omega (arith, lt, from))
     apart (inr ge) = inr (omega (arith, ge, to))
 
@@ -243,14 +243,14 @@ module _ (s : Setup) (handle : ℕ → Conf → OperationResult) (handles : (h :
       go true is = within (ltb-true i k is)
         where
           within : i < k → SameSlots n priv (put_word priv (o + 2 * i) v)
-          within lt j d one small beside = get-put_other priv (o + 2 * i) v (512 + 24 * j + d) (omega (arith, even_)) (apart (spared_byte n o (2 * k) j d e (one, small, beside)))
+          within lt j d one small beside = get-put_other priv (o + 2 * i) v (offsets.end_at j + d) (omega (arith, even_)) (apart (spared_byte n o (2 * k) j d e (one, small, beside)))
               (apart_high (spared_byte n o (2 * k) j d e (one, small, beside)))
             where
-              apart : (512 + 24 * j + d < o) ⊎ (o + 2 * k ≤ 512 + 24 * j + d) → 512 + 24 * j + d ≢ o + 2 * i
+              apart : (offsets.end_at j + d < o) ⊎ (o + 2 * k ≤ offsets.end_at j + d) → offsets.end_at j + d ≢ o + 2 * i
               apart (inl a) = omega (arith, a)
               apart (inr a) = omega (arith, a, lt)
 
-              apart_high : (512 + 24 * j + d < o) ⊎ (o + 2 * k ≤ 512 + 24 * j + d) → 512 + 24 * j + d ≢ o + 2 * i + 1
+              apart_high : (offsets.end_at j + d < o) ⊎ (o + 2 * k ≤ offsets.end_at j + d) → offsets.end_at j + d ≢ o + 2 * i + 1
               apart_high (inl a) = omega (arith, a)
               apart_high (inr a) = omega (arith, a, lt)
 

@@ -301,7 +301,7 @@ abbrev pub is_shown : ℕ → ℕ → ℕ → Bool
 is_shown ends o n =
     (nat_le (o + n) working.plain_at || nat_le (working.plain_at + key_size) o)
     && (nat_le (o + n) (offsets.end_key_at 0) || (nat_le (offsets.end_at ends) o
-    || nat_le ((o - offsets.end_at 0) % 24 + n) 8))
+    || nat_le ((o - offsets.slots_at) % offsets.slot_size + n) 8))
 
 -- an element of an array holds no key, where there is one at this index
 abbrev pub is_shown_element : ℕ → ℕ → ℕ → ℕ → Bool
@@ -310,7 +310,7 @@ is_shown_element ends o n i = not (nat_lt i n) || is_shown ends (o + 2 * i) 2
 -- a key lies there, for a wrap or an unwrap: the module's own at 0, or one in a slot
 abbrev pub is_key_place : ℕ → ℕ → Bool
 is_key_place ends k = (k == 0) || (nat_le (offsets.end_key_at 0) k
-    && (nat_lt k (offsets.end_at ends) && ((k - offsets.end_key_at 0) % 24 == 0)))
+    && (nat_lt k (offsets.end_at ends) && ((k - offsets.end_key_at 0) % offsets.slot_size == 0)))
 
 -- what is unwrapped under the own key may be a key, and goes where one may be
 abbrev pub is_body_place : ℕ → ℕ → ℕ → Bool
@@ -341,8 +341,8 @@ names_no_key ends i stack = true
 -- None of n bytes from an offset on is in a slot but in its number, where there are this many ends.
 abbrev pub spares_slots : ℕ → ℕ → ℕ → Bool
 spares_slots ends o n =
-    nat_le (o + n) (offsets.end_at 0) || (nat_le (offsets.end_at ends) o
-    || (((o - offsets.end_at 0) % 24 == 2) && nat_le n 2))
+    nat_le (o + n) offsets.slots_at || (nat_le (offsets.end_at ends) o
+    || (((o - offsets.slots_at) % offsets.slot_size == 2) && nat_le n 2))
 
 -- the mark of a key: of an unwrap under the module's own key
 abbrev pub is_key_mark : Mark → Bool

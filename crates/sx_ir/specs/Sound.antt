@@ -3,8 +3,10 @@ use Rattle.std.specs.Prelude.{ℕ, ◌+◌, ◌-◌, ◌*◌, ◌%◌, ◌==◌,
 use Rattle.std.specs.Prelude.{List, length}
 use Rattle.std.specs.List.{list_all}
 use Rattle.sx_rules.specs.declared.section.Layout.{Layout}
-use Rattle.sx_mean.specs.Offsets.{end_at}
+use Rattle.sx_mean.specs.Offsets.{end_at, slot_size}
 use Rattle.sx_mean.specs.Working.{scratch_at, stack_to}
+use Rattle.spec_invocation.specs.Pieces.{tag_size}
+use Rattle.spec_invocation.specs.Protocol.{key_size}
 use Rattle.sx_ir.specs.declared.ir.Ir.{Ir}
 use Rattle.sx_ir.specs.declared.ir.Ir.TheVariants as ir
 use Rattle.sx_ir.specs.Meaning.{is_saved}
@@ -26,16 +28,16 @@ is_even o = o % 2 == 0
 
 -- the slot of the k-th end lies in the private section
 abbrev pub has_slot : ℕ → ℕ → Bool
-has_slot size k = nat_le (end_at k + 24) size
+has_slot size k = nat_le (end_at k + slot_size) size
 
 -- the key offset 0 is that of the module's own key and names no bytes
 abbrev pub is_key : ℕ → ℕ → Bool
-is_key size k = k == 0 || is_free size k 16
+is_key size k = k == 0 || is_free size k key_size
 
 -- Header and body have at most 32 bytes each. After the header are the cipher and the tag.
 abbrev pub are_sealed : ℕ → ℕ → ℕ → ℕ → ℕ → ℕ → Bool
 are_sealed size k h hn b bn =
-    is_key size k && (is_free size h (hn + bn + 16)
+    is_key size k && (is_free size h (hn + bn + tag_size)
     && (is_free size b bn && (nat_le hn 32 && nat_le bn 32)))
 
 -- an operation of code with this many operations and parts, in a private section of this size
@@ -59,7 +61,7 @@ is_sound_op ops parts size (ir.Meets r n) = is_saved r && nat_le 2 n
 is_sound_op ops parts size (ir.CopyIn n o) = nat_le 1 n && may_change size o n
 is_sound_op ops parts size (ir.CopyOut n o) = nat_le 1 n && is_free size o n
 is_sound_op ops parts size (ir.Seal k h hn b bn) =
-    are_sealed size k h hn b bn && may_change size (h + hn) (bn + 16)
+    are_sealed size k h hn b bn && may_change size (h + hn) (bn + tag_size)
 is_sound_op ops parts size (ir.Open k h hn b bn) =
     are_sealed size k h hn b bn && may_change size b bn
 is_sound_op ops parts size (ir.SetEnd k) = has_slot size k

@@ -8,6 +8,8 @@ ghost use Rattle.sx_ir.specs.Sound.{is_sound_op, is_sound_part, may_change};
 
 use crate::ir::{Code, Ir};
 use crate::sizes::bytes;
+use spec_invocation::protocol::{KEY_SIZE, TAG_SIZE};
+use sx_mean::offsets::{SCRATCH, SLOT_SIZE, STACK_TO, end_at};
 use sx_rules::Layout;
 
 fn is_free(size: u32, offset: u32, count: u32) -> bool
@@ -16,7 +18,8 @@ fn is_free(size: u32, offset: u32, count: u32) -> bool
     ensures { result ≡ is_free size offset count }
 {
     let end = offset + count;
-    end <= size && 2 <= offset && (end <= 104 || 512 <= offset)
+    let beside = end <= u32::from(SCRATCH) || u32::from(STACK_TO) <= offset;
+    end <= size && 2 <= offset && beside
 }
 
 fn may_change(size: u32, offset: u32, count: u32) -> bool
@@ -36,7 +39,7 @@ fn is_even(offset: u16) -> bool
 fn has_slot(size: u32, end: u8) -> bool
     ensures { result ≡ has_slot size end }
 {
-    512 + 24 * u32::from(end) + 24 <= size
+    u32::from(end_at(end)) + u32::from(SLOT_SIZE) <= size
 }
 
 fn is_saved(register: u8) -> bool
@@ -48,7 +51,7 @@ fn is_saved(register: u8) -> bool
 fn is_key(size: u32, offset: u16) -> bool
     ensures { result ≡ is_key size offset }
 {
-    offset == 0 || is_free(size, u32::from(offset), 16)
+    offset == 0 || is_free(size, u32::from(offset), u32::from(KEY_SIZE))
 }
 
 fn are_sealed(size: u32, key: u16, header: u16, header_len: u8, body: u16, body_len: u8) -> bool
@@ -58,7 +61,7 @@ fn are_sealed(size: u32, key: u16, header: u16, header_len: u8, body: u16, body_
         && (is_free(
             size,
             u32::from(header),
-            u32::from(header_len) + u32::from(body_len) + 16,
+            u32::from(header_len) + u32::from(body_len) + u32::from(TAG_SIZE),
         ) && (is_free(size, u32::from(body), u32::from(body_len))
             && (header_len <= 32 && body_len <= 32)))
 }
@@ -91,7 +94,7 @@ fn is_sound_op(ops: u32, parts: u64, size: u32, op: &Ir) -> bool
         Ir::Seal(key, header, header_len, body, body_len) => {
             let cipher = u32::from(*header) + u32::from(*header_len);
             are_sealed(size, *key, *header, *header_len, *body, *body_len)
-                && may_change(size, cipher, u32::from(*body_len) + 16)
+                && may_change(size, cipher, u32::from(*body_len) + u32::from(TAG_SIZE))
         }
         Ir::Open(key, header, header_len, body, body_len) => {
             are_sealed(size, *key, *header, *header_len, *body, *body_len)

@@ -15,7 +15,7 @@ use Rattle.spec_machine.specs.Memory.{even, word, put_word}
 use Rattle.spec_invocation.specs.Marks.{Mark, Wrapped}
 use Rattle.spec_invocation.specs.Pieces.{made_bytes}
 use Rattle.spec_invocation.specs.Setup.{Setup, Call}
-use Rattle.sx_mean.specs.Offsets.{end_number_at}
+use Rattle.sx_mean.specs.Offsets.{end_at, end_number_at}
 use Rattle.sx_mean.specs.Working.{pieces_at, saved_at}
 use Rattle.spec_invocation.specs.ModuleState.{EndState, end_of, with_end, end_state, end_states}
 use Rattle.spec_invocation.specs.Windows.{is_bad_window, two, write_bytes, out_window_size}
@@ -54,7 +54,7 @@ pub record Shows (s : Setup) (call : Call) (p : Progress) (priv mem : List ℕ) 
 
 -- a write that meets neither what an invocation keeps nor the ends
 pub shows_other : (s : Setup) (call : Call) (p : Progress) (priv mem : List ℕ) (devices : List Window) (marks : List Mark) (o v : ℕ) → ((b : ℕ) → 4 ≤ b → b < 16 → even b ≢ even o)
-    → ((b : ℕ) → 512 ≤ b → b < 512 + 24 * length s.ends → even b ≢ even o) → Shows s call p priv mem devices marks → Shows s call p (put_word priv o v) mem devices marks
+    → ((b : ℕ) → 512 ≤ b → b < end_at (length s.ends) → even b ≢ even o) → Shows s call p priv mem devices marks → Shows s call p (put_word priv o v) mem devices marks
 shows_other s call p priv mem devices marks o v low slots h = record {
   size = length-put_word priv o v ∙ h.size;
   ends = ends_other s.ends priv 0 o v (λ b l m. slots b (omega (arith, l)) (omega (arith, m))) ∙ h.ends;

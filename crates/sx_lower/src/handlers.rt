@@ -9,6 +9,7 @@ ghost use Rattle.sx_check.specs.Source.{source_tree};
 ghost use Rattle.sx_mean.specs.Sized.{AreSizedDecls};
 ghost use Rattle.sx_lang.specs.Words.{TreeHasWords};
 ghost use Rattle.sx_mean.specs.EndLaws.{senders};
+ghost use Rattle.sx_mean.specs.Working.{event_at, local_at};
 ghost use Rattle.sx_lower.specs.Lowered.{handler_code, handlers_code, handlers_parts};
 ghost use Rattle.sx_lower.specs.Lowered.{AreFew};
 ghost use Rattle.sx_lower.specs.Lowering.{LowersTo, SendFew};
@@ -34,7 +35,8 @@ fn scope_of(alloc: Global, param: &Name) -> Result<Vec<Name>, AllocError>
 }
 
 fn put_start(code: &mut Vec<Ir>) -> Result<(), AllocError>
-    ensures { OnOk result (code.new.items ≡ code.old.items ++ Ir.Load 2 ∷ Ir.Store 72 ∷ []) }
+    ensures { OnOk result (code.new.items ≡ code.old.items
+        ++ Ir.Load event_at ∷ Ir.Store (local_at 0) ∷ []) }
 {
     put(code, Ir::Load(EVENT))?;
     put(code, Ir::Store(local_at(0)))

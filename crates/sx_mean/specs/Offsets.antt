@@ -13,10 +13,18 @@
 --     512      a slot of 24 bytes for each end, and after the slots the cells
 use Rattle.std.specs.Prelude.{ℕ, ◌+◌, ◌*◌}
 
--- the slot of the k-th end, 24 bytes: the connection field, the number, whether it is open (0 or
--- not), two free bytes and the key
+-- the slots of the ends
+abbrev pub slots_at : ℕ
+slots_at = 512
+
+-- how many bytes a slot has
+abbrev pub slot_size : ℕ
+slot_size = 24
+
+-- the slot of the k-th end: the connection field, the number, whether it is open (0 or not), two
+-- free bytes and the key
 abbrev pub end_at : ℕ → ℕ
-end_at k = 512 + 24 * k
+end_at k = slots_at + slot_size * k
 
 -- the number in the slot of the k-th end
 abbrev pub end_number_at : ℕ → ℕ
@@ -32,4 +40,4 @@ end_key_at k = end_at k + 8
 
 -- the i-th cell, after the slots of this many ends
 abbrev pub cell_at : ℕ → ℕ → ℕ
-cell_at ends i = 512 + 24 * ends + 2 * i
+cell_at ends i = end_at ends + 2 * i

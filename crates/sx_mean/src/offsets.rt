@@ -16,6 +16,9 @@ pub const PACKET: u16 = 16;
 /// The plain body of a copied set-key packet: the connection's key, 16 bytes.
 pub const PLAIN: u16 = 56;
 
+/// The first of sixteen locals.
+pub const LOCALS: u16 = 72;
+
 /// What only templates use, up to the stack.
 pub const SCRATCH: u16 = 104;
 
@@ -28,8 +31,11 @@ pub const STACK_TO: u16 = 512;
 /// The words that the stack holds at most.
 pub const STACK_WORDS: u16 = 160;
 
+/// The first byte of the ends' slots.
+pub const SLOTS: u16 = 512;
+
 /// The bytes of an end's slot.
-pub const SLOT: u16 = 24;
+pub const SLOT_SIZE: u16 = 24;
 
 /// The word that keeps the caller's register, one of R12 to R15.
 pub fn saved_at(register: u8) -> u16
@@ -45,14 +51,14 @@ pub fn local_at(index: usize) -> u16
     requires { index < 16 }
     ensures { result ≡ local_at index }
 {
-    72 + 2 * index as u16
+    LOCALS + 2 * index as u16
 }
 
 /// The slot of the end of this index: its connection field.
 pub fn end_at(end: u8) -> u16
     ensures { result ≡ end_at end }
 {
-    512 + 24 * u16::from(end)
+    SLOTS + SLOT_SIZE * u16::from(end)
 }
 
 /// The number in an end's slot.
@@ -82,5 +88,5 @@ pub fn cell_at(ends: usize, cell: usize) -> u16
     requires few_cells { cell ≤ 1024 }
     ensures { result ≡ cell_at ends cell }
 {
-    (512 + 24 * ends + 2 * cell) as u16
+    (usize::from(SLOTS) + usize::from(SLOT_SIZE) * ends + 2 * cell) as u16
 }

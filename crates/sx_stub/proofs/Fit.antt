@@ -6,6 +6,7 @@ use Rattle.std.proofs.lemmas.List.Folds.{list_all-append}
 use Rattle.std.proofs.lemmas.List.Elements.{All-head, All-tail}
 use Rattle.std.proofs.lemmas.Bool.{le-leb, lt-ltb, eq-eqb, and_from, or_right}
 use Rattle.std.proofs.lemmas.Option.{none-some, same_Some}
+use Rattle.sx_mean.specs.Offsets.{end_at, end_key_at, end_number_at}
 use Rattle.sx_lang.specs.declared.sides.Side.{Side}
 use Rattle.sx_lang.specs.declared.sides.Side.TheVariants.{From, To}
 use Rattle.sx_lang.specs.Tree.{HandlerTree, ModuleTree}
@@ -104,16 +105,16 @@ module _ (n ops parts : ℕ) (few : n ≤ 16) where
   slot_fit : (k : ℕ) → nat_lt k 65536 ≡ true → Fit (slot_word n k)
   slot_fit k small = and_from _ _ small (one (ir.LoadAt 512 (12 * n)) (le-leb (12 * n) (12 * n) (omega arith)))
 
-  key_fits : (k : ℕ) → k < n → Fit (ir.Open (512 + 24 * k + 8) 16 6 2 2 ∷ [])
+  key_fits : (k : ℕ) → k < n → Fit (ir.Open (end_key_at k) 16 6 2 2 ∷ [])
   key_fits k lt =
       ap (λ (b : Bool). (b && true) && true)
-      (or_right ((512 + 24 * k + 8) == 0) _ (and_from _ _ (le-leb 512 (512 + 24 * k + 8) (omega arith)) (le-leb (512 + 24 * k + 8 + 16) (512 + 24 * n) (omega (arith, lt)))))
+      (or_right ((end_key_at k) == 0) _ (and_from _ _ (le-leb 512 (end_key_at k) (omega arith)) (le-leb (end_key_at k + 16) (end_at n) (omega (arith, lt)))))
 
-  number_fits : (k : ℕ) → k < n → Fit (ir.Store (512 + 24 * k + 2) ∷ [])
+  number_fits : (k : ℕ) → k < n → Fit (ir.Store (end_number_at k) ∷ [])
   number_fits k lt =
-      let o = 512 + 24 * k + 2 in
+      let o = end_number_at k in
       one (ir.Store o) (and_from _ _ (eq-eqb (o % 2) 0 (omega arith))
-      (and_from _ _ (or_right (is_low o 2) _ (and_from _ _ (le-leb 512 o (omega arith)) (le-leb (o + 2) (512 + 24 * n) (omega (arith, lt)))))
+      (and_from _ _ (or_right (is_low o 2) _ (and_from _ _ (le-leb 512 o (omega arith)) (le-leb (o + 2) (end_at n) (omega (arith, lt)))))
       (or_right (nat_le (o + 2) 6) _ (le-leb 14 o (omega arith)))))
 
   keyed_fit : Fit (is_keyed_code n)
@@ -157,10 +158,10 @@ module _ (tree : ModuleTree) (ends : List End) (ops : ℕ) (few : length ends �
   take_fit : (place k : ℕ) (e : End) → k < length ends → place + length (take_event tree place k e) < ops → Fits (take_event tree place k e)
   take_fit place k e lt short =
       let rest = handled_by (number_of tree (event.Input e.port 0)) in
-      let store = ir.Store (512 + 24 * k + 2) ∷ [] in
+      let store = ir.Store (end_number_at k) ∷ [] in
       let raise = ir.Load 20 ∷ ir.Push 1 ∷ ir.Op op.Add ∷ [] in
       let refuse = refuse_unless (place + 1) [] other_tag in
-      join (ir.Open (512 + 24 * k + 8) 16 6 2 2 ∷ []) (refuse ++ (raise ++ (store ++ rest))) (key_fits (length ends) ops (length tree.handlers) few k lt)
+      join (ir.Open (end_key_at k) 16 6 2 2 ∷ []) (refuse ++ (raise ++ (store ++ rest))) (key_fits (length ends) ops (length tree.handlers) few k lt)
       (join refuse (raise ++ (store ++ rest)) (needs (place + 1) [] other_tag refl (omega (arith, short)) refl)
       (join raise (store ++ rest) refl (join store rest (number_fits (length ends) ops (length tree.handlers) few k lt) (handled (event.Input e.port 0)))))
 

@@ -2,6 +2,7 @@
 use Rattle.std.proofs.Common.{◌≡◌, ℕ, ◌+◌, ◌*◌, ◌≤◌, inl, inr, ◌⊎◌, Bool, true, false, ◌&&◌, ◌||◌, refl, sym, subst, arith}
 use Rattle.std.specs.Prelude.{nat_le, nat_lt, ◌==◌}
 use Rattle.std.proofs.lemmas.Bool.{le-leb, lt-ltb, leb-true, ltb-true, eqb-true, and_from, and_parts, or_left, or_right, or_cases, false≢true}
+use Rattle.sx_mean.specs.Offsets.{end_at}
 use Rattle.sx_ir.specs.declared.ir.Ir.{Ir}
 use Rattle.sx_ir.specs.declared.ir.Ir.TheVariants as ir
 use Rattle.sx_ir.specs.Meaning.{is_saved}
@@ -14,7 +15,7 @@ is_low o n = nat_le 2 o && nat_le (o + n) 104
 
 -- they are in the slots of this many ends
 abbrev pub in_slots : ℕ → ℕ → ℕ → Bool
-in_slots ends o n = nat_le 512 o && nat_le (o + n) (512 + 24 * ends)
+in_slots ends o n = nat_le 512 o && nat_le (o + n) (end_at ends)
 
 -- they are beside the caller's registers
 abbrev pub is_beside : ℕ → ℕ → Bool
@@ -50,7 +51,7 @@ is_fit ends ops parts ir.Sense = true
 is_fit ends ops parts (ir.Handler h) = nat_lt h parts
 is_fit ends ops parts ir.Leave = true
 
-module _ (ends ops parts size : ℕ) (few : ends ≤ 16) (room : 512 + 24 * ends ≤ size) where
+module _ (ends ops parts size : ℕ) (few : ends ≤ 16) (room : end_at ends ≤ size) where
   free : (o n : ℕ) → o + n ≤ size → 2 ≤ o → (o + n ≤ 104) ⊎ (512 ≤ o) → is_free size o n ≡ true
   free o n fits low beside = and_from _ _ (le-leb (o + n) size fits) (and_from _ _ (le-leb 2 o low) (either beside))
     where
@@ -66,9 +67,9 @@ module _ (ends ops parts size : ℕ) (few : ends ≤ 16) (room : 512 + 24 * ends
 
   free_slot : (o n : ℕ) → in_slots ends o n ≡ true → is_free size o n ≡ true
   free_slot o n h =
-      let b = and_parts (nat_le 512 o) (nat_le (o + n) (512 + 24 * ends)) h in
+      let b = and_parts (nat_le 512 o) (nat_le (o + n) (end_at ends)) h in
       let x = leb-true 512 o b.0 in
-      let y = leb-true (o + n) (512 + 24 * ends) b.1 in
+      let y = leb-true (o + n) (end_at ends) b.1 in
       free o n (omega (arith, y, room)) (omega (arith, x)) (inr x)
 
   stored : (o : ℕ) → (is_low o 2 || in_slots ends o 2) ≡ true → is_free size o 2 ≡ true
@@ -150,7 +151,7 @@ module _ (ends ops parts size : ℕ) (few : ends ≤ 16) (room : 512 + 24 * ends
       let p = and_parts ((k == 0) || in_slots ends k 16) (are_low x hn b bn && is_beside b bn) h in
       let q = and_parts (are_low x hn b bn) (is_beside b bn) p.1 in
       and_from _ _ (sealed k x hn b bn (key k p.0) q.0) (opened x hn b bn q.0 q.1)
-  fit_sound (ir.SetEnd k) h = let lt = ltb-true k ends h in le-leb (512 + 24 * k + 24) size (omega (arith, lt, room))
+  fit_sound (ir.SetEnd k) h = let lt = ltb-true k ends h in le-leb (end_at k + 24) size (omega (arith, lt, room))
   fit_sound ir.Sense h = refl
   fit_sound (ir.Handler g) h = h
   fit_sound ir.Leave h = refl

@@ -149,7 +149,7 @@ module _ (s : Setup) (call : Call) (handle : ℕ → Conf → OperationResult) (
   opens : (packet key : List ℕ) (j place : ℕ) (c : Conf) → length packet ≡ 38 → AllBytes packet → AllBytes key
       → length key ≡ 16 → j < length s.ends
       → ShowsCall s call (progress_mark p (mark.Unwrapped (header_in packet) key true)) c → word c.priv 18 ≡ field_in packet
-      → bytes_from c.priv 56 16 ≡ key → 512 + 24 * length s.ends ≤ length c.priv
+      → bytes_from c.priv 56 16 ≡ key → end_at (length s.ends) ≤ length c.priv
       → At code place (open_end place j (record { link = 0; side = From; port = 0 }))
       → Invokes s call handle given code (Returns all_done (end_keyed j packet key p)) 60 (at c place [])
   opens packet key j place c e h isb len lt shows field read room a =
@@ -179,7 +179,7 @@ module _ (s : Setup) (call : Call) (handle : ℕ → Conf → OperationResult) (
       (omega arith) (omega arith)
       (returned s call handle given code 1 0 (end_keyed j packet key p) (with_priv c priv (place + 1) []) (place + 1 + 1 + 1) 0 a.1.1.1.0 shows5 (ap length (sym none))))
 
-  room_is : (c : Conf) → ShowsCall s call p c → 512 + 24 * length s.ends ≤ length c.priv
+  room_is : (c : Conf) → ShowsCall s call p c → end_at (length s.ends) ≤ length c.priv
   room_is c h = omega (arith, h.size)
 
   -- from the end that was found on, its index kept

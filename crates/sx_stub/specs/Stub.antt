@@ -30,29 +30,29 @@ use Rattle.lemmas.specs.Truth.{truth}
 
 -- what is searched for
 abbrev pub wanted_at : ℕ
-wanted_at = 72
+wanted_at = working.locals_at
 
--- 12 times the end's place among the ends: there its slot begins among the words of the slots
+-- where the slot of the end that was found begins, counted in words of the slots
 abbrev pub index_at : ℕ
-index_at = 74
+index_at = wanted_at + 2
 
 -- The words of a copied packet.
 
 -- its kind
 abbrev pub kind_at : ℕ
-kind_at = 16
+kind_at = working.packet_at
 
 -- its connection field
 abbrev pub field_at : ℕ
-field_at = 18
+field_at = kind_at + 2
 
 -- its end field or number
 abbrev pub second_at : ℕ
-second_at = 20
+second_at = field_at + 2
 
--- the slots of the ends
-abbrev pub slots_at : ℕ
-slots_at = 512
+-- how many words a slot has
+abbrev pub slot_words : ℕ
+slot_words = 12
 
 -- a return with this status, without a piece
 abbrev pub returns : ℕ → List Ir
@@ -113,9 +113,9 @@ every_end e = true
 abbrev pub is_receiving : End → Bool
 is_receiving e = is_to e.side
 
--- 12 times an end's place
+-- where the slot of the k-th end begins, counted in words of the slots
 abbrev pub index_of : ℕ → End → ℕ
-index_of k e = 12 * k
+index_of k e = slot_words * k
 
 -- what a connection field and an end field name
 abbrev pub named_end : ℕ → End → ℕ
@@ -123,12 +123,13 @@ named_end k e = e.link + 256 * truth (is_to e.side)
 
 -- goes on to where the index is kept
 abbrev pub with_index : ℕ → ℕ → ℕ → End → List Ir
-with_index found place k e = ir.Push (12 * k) ∷ ir.Jump found ∷ []
+with_index found place k e = ir.Push (index_of k e) ∷ ir.Jump found ∷ []
 
 -- a word of the slot that was found: 0 its field, 1 its number, 2 whether it is open
 abbrev pub slot_word : ℕ → ℕ → List Ir
 slot_word ends n =
-    ir.Load index_at ∷ ir.Push n ∷ ir.Op op.Add ∷ ir.LoadAt slots_at (12 * ends) ∷ []
+    ir.Load index_at ∷ ir.Push n ∷ ir.Op op.Add
+    ∷ ir.LoadAt offsets.slots_at (slot_words * ends) ∷ []
 
 -- the epoch of the field on top of the stack, times 256
 abbrev pub epoch : List Ir
@@ -186,7 +187,7 @@ set_key_code search place =
 
 -- where the answer's tag is made, after the ask
 abbrev pub answer_at : ℕ
-answer_at = 34
+answer_at = working.packet_at + ask_size
 
 -- the answer's tag is made and copied
 abbrev pub answer_code : List Ir

@@ -11,7 +11,7 @@ ghost use Rattle.sx_stub.specs.Puts.{behind_cases, kept};
 
 use crate::handled::{handled_len, input_handler, put_handled};
 use crate::pieces::{
-    CHOICE_LENGTH, FIELD, INDEX, SECOND, SLOT_WORDS, SLOTS, WANTED, put, put_all, put_choice,
+    CHOICE_LENGTH, FIELD, INDEX, SECOND, SLOT_WORDS, WANTED, put, put_all, put_choice,
     put_refuse, put_refuse_kind, put_refuse_unless,
 };
 use spec_invocation::protocol::{
@@ -22,7 +22,7 @@ use sx_ir::{Ir, IrOp};
 use sx_lang::sides::Side;
 use sx_lang::tree::Module;
 use sx_mean::events::End;
-use sx_mean::offsets::{EVENT, PACKET, end_key_at, end_number_at};
+use sx_mean::offsets::{EVENT, PACKET, SLOTS, end_key_at, end_number_at};
 
 /// The number of operations of the entry of input.
 pub const INPUT_LENGTH: u16 = 11;

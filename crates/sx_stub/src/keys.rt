@@ -5,7 +5,7 @@ ghost use Rattle.sx_stub.specs.Puts.{Puts, PutsAt, PutsCase, PutsCases, RefusesW
 ghost use Rattle.sx_stub.specs.Stub.{is_keyed_code, key_found, open_any, set_key_code, wanted_end};
 
 use crate::pieces::{
-    FIELD, INDEX, SECOND, SLOT_WORDS, SLOTS, WANTED, put, put_all, put_choice, put_refuse,
+    FIELD, INDEX, SECOND, SLOT_WORDS, WANTED, put, put_all, put_choice, put_refuse,
     put_refuse_kind, put_refuse_unless,
 };
 use spec_invocation::protocol::{
@@ -14,7 +14,7 @@ use spec_invocation::protocol::{
 use std::alloc::AllocError;
 use sx_ir::{Ir, IrOp};
 use sx_mean::events::End;
-use sx_mean::offsets::{PACKET, PLAIN};
+use sx_mean::offsets::{PACKET, PLAIN, SLOTS};
 
 /// The number of operations of the entry of set-key.
 pub const SET_KEY_LENGTH: u16 = 21;

@@ -7,28 +7,25 @@ ghost use Rattle.sx_stub.specs.Stub.{jump_on, refuse_kind, returns};
 use spec_invocation::protocol::{ENTRY_REGISTER, OTHER_KIND};
 use std::alloc::AllocError;
 use sx_ir::Ir;
-use sx_mean::offsets::saved_at;
+use sx_mean::offsets::{LOCALS, PACKET, SLOT_SIZE, saved_at};
 
 /// The word by which an end is searched for.
-pub const WANTED: u16 = 72;
+pub const WANTED: u16 = LOCALS;
 
 /// The word of where the slot of the end that was found begins, counted in words of the slots.
-pub const INDEX: u16 = 74;
+pub const INDEX: u16 = WANTED + 2;
 
 /// The word of a copied packet's kind.
-const KIND: u16 = 16;
+const KIND: u16 = PACKET;
 
 /// The word of a copied packet's connection field.
-pub const FIELD: u16 = 18;
+pub const FIELD: u16 = KIND + 2;
 
 /// The word of a copied packet's end field or number.
-pub const SECOND: u16 = 20;
-
-/// The first word of the slots.
-pub const SLOTS: u16 = 512;
+pub const SECOND: u16 = FIELD + 2;
 
 /// The words of a slot.
-pub const SLOT_WORDS: u16 = 12;
+pub const SLOT_WORDS: u16 = SLOT_SIZE / 2;
 
 /// The number of operations of a return.
 pub const RETURN_LENGTH: u16 = 3;

@@ -4,7 +4,9 @@ use Rattle.std.specs.Prelude.{slice_index, Option, Some, None}
 use Rattle.sx_rules.specs.Access.{in_private}
 use Rattle.spec_invocation.specs.Marks.{Mark}
 use Rattle.sx_image.specs.Watched.{Watched}
+use Rattle.sx_mean.specs.Working.{scratch_at, stack_to}
 use Rattle.sx_ir.specs.Conf.{Conf}
+use Rattle.sx_tmpl.specs.Scratch.{caller_sp_at, return_at}
 use Rattle.sx_tmpl.specs.Running.{Regs, Fixed, Data, running, Safe, cell}
 
 -- the private section's start
@@ -19,18 +21,18 @@ WordsAt m a (w ∷ ws) = (cell m a ≡ w) × WordsAt m (a + 2) ws
 -- an offset that holds data: neither the first word, nor what only templates use, nor the stack's
 pub record IsData (o : ℕ) : Type 0 where
   pub low : 2 ≤ o
-  pub beside : (o < 104) ⊎ (512 ≤ o)
+  pub beside : (o < scratch_at) ⊎ (stack_to ≤ o)
 
 -- in a handler's part the place to return to, as an address
 abbrev pub ReturnsTo : (ℕ → ℕ) → Fixed → Option ℕ → List ℕ → Type 0
 ReturnsTo at f None m = Unit {0}
-ReturnsTo at f (Some p) m = cell m (base_of f + 104) ≡ at p
+ReturnsTo at f (Some p) m = cell m (base_of f + return_at) ≡ at p
 
 -- memory has the stack's words from SP on, the data of the private section, the bytes outside, the
 -- place to return to, and SP at entry
 pub record MemoryHolds (f : Fixed) (at : ℕ → ℕ) (back : Option ℕ) (stack priv outside : List ℕ)
     (sp : ℕ) (m : List ℕ) : Type 0 where
-  pub top : sp + 2 * length stack ≡ base_of f + 512
+  pub top : sp + 2 * length stack ≡ base_of f + stack_to
   pub room : length stack ≤ 170
   pub whole : length outside ≡ 65536
   pub words : WordsAt m sp stack
@@ -40,7 +42,7 @@ pub record MemoryHolds (f : Fixed) (at : ℕ → ℕ) (back : Option ℕ) (stack
   pub others : (a : ℕ) → in_private f.setup.section a ≡ false
       → slice_index m a ≡ slice_index outside a
   pub returns : ReturnsTo at f back m
-  pub entry_sp : cell m (base_of f + 148) ≡ f.sp
+  pub entry_sp : cell m (base_of f + caller_sp_at) ≡ f.sp
 
 -- the node stands for the configuration, where `at` gives the address of a place
 pub record ShowsConfiguration (f : Fixed) (at : ℕ

@@ -6,7 +6,7 @@ use Rattle.std.specs.Prelude.{◌≡◌, ◌⊎◌, ℕ, ◌+◌, ◌*◌, ◌<�
 use Rattle.std.specs.Prelude.{get_or, slice_index, not, ◌==◌, None, Ok}
 use Rattle.sx_bus.specs.declared.devices.Window.{Window}
 use Rattle.sx_bus.specs.Devices.{device_at}
-use Rattle.sx_mean.specs.Offsets.{end_at, end_key_at, end_open_at}
+use Rattle.sx_mean.specs.Offsets.{end_at, end_key_at, end_open_at, slot_size}
 use Rattle.sx_mean.specs.Working.{plain_at}
 use Rattle.sx_rules.specs.Access.{in_private}
 use Rattle.sx_image.specs.Image.{private_bytes}
@@ -136,5 +136,5 @@ NamesNoKey ends i stack = Unit {0}
 
 -- the slots of this many ends are the same in two private sections, but for numbers
 abbrev pub SameSlots : ℕ → List ℕ → List ℕ → Type 0
-SameSlots ends p q = (k d : ℕ) → k < ends → d < 24 → (d < 2) ⊎ (4 ≤ d)
+SameSlots ends p q = (k d : ℕ) → k < ends → d < slot_size → (d < 2) ⊎ (4 ≤ d)
     → get_or q (end_at k + d) 0 ≡ get_or p (end_at k + d) 0

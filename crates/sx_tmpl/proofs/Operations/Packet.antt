@@ -56,10 +56,10 @@ module _ (f : Fixed) (st : Stands f) (all : List Mark) (B : Watched → Violatio
 
   -- a word of the end's slot
   slot_word : (o : ℕ) (stack outside : List ℕ) (sp : ℕ) (m : List ℕ) → o % 2 ≡ 0 → o + 2 ≤ 8 → H stack outside sp m
-      → (cell m (base_of f + (512 + 24 * k + o)) ≡ word priv (512 + 24 * k + o)) × PrivateWord f (base_of f + (512 + 24 * k + o))
+      → (cell m (base_of f + (offsets.end_at k + o)) ≡ word priv (offsets.end_at k + o)) × PrivateWord f (base_of f + (offsets.end_at k + o))
   slot_word o stack outside sp m ev le h =
-      let i : IsData (512 + 24 * k + o) = record { low = omega arith; beside = inr (omega arith) } in
-      (holds_word f st at back stack priv outside sp m (512 + 24 * k + o) h (omega arith) i (omega arith), data_word f st (512 + 24 * k + o) (slot_shown _ k o 2 le) (omega arith) (omega arith) (omega (arith, h.size)))
+      let i : IsData (offsets.end_at k + o) = record { low = omega arith; beside = inr (omega arith) } in
+      (holds_word f st at back stack priv outside sp m (offsets.end_at k + o) h (omega arith) i (omega arith), data_word f st (offsets.end_at k + o) (slot_shown _ k o 2 le) (omega arith) (omega arith) (omega (arith, h.size)))
 
   -- the two tests
   pub tests_run : (e : EndState) → end_state priv k ≡ e → (r : Regs) (d : Data) (stack outside : List ℕ) (j : ℕ) → r.pc ≡ A + 2 * 0 → H stack outside r.sp d.mem → Safe f all (running f r d)
@@ -150,8 +150,8 @@ module _ (f : Fixed) (st : Stands f) (all : List Mark) (B : Watched → Violatio
       let h3 = under stack outside r.sp m2 110 number (omega arith) refl (omega arith) h2 in
       let m4 = put_cell m3 (b + 130) v in
       let h4 = under stack outside r.sp m3 130 v (omega arith) refl (omega arith) h3 in
-      let z0 : b + (512 + 24 * k + 0) ≡ b + offsets.end_at k = omega arith in
-      let f0 : 512 + 24 * k + 0 ≡ offsets.end_at k = omega arith in
+      let z0 : b + (offsets.end_at k + 0) ≡ b + offsets.end_at k = omega arith in
+      let f0 : offsets.end_at k + 0 ≡ offsets.end_at k = omega arith in
       let sf = slot_word 0 stack outside r.sp m1 refl (omega arith) h1 in
       let isf : cell m1 (b + offsets.end_at k) ≡ field = ap (cell m1) (sym z0) ∙ sf.0 ∙ ap (word priv) f0 in
       let pf : PrivateWord f (b + offsets.end_at k) = subst (λ a. PrivateWord f a) z0 sf.1 in

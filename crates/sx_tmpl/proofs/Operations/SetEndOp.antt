@@ -230,7 +230,7 @@ module _ (f : Fixed) (st : Stands f) (all : List Mark) (B : Watched → Violatio
       → Runs f all B Q (suc j) (running f (record r_ { pc = A + 2 * (7 + 3 * n) }) (record d0 { mem = m })) =
       λ n lt has m j h s after. move_key f st all B at Q A k rt c.back (ret ∷ c.stack) c.mem (7 + 3 * n) (56 + 2 * n) (o + 2 * n) (8 + 2 * n) (omega arith) has (omega (arith, lt)) (omega arith)
       (omega (arith, lt)) (omega arith) (omega arith) (omega (arith, even_)) (record { slot = k; one = one; from = omega arith; to = omega (arith, lt) }) r_ (record d0 { mem = m }) (K n) (word p (56 + 2 * n)) j refl (fits_ n lt) (word_ n lt) h s after in
-      let first_at : 512 + 24 * k + 0 ≡ o0 = omega arith in
+      let first_at : offsets.end_at k + 0 ≡ o0 = omega arith in
       let pn = data_word f st o1 (slot_shown _ k 2 2 (omega arith)) (omega arith) (omega arith) (omega arith) in
       let po = data_word f st o2 (slot_shown _ k 4 2 (omega arith)) (omega arith) (omega arith) (omega arith) in
       let i2 : (b + o0 + 2) % 65536 ≡ b + o1 = omega arith in

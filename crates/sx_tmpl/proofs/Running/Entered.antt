@@ -2,7 +2,7 @@
 use Rattle.std.proofs.Common.{◌≡◌, ℕ, zero, suc, ◌+◌, ◌*◌, ◌<◌, ◌⊎◌, inl, inr, true, not, ◌==◌, List, length, refl, sym, ap, ap₂, ◌∙◌, subst, arith}
 use Rattle.std.specs.Prelude.{slice_index, ◌++◌, ◌∷◌, []}
 use Rattle.std.proofs.lemmas.Bool.{true≢false}
-use Rattle.sx_mean.specs.Offsets.{end_key_at, end_open_at}
+use Rattle.sx_mean.specs.Offsets.{end_at, end_key_at, end_open_at}
 use Rattle.spec_machine.specs.Memory.{bytes_from, word}
 use Rattle.sx_image.specs.Image.{private_bytes}
 use Rattle.spec_invocation.specs.ModuleState.{end_state}
@@ -35,14 +35,14 @@ module _ (ends : ℕ) (first priv : List ℕ) (same : SameSlots ends first priv)
   open_same : word first (end_open_at k) ≡ word priv (end_open_at k)
   unfolding cell
   open_same =
-      let low : slice_index priv (512 + 24 * k + 4) ≡ slice_index first (512 + 24 * k + 4) = same k 4 one (omega arith) (inr (omega arith)) in
-      let next : 512 + 24 * k + 5 ≡ 512 + 24 * k + 4 + 1 = omega arith in
-      let high : slice_index priv (512 + 24 * k + 4 + 1) ≡ slice_index first (512 + 24 * k + 4 + 1) =
+      let low : slice_index priv (end_open_at k) ≡ slice_index first (end_open_at k) = same k 4 one (omega arith) (inr (omega arith)) in
+      let next : end_at k + 5 ≡ end_open_at k + 1 = omega arith in
+      let high : slice_index priv (end_open_at k + 1) ≡ slice_index first (end_open_at k + 1) =
       subst (λ (o : ℕ). slice_index priv o ≡ slice_index first o) next (same k 5 one (omega arith) (inr (omega arith))) in
-      word_is first (512 + 24 * k + 4) (omega arith) ∙ ap₂ (λ (x y : ℕ). x + 256 * y) (sym low) (sym high) ∙ sym (word_is priv (512 + 24 * k + 4) (omega arith))
+      word_is first (end_open_at k) (omega arith) ∙ ap₂ (λ (x y : ℕ). x + 256 * y) (sym low) (sym high) ∙ sym (word_is priv (end_open_at k) (omega arith))
 
   key_same : bytes_from first (end_key_at k) 16 ≡ bytes_from priv (end_key_at k) 16
-  key_same = same_from priv first (end_key_at k) 16 (λ i lt. let at : 512 + 24 * k + (8 + i) ≡ 512 + 24 * k + 8 + i = omega arith in
+  key_same = same_from priv first (end_key_at k) 16 (λ i lt. let at : end_at k + (8 + i) ≡ end_key_at k + i = omega arith in
       sym (subst (λ (o : ℕ). slice_index priv o ≡ slice_index first o) at (same k (8 + i) one (omega (arith, lt)) (inr (omega arith)))))
 
 -- an open end of a slot that is kept was open, with its key

@@ -4,6 +4,7 @@ use Rattle.std.proofs.lemmas.Bool.{cases_eq, cases_lt, true≢false}
 use Rattle.sx_rules.specs.Access.{in_private}
 use Rattle.std.specs.Prelude.{slice_set}
 use Rattle.std.proofs.lemmas.List.{get_or-set_same, get_or-set_other, length-set}
+use Rattle.sx_mean.specs.Offsets.{end_at}
 use Rattle.spec_machine.specs.Memory.{word, put_word, put_bytes, bytes_from}
 use Rattle.sx_tmpl.specs.Running.{Fixed, OutsideKept, cell}
 use Rattle.sx_tmpl.proofs.Running.MidRun.{Stands, PrivateByte, PrivatePlace, PrivateWord, place_of, put_cell}
@@ -48,7 +49,7 @@ pub are_part : (s : Setup) (a m i n : ℕ) → AreShown s a m → i + n ≤ m �
 are_part s a m i n h le = (h.0 + i, omega (arith, h.1), part_shown (length s.ends) h.0 m i n h.2 le)
 
 -- the connection field, the number and the mark of a slot
-pub slot_shown : (ends k y n : ℕ) → y + n ≤ 8 → HoldsNoKey ends (512 + 24 * k + y) n
+pub slot_shown : (ends k y n : ℕ) → y + n ≤ 8 → HoldsNoKey ends (end_at k + y) n
 slot_shown ends k y n h = record { plain = inr (omega arith); slots = λ i lt. elim (cases_lt i k) [ inl p ↦ inr (omega arith) | inr p ↦ inl (omega arith) ] }
 
 module _ (f : Fixed) (st : Stands f) where

@@ -2,6 +2,7 @@
 use Rattle.std.proofs.Common.{◌≡◌, ℕ, zero, suc, ◌+◌, ◌-◌, ◌*◌, ◌/◌, ◌%◌, ◌<◌, ◌≤◌, ◌⊎◌, inl, inr, true, false, List, [], ◌∷◌, nat_le, nat_lt, sym, ◌∙◌, arith}
 use Rattle.std.specs.Prelude.{◌==◌, ◌||◌, ◌&&◌, not}
 use Rattle.std.proofs.lemmas.Bool.{and_parts, or_cases, cases_lt, eqb-true, leb-true, ltb-true, lt-ltb, not-true, true≢false}
+use Rattle.sx_mean.specs.Offsets.{end_at, end_key_at}
 use Rattle.sx_ir.specs.declared.ir.Ir.{Ir}
 use Rattle.sx_ir.specs.declared.ir.Ir.TheVariants as ir
 use Rattle.sx_ir.specs.Meaning.{is_body_place, is_key_place, is_sealed_body, is_shown, is_shown_element, names_no_key}
@@ -9,7 +10,7 @@ use Rattle.sx_tmpl.specs.Unseen.{HoldsNoKey, IsKeyPlace, NamesNoKey}
 
 holds_no_key : (ends o n : ℕ) → is_shown ends o n ≡ true → HoldsNoKey ends o n
 holds_no_key ends o n e =
-    let both = and_parts (nat_le (o + n) 56 || nat_le 72 o) (nat_le (o + n) 520 || (nat_le (512 + 24 * ends) o || nat_le ((o - 512) % 24 + n) 8)) e in
+    let both = and_parts (nat_le (o + n) 56 || nat_le 72 o) (nat_le (o + n) 520 || (nat_le (end_at ends) o || nat_le ((o - 512) % 24 + n) 8)) e in
     record { plain = body both.0; slots = λ k one. keys k one both.1 }
   where
     body : (nat_le (o + n) 56 || nat_le 72 o) ≡ true → (o + n ≤ 56) ⊎ (72 ≤ o)
@@ -18,23 +19,23 @@ holds_no_key ends o n e =
       | inr above ↦ inr (leb-true 72 o above)
     ]
 
-    at_slot : (k q r : ℕ) → o ≡ 512 + 24 * q + r → r + n ≤ 8 → (o + n ≤ 512 + 24 * k + 8) ⊎ (512 + 24 * k + 8 + 16 ≤ o)
+    at_slot : (k q r : ℕ) → o ≡ end_at q + r → r + n ≤ 8 → (o + n ≤ end_key_at k) ⊎ (end_key_at k + 16 ≤ o)
     at_slot k q r is few = elim (cases_lt k q) [
       | inl before ↦ inr (omega (arith, is, before))
       | inr behind ↦ inl (omega (arith, is, few, behind))
     ]
 
-    in_slot : (k : ℕ) → (o - 512) % 24 + n ≤ 8 → (o + n ≤ 512 + 24 * k + 8) ⊎ (512 + 24 * k + 8 + 16 ≤ o)
+    in_slot : (k : ℕ) → (o - 512) % 24 + n ≤ 8 → (o + n ≤ end_key_at k) ⊎ (end_key_at k + 16 ≤ o)
     in_slot k few = elim (cases_lt o 512) [
       | inl below ↦ inl (omega (arith, few, below))
       | inr from ↦ at_slot k ((o - 512) / 24) ((o - 512) % 24) (omega (arith, from)) few
     ]
 
-    keys : (k : ℕ) → k < ends → (nat_le (o + n) 520 || (nat_le (512 + 24 * ends) o || nat_le ((o - 512) % 24 + n) 8)) ≡ true → (o + n ≤ 512 + 24 * k + 8) ⊎ (512 + 24 * k + 8 + 16 ≤ o)
-    keys k one e = elim (or_cases (nat_le (o + n) 520) (nat_le (512 + 24 * ends) o || nat_le ((o - 512) % 24 + n) 8) e) [
+    keys : (k : ℕ) → k < ends → (nat_le (o + n) 520 || (nat_le (end_at ends) o || nat_le ((o - 512) % 24 + n) 8)) ≡ true → (o + n ≤ end_key_at k) ⊎ (end_key_at k + 16 ≤ o)
+    keys k one e = elim (or_cases (nat_le (o + n) 520) (nat_le (end_at ends) o || nat_le ((o - 512) % 24 + n) 8) e) [
       | inl below ↦ let le = leb-true (o + n) 520 below in inl (omega (arith, le))
-      | inr rest ↦ elim (or_cases (nat_le (512 + 24 * ends) o) (nat_le ((o - 512) % 24 + n) 8) rest) [
-        | inl above ↦ let le = leb-true (512 + 24 * ends) o above in inr (omega (arith, le, one))
+      | inr rest ↦ elim (or_cases (nat_le (end_at ends) o) (nat_le ((o - 512) % 24 + n) 8) rest) [
+        | inl above ↦ let le = leb-true (end_at ends) o above in inr (omega (arith, le, one))
         | inr inside ↦ in_slot k (leb-true ((o - 512) % 24 + n) 8 inside)
       ]
     ]
@@ -46,20 +47,20 @@ element_shown ends o n i e lt = elim (or_cases (not (nat_lt i n)) (is_shown ends
 ]
 
 key_place : (ends k : ℕ) → is_key_place ends k ≡ true → IsKeyPlace ends k
-key_place ends k e = elim (or_cases (k == 0) (nat_le 520 k && (nat_lt k (512 + 24 * ends) && ((k - 520) % 24 == 0))) e) [
+key_place ends k e = elim (or_cases (k == 0) (nat_le 520 k && (nat_lt k (end_at ends) && ((k - 520) % 24 == 0))) e) [
   | inl own ↦ inl (eqb-true k 0 own)
   | inr slot ↦ inr (in_slot slot)
 ]
   where
-    in_slot : (nat_le 520 k && (nat_lt k (512 + 24 * ends) && ((k - 520) % 24 == 0))) ≡ true → (j : ℕ) × (j < ends) × (k ≡ 512 + 24 * j + 8)
+    in_slot : (nat_le 520 k && (nat_lt k (end_at ends) && ((k - 520) % 24 == 0))) ≡ true → (j : ℕ) × (j < ends) × (k ≡ end_key_at j)
     in_slot e =
-        let outer = and_parts (nat_le 520 k) (nat_lt k (512 + 24 * ends) && ((k - 520) % 24 == 0)) e in
-        let inner = and_parts (nat_lt k (512 + 24 * ends)) ((k - 520) % 24 == 0) outer.1 in
+        let outer = and_parts (nat_le 520 k) (nat_lt k (end_at ends) && ((k - 520) % 24 == 0)) e in
+        let inner = and_parts (nat_lt k (end_at ends)) ((k - 520) % 24 == 0) outer.1 in
         let from = leb-true 520 k outer.0 in
-        let to = ltb-true k (512 + 24 * ends) inner.0 in
+        let to = ltb-true k (end_at ends) inner.0 in
         let first = eqb-true ((k - 520) % 24) 0 inner.1 in
         let j = (k - 520) / 24 in
-        let is : k ≡ 512 + 24 * j + 8 = omega (arith, from, first) in
+        let is : k ≡ end_key_at j = omega (arith, from, first) in
         (j, omega (arith, is, to), is)
 
 body_place : (k b bn : ℕ) → is_body_place k b bn ≡ true → k ≡ 0 → (b ≡ 56) × (bn ≤ 16)

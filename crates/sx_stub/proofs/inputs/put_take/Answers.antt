@@ -1,5 +1,6 @@
 use Rattle.spec_invocation.specs.Protocol.{header_size, other_tag, value_size}
 use Rattle.std.proofs.Common.{ℕ, ◌+◌, ◌*◌, List, [], ◌∷◌, ◌++◌, length, ap, ◌∙◌, refl}
+use Rattle.sx_mean.specs.Offsets.{end_key_at}
 use Rattle.sx_lang.specs.View.{module_of}
 use Rattle.sx_ir.specs.declared.ir.Ir.{Ir}
 use Rattle.sx_ir.specs.declared.ir.Ir.TheVariants as ir
@@ -16,5 +17,5 @@ returns c =
     let last = taken_code (module_of c.args.tree.now) c.args.k c.args.e.now in
     let refused : ℕ → List Ir = λ p. refuse_unless p [] other_tag in
     let first = c.in_ok-put.ensures ∙ ap (λ o. x ++ ir.Open o 16 header_size 2 value_size ∷ []) c.end_key_at.ensures in
-    behind c.put_taken.result x y z (ir.Open (512 + 24 * c.args.k + 8) 16 header_size 2 value_size ∷ []) (λ p. refused p ++ last) (length x + 1) first refl
+    behind c.put_taken.result x y z (ir.Open (end_key_at c.args.k) 16 header_size 2 value_size ∷ []) (λ p. refused p ++ last) (length x + 1) first refl
     (behind c.put_taken.result y w z (refused (length y)) (λ p. last) (length y + 5) c.in_ok-put_refuse_unless.ensures refl c.put_taken.ensures)
