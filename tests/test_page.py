@@ -10,8 +10,7 @@ import unittest
 from typing import Any, Dict, Iterator, List, Tuple
 
 from support import TOP, needs_program
-from test_rows import ROWS, rows_of
-from test_twin import MODULE, RUNNER, Changes, answered, described, given_in_rows, in_plain_quotes, left_at, trace_of
+from test_twin import MODULE, RUNNER, Changes, answered, described, given_in_rows, in_plain_quotes, left_at, short_rows, trace_of
 
 from sancus.model import language, rules
 from sancus.model.deployment import tables_of
@@ -117,7 +116,7 @@ def in_places(teller: Teller, index: int, rule: str, told: Any) -> Found:
 
 def faults_of_rows() -> Iterator[Tuple[bytes, str, str]]:
     """The inputs of rows that end with a fault of a line, each with its command and that fault."""
-    for row in (it for file in sorted(ROWS.glob("*.rows")) for it in rows_of(file) if it.wanted and len(it.given) < 400_000):
+    for row in (it for it in short_rows() if it.wanted):
         last = row.wanted[-1]
         if isinstance(last, bytes) and re.match(rb"fault (schedule|reading|query|trace) ", last):
             yield row.given, row.words[0], last.decode()

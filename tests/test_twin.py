@@ -11,7 +11,7 @@ from itertools import takewhile
 from typing import Iterator, List, Tuple
 
 from support import EXAMPLES, PROGRAM, needs_program
-from test_rows import ROWS, rows_of
+from test_rows import ROWS, Row, rows_of
 
 from sancus.model import language, legality, rules, tables
 from sancus.model.asking import Answer
@@ -47,10 +47,13 @@ def described(head: bytes) -> Deployment:
 
 
 @lru_cache(maxsize=None)
+def short_rows() -> List[Row]:
+    return [it for file in sorted(ROWS.glob("*.rows")) for it in rows_of(file) if len(it.given) < 400_000]
+
+
 def given_in_rows(*commands: str) -> List[Input]:
     """The inputs of the rows of some commands that aren't long."""
-    rows = [it for file in sorted(ROWS.glob("*.rows")) for it in rows_of(file)]
-    return [Input(it.given) for it in rows if it.words[:1] and it.words[0] in commands and len(it.given) < 400_000]
+    return [Input(it.given) for it in short_rows() if it.words[:1] and it.words[0] in commands]
 
 
 # --- Deployments --------------------------------------------------------------------------------------------------------
