@@ -366,6 +366,12 @@ class Viewer(unittest.TestCase):
         self.assertEqual(self.texts("#notes div"), [])
         self.assertEqual(self.texts(".row .cell")[-1], "10done lamp 1 0")
 
+    def test_what_is_opened_goes_to_who_asks_for_it(self):
+        self.show({})
+        self.browser.value("void (page.onopen = texts => { globalThis.got = texts; })")
+        self.browser.value("dispatchEvent(Object.assign(new Event('paste'), {clipboardData: {getData: () => 'a run'}}))")
+        self.assertEqual(self.browser.value("[globalThis.got, page.texts]"), [["a run"], {}])
+
     def test_an_item_that_breaks_a_property(self):
         rows = readings(3)
         at = items_of(rows).index("out lamp 0") + 1

@@ -167,7 +167,7 @@ class Firefox {
   }
 
   async open(url) {
-    // (an address that differs in what stands behind # alone loads no page)
+    // (an address that differs only after its # loads no page)
     await this.ask("WebDriver:Navigate", {url: "about:blank"});
     await this.ask("WebDriver:Navigate", {url});
   }

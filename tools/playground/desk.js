@@ -58,9 +58,8 @@ class Desk {
       if (event.key === "Escape") this.stop();
     });
     addEventListener("hashchange", () => location.hash !== this.address && this.begin());
-    // what is opened, dropped or pasted as a file is on the desk too
-    const {open} = page;
-    page.open = texts => this.open(texts, open);
+    // what is chosen, dropped or pasted as a file is on the desk too
+    page.onopen = texts => this.open(texts);
     this.draw = texts => {
       page.texts = texts;
       page.show();
@@ -68,17 +67,17 @@ class Desk {
   }
 
   // Files of a run are drawn; an input, or a part of one, is put into the editor and run.
-  open(texts, draw) {
+  open(texts) {
     const got = Object.assign({}, ...texts.map(sortText));
     const input = got.input ?? joinedInput(got, headOf(this.editor.text));
     if (!got.output && !got.causes && input) return this.take(input, OPENED);
-    draw.call(page, texts);
+    page.open(texts);
     if (page.texts.input) this.put(page.texts.input, OPENED);
   }
 
   // --- the origin of an input ---
 
-  // What stood here before the page was loaded again; else by the address an input or an example; else what the page
+  // The text that was here before the page was loaded again; else by the address an input or an example; else what the page
   // holds, what was written last, or an example. What isn't drawn yet is run.
   async begin() {
     this.sources ??= new Sources(JSON.parse(new TextDecoder().decode(await unpacked("examples"))));
@@ -125,7 +124,7 @@ class Desk {
     this.show(name);
   }
 
-  // Says in the list, and to the page when it is loaded again, which text stands here. The browser asks before it leaves what it
+  // Says in the list, and to the page when it is loaded again, which text this is. The browser asks before it leaves what it
   // couldn't keep.
   show(name) {
     this.name = name;

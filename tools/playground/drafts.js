@@ -54,7 +54,7 @@ class Drafts {
   }
 }
 
-// What stands in a text's first line, as far as it fits a list.
+// A text's first line, as far as it fits a list.
 const MOST_TITLE = 28;
 
 function titleOf(text) {

@@ -1,6 +1,6 @@
 // A lesson beside the desk: its text, a question before the run, what came of it, and whether the task is done.
 
-// A line in which what stands between ` is code and between * is stressed.
+// A line in which words between ` are code, and words between * are stressed.
 function inWords(line) {
   const names = {"`": "code", "*": "em"};
   const made = part => names[part[0]] ? html(names[part[0]], "", part.slice(1, -1)) : part;

@@ -1,4 +1,4 @@
-// The lessons: of each its text, the lines that stand in the editor after the lighting application's deployment, a question
+// The lessons: of each its text, the lines that the editor has after the lighting application's deployment, a question
 // that is asked before they are run, and a task: an item, or what breaks a property. Of what is proved the program is asked too.
 
 const BRIGHT = "var bright; on sense light(v) { if v > 100 { bright = 1; } } on out lamp(v) { if (v == 1) & !bright { fail; } }";

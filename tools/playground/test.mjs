@@ -417,7 +417,7 @@ async function testOpen(test) {
     ${element("files")}.dispatchEvent(new Event("change"))`));
   await open([head]);
   await test.done();
-  expect("a deployment that is opened stands in the editor", await test.text() === head);
+  expect("a deployment that is opened is in the editor", await test.text() === head);
   expect("and is checked", (await test.said()).startsWith("check ended with status 0"), await test.said());
   expect("nothing is said of an output", await test.value(`document.querySelectorAll("#notes .bad").length`) === 0);
   await open([lines]);
@@ -440,7 +440,7 @@ async function testLayout(test) {
   await test.open("#example=lighting");
   const isInside = await test.value(
       "document.documentElement.scrollWidth <= innerWidth && document.documentElement.scrollHeight <= innerHeight");
-  expect("nothing stands outside the window", isInside);
+  expect("nothing is outside the window", isInside);
   const hidden = await test.value(`[...document.querySelectorAll("#desk button, header button")].filter(it => it.offsetParent && !it.closest("details:not([open])")).filter(it => {
     const {left, right, top, bottom} = it.getBoundingClientRect();
     const seen = document.elementFromPoint((left + right) / 2, (top + bottom) / 2);
@@ -477,7 +477,7 @@ async function testPhone(Browser) {
   await test.open("#example=lighting");
   const box = id => test.value(`(({left, right, top, bottom}) => ({left, right, top, bottom}))(${element(id)}.getBoundingClientRect())`);
   const desk = await box("desk"), seen = await box("seen");
-  expect("on a phone the picture stands below the editor", seen.top >= desk.bottom && seen.left === 0, {desk, seen});
+  expect("on a phone the picture is below the editor", seen.top >= desk.bottom && seen.left === 0, {desk, seen});
   expect("both are as wide as the window", [desk, seen].every(it => it.right > 370), {desk, seen});
   expect("nothing is wider", await test.value("document.documentElement.scrollWidth <= innerWidth"));
   await test.picture("phone");

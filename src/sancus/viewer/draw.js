@@ -20,7 +20,7 @@ function html(name, className, text) {
 
 // How wide a hidden column is, and how narrow the others may get.
 const HIDDEN = 13, LEAST_SCALE = 0.25;
-// Below this scale the heads stand in two rows, and so high are one and two.
+// Below this scale the heads are in two rows; how high one row is, and two.
 const TWO_ROWS_FROM = 0.75, ONE_ROW = 44, TWO_ROWS = 60;
 
 // The columns from left to right. A look says how wide they are (scale), which are hidden, and their order in each node.
@@ -320,7 +320,7 @@ class Picture {
     }
   }
 
-  // --- behind and before the rows ---
+  // --- under and over the rows ---
 
   // Lifelines, sections and turns between two places; top is the first place that is drawn.
   back(from, to) {
@@ -383,7 +383,7 @@ class Picture {
   get hasTwoRows() { return this.columns.look.scale < TWO_ROWS_FROM; }
   get headHeight() { return this.hasTwoRows ? TWO_ROWS : ONE_ROW; }
 
-  // A column's head, to be dragged, and hidden by a double click. If columns are narrow, every other one stands lower, so that each
+  // A column's head, to be dragged, and hidden by a double click. If columns are narrow, every other head is lower, so that each
   // has the room of two.
   head(column, at) {
     const y = this.hasTwoRows && at % 2 ? 52 : 36;

@@ -1,4 +1,4 @@
-// Reads a module's source as docs/LANGUAGE.md has it: tokens and tree, and at a fault what could have stood there. The program
+// Reads a module's source as docs/LANGUAGE.md has it: tokens and tree, and at a fault what could have been there. The program
 // alone judges a source.
 
 const KEYWORDS = new Set("sensor actuator input output var array on sample let if else repeat send emit".split(" "));

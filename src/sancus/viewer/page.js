@@ -16,6 +16,8 @@ class Page {
     // the row of an item of which something is said, and what the item is
     this.marked = null;
     this.look = {scale: 1, isFull: false, hidden: new Set(), order: []};
+    // gets the texts that are chosen, dropped or pasted
+    this.onopen = texts => this.open(texts);
     this.listen();
   }
 
@@ -475,7 +477,7 @@ class Page {
   }
 
   listenToFiles() {
-    const openFiles = async files => this.open(await Promise.all([...files].map(file => file.text())));
+    const openFiles = async files => this.onopen(await Promise.all([...files].map(file => file.text())));
     byId("files").onchange = event => openFiles(event.target.files);
     addEventListener("dragover", event => event.preventDefault());
     addEventListener("drop", event => {
@@ -484,7 +486,7 @@ class Page {
     });
     addEventListener("paste", event => {
       const text = event.clipboardData.getData("text");
-      if (document.activeElement !== byId("find") && text.trim()) this.open([text]);
+      if (document.activeElement !== byId("find") && text.trim()) this.onopen([text]);
     });
     byId("save").onclick = () => this.save();
     byId("draw").onclick = () => this.saveDrawing();
