@@ -19,8 +19,8 @@ pub fn accepted_unseen()
     ensures { AcceptedUnseen }
 {}
 
-/// There is such a setting for every choice of other keys, if no connection has a deployed
-/// module's key.
+/// For every choice of other keys there is a setting with these keys of its own that no tag tells
+/// from the first, if no connection has a deployed module's key.
 pub fn unlinks_all()
     ensures { UnlinksAll }
 {}

@@ -184,7 +184,7 @@ fn has_place(places: &[u16], page: u16) -> bool
 
 /// Keeps for each page whether a device is there.
 fn index(pages: &mut [bool], places: &[u16])
-    requires { length pages.old ≤ 256 }
+    requires { length pages.old ≤ PAGE_COUNT }
     ensures { (page : ℕ) → page < length pages.new →
         slice_index_or pages.new page false ≡ has_place page places.now }
 {

@@ -20,7 +20,7 @@ pub(crate) const SHORTCUT_PLACES: usize = 4096;
 
 /// Where the first word at an address is kept.
 fn place_of(at: u16) -> usize
-    ensures { result < 256 }
+    ensures { result < PLACES }
 {
     usize::from(at / 2 % 256)
 }
@@ -29,14 +29,14 @@ fn place_of(at: u16) -> usize
 /// are spread.
 #[inline(always)]
 fn shortcut_place_of(at: u16) -> usize
-    ensures { result < 4096 }
+    ensures { result < SHORTCUT_PLACES }
 {
     usize::from(at) * 5 / 8 % 4096
 }
 
 /// Keeps a decoded word, in the place of another one.
 fn keep(kept: &mut [Decoded], at: u16, decoded: Decoded)
-    requires { length kept.old ≡ 256 }
+    requires { length kept.old ≡ PLACES }
 {
     let place = place_of(at);
     kept[place] = decoded;
@@ -44,7 +44,7 @@ fn keep(kept: &mut [Decoded], at: u16, decoded: Decoded)
 
 /// Keeps a shortcut, in the place of another one.
 fn keep_shortcut(kept: &mut [Shortcut], at: u16, shortcut: Shortcut)
-    requires { length kept.old ≡ 4096 }
+    requires { length kept.old ≡ SHORTCUT_PLACES }
 {
     let place = shortcut_place_of(at);
     kept[place] = shortcut;

@@ -38,7 +38,7 @@ fn ask_module(state: &mut State, module: u8, challenge: u128) -> bool
 
 /// The deployer asks a module; the challenge is the number of asks before.
 pub(crate) fn ask(state: &mut State, module: u8, challenge: u128) -> bool
-    requires { state.old.asks < 4294967295 }
+    requires { state.old.asks < u32.MAX }
     ensures answer { result ≡ is_some (asks state.old «module» challenge) }
     ensures state { state.new ≡ unwrap_or (asks state.old «module» challenge) state.old }
 {

@@ -28,8 +28,8 @@ use sx_trace::items::Item;
 
 /// The items that take no memory: whether one is allowed, and what it makes of the state.
 fn take_plain(state: &mut State, app: &App, item: Item) -> bool
-    requires boots { All (λ b. b < 4294967295) state.old.boots }
-    requires asks { state.old.asks < 4294967295 }
+    requires boots { All (λ b. b < u32.MAX) state.old.boots }
+    requires asks { state.old.asks < u32.MAX }
     requires plain { may_take_memory item ≡ false }
     ensures answer { result ≡ is_some (steps (app_as app.now) state.old item) }
     ensures state { state.new ≡ unwrap_or (steps (app_as app.now) state.old item) state.old }
@@ -52,8 +52,8 @@ fn take_plain(state: &mut State, app: &App, item: Item) -> bool
 
 /// Whether an item is allowed, and what it makes of the state; `None` where memory ran out.
 fn take_item(alloc: Global, state: &mut State, app: &App, item: Item) -> Result<bool, AllocError>
-    requires boots { All (λ b. b < 4294967295) state.old.boots }
-    requires asks { state.old.asks < 4294967295 }
+    requires boots { All (λ b. b < u32.MAX) state.old.boots }
+    requires asks { state.old.asks < u32.MAX }
     requires links { length app.now.links.items ≤ 256 }
     ensures answer { IfOk result (λ b. b ≡ is_some (steps (app_as app.now) state.old item)) }
     ensures state { OnOk result (state.new ≡ unwrap_or (steps (app_as app.now) state.old item)
@@ -150,7 +150,7 @@ impl Model {
     #[tactic(auto, using(crate::proofs::Counts::counted_more, crate::proofs::Agrees::steps_are))]
     pub fn step(&mut self, app: &App, item: &Item) -> Result<bool, AllocError>
         requires valid { is_valid (app_as app.now) ≡ true }
-        requires few { self.old.taken < 4294967295 }
+        requires few { self.old.taken < u32.MAX }
         ensures answer { IfOk result (λ b. b ≡ is_some
             (step (app_as app.now) self.old.state item.now)) }
         ensures state { OnOk result (self.new.state

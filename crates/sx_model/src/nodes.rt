@@ -48,7 +48,7 @@ fn make_all_absent(modules: &mut [Standing], parts: &[Part], node: u8)
 }
 
 fn raise_boot(boots: &mut [u32], node: u8)
-    requires { All (λ b. b < 4294967295) boots.old }
+    requires { All (λ b. b < u32.MAX) boots.old }
     ensures { boots.new ≡ raised_at boots.old node }
 {
     let at = usize::from(node);
@@ -59,7 +59,7 @@ fn raise_boot(boots: &mut [u32], node: u8)
 
 /// A node is reset.
 pub(crate) fn reset(state: &mut State, app: &App, node: u8) -> bool
-    requires { All (λ b. b < 4294967295) state.old.boots }
+    requires { All (λ b. b < u32.MAX) state.old.boots }
     ensures answer { result ≡ is_some (resets (app_as app.now) state.old node) }
     ensures state { state.new ≡ unwrap_or (resets (app_as app.now) state.old node) state.old }
 {

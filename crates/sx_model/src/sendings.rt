@@ -142,8 +142,8 @@ pub(crate) fn emits_of(alloc: Global, acts: &[Act]) -> Result<Vec<u16>, AllocErr
 }
 
 fn push_word(words: &mut Words, value: u16) -> Result<bool, AllocError>
-    ensures answer { IfOk result (λ b. b ≡ nat_lt (length words.old) 65535) }
-    ensures words { OnOk result (words.new ≡ (if nat_lt (length words.old) 65535 then
+    ensures answer { IfOk result (λ b. b ≡ nat_lt (length words.old) MOST_SENT) }
+    ensures words { OnOk result (words.new ≡ (if nat_lt (length words.old) MOST_SENT then
         words.old ++ value ∷ [] else words.old)) }
     ensures err { OnErr result (words.new ≡ words.old) }
 {

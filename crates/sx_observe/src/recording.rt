@@ -23,7 +23,8 @@ use sx_wire::{
     challenge_in, epoch_in, is_ask, is_event_header, is_set_key_header, last_in, link_in, value_in,
 };
 
-/// The target of an entry that is no set-key packet.
+/// The target of an entry that is no set-key packet. An entry's target is a byte, so that entries are
+/// compared as they are; no deployment has as many modules.
 pub const NO_TARGET: u8 = 255;
 
 /// Appends an item. The error says that memory ran out, and nothing was appended.

@@ -77,7 +77,7 @@ impl Paged {
     /// Whether these bytes are in memory from an address on, where no page ends before them.
     fn holds_on_page(&self, at: u16, expected: &[u8]) -> bool
         requires shaped { IsMemory self.now }
-        requires within { at % 256 + length expected.now ≤ 256 }
+        requires within { at % PAGE_BYTES + length expected.now ≤ PAGE_BYTES }
         ensures { result
             ≡ bytes_eq (take (length expected.now) (drop at (joined self.now))) expected.now }
     {
@@ -247,9 +247,9 @@ fn release_all(arena: &mut Arena, numbers: &mut [u8], blank: u8)
 // Makes the pages of a run of indices absent.
 fn release_run(arena: &mut Arena, numbers: &mut [u8], blank: u8, from: usize)
     requires paged { IsPaged arena.old numbers.old blank }
-    requires within { from + 32 ≤ 256 }
+    requires within { from + RUN ≤ 256 }
     requires before { AreBlank numbers.old blank from }
-    ensures { IsPaged arena.new numbers.new blank × AreBlank numbers.new blank (from + 32) }
+    ensures { IsPaged arena.new numbers.new blank × AreBlank numbers.new blank (from + RUN) }
 {
     for index in from..from + RUN {
         let number = numbers[index];

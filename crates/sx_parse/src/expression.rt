@@ -16,9 +16,11 @@ use sx_lang::names::Name;
 use sx_lang::tree::{BinOp, Expr, UnOp};
 use sx_lex::tokens::{Kind, Placed};
 
-/// The most of `(`, `[`, `{` and unary operators that may be open at a time, and the most operators
-/// in one sum and in one term.
-pub const MOST: u8 = 48;
+/// The most of `(`, `[`, `{` and unary operators that may be open at a time.
+pub const MOST_OPEN: u8 = 48;
+
+/// The most operators in one sum, and in one term.
+const MOST_OPERATORS: u8 = 48;
 
 fn combined(alloc: Global, op: BinOp, left: Expr, right: Expr) -> Result<Expr, AllocError>
     ensures { IfOk result (λ e. expression_of e ≡ Combined op (expression_of left)
@@ -43,7 +45,7 @@ fn applied(alloc: Global, op: UnOp, operand: Expr) -> Result<Expr, AllocError>
 #[cycle(expression)]
 #[tactic(auto, using(crate::proofs::Expressions::unary_operand))]
 fn operand<'a>(alloc: Global, tokens: &'a [Placed], depth: u8) -> Front<'a, Expr>
-    requires { depth ≤ 48 }
+    requires { depth ≤ MOST_OPEN }
     ensures reads { ReadsOr result (λ st. Operand ∷ st) depth tokens.now
         (λ p. Of_expression (expression_of p.0)) (λ p. p.1.now) }
     ensures shorter { IfOk result (λ p. length p.1.now < length tokens.now) }
@@ -52,7 +54,7 @@ fn operand<'a>(alloc: Global, tokens: &'a [Placed], depth: u8) -> Front<'a, Expr
         return Err(Stop::Fault(None));
     };
     if let Some(op) = unary_operator(first.kind) {
-        if depth >= MOST {
+        if depth >= MOST_OPEN {
             return Err(Stop::Fault(Some(*first)));
         }
         let (inner, rest) = operand(alloc, rest, depth + 1)?;
@@ -63,7 +65,7 @@ fn operand<'a>(alloc: Global, tokens: &'a [Placed], depth: u8) -> Front<'a, Expr
         Kind::Number(n) => Ok((Expr::Number(n), rest)),
         Kind::Name(name) => variable(alloc, name, rest, depth),
         Kind::Open => {
-            if depth >= MOST {
+            if depth >= MOST_OPEN {
                 return Err(Stop::Fault(Some(*first)));
             }
             let (inner, rest) = expression(alloc, rest, depth + 1)?;
@@ -78,7 +80,7 @@ fn operand<'a>(alloc: Global, tokens: &'a [Placed], depth: u8) -> Front<'a, Expr
 #[cycle(expression)]
 #[tactic(auto, using(crate::proofs::Expressions::name_indexed))]
 fn variable<'a>(alloc: Global, name: Name, tokens: &'a [Placed], depth: u8) -> Front<'a, Expr>
-    requires { depth ≤ 48 }
+    requires { depth ≤ MOST_OPEN }
     ensures reads { ReadsOr result (λ st. Index_of name ∷ st) depth tokens.now
         (λ p. Of_expression (expression_of p.0)) (λ p. p.1.now) }
     ensures shorter { IfOk result (λ p. length p.1.now ≤ length tokens.now) }
@@ -88,7 +90,7 @@ fn variable<'a>(alloc: Global, name: Name, tokens: &'a [Placed], depth: u8) -> F
     };
     match first.kind {
         Kind::OpenSquare => {
-            if depth >= MOST {
+            if depth >= MOST_OPEN {
                 return Err(Stop::Fault(Some(*first)));
             }
             let (inner, rest) = expression(alloc, rest, depth + 1)?;
@@ -103,7 +105,7 @@ fn variable<'a>(alloc: Global, name: Name, tokens: &'a [Placed], depth: u8) -> F
 #[cycle(expression)]
 #[tactic(auto, using(crate::proofs::Expressions::one_factor))]
 fn term<'a>(alloc: Global, tokens: &'a [Placed], depth: u8) -> Front<'a, Expr>
-    requires { depth ≤ 48 }
+    requires { depth ≤ MOST_OPEN }
     ensures reads { ReadsOr result (λ st. Operand ∷ Factors 0 ∷ st) depth tokens.now
         (λ p. Of_expression (expression_of p.0)) (λ p. p.1.now) }
     ensures shorter { IfOk result (λ p. length p.1.now < length tokens.now) }
@@ -114,7 +116,7 @@ fn term<'a>(alloc: Global, tokens: &'a [Placed], depth: u8) -> Front<'a, Expr>
         let Some(op) = factor_operator(first.kind) else {
             break;
         };
-        if count >= MOST {
+        if count >= MOST_OPERATORS {
             return Err(Stop::Fault(Some(*first)));
         }
         let (right, more) = operand(alloc, after, depth)?;
@@ -128,7 +130,7 @@ fn term<'a>(alloc: Global, tokens: &'a [Placed], depth: u8) -> Front<'a, Expr>
 #[cycle(expression)]
 #[tactic(auto, using(crate::proofs::Expressions::one_addend))]
 fn sum<'a>(alloc: Global, tokens: &'a [Placed], depth: u8) -> Front<'a, Expr>
-    requires { depth ≤ 48 }
+    requires { depth ≤ MOST_OPEN }
     ensures reads { ReadsOr result sum_wanted depth tokens.now
         (λ p. Of_expression (expression_of p.0)) (λ p. p.1.now) }
     ensures shorter { IfOk result (λ p. length p.1.now < length tokens.now) }
@@ -139,7 +141,7 @@ fn sum<'a>(alloc: Global, tokens: &'a [Placed], depth: u8) -> Front<'a, Expr>
         let Some(op) = addend_operator(first.kind) else {
             break;
         };
-        if count >= MOST {
+        if count >= MOST_OPERATORS {
             return Err(Stop::Fault(Some(*first)));
         }
         let (right, more) = term(alloc, after, depth)?;
@@ -155,7 +157,7 @@ fn sum<'a>(alloc: Global, tokens: &'a [Placed], depth: u8) -> Front<'a, Expr>
 #[cycle(expression)]
 #[tactic(auto, using(crate::proofs::Expressions::expression_stops, crate::proofs::Expressions::expression_ends, crate::proofs::Expressions::expression_alone, crate::proofs::Expressions::expression_compares, crate::proofs::Expressions::expression_breaks))]
 pub fn expression<'a>(alloc: Global, tokens: &'a [Placed], depth: u8) -> Front<'a, Expr>
-    requires { depth ≤ 48 }
+    requires { depth ≤ MOST_OPEN }
     ensures reads { ReadsOr result (λ st. An_expression ∷ st) depth tokens.now
         (λ p. Of_expression (expression_of p.0)) (λ p. p.1.now) }
     ensures shorter { IfOk result (λ p. length p.1.now < length tokens.now) }
@@ -176,7 +178,7 @@ pub fn expression<'a>(alloc: Global, tokens: &'a [Placed], depth: u8) -> Front<'
 /// it, or where memory runs out.
 #[tactic(auto, using(crate::proofs::Expressions::value_ends, crate::proofs::Expressions::value_breaks))]
 pub fn value<'a>(alloc: Global, tokens: &'a [Placed], depth: u8) -> Front<'a, Expr>
-    requires { depth ≤ 48 }
+    requires { depth ≤ MOST_OPEN }
     ensures reads { ReadsOr result value_wanted depth tokens.now
         (λ p. Of_expression (expression_of p.0)) (λ p. p.1.now) }
     ensures shorter { IfOk result (λ p. length p.1.now < length tokens.now) }

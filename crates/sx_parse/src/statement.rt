@@ -9,7 +9,7 @@ ghost use Rattle.sx_parse.specs.Wanted.{choice_wanted, element_wanted};
 ghost use Rattle.sx_parse.specs.Reading.{ReadsOr, done};
 ghost use Rattle.sx_parse.specs.Adding.{AddsStatement, AddsOr, FailsAs, Closes};
 
-use crate::expression::{MOST, expression, value};
+use crate::expression::{MOST_OPEN, expression, value};
 use crate::sign::{Sign, identifier, number, take};
 use crate::stop::{Front, Stop};
 use std::alloc::Global;
@@ -35,7 +35,7 @@ fn repeated(turns: u16, body: Vec<Stmt>) -> Stmt
 /// What follows `let`.
 #[tactic(auto, using(crate::proofs::Statements::defines))]
 fn definition<'a>(alloc: Global, tokens: &'a [Placed], depth: u8) -> Front<'a, Stmt>
-    requires { depth ≤ 48 }
+    requires { depth ≤ MOST_OPEN }
     ensures adds { AddsOr result (λ st. A_name After_let ∷ st) depth tokens.now
         (λ p. statement_of p.0) (λ p. p.1.now) }
     ensures shorter { IfOk result (λ p. length p.1.now < length tokens.now) }
@@ -49,7 +49,7 @@ fn definition<'a>(alloc: Global, tokens: &'a [Placed], depth: u8) -> Front<'a, S
 /// What follows the name that is assigned to.
 #[tactic(auto, using(crate::proofs::Statements::assigns, crate::proofs::Statements::assigns_element, crate::proofs::Statements::fails_element))]
 fn assignment<'a>(alloc: Global, name: Name, tokens: &'a [Placed], depth: u8) -> Front<'a, Stmt>
-    requires { depth ≤ 48 }
+    requires { depth ≤ MOST_OPEN }
     ensures adds { AddsOr result (λ st. Target_of name ∷ st) depth tokens.now
         (λ p. statement_of p.0) (λ p. p.1.now) }
     ensures shorter { IfOk result (λ p. length p.1.now < length tokens.now) }
@@ -63,7 +63,7 @@ fn assignment<'a>(alloc: Global, name: Name, tokens: &'a [Placed], depth: u8) ->
             Ok((Stmt::Assign(name, new), rest))
         }
         Kind::OpenSquare => {
-            if depth >= MOST {
+            if depth >= MOST_OPEN {
                 return Err(Stop::Fault(Some(*first)));
             }
             element(alloc, name, rest, depth)
@@ -75,7 +75,7 @@ fn assignment<'a>(alloc: Global, name: Name, tokens: &'a [Placed], depth: u8) ->
 /// What follows the name of an array and the `[` after it.
 #[tactic(auto, using(crate::proofs::Statements::stores))]
 fn element<'a>(alloc: Global, name: Name, tokens: &'a [Placed], depth: u8) -> Front<'a, Stmt>
-    requires { depth < 48 }
+    requires { depth < MOST_OPEN }
     ensures adds { AddsOr result (element_wanted name) depth tokens.now (λ p. statement_of p.0)
         (λ p. p.1.now) }
     ensures shorter { IfOk result (λ p. length p.1.now < length tokens.now) }
@@ -90,7 +90,7 @@ fn element<'a>(alloc: Global, name: Name, tokens: &'a [Placed], depth: u8) -> Fr
 /// What follows `send`.
 #[tactic(auto, using(crate::proofs::Statements::sends, crate::proofs::Statements::fails_sending))]
 fn sending<'a>(alloc: Global, tokens: &'a [Placed], depth: u8) -> Front<'a, Stmt>
-    requires { depth ≤ 48 }
+    requires { depth ≤ MOST_OPEN }
     ensures adds { AddsOr result (λ st. A_name After_send ∷ st) depth tokens.now
         (λ p. statement_of p.0) (λ p. p.1.now) }
     ensures shorter { IfOk result (λ p. length p.1.now < length tokens.now) }
@@ -102,7 +102,7 @@ fn sending<'a>(alloc: Global, tokens: &'a [Placed], depth: u8) -> Front<'a, Stmt
 /// What follows the output that a value is sent to.
 #[tactic(auto, using(crate::proofs::Statements::argument))]
 fn sent<'a>(alloc: Global, output: Name, tokens: &'a [Placed], depth: u8) -> Front<'a, Stmt>
-    requires { depth ≤ 48 }
+    requires { depth ≤ MOST_OPEN }
     ensures adds { AddsOr result (λ st. Argument_of output ∷ st) depth tokens.now
         (λ p. statement_of p.0) (λ p. p.1.now) }
     ensures shorter { IfOk result (λ p. length p.1.now < length tokens.now) }
@@ -113,7 +113,7 @@ fn sent<'a>(alloc: Global, output: Name, tokens: &'a [Placed], depth: u8) -> Fro
     let Kind::Open = first.kind else {
         return Err(Stop::Fault(Some(*first)));
     };
-    if depth >= MOST {
+    if depth >= MOST_OPEN {
         return Err(Stop::Fault(Some(*first)));
     }
     let (sent, rest) = expression(alloc, rest, depth + 1)?;
@@ -127,7 +127,7 @@ fn sent<'a>(alloc: Global, output: Name, tokens: &'a [Placed], depth: u8) -> Fro
 #[cycle(statement)]
 #[tactic(auto, using(crate::proofs::Statements::opens_block, crate::proofs::Statements::goes_on, crate::proofs::Statements::ends_block, crate::proofs::Statements::breaks_block))]
 pub fn block<'a>(alloc: Global, tokens: &'a [Placed], depth: u8) -> Front<'a, Vec<Stmt>>
-    requires { depth ≤ 48 }
+    requires { depth ≤ MOST_OPEN }
     ensures reads { ReadsOr result (λ st. A_block ∷ st) depth tokens.now
         (λ p. Of_block (block_of p.0.items)) (λ p. p.1.now) }
     ensures shorter { IfOk result (λ p. length p.1.now < length tokens.now) }
@@ -138,7 +138,7 @@ pub fn block<'a>(alloc: Global, tokens: &'a [Placed], depth: u8) -> Front<'a, Ve
     let Kind::OpenBrace = first.kind else {
         return Err(Stop::Fault(Some(*first)));
     };
-    if depth >= MOST {
+    if depth >= MOST_OPEN {
         return Err(Stop::Fault(Some(*first)));
     }
     let mut body = Vec::new(alloc);
@@ -158,7 +158,7 @@ pub fn block<'a>(alloc: Global, tokens: &'a [Placed], depth: u8) -> Front<'a, Ve
 #[cycle(statement)]
 #[tactic(auto, using(crate::proofs::Statements::emits))]
 fn statement<'a>(alloc: Global, tokens: &'a [Placed], depth: u8) -> Front<'a, Option<Stmt>>
-    requires { depth ≤ 48 }
+    requires { depth ≤ MOST_OPEN }
     ensures adds { MatchResult result (λ p. MatchOption p.0 (Closes tokens.now p.1.now)
         (λ s. AddsStatement done depth tokens.now (statement_of s) p.1.now))
         (λ e. FailsAs done depth tokens.now e) }
@@ -201,7 +201,7 @@ fn statement<'a>(alloc: Global, tokens: &'a [Placed], depth: u8) -> Front<'a, Op
 #[cycle(statement)]
 #[tactic(auto, using(crate::proofs::Statements::chooses))]
 fn condition<'a>(alloc: Global, tokens: &'a [Placed], depth: u8) -> Front<'a, Stmt>
-    requires { depth ≤ 48 }
+    requires { depth ≤ MOST_OPEN }
     ensures adds { AddsOr result choice_wanted depth tokens.now (λ p. statement_of p.0)
         (λ p. p.1.now) }
     ensures shorter { IfOk result (λ p. length p.1.now < length tokens.now) }
@@ -216,7 +216,7 @@ fn condition<'a>(alloc: Global, tokens: &'a [Placed], depth: u8) -> Front<'a, St
 #[cycle(statement)]
 #[tactic(auto, using(crate::proofs::Statements::no_else_end, crate::proofs::Statements::no_else, crate::proofs::Statements::with_else))]
 fn otherwise<'a>(alloc: Global, tokens: &'a [Placed], depth: u8) -> Front<'a, Vec<Stmt>>
-    requires { depth ≤ 48 }
+    requires { depth ≤ MOST_OPEN }
     ensures reads { ReadsOr result (λ st. Otherwise ∷ st) depth tokens.now
         (λ p. Of_block (block_of p.0.items)) (λ p. p.1.now) }
     ensures shorter { IfOk result (λ p. length p.1.now ≤ length tokens.now) }
@@ -235,7 +235,7 @@ fn otherwise<'a>(alloc: Global, tokens: &'a [Placed], depth: u8) -> Front<'a, Ve
 #[cycle(statement)]
 #[tactic(auto, using(crate::proofs::Statements::repeats))]
 fn repetition<'a>(alloc: Global, tokens: &'a [Placed], depth: u8) -> Front<'a, Stmt>
-    requires { depth ≤ 48 }
+    requires { depth ≤ MOST_OPEN }
     ensures adds { AddsOr result (λ st. A_number For_repeat ∷ st) depth tokens.now
         (λ p. statement_of p.0) (λ p. p.1.now) }
     ensures shorter { IfOk result (λ p. length p.1.now < length tokens.now) }

@@ -11,7 +11,7 @@ use crate::section::{Layout, Section};
 pub const LIVE_LIMIT: usize = 8;
 
 /// The last id of a boot.
-const LAST_ID: u32 = 65535;
+pub const LAST_ID: u32 = 65535;
 
 /// Why a section was refused. Where several rules refuse it, the first of them is given.
 #[derive(Clone, Copy, Debug, PartialEq, Eq)]
@@ -103,8 +103,8 @@ pub fn first_refusal(
 ) -> Option<Refusal>
     ensures refusal { result ≡ refusal (record { live = live.now; next = next }) layout.now
         places.now }
-    ensures room { IfNone result (length live.now < 8) }
-    ensures ids { IfNone result (next ≤ 65535) }
+    ensures room { IfNone result (length live.now < LIVE_LIMIT) }
+    ensures ids { IfNone result (next ≤ LAST_ID) }
 {
     if !layout.has_good_bounds() {
         Some(Refusal::Bounds)

@@ -39,7 +39,7 @@ fn meeting(live: &[Section], page: u8) -> u8
 
 /// Keeps for each page which sections meet it.
 pub fn index(pages: &mut [u8], live: &[Section])
-    requires pages { length pages.old ≤ 256 }
+    requires pages { length pages.old ≤ PAGE_COUNT }
     requires room { length live.now ≤ 8 }
     ensures { (page : ℕ) → page < length pages.new →
         slice_index pages.new page ≡ meeting page live.now }

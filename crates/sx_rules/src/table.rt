@@ -13,7 +13,7 @@ ghost use Rattle.sx_rules.specs.Pages.{meeting, is_open, answer, IsFree};
 ghost use Rattle.sx_rules.specs.Unused.{AreUnused};
 
 use crate::access::{self, Access, Question};
-use crate::admission::{self, LIVE_LIMIT, Refusal};
+use crate::admission::{self, LAST_ID, LIVE_LIMIT, Refusal};
 use crate::pages::{self, PAGE_COUNT};
 use crate::section::{Layout, Section};
 use std::marker::Model;
@@ -89,8 +89,8 @@ impl Table {
 
     /// Adds a section that `test` doesn't refuse under the next id, which it gives back.
     pub fn add(&mut self, layout: Layout, provider: u16, key: [u8; 16]) -> u16
-        requires room { length self.old.live < 8 }
-        requires ids { self.old.next ≤ 65535 }
+        requires room { length self.old.live < LIVE_LIMIT }
+        requires ids { self.old.next ≤ LAST_ID }
         ensures id { result ≡ self.old.next }
         ensures admitted { self.new ≡ admitted self.old layout provider key }
     {
@@ -112,8 +112,8 @@ impl Table {
     /// order of the table.
     pub fn test(&self, layout: Layout, places: &[u16]) -> Result<(), Refusal>
         ensures refused { result_err result ≡ refusal self.now layout places.now }
-        ensures room { OnOk result (length self.now.live < 8) }
-        ensures ids { OnOk result (self.now.next ≤ 65535) }
+        ensures room { OnOk result (length self.now.live < LIVE_LIMIT) }
+        ensures ids { OnOk result (self.now.next ≤ LAST_ID) }
     {
         match admission::first_refusal(&self.sections[..self.live], self.next, &layout, places) {
             Some(refusal) => Err(refusal),

@@ -45,7 +45,7 @@ fn copy_part<B: Bus>(
     requires public { IsPublic executor.now layout.now }
     requires within { from + count ≤ layout.now.pub_to - layout.now.pub_from }
     requires room { from + count < 65536 }
-    requires short { count ≤ 64 }
+    requires short { count ≤ PART }
     ensures { take count into.new
         ≡ bytes_from executor.now.mem (layout.now.pub_from + from) count }
 {
@@ -65,7 +65,7 @@ fn feed_part<B: Bus, T: Tag>(
     requires public { IsPublic executor.now layout.now }
     requires within { from + count ≤ layout.now.pub_to - layout.now.pub_from }
     requires room { from + count < 65536 }
-    requires short { count ≤ 64 }
+    requires short { count ≤ PART }
     ensures { (answer : List ℕ → List ℕ) (fed : List ℕ) → Leads T.has T.mac answer run.old fed
         → Leads T.has T.mac answer run.new
         (fed ++ bytes_from executor.now.mem (layout.now.pub_from + from) count) }

@@ -11,8 +11,8 @@ ghost use Rattle.sx_stub.specs.Puts.{behind_cases, kept};
 
 use crate::handled::{handled_len, input_handler, put_handled};
 use crate::pieces::{
-    CHOICE_LENGTH, FIELD, INDEX, SECOND, SLOT_WORDS, WANTED, put, put_all, put_choice,
-    put_refuse, put_refuse_kind, put_refuse_unless,
+    CHOICE_LENGTH, FIELD, INDEX, SECOND, SLOT_WORDS, WANTED, put, put_all, put_choice, put_refuse,
+    put_refuse_kind, put_refuse_unless,
 };
 use spec_invocation::protocol::{
     EVENT_KIND, EVENT_SIZE, HEADER_SIZE, LAST_NUMBER, NO_END, OTHER_TAG, PAST_NUMBER, VALUE_SIZE,

@@ -58,7 +58,7 @@ impl Table {
     /// Whether an end has a packet routine.
     pub fn has_routine(&self, code: &Code, layout: &Layout, end: usize) -> bool
         requires table { IsTable layout.now code.now self.now }
-        requires end { end < 256 }
+        requires end { end < END_COUNT }
         ensures { result ≡ has_routine code.now.ops.items end }
     {
         has_routine(&code.ops, &self.noted, end)
@@ -99,9 +99,9 @@ fn none_noted(alloc: Global, count: usize) -> Result<Vec<bool>, OutOfMemory>
 
 /// Notes the end that an operation makes a packet of.
 fn note(noted: &mut [bool], op: &Ir)
-    requires { length noted.old ≡ 256 }
+    requires { length noted.old ≡ END_COUNT }
     ensures noted { noted.new ≡ with_note op.now noted.old }
-    ensures length { length noted.new ≡ 256 }
+    ensures length { length noted.new ≡ END_COUNT }
 {
     match op {
         Ir::Packet(end) => noted[*end as usize] = true,
@@ -133,7 +133,7 @@ fn is_noted(noted: &[bool], end: usize) -> bool
 /// Whether an end has a packet routine, where those of these operations are noted.
 fn has_routine(ops: &[Ir], noted: &[bool], end: usize) -> bool
     requires noted { AreNoted ops.now noted.now }
-    requires end { end < 256 }
+    requires end { end < END_COUNT }
     ensures { result ≡ has_routine ops.now end }
 {
     is_noted(noted, end)
@@ -143,7 +143,7 @@ fn has_routine(ops: &[Ir], noted: &[bool], end: usize) -> bool
 #[tactic(auto, using(crate::proofs::Texts::TextTurns::counts_none, crate::proofs::Texts::TextTurns::no_routines, crate::proofs::Texts::TextTurns::counts_turn, crate::proofs::Texts::TextTurns::one_more, crate::proofs::Texts::TextTurns::none_more))]
 fn routine_counts(alloc: Global, ops: &[Ir], noted: &[bool]) -> Result<Vec<u16>, OutOfMemory>
     requires { AreNoted ops.now noted.now }
-    ensures { IfOk result (λ counts. AreCounts ops.now 256 counts.items) }
+    ensures { IfOk result (λ counts. AreCounts ops.now END_COUNT counts.items) }
 {
     let mut counts = Vec::new(alloc);
     let mut count: u16 = 0;

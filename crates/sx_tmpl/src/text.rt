@@ -49,7 +49,7 @@ fn put_packet(
     end: usize,
 ) -> Result<(), OutOfMemory>
     requires table { IsTable layout.now code.now table.now }
-    requires end { end < 256 }
+    requires end { end < END_COUNT }
     requires slot { IsTrue (has_routine code.now.ops.items end)
         → layout.now.priv_from + end_at (end + 1) < 65536 }
     requires base { layout.now.priv_from + stack_to < 65536 }
@@ -72,10 +72,10 @@ fn put_packets(
     table: &Table,
 ) -> Result<(), OutOfMemory>
     requires table { IsTable layout.now code.now table.now }
-    requires slots { (k : ℕ) → k < 256 → IsTrue (has_routine code.now.ops.items k)
+    requires slots { (k : ℕ) → k < END_COUNT → IsTrue (has_routine code.now.ops.items k)
         → layout.now.priv_from + end_at (k + 1) < 65536 }
     requires base { layout.now.priv_from + stack_to < 65536 }
-    ensures { OnOk result (PutsWords (packet_words layout.now.priv_from code.now.ops.items 256)
+    ensures { OnOk result (PutsWords (packet_words layout.now.priv_from code.now.ops.items END_COUNT)
         text.old.items text.new.items) }
 {
     for end in 0..END_COUNT {
@@ -95,7 +95,7 @@ fn put_text(
     requires base { layout.now.priv_from + stack_to < 65536 }
     requires fits { (p : ℕ) (i : Ir) → slice_get code.now.ops.items p ≡ Some i
         → OperationFits layout.now code.now i }
-    requires slots { (k : ℕ) → k < 256 → IsTrue (has_routine code.now.ops.items k)
+    requires slots { (k : ℕ) → k < END_COUNT → IsTrue (has_routine code.now.ops.items k)
         → layout.now.priv_from + end_at (k + 1) < 65536 }
     ensures { OnOk result (PutsWords (text_words layout.now code.now) text.old.items
         text.new.items) }

@@ -47,8 +47,8 @@ impl<B: Copied, T: Tag> Running<B, T> {
         requires node { (site : Placed) → slice_get setting.now.sites.now m ≡ Some site
             → site.node < length self.old.nodes }
         requires boot { (n : ℕ) (s : State) → slice_get self.old.nodes n ≡ Some s
-            → s.boot < 4294967295 }
-        requires steps { self.old.steps + run.FINISH_STEPS ≤ 18446744073709551615 }
+            → s.boot < u32.MAX }
+        requires steps { self.old.steps + run.FINISH_STEPS ≤ u64.MAX }
         ensures { DoesAct (setting_in T.mac setting.now) result
             self.old self.new items.old.items items.new.items
             (λ w. run.call (setting_in T.mac setting.now) w entry input output

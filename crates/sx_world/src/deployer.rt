@@ -50,8 +50,8 @@ impl<B: Copied, T: Tag> Running<B, T> {
     /// The deployer asks a module.
     pub(crate) fn ask(&mut self, m: u8, items: &mut Vec<Item>) -> Result<(), AllocError>
         requires known { m < length self.old.deployer.targets }
-        requires asks { self.old.deployer.state.asks < 4294967295 }
-        requires packets { length self.old.packets < 4294967295 }
+        requires asks { self.old.deployer.state.asks < u32.MAX }
+        requires packets { length self.old.packets < u32.MAX }
         ensures does { (set : Setting) → DoesAct set result self.old self.new items.old.items
             items.new.items (λ w. ask w m) }
         ensures count { OnOk result (length self.new.packets ≤ length self.old.packets + 1) }

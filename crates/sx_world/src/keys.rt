@@ -26,7 +26,7 @@ impl<B: Copied, T: Tag> Running<B, T> {
         g: &Grant,
         items: &mut Vec<Item>,
     ) -> Result<(), AllocError>
-        requires { length self.old.packets < 4294967295 }
+        requires { length self.old.packets < u32.MAX }
         ensures does { (sites : List Site) → DoesAct (setting_at T.mac deployment.now sites)
             result self.old self.new items.old.items items.new.items
             (λ w. key_given (setting_at T.mac deployment.now sites) w g.now
@@ -60,7 +60,7 @@ impl<B: Copied, T: Tag> Running<B, T> {
         grants: &[Grant],
         items: &mut Vec<Item>,
     ) -> Result<(), AllocError>
-        requires { length self.old.packets + length grants.now ≤ 4294967295 }
+        requires { length self.old.packets + length grants.now ≤ u32.MAX }
         ensures does { (sites : List Site) → DoesAct (setting_at T.mac deployment.now sites)
             result self.old self.new items.old.items items.new.items
             (keys_given (setting_at T.mac deployment.now sites) grants.now) }

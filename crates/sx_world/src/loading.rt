@@ -75,8 +75,8 @@ impl<B: Copied, T: Tag> Running<B, T> {
     ) -> Result<(), AllocError>
         requires node { site.now.node < length self.old.nodes }
         requires boot { (s : State) → slice_get self.old.nodes site.now.node ≡ Some s
-            → s.boot < 4294967295 }
-        requires steps { self.old.steps < 18446744073709551615 }
+            → s.boot < u32.MAX }
+        requires steps { self.old.steps < u64.MAX }
         requires text { site.now.layout.pub_from + length site.now.text ≤ 65536 }
         ensures { DoesAct (setting_in T.mac setting.now) result
             self.old self.new items.old.items items.new.items
@@ -100,8 +100,8 @@ impl<B: Copied, T: Tag> Running<B, T> {
         requires node { (site : Placed) → slice_get setting.now.sites.now m ≡ Some site
             → site.node < length self.old.nodes }
         requires boot { (n : ℕ) (s : State) → slice_get self.old.nodes n ≡ Some s
-            → s.boot < 4294967295 }
-        requires steps { self.old.steps < 18446744073709551615 }
+            → s.boot < u32.MAX }
+        requires steps { self.old.steps < u64.MAX }
         requires text { (site : Placed) → slice_get setting.now.sites.now m ≡ Some site
             → site.layout.pub_from + length site.text ≤ 65536 }
         ensures { DoesAct (setting_in T.mac setting.now) result

@@ -14,7 +14,7 @@ pub(crate) fn add_packet(
     bytes: &[u8],
     items: &mut Vec<Item>,
 ) -> Result<(), AllocError>
-    requires few { length packets.old.items < 4294967295 }
+    requires few { length packets.old.items < u32.MAX }
     requires short { length bytes.now < 65536 }
     ensures packet { OnOk result (map (λ p. p.items) packets.new.items
         ≡ map (λ p. p.items) packets.old.items ++ bytes.now ∷ []) }

@@ -106,7 +106,7 @@ fn sense_node<B: Bus, T: Tag>(
 
 fn reset_node<B: Bus, T: Tag>(nodes: &mut [Node<B, T>], n: u8)
     requires node { n < length nodes.old }
-    requires boot { (s : State) → slice_get nodes.old n ≡ Some s → s.boot < 4294967295 }
+    requires boot { (s : State) → slice_get nodes.old n ≡ Some s → s.boot < u32.MAX }
     ensures { (s : State) → slice_get nodes.old n ≡ Some s
         → nodes.new ≡ slice_set nodes.old n (state.reset s) }
 {
@@ -157,7 +157,7 @@ impl<B: Copied, T: Tag> Running<B, T> {
     /// A node is reset.
     pub(crate) fn reset(&mut self, n: u8, items: &mut Vec<Item>) -> Result<(), AllocError>
         requires node { n < length self.old.nodes }
-        requires boot { (s : State) → slice_get self.old.nodes n ≡ Some s → s.boot < 4294967295 }
+        requires boot { (s : State) → slice_get self.old.nodes n ≡ Some s → s.boot < u32.MAX }
         ensures { (set : Setting) → DoesAct set result self.old self.new items.old.items
             items.new.items
             (λ w. at_node w (λ s. record {

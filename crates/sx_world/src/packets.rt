@@ -48,7 +48,7 @@ impl<B: Copied, T: Tag> Running<B, T> {
         bytes: &[u8],
         items: &mut Vec<Item>,
     ) -> Result<(), AllocError>
-        requires few { length self.old.packets < 4294967295 }
+        requires few { length self.old.packets < u32.MAX }
         requires short { length bytes.now < 65536 }
         ensures { (set : Setting) → DoesAct set result self.old self.new items.old.items
             items.new.items
@@ -66,7 +66,7 @@ impl<B: Copied, T: Tag> Running<B, T> {
         items: &mut Vec<Item>,
     ) -> Result<(), AllocError>
         requires node { n < length self.old.nodes }
-        requires few { length self.old.packets < 4294967295 }
+        requires few { length self.old.packets < u32.MAX }
         requires short { len ≤ 384 }
         ensures { (set : Setting) → DoesAct set result self.old self.new items.old.items
             items.new.items

@@ -33,7 +33,8 @@ fn is_reset(event: Event) -> bool
     matches!(event, Event::Reset(_))
 }
 
-/// How many steps of a node `finish` takes at most.
+/// How many steps of a node `finish` takes at most. This is a function, and no constant, so that a
+/// proof sees no number: with the number, a run of so many steps is unfolded.
 #[tactic(auto, unfolding(spec_run::specs::Run::FINISH_STEPS))]
 fn finish_steps() -> u32
     ensures { result ≡ FINISH_STEPS }
@@ -44,7 +45,7 @@ fn finish_steps() -> u32
 fn irq_node<B: Bus, T: Tag>(nodes: &mut [Node<B, T>], n: u8, line: u8) -> Result<Seen, Refused>
     requires node { n < length nodes.old }
     requires line { line ≤ 14 }
-    requires boot { (s : State) → slice_get nodes.old n ≡ Some s → s.boot < 4294967295 }
+    requires boot { (s : State) → slice_get nodes.old n ≡ Some s → s.boot < u32.MAX }
     ensures nodes { (s : State) → slice_get nodes.old n ≡ Some s
         → nodes.new ≡ slice_set nodes.old n (irq s line).state }
     ensures answer { (s : State) → slice_get nodes.old n ≡ Some s → (irq s line).shown ≡ result }
@@ -63,7 +64,7 @@ impl<B: Copied, T: Tag> Running<B, T> {
     ) -> Result<(), AllocError>
         requires node { n < length self.old.nodes }
         requires line { line ≤ 14 }
-        requires boot { (s : State) → slice_get self.old.nodes n ≡ Some s → s.boot < 4294967295 }
+        requires boot { (s : State) → slice_get self.old.nodes n ≡ Some s → s.boot < u32.MAX }
         ensures { DoesAct (setting_in T.mac setting.now) result self.old self.new
             items.old.items items.new.items
             (λ w. at_node w (λ s. after_interrupt (setting_in T.mac setting.now) w
@@ -81,8 +82,8 @@ impl<B: Copied, T: Tag> Running<B, T> {
     /// Steps of a node, as `stretch` takes them.
     fn pass(&mut self, n: u8, count: u32, idle: bool) -> QuietSteps
         requires node { n < length self.old.nodes }
-        requires boot { (s : State) → slice_get self.old.nodes n ≡ Some s → s.boot < 4294967295 }
-        requires steps { self.old.steps + count ≤ 18446744073709551615 }
+        requires boot { (s : State) → slice_get self.old.nodes n ≡ Some s → s.boot < u32.MAX }
+        requires steps { self.old.steps + count ≤ u64.MAX }
         ensures quiet { (s : State) → slice_get self.old.nodes n ≡ Some s
             → AreQuiet T.mac idle result.count s }
         ensures last { (s : State) → slice_get self.old.nodes n ≡ Some s
@@ -149,8 +150,8 @@ impl<B: Copied, T: Tag> Running<B, T> {
         items: &mut Vec<Item>,
     ) -> Result<(), AllocError>
         requires node { n < length self.old.nodes }
-        requires boot { (s : State) → slice_get self.old.nodes n ≡ Some s → s.boot < 4294967295 }
-        requires steps { self.old.steps + count ≤ 18446744073709551615 }
+        requires boot { (s : State) → slice_get self.old.nodes n ≡ Some s → s.boot < u32.MAX }
+        requires steps { self.old.steps + count ≤ u64.MAX }
         ensures { DoesAct (setting_in T.mac setting.now) result self.old self.new
             items.old.items items.new.items
             (steps_of (setting_in T.mac setting.now)
@@ -180,8 +181,8 @@ impl<B: Copied, T: Tag> Running<B, T> {
         items: &mut Vec<Item>,
     ) -> Result<(), AllocError>
         requires node { n < length self.old.nodes }
-        requires boot { (s : State) → slice_get self.old.nodes n ≡ Some s → s.boot < 4294967295 }
-        requires steps { self.old.steps + FINISH_STEPS ≤ 18446744073709551615 }
+        requires boot { (s : State) → slice_get self.old.nodes n ≡ Some s → s.boot < u32.MAX }
+        requires steps { self.old.steps + FINISH_STEPS ≤ u64.MAX }
         ensures { DoesAct (setting_in T.mac setting.now) result self.old self.new
             items.old.items items.new.items
             (run.finish (setting_in T.mac setting.now) n) }
