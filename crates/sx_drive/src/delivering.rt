@@ -12,7 +12,6 @@ ghost use Rattle.sx_drive.specs.Driving.{queued, waits};
 use crate::callee::{Callee, receiver_of};
 use crate::honest::Honest;
 use crate::said::Said;
-use crate::saying::MOST_LINES;
 use spec_invocation::protocol::{EVENT_SIZE, INPUT_ENTRY};
 use std::alloc::{AllocError, Global};
 use std::collections::VecDeque;
@@ -21,6 +20,7 @@ use sx_deploy::deployment::Deployment;
 use sx_sched::lines::Line;
 use sx_tag::Tag;
 use sx_trace::items::Item;
+use sx_world::world::MOST_LINES;
 
 /// Where a packet is put before a call.
 const IN_WINDOW: u16 = 0x40;

@@ -19,9 +19,7 @@ use sx_bus::Copied;
 use sx_deploy::deployment::Deployment;
 use sx_sched::lines::Line;
 use sx_tag::Tag;
-
-/// A schedule has room for this many lines.
-pub(crate) const MOST_LINES: u32 = 65_536;
+use sx_world::world::MOST_LINES;
 
 impl<B: Copied, T: Tag> Honest<B, T> {
     /// Whether a line was left out, or a schedule has no room for one more.
@@ -43,7 +41,7 @@ impl<B: Copied, T: Tag> Honest<B, T> {
     fn act(&mut self, deployment: &Deployment, line: &Line) -> Result<(), AllocError>
         requires going { GoesOn T.mac deployment.now self.old }
         requires form { IsLine (deployed_as deployment.now).names (line_of line.now) }
-        requires room { self.old.world.performed < 65536 }
+        requires room { self.old.world.performed < MOST_LINES }
         ensures acted { OnOk result (Acts (world_setting T.mac deployment.now self.old.world)
             (line_of line.now) self.old.world self.new.world [] self.new.shown) }
         ensures front { OnErr result (ActsInPart (world_setting T.mac deployment.now

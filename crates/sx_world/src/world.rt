@@ -27,6 +27,9 @@ use sx_sched::lines::Line;
 use sx_tag::Tag;
 use sx_trace::items::Item;
 
+/// As many lines as a schedule may have.
+pub const MOST_LINES: u32 = 65_536;
+
 /// A deployment that runs: its nodes, the network, the deployer and the ledger.
 #[derive(Drop)]
 pub struct World<B: Bus, T: Tag> {
@@ -100,7 +103,7 @@ impl<B: Copied, T: Tag> World<B, T> {
         requires sound { IsSoundDeployment (deployed_as deployment.now) }
         requires images { IsSoundSetting (world_setting T.mac deployment.now self.old) }
         requires going { IsGoing (world_setting T.mac deployment.now self.old) self.old }
-        requires few { self.old.performed < 65536 }
+        requires few { self.old.performed < MOST_LINES }
         requires form { IsLine (deployed_as deployment.now).names (line_of line.now) }
         ensures acted { OnOk result (Acts (world_setting T.mac deployment.now self.old)
             (line_of line.now) self.old self.new items.old.items items.new.items) }
