@@ -13,14 +13,14 @@ use sx_io::{Failed, Sink, put_all};
 pub const MOST: usize = 8192;
 
 /// The most bytes of a line: 128 of an item or of a schedule's line, `> ` before it and a newline.
-const LONGEST_LINE: usize = 131;
+pub const LONGEST_LINE: usize = 131;
 
 /// Text that is kept, to be written together.
 pub type Batch = ArrayVec<u8, MOST>;
 
 /// Writes a batch that a further line might not fit in.
 pub fn make_room<K: Sink>(output: &mut K, batch: &mut Batch) -> Result<(), Failed>
-    ensures room { OnOk result (length batch.new.items + 131 ≤ 8192) }
+    ensures room { OnOk result (length batch.new.items + LONGEST_LINE ≤ MOST) }
     ensures writes { Writes K.tells (K.at output.old) (K.at output.new) batch.old.items
         batch.new.items result }
 {

@@ -4,7 +4,7 @@ ghost use Rattle.std.specs.Prelude.{◌≡◌, ◌+◌, ◌≤◌, ◌++◌, len
 ghost use Rattle.command_text.specs.Batch.{Writes};
 ghost use Rattle.command_world.specs.Items.{item_line, items_text};
 
-use command_text::batch::{Batch, make_room};
+use command_text::batch::{Batch, LONGEST_LINE, MOST, make_room};
 use command_text::text::put;
 use sx_io::{Failed, Sink};
 use sx_trace::items::Item;
@@ -14,7 +14,7 @@ use sx_trace::writing::write_item;
 /// Appends an item's line, which there is room for.
 #[tactic(auto, unfolding(crate::specs::Items::item_line))]
 fn push_item(batch: &mut Batch, names: &Names, item: &Item)
-    requires { length batch.old.items + 131 ≤ 8192 }
+    requires { length batch.old.items + LONGEST_LINE ≤ MOST }
     ensures { batch.new.items ≡ batch.old.items ++ item_line names.now item.now }
 {
     let mut into = [0; 128];

@@ -286,8 +286,8 @@ impl<B: Bus> Executor<B> {
     }
 }
 
-/// Calls for who looks at the whole node. An instruction's code is written for every `Bus`, so it
-/// can't make them.
+/// Calls for callers that inspect a whole node from outside. An instruction's code is written for
+/// every `Bus`, so it can't make them.
 impl<B: Copied> Executor<B> {
     /// The byte at an address. It asks for no right.
     pub fn byte(&self, at: u16) -> u8

@@ -2,7 +2,6 @@
 
 ghost use Rattle.std.specs.Prelude.{◌≡◌, ◌+◌, ◌<◌, ◌≤◌, ◌++◌, length, IfOk, OnOk};
 ghost use Rattle.std.specs.Option.{option_to_list};
-ghost use Rattle.sx_mean.specs.Ends as ends;
 ghost use Rattle.sx_deployer.specs.Granting.{grant, grants_of};
 ghost use Rattle.sx_world.specs.Granted.{across_at, across_from, boot_in, grant_if_any, granted};
 ghost use Rattle.sx_world.specs.Granted.{own_at, own_from};
@@ -12,6 +11,7 @@ use std::marker::Model;
 use sx_deployer::Deployer;
 use sx_lang::sides::Side;
 use sx_mean::apps::{App, Link};
+use sx_mean::connections::{receiving, sending};
 use sx_mean::events::End;
 
 /// What a set-key packet is for: an end of a module at a boot of its node, and the connection's
@@ -41,36 +41,6 @@ fn grant_for(deployer: &Deployer, holder: u8, boot: u32, end: End) -> Grant
         boot,
         end,
         epoch: deployer.epoch(end.link),
-    }
-}
-
-/// A module's sending end of the n-th connection, if it has it.
-fn sending(n: u8, m: u8, link: &Link) -> Option<End>
-    ensures { result ≡ ends.sending n m link.now }
-{
-    if link.from == m {
-        Some(End {
-            link: n,
-            side: Side::From,
-            port: link.output,
-        })
-    } else {
-        None
-    }
-}
-
-/// A module's receiving end of the n-th connection, if it has it.
-fn receiving(n: u8, m: u8, link: &Link) -> Option<End>
-    ensures { result ≡ ends.receiving n m link.now }
-{
-    if link.to == m {
-        Some(End {
-            link: n,
-            side: Side::To,
-            port: link.input,
-        })
-    } else {
-        None
     }
 }
 
