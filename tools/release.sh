@@ -1,5 +1,5 @@
 #!/usr/bin/env bash
-# What release/ holds for who has no kit, and the sums by which ./sancus tells which sources a build is of.
+# What release/ holds for those who have no kit, and the sums by which ./sancus tells which sources a build is of.
 #
 #   tools/release.sh make     copies the proved build of crates/sancus_run/out to release/, and writes its note, release/RELEASE
 #   tools/release.sh wasm     makes release/sancus.wasm of the same program, in some minutes, and adds it to the note

@@ -473,7 +473,7 @@ The program runs as the lines are written, so packets, boots and pieces are thos
     ),
     Command(
         "tag",
-        "prints a packet for who holds the keys of a deployment, as a line `forge`",
+        "prints a packet, made with a deployment's own keys, as a line `forge`",
         (
             Argument("PACKET", ONE, "`event`, `set-key` or `answer`", False),
             Argument("DEPLOYMENT", ONE, "the deployment, whose `secret` and keys of nodes are used"),

@@ -1,4 +1,4 @@
-"""`sancus tag`: packets for who holds a key. Keys and tags are those of docs/MACHINE.md, and packets those of
+"""`sancus tag`: packets for those who hold a key. Keys and tags are those of docs/MACHINE.md, and packets those of
 docs/PROTOCOL.md; the keys are the deployment's.
 """
 
