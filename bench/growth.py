@@ -48,9 +48,11 @@ def handler(statements):
 NAMES = {
     "variables": (["check"], 1, lambda n: source(variables(n))),
     "locals": (["check"], 1, lambda n: source(["input i;", *handler(f"let a{k} = v;" for k in range(n))])),
+    "locals, each used": (["check"], 1, lambda n: source(["input i;", *handler(["let a0 = v;", *(f"let a{k} = a{k - 1};" for k in range(1, n))])])),
     "inputs, each handled": (["check"], 1, lambda n: source([*(f"input a{k};" for k in range(n)), *(f"on a{k}(v) {{ }}" for k in range(n))])),
     "variables, and uses": (["check"], 1, lambda n: source(["input i;", *variables(n), *handler(f"a{n - 1} = v;" for _ in range(n))])),
     "labels": (["asm", "0"], 0, lambda n: [f"a{k}:" for k in range(n)]),
+    "labels, half of them used": (["asm", "0"], 0, lambda n: [*(f"a{k}:" for k in range(n)), *(f".word a{k}" for k in range(n // 2, n))]),
 }
 
 

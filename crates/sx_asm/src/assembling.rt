@@ -1,6 +1,6 @@
 //! The assembler: the rules in their order, and then the code.
 
-ghost use Rattle.std.specs.Prelude.{◌≡◌, ◌<◌, ◌≤◌, ◌&&◌, ◌++◌, ◌%◌, [], ◌∷◌, true, take};
+ghost use Rattle.std.specs.Prelude.{◌≡◌, ◌<◌, ◌≤◌, ◌&&◌, ◌++◌, ◌%◌, [], ◌∷◌, true};
 ghost use Rattle.std.specs.Prelude.{Ok, IfOk, IfErr, OnOk};
 ghost use Rattle.sx_isa.specs.Spelling.{spelling};
 ghost use Rattle.sx_isa.specs.Instructions.{IsInstruction};
@@ -13,11 +13,12 @@ ghost use Rattle.sx_asm.specs.Assembled.{code_with, label_count};
 ghost use Rattle.sx_asm.specs.Answers.{AnswersMeant, HidesNoFault};
 
 use crate::error::AsmError;
+use crate::labels::Labels;
 use crate::meaning::{
-    further, has_form, in_reach, is_label, jump_at, labels_of, number, one_at, size, two_at,
+    further, has_form, in_reach, jump_at, labels_of, number, one_at, size, two_at,
 };
 use crate::reading::read;
-use crate::written::{Entry, Item, Label, Value, Written};
+use crate::written::{Entry, Item, Value, Written};
 use std::alloc::Global;
 use sx_isa::{Instr, encode};
 
@@ -43,16 +44,16 @@ fn formed(entries: &[Entry]) -> Result<(), AsmError>
     Ok(())
 }
 
-fn is_known(labels: &[Label], value: &Value) -> bool
+fn is_known(labels: &Labels<'_>, value: &Value) -> bool
     ensures { result ≡ is_known labels.now value.now }
 {
     match value {
         Value::Number(_) => true,
-        Value::Name(name) => is_label(labels, name),
+        Value::Name(name) => labels.has(name),
     }
 }
 
-fn operand_known(labels: &[Label], written: &Written) -> bool
+fn operand_known(labels: &Labels<'_>, written: &Written) -> bool
     ensures { result ≡ operand_known labels.now written.now }
 {
     match written {
@@ -65,24 +66,13 @@ fn operand_known(labels: &[Label], written: &Written) -> bool
     }
 }
 
-/// The first `count` labels.
-fn first_labels(labels: &[Label], count: usize) -> &[Label]
-    ensures { result.now ≡ take count labels.now }
-{
-    if count < labels.len() {
-        &labels[..count]
-    } else {
-        labels
-    }
-}
-
 /// Whether the item's names have a label, or a label is the first of its name, where `before`
 /// labels are before it.
-fn names_known(labels: &[Label], before: usize, item: &Item) -> bool
+fn names_known(labels: &Labels<'_>, before: usize, item: &Item) -> bool
     ensures { result ≡ names_known labels.now before item.now }
 {
     match item {
-        Item::Label(name) => !is_label(first_labels(labels, before), name),
+        Item::Label(name) => !labels.has_before(before, name),
         Item::Word(value) => is_known(labels, value),
         Item::Two { src, dst, .. } => operand_known(labels, src) && operand_known(labels, dst),
         Item::One { arg, .. } => operand_known(labels, arg),
@@ -102,7 +92,7 @@ fn label_count(item: &Item) -> usize
 }
 
 /// Rule 3: each name has one label.
-fn named(labels: &[Label], entries: &[Entry]) -> Result<(), AsmError>
+fn named(labels: &Labels<'_>, entries: &[Entry]) -> Result<(), AsmError>
     ensures rule { result ≡ named labels.now 0 entries.now }
     ensures fault { IfErr result IsFault }
 {
@@ -116,7 +106,7 @@ fn named(labels: &[Label], entries: &[Entry]) -> Result<(), AsmError>
     Ok(())
 }
 
-fn reaches(labels: &[Label], at: u16, item: &Item) -> bool
+fn reaches(labels: &Labels<'_>, at: u16, item: &Item) -> bool
     ensures { result ≡ reaches labels.now at item.now }
 {
     match item {
@@ -126,7 +116,7 @@ fn reaches(labels: &[Label], at: u16, item: &Item) -> bool
 }
 
 /// Rule 4: the jumps reach their targets.
-fn reached(labels: &[Label], at: u16, entries: &[Entry]) -> Result<(), AsmError>
+fn reached(labels: &Labels<'_>, at: u16, entries: &[Entry]) -> Result<(), AsmError>
     ensures rule { result ≡ reached labels.now at entries.now }
     ensures fault { IfErr result IsFault }
 {
@@ -201,7 +191,7 @@ fn push_instruction(instruction: &Instr, code: &mut Vec<u8>) -> Result<(), AsmEr
     push_words(&words.w[..usize::from(words.len)], code)
 }
 
-fn push_item(labels: &[Label], at: u16, item: &Item, code: &mut Vec<u8>) -> Result<(), AsmError>
+fn push_item(labels: &Labels<'_>, at: u16, item: &Item, code: &mut Vec<u8>) -> Result<(), AsmError>
     requires form { has_form item.now ≡ true }
     requires reach { reaches labels.now at item.now ≡ true }
     ensures added { OnOk result
@@ -226,7 +216,12 @@ fn push_item(labels: &[Label], at: u16, item: &Item, code: &mut Vec<u8>) -> Resu
 }
 
 /// The bytes of items placed from an address on.
-fn code_of(alloc: Global, labels: &[Label], at: u16, entries: &[Entry]) -> Result<Vec<u8>, AsmError>
+fn code_of(
+    alloc: Global,
+    labels: &Labels<'_>,
+    at: u16,
+    entries: &[Entry],
+) -> Result<Vec<u8>, AsmError>
     requires formed { formed entries.now ≡ Ok tt }
     requires reached { reached labels.now at entries.now ≡ Ok tt }
     ensures code { IfOk result (λ code. code.items ≡ code_of labels.now at entries.now) }
@@ -245,7 +240,7 @@ fn code_of(alloc: Global, labels: &[Label], at: u16, entries: &[Entry]) -> Resul
 /// break. Memory is wanted only where they break none.
 fn code_with(
     alloc: Global,
-    labels: &[Label],
+    labels: &Labels<'_>,
     at: u16,
     entries: &[Entry],
 ) -> Result<Vec<u8>, AsmError>
@@ -266,6 +261,9 @@ pub fn assemble(alloc: Global, at: u16, text: &str) -> Result<Vec<u8>, AsmError>
     ensures { AnswersMeant (λ code. code.items) (assembled at text.now) result }
 {
     let entries = read(alloc, text.as_bytes())?;
-    let labels = labels_of(alloc, at, &entries)?;
-    code_with(alloc, &labels, at, &entries)
+    let list = labels_of(alloc, at, &entries)?;
+    match Labels::new(alloc, &list) {
+        Ok(labels) => code_with(alloc, &labels, at, &entries),
+        Err(_) => Err(AsmError::OutOfMemory),
+    }
 }

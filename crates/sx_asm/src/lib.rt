@@ -14,6 +14,7 @@
 mod assembling;
 pub mod error;
 mod grammar;
+mod labels;
 pub mod laws;
 mod lexing;
 mod meaning;

@@ -6,12 +6,13 @@ ghost use Rattle.sx_isa.specs.Legal.{is_allowed};
 ghost use Rattle.sx_isa.specs.Instructions.{IsSource, IsDestination, IsInstruction};
 ghost use Rattle.sx_isa.specs.Spelling.{is_constant};
 ghost use Rattle.sx_asm.specs.Forms.{HasWord};
-ghost use Rattle.sx_asm.specs.Meaning.{hash_words, extension, size, further, distance, is_label};
-ghost use Rattle.sx_asm.specs.Meaning.{address_of, number, hash_operand, operand_at, offset};
+ghost use Rattle.sx_asm.specs.Meaning.{hash_words, extension, size, further, distance};
+ghost use Rattle.sx_asm.specs.Meaning.{number, hash_operand, operand_at, offset};
 ghost use Rattle.sx_asm.specs.Meaning.{two_at, one_at, jump_at, labels_of};
 ghost use Rattle.sx_asm.specs.Assembled.{has_form, is_source, is_destination, in_reach};
 
 use crate::error::AsmError;
+use crate::labels::Labels;
 use crate::written::{Entry, Item, Label, Value, Written};
 use std::alloc::Global;
 use sx_isa::{Instr, Op1, Op2, Operand, valid};
@@ -77,41 +78,17 @@ pub fn distance(at: u16, to: u16) -> u16
     to.wrapping_sub(at)
 }
 
-/// Whether a label has this name.
-pub fn is_label(labels: &[Label], name: &Name) -> bool
-    ensures { result ≡ is_label labels.now name.now }
-{
-    for label in labels {
-        if label.name == *name {
-            return true;
-        }
-    }
-    false
-}
-
-/// The address of the first label with this name.
-fn address_of(labels: &[Label], name: &Name) -> u16
-    ensures { result ≡ address_of labels.now name.now }
-{
-    for label in labels {
-        if label.name == *name {
-            return label.address;
-        }
-    }
-    0
-}
-
 /// The number that a value is.
-pub fn number(labels: &[Label], value: &Value) -> u16
+pub fn number(labels: &Labels<'_>, value: &Value) -> u16
     ensures { result ≡ number labels.now value.now }
 {
     match value {
         Value::Number(n) => *n,
-        Value::Name(name) => address_of(labels, name),
+        Value::Name(name) => labels.address_of(name),
     }
 }
 
-fn hash_operand(labels: &[Label], value: &Value) -> Operand
+fn hash_operand(labels: &Labels<'_>, value: &Value) -> Operand
     ensures operand { result ≡ hash_operand labels.now value.now }
     ensures word { HasWord result }
 {
@@ -123,12 +100,12 @@ fn hash_operand(labels: &[Label], value: &Value) -> Operand
                 Operand::Immediate(*n)
             }
         }
-        Value::Name(name) => Operand::Immediate(address_of(labels, name)),
+        Value::Name(name) => Operand::Immediate(labels.address_of(name)),
     }
 }
 
 /// The operand whose extension word is at this address, if it has one.
-fn operand_at(labels: &[Label], at: u16, written: &Written) -> Operand
+fn operand_at(labels: &Labels<'_>, at: u16, written: &Written) -> Operand
     ensures operand { result ≡ operand_at labels.now at written.now }
     ensures word { HasWord result }
 {
@@ -150,15 +127,23 @@ fn offset(distance: u16) -> i16
     distance.cast_signed() >> 1
 }
 
+/// The operand where no name has an address: its form alone counts.
+fn operand_form(written: &Written) -> Operand
+    ensures operand { result ≡ operand_at [] 0 written.now }
+    ensures word { HasWord result }
+{
+    operand_at(&Labels::none(), 0, written)
+}
+
 /// Whether the operands are those of an instruction, whatever addresses the labels have.
-#[tactic(auto, using(crate::proofs::Forms::two_tested, crate::proofs::Forms::one_tested))]
+#[tactic(auto, using(crate::proofs::Forms::one_tested))]
 pub fn has_form(item: &Item) -> bool
     ensures { result ≡ has_form item.now }
 {
     match item {
         Item::Two { op, byte, src, dst } => {
-            let src = operand_at(&[], 0, src);
-            let dst = operand_at(&[], 0, dst);
+            let src = operand_form(src);
+            let dst = operand_form(dst);
             valid(&Instr::Two {
                 op: *op,
                 byte: *byte,
@@ -167,7 +152,7 @@ pub fn has_form(item: &Item) -> bool
             })
         }
         Item::One { op, byte, arg } => {
-            let arg = operand_at(&[], 0, arg);
+            let arg = operand_form(arg);
             valid(&Instr::One {
                 op: *op,
                 byte: *byte,
@@ -200,7 +185,7 @@ pub fn labels_of(alloc: Global, at: u16, entries: &[Entry]) -> Result<Vec<Label>
 
 /// The operand that an instruction reads.
 #[tactic(auto, using(crate::proofs::Forms::source_at))]
-fn source_at(labels: &[Label], at: u16, written: &Written) -> Operand
+fn source_at(labels: &Labels<'_>, at: u16, written: &Written) -> Operand
     requires { is_source (operand_at [] 0 written.now) ≡ true }
     ensures operand { result ≡ operand_at labels.now at written.now }
     ensures source { IsSource result }
@@ -210,7 +195,7 @@ fn source_at(labels: &[Label], at: u16, written: &Written) -> Operand
 
 /// The operand that an instruction with two operands writes.
 #[tactic(auto, using(crate::proofs::Forms::destination_at))]
-fn destination_at(labels: &[Label], at: u16, written: &Written) -> Operand
+fn destination_at(labels: &Labels<'_>, at: u16, written: &Written) -> Operand
     requires { is_destination (operand_at [] 0 written.now) ≡ true }
     ensures operand { result ≡ operand_at labels.now at written.now }
     ensures destination { IsDestination result }
@@ -220,7 +205,14 @@ fn destination_at(labels: &[Label], at: u16, written: &Written) -> Operand
 
 /// The instruction with two operands at an address, with the labels' addresses in place of their
 /// names. The operands must be a source and a destination.
-pub fn two_at(labels: &[Label], at: u16, op: Op2, byte: bool, src: &Written, dst: &Written) -> Instr
+pub fn two_at(
+    labels: &Labels<'_>,
+    at: u16,
+    op: Op2,
+    byte: bool,
+    src: &Written,
+    dst: &Written,
+) -> Instr
     requires { (is_source (operand_at [] 0 src.now) && is_destination (operand_at [] 0 dst.now))
         ≡ true }
     ensures instr { result ≡ two_at labels.now at op byte src.now dst.now }
@@ -238,7 +230,7 @@ pub fn two_at(labels: &[Label], at: u16, op: Op2, byte: bool, src: &Written, dst
 /// The instruction with one operand at an address, with the labels' addresses in place of their
 /// names. The operation must allow the operand.
 #[tactic(auto, using(crate::proofs::Forms::allowed_at))]
-pub fn one_at(labels: &[Label], at: u16, op: Op1, byte: bool, arg: &Written) -> Instr
+pub fn one_at(labels: &Labels<'_>, at: u16, op: Op1, byte: bool, arg: &Written) -> Instr
     requires { (is_source (operand_at [] 0 arg.now)
         && is_allowed op byte (operand_at [] 0 arg.now)) ≡ true }
     ensures instr { result ≡ one_at labels.now at op byte arg.now }
@@ -261,7 +253,7 @@ pub fn in_reach(next: u16, target: u16) -> bool
 
 /// The jump, of one of eight conditions.
 #[tactic(auto, using(crate::proofs::Forms::near_offset))]
-pub fn jump_at(labels: &[Label], at: u16, cond: u8, target: &Value) -> Instr
+pub fn jump_at(labels: &Labels<'_>, at: u16, cond: u8, target: &Value) -> Instr
     requires cond { cond < 8 }
     requires reach { in_reach (further at 2) (number labels.now target.now) ≡ true }
     ensures instr { result ≡ jump_at labels.now at cond target.now }

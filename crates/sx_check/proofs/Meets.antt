@@ -1,12 +1,11 @@
 -- Whether a name of a list is before it, or in it twice.
-use Rattle.std.proofs.Common.{◌≡◌, ℕ, ◌+◌, ◌<◌, ◌≤◌, Bool, true, false, ◌||◌, cond, nat_lt, List, [], ◌∷◌, ◌++◌, length, take, drop, get_or, count_by, refl, ap, sym, subst, ◌∙◌, append_assoc, arith}
+use Rattle.std.proofs.Common.{◌≡◌, ℕ, ◌+◌, ◌<◌, Bool, true, false, ◌||◌, cond, nat_lt, List, [], ◌∷◌, ◌++◌, length, take, drop, get_or, count_by, refl, ap, sym, subst, ◌∙◌, append_assoc, arith}
 use Rattle.std.specs.List.{list_any}
 use Rattle.std.proofs.lemmas.Bool.Decides.{nat_tests}
 use Rattle.std.proofs.lemmas.List.Sums.{sum_by-append}
 use Rattle.std.proofs.lemmas.List.{get_or_default, length-take-le, take_more}
 use Rattle.sx_check.specs.Names.{same}
 use Rattle.sx_check.specs.Uses.{is_seen}
-use Rattle.sx_check.specs.Listed.{is_in_twice}
 use Rattle.sx_check.proofs.Distinct.{same-true, same-refl, count_by-cons, none_counted, some_counted}
 use Rattle.lemmas.proofs.Lists.{rest_is}
 

@@ -1,20 +1,17 @@
 -- Names in a list: what an index of them answers, and which are in it twice.
-use Rattle.std.proofs.Common.{◌≡◌, ℕ, zero, suc, ◌+◌, ◌<◌, ◌≤◌, Bool, true, false, not, ◌&&◌, ◌||◌, cond, nat_lt, List, [], ◌∷◌, ◌++◌, length, take, Option, Some, None, is_some, count_by, refl, ap, sym, subst, ◌∙◌, arith}
+use Rattle.std.proofs.Common.{◌≡◌, ℕ, ◌+◌, Bool, true, false, ◌&&◌, ◌||◌, cond, nat_lt, List, [], ◌∷◌, Option, Some, None, count_by, refl, ap, sym, subst, ◌∙◌, arith}
 use Rattle.std.specs.Prelude.{IfSome}
-use Rattle.std.specs.List.{list_any, position, position_or_len}
+use Rattle.std.specs.List.{list_any}
 use Rattle.std.specs.Str.{bytes_eq}
-use Rattle.std.proofs.lemmas.Bool.Decides.{nat_tests}
-use Rattle.std.proofs.lemmas.List.Sums.{sum_by-append}
 use Rattle.sx_lang.specs.declared.tree.Decl.{Decl}
 use Rattle.sx_lang.specs.declared.tree.Decl.TheVariants.{Device, Input, Output, Var, Array}
 use Rattle.sx_lang.specs.Tree.{HandlerTree}
-use Rattle.sx_index.specs.Places.{place_of}
 use Rattle.sx_check.specs.declared.declared.Role.{Role}
 use Rattle.sx_check.specs.declared.declared.Role.TheVariants.{Word, Element, Sending, Handling}
 use Rattle.sx_check.specs.Names.{same, same_input, declares, is_declared, is_device, is_repeated, is_handled_twice, is_taken, has_taken, locals}
 use Rattle.sx_check.specs.Uses.{declares_as, is_seen}
 use Rattle.sx_check.specs.Listed.{before, names_by, name_as, names_as, inputs_of, is_in_twice}
-use Rattle.sx_check.proofs.Distinct.{same-true, same-refl, count_by-cons, none_counted, some_counted}
+use Rattle.sx_check.proofs.Distinct.{same-true, same-refl, count_by-cons, none_counted}
 
 same-sym : (x y : List ℕ) → same x y ≡ same y x
 same-sym x y = go (same x y) refl (same y x) refl
@@ -46,33 +43,12 @@ module _ {A : Type 0} where
   any_or p q [] = refl
   any_or p q (x ∷ xs) = ap (λ b. (p x || q x) || b) (any_or p q xs) ∙ regroup (p x) (q x) (list_any p xs) (list_any q xs)
 
--- the first place that passes is before the end where one passes
-first_lt : (n l m : ℕ) (t : Bool) → m ≡ l + 1 → nat_lt (cond (not t) (1 + n) 0) m ≡ (t || nat_lt n l)
-first_lt n l m true e = grind (arith, nat_tests)
-first_lt n l m false e = grind (arith, nat_tests)
-
-module _ {A : Type 0} (p : A → Bool) where
-  lt_any : (xs : List A) → nat_lt (position_or_len p xs) (length xs) ≡ list_any p xs
-  lt_any [] = refl
-  lt_any (x ∷ xs) = first_lt (position_or_len p xs) (length xs) (length (x ∷ xs)) (p x) (omega arith) ∙ ap (λ b. p x || b) (lt_any xs)
-
-some_is : (b : Bool) (n : ℕ) → is_some (cond b (Some n) None) ≡ b
-some_is true n = refl
-some_is false n = refl
-
 seen_is : (names : List (List ℕ)) (x : List ℕ) → list_any (λ name. bytes_eq name x) names ≡ is_seen names x
 seen_is names x = any_alike (λ name. bytes_eq name x) (same x) (λ name. same-sym name x) names
 
--- a name has a place where it is in the list
-pub placed : (names : List (List ℕ)) (x : List ℕ) → is_some (place_of names x) ≡ is_seen names x
-placed names x =
-    let p = λ (name : List ℕ). bytes_eq name x in
-    some_is (nat_lt (position_or_len p names) (length names)) (position_or_len p names) ∙ lt_any p names ∙ seen_is names x
-
 -- what an index answers of the names that it is one of
-pub found_is : (names : List (List ℕ)) (text x : List ℕ) (o : Option ℕ) (b : Bool) → o ≡ place_of names text → text ≡ x → b ≡ is_some o → b ≡ is_seen names x
-found_is names text x o b given alike is =
-    is ∙ ap (λ (o : Option ℕ). is_some o) given ∙ placed names text ∙ ap (is_seen names) alike
+pub found_is : (names : List (List ℕ)) (text x : List ℕ) (b : Bool) → b ≡ list_any (λ name. bytes_eq name text) names → text ≡ x → b ≡ is_seen names x
+found_is names text x b given alike = given ∙ seen_is names text ∙ ap (is_seen names) alike
 
 -- Things with a name each, or none
 module _ {A : Type 0} (name : A → Option (List ℕ)) where

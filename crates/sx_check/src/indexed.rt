@@ -121,7 +121,7 @@ fn index_of_many(alloc: Global, decls: &[Decl], role: Option<Role>) -> Option<Na
 fn is_in(index: &NameIndex, x: &Name) -> bool
     ensures { (names : List (List ℕ)) → IsNameIndex index.now names → result ≡ is_seen names x.now }
 {
-    index.place_of(x.bytes()).is_some()
+    index.has(x.bytes())
 }
 
 impl<'a> Declared<'a> {

@@ -18,7 +18,7 @@ pub fn is_in_twice(alloc: Global, names: &[Name]) -> Result<bool, AllocError>
 {
     let mut index = NameIndex::new(alloc);
     for place in 0..names.len() {
-        if index.place_of(names[place].bytes()).is_some() {
+        if index.has(names[place].bytes()) {
             return Ok(true);
         }
         index.push(names[place], place)?;

@@ -1,2 +1,3 @@
--- Indexed: an index after one more name.
+-- Indexed: an index after one more name. Placed: what the place of a name says of the list.
 pub mod Indexed
+pub mod Placed

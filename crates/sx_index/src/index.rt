@@ -1,5 +1,7 @@
 //! The first place of each name of a list, found without going through the list.
-ghost use Rattle.std.specs.Prelude.{◌≡◌, ℕ, List, [], OnOk, OnErr};
+ghost use Rattle.std.specs.Prelude.{◌≡◌, ℕ, List, [], take, OnOk, OnErr};
+ghost use Rattle.std.specs.List.{list_any};
+ghost use Rattle.std.specs.Str.{bytes_eq};
 ghost use Rattle.sx_index.specs.Index.{GrowsIndex, IsNameIndex, IsNewTo, KeepsIndex};
 ghost use Rattle.sx_index.specs.Places.{place_of};
 
@@ -60,6 +62,25 @@ impl NameIndex {
         match Name::new(text) {
             Some(name) => self.places.get(&NameKey::of(name)).copied(),
             None => None,
+        }
+    }
+
+    /// Whether a text is one of the names.
+    pub fn has(&self, text: &[u8]) -> bool
+        ensures { (names : List (List ℕ)) → IsNameIndex self.now names
+            → result ≡ list_any (λ name. bytes_eq name text.now) names }
+    {
+        self.place_of(text).is_some()
+    }
+
+    /// Whether a text is one of the first so many names.
+    pub fn has_before(&self, count: usize, text: &[u8]) -> bool
+        ensures { (names : List (List ℕ)) → IsNameIndex self.now names
+            → result ≡ list_any (λ name. bytes_eq name text.now) (take count names) }
+    {
+        match self.place_of(text) {
+            Some(place) => place < count,
+            None => false,
         }
     }
 }
