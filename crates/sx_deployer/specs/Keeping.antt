@@ -11,6 +11,7 @@ use Rattle.sx_tag.specs.Keys.{module_key}
 use Rattle.sx_deployer.specs.Granting.{DeployerState, after_ask, is_answer, set_key}
 use Rattle.sx_deployer.specs.declared.deployer.Verdict.{Verdict}
 use Rattle.sx_deployer.specs.declared.deployer.Verdict.TheVariants.{Attested, Denied}
+use Rattle.sx_deployer.specs.declared.derived.DerivedKey.{DerivedKey}
 use Rattle.sx_deployer.specs.declared.target.Target.{Target}
 
 -- a module: its node's key, its provider, its identity, and its ends in order
@@ -100,6 +101,12 @@ renewed es (Some last) epochs = raised_from 0 es epochs
 -- a module of which nothing is known
 abbrev pub nobody : Known
 nobody = record { node_key = []; provider = 0; identity = []; ends = [] }
+
+-- the key that is kept, if any, is the key of its module at its boot
+abbrev pub IsDerived : Mac → List Known → Option DerivedKey → Type 0
+IsDerived mac targets None = Unit {0}
+IsDerived mac targets (Some derived) =
+    derived.key ≡ key_of mac (get_or targets derived.«module» nobody) derived.boot
 
 -- the module of this index, its open ask, and the boot at which it was last attested
 abbrev pub target_at : Keeping → ℕ → Known

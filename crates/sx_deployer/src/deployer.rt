@@ -5,11 +5,12 @@ ghost use Rattle.std.specs.Prelude.{map, slice_index};
 ghost use Rattle.sx_wire.specs.Headers.{ask_packet};
 ghost use Rattle.sx_deployer.specs.Keeping as spec;
 
-use crate::keys::{grant, is_answer};
+use crate::derived::DerivedKey;
+use crate::keys::{grant, is_answer, key_of};
 use crate::renewal::{may_attest, renewed};
 use crate::target::Target;
 use std::alloc::{AllocError, Global};
-use std::marker::Model;
+use std::marker::{Model, PhantomData};
 use sx_mean::events::End;
 use sx_tag::Tag;
 
@@ -22,20 +23,23 @@ pub enum Verdict {
     Denied,
 }
 
-/// The deployer of one application.
+/// The deployer of one application, with this tag.
 #[derive(Drop)]
-pub struct Deployer {
+pub struct Deployer<T: Tag> {
     secret: [u8; 16],
     targets: Vec<Target>,
     asks: u32,
     open_asks: [Option<[u8; 18]>; 32],
     attested: [Option<u32>; 32],
     epochs: [u8; 64],
+    /// The key that the last answer was judged by.
+    derived: Option<DerivedKey>,
+    tag: PhantomData<T>,
 }
 
-impl Model for Deployer {
+impl<T: Tag> Model for Deployer<T> {
     ghost use Rattle.std.specs.Prelude.{◌≤◌, length, map};
-    ghost use Rattle.sx_deployer.specs.Keeping.{AreFirst, Keeping, known};
+    ghost use Rattle.sx_deployer.specs.Keeping.{AreFirst, IsDerived, Keeping, known};
 
     ghost Value = { Keeping };
 
@@ -51,13 +55,14 @@ impl Model for Deployer {
     } };
 
     ghost invariant = { λ d. (length d.targets.items ≤ 32)
-        × AreFirst (map known d.targets.items) d.epochs };
+        × AreFirst (map known d.targets.items) d.epochs
+        × IsDerived T.mac (map known d.targets.items) d.derived };
 }
 
-impl Deployer {
+impl<T: Tag> Deployer<T> {
     /// The deployer with this secret and these modules, which asked nothing yet. It takes no
     /// memory.
-    pub fn new(secret: [u8; 16], targets: Vec<Target>) -> Deployer
+    pub fn new(secret: [u8; 16], targets: Vec<Target>) -> Deployer<T>
         requires { length targets.items ≤ 32 }
         ensures { result ≡ spec.first secret (map spec.known targets.items) }
     {
@@ -68,12 +73,14 @@ impl Deployer {
             open_asks: [None; 32],
             attested: [None; 32],
             epochs: [0; 64],
+            derived: None,
+            tag: PhantomData,
         }
     }
 
     /// The ask packet for a module, whose challenge is the number of asks before; it is now the
     /// module's open ask.
-    pub fn ask<T: Tag>(&mut self, _tag: &T, module: u8) -> [u8; 18]
+    pub fn ask(&mut self, _tag: &T, module: u8) -> [u8; 18]
         requires known { «module» < length self.old.targets }
         requires few { self.old.state.asks < 4294967295 }
         ensures packet { result ≡ ask_packet self.old.state.asks }
@@ -90,7 +97,7 @@ impl Deployer {
     /// or a later one, or it was attested before and one of its connections has epoch 255; the
     /// deployer is then as before. `Attested` closes the ask, and raises the epochs of the
     /// connections of a module that was attested before.
-    pub fn answer<T: Tag>(&mut self, tag: &T, module: u8, boot: u32, mac: &[u8]) -> Verdict
+    pub fn answer(&mut self, tag: &T, module: u8, boot: u32, mac: &[u8]) -> Verdict
         requires { «module» < length self.old.targets }
         ensures verdict { result ≡ spec.verdict T.mac self.old «module» boot mac.now }
         ensures state { self.new ≡ spec.judged T.mac self.old «module» boot mac.now }
@@ -98,23 +105,40 @@ impl Deployer {
         ensures asks { self.new.state.asks ≡ self.old.state.asks }
     {
         let index = usize::from(module);
+        let Some(ask) = self.open_asks[index] else {
+            return Verdict::Denied;
+        };
         let last = self.attested[index];
-        let target = &self.targets[index];
-        if !may_attest(&target.ends, &self.epochs, last, boot)
-            || !is_answer(tag, target, boot, mac, self.open_asks[index])
-        {
+        if !may_attest(&self.targets[index].ends, &self.epochs, last, boot) {
             return Verdict::Denied;
         }
+        let key = self.key_of(tag, module, boot);
+        self.derived = Some(DerivedKey { module, boot, key });
+        if !is_answer(tag, &key, mac, &ask) {
+            return Verdict::Denied;
+        }
+        let target = &self.targets[index];
         self.epochs = renewed(&target.ends, &self.epochs, last);
         self.open_asks[index] = None;
         self.attested[index] = Some(boot);
         Verdict::Attested
     }
 
+    /// The key of a module at a boot. Unless it is kept, the module's whole text is hashed.
+    fn key_of(&self, tag: &T, module: u8, boot: u32) -> [u8; 16]
+        requires { «module» < length self.now.targets }
+        ensures { result ≡ spec.key_of T.mac (spec.target_at self.now «module») boot }
+    {
+        match &self.derived {
+            Some(derived) if derived.is_of(module, boot) => derived.key,
+            _ => key_of(tag, &self.targets[usize::from(module)], boot),
+        }
+    }
+
     /// The set-key packet for an end of a module, by its index, at the boot at which the module was
     /// last attested and in the connection's present epoch: for a program that gives keys module by
     /// module. A run, which gives those of other boots too, takes `packet`.
-    pub fn set_key<T: Tag>(&self, tag: &T, module: u8, end: u8) -> [u8; 38]
+    pub fn set_key(&self, tag: &T, module: u8, end: u8) -> [u8; 38]
         requires known { «module» < length self.now.targets }
         requires attested { IsSome (spec.attested_at self.now «module») }
         requires has_end { end < length (spec.target_at self.now «module»).ends }
@@ -123,7 +147,8 @@ impl Deployer {
         let target = &self.targets[usize::from(module)];
         let end = target.ends[usize::from(end)];
         let boot = self.attested[usize::from(module)].unwrap_or(0);
-        grant(tag, &self.secret, target, boot, end, self.epoch(end.link))
+        let key = self.key_of(tag, module, boot);
+        grant(tag, &self.secret, &key, end, self.epoch(end.link))
     }
 
     /// The epoch of a connection: 0 of one that no module has.
@@ -152,24 +177,20 @@ impl Deployer {
 
     /// The set-key packet for an end, at a boot of its holder's node and in an epoch of the
     /// connection; `None` exactly where there is no such module.
-    pub fn packet<T: Tag>(
-        &self,
-        tag: &T,
-        holder: u8,
-        boot: u32,
-        end: End,
-        epoch: u8,
-    ) -> Option<[u8; 38]>
+    pub fn packet(&self, tag: &T, holder: u8, boot: u32, end: End, epoch: u8) -> Option<[u8; 38]>
         ensures { result ≡ spec.packet_for T.mac self.now holder boot «end» epoch }
     {
         match self.targets.get(usize::from(holder)) {
-            Some(target) => Some(grant(tag, &self.secret, target, boot, end, epoch)),
+            Some(_) => {
+                let key = self.key_of(tag, holder, boot);
+                Some(grant(tag, &self.secret, &key, end, epoch))
+            }
             None => None,
         }
     }
 
     /// A deployer that is equal to this one. The error says that memory ran out.
-    pub fn copy(&self, alloc: Global) -> Result<Deployer, AllocError>
+    pub fn copy(&self, alloc: Global) -> Result<Deployer<T>, AllocError>
         ensures { IfOk result (λ d. d ≡ self.now) }
     {
         let mut targets = Vec::new(alloc);
@@ -183,6 +204,8 @@ impl Deployer {
             open_asks: self.open_asks,
             attested: self.attested,
             epochs: self.epochs,
+            derived: self.derived,
+            tag: PhantomData,
         })
     }
 }

@@ -1,6 +1,6 @@
 //! The keys of modules and connections.
 
-ghost use Rattle.std.specs.Prelude.{◌≡◌, ◌+◌, ◌*◌, []};
+ghost use Rattle.std.specs.Prelude.{◌≡◌, ◌+◌, ◌*◌, [], Some};
 ghost use Rattle.sx_tag.specs.Wrap.{wrapped};
 ghost use Rattle.sx_deployer.specs.Keeping as spec;
 ghost use Rattle.sx_deployer.specs.Granting as grants;
@@ -11,7 +11,8 @@ use sx_mean::events::End;
 use sx_tag::Tag;
 use sx_wire::{SetKeyPacket, write_set_key};
 
-fn key_of<T: Tag>(tag: &T, target: &Target, boot: u32) -> [u8; 16]
+/// The key of a module at a boot.
+pub fn key_of<T: Tag>(tag: &T, target: &Target, boot: u32) -> [u8; 16]
     ensures { result ≡ spec.key_of T.mac (spec.known target.now) boot }
 {
     sx_tag::module_key(
@@ -23,29 +24,18 @@ fn key_of<T: Tag>(tag: &T, target: &Target, boot: u32) -> [u8; 16]
     )
 }
 
-fn expected<T: Tag>(tag: &T, target: &Target, boot: u32, ask: &[u8; 18]) -> [u8; 16]
-    ensures { result ≡ (wrapped T.mac (spec.key_of T.mac (spec.known target.now) boot) ask.now
-        []).tag }
+fn expected<T: Tag>(tag: &T, key: &[u8; 16], ask: &[u8; 18]) -> [u8; 16]
+    ensures { result ≡ (wrapped T.mac key.now ask.now []).tag }
 {
     let mut cipher = [0; 32];
-    sx_tag::wrap(tag, &key_of(tag, target, boot), ask, &[], &mut cipher)
+    sx_tag::wrap(tag, key, ask, &[], &mut cipher)
 }
 
-/// Whether these bytes answer the open ask, if any, at a boot.
-pub fn is_answer<T: Tag>(
-    tag: &T,
-    target: &Target,
-    boot: u32,
-    mac: &[u8],
-    ask: Option<[u8; 18]>,
-) -> bool
-    ensures { result ≡ grants.is_answer T.mac (spec.key_of T.mac (spec.known target.now) boot)
-        mac.now ask }
+/// Whether these bytes answer an ask, under a module's key.
+pub fn is_answer<T: Tag>(tag: &T, key: &[u8; 16], mac: &[u8], ask: &[u8; 18]) -> bool
+    ensures { result ≡ grants.is_answer T.mac key.now mac.now (Some ask.now) }
 {
-    match ask {
-        None => false,
-        Some(ask) => mac == expected(tag, target, boot, &ask).as_slice(),
-    }
+    mac == expected(tag, key, ask).as_slice()
 }
 
 fn side_number(side: Side) -> u16
@@ -71,17 +61,10 @@ pub fn connection_key<T: Tag>(tag: &T, secret: &[u8; 16], link: u8, epoch: u8) -
     sx_tag::kdf(tag, secret, &field(link, epoch).to_le_bytes())
 }
 
-/// The set-key packet for an end of a module at a boot, with the connection's key of an epoch.
-pub fn grant<T: Tag>(
-    tag: &T,
-    secret: &[u8; 16],
-    target: &Target,
-    boot: u32,
-    end: End,
-    epoch: u8,
-) -> [u8; 38]
-    ensures { result ≡ grants.set_key T.mac secret.now
-        (spec.key_of T.mac (spec.known target.now) boot) «end» epoch }
+/// The set-key packet for an end of the module with this key, with the connection's key of an
+/// epoch.
+pub fn grant<T: Tag>(tag: &T, secret: &[u8; 16], key: &[u8; 16], end: End, epoch: u8) -> [u8; 38]
+    ensures { result ≡ grants.set_key T.mac secret.now key.now «end» epoch }
 {
     let mut packet = SetKeyPacket {
         link: field(end.link, epoch),
@@ -90,11 +73,10 @@ pub fn grant<T: Tag>(
         mac: [0; 16],
     };
     let bytes = write_set_key(&packet);
-    let key = key_of(tag, target, boot);
     let mut cipher = [0; 32];
     packet.mac = sx_tag::wrap(
         tag,
-        &key,
+        key,
         &bytes[..6],
         &connection_key(tag, secret, end.link, epoch),
         &mut cipher,

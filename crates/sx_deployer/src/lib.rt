@@ -16,6 +16,7 @@ pub use keys::connection_key;
 pub use target::Target;
 
 mod deployer;
+mod derived;
 mod keys;
 pub mod laws;
 mod renewal;

@@ -24,7 +24,7 @@ use sx_wire::challenge_in;
 /// none, the deployer is as before.
 fn judge_answer<T: Tag>(
     tag: &T,
-    deployer: &mut Deployer,
+    deployer: &mut Deployer<T>,
     packets: &[Vec<u8>],
     m: u8,
     boot: u32,

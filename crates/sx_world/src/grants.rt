@@ -13,6 +13,7 @@ use sx_lang::sides::Side;
 use sx_mean::apps::{App, Link};
 use sx_mean::connections::{receiving, sending};
 use sx_mean::events::End;
+use sx_tag::Tag;
 
 /// What a set-key packet is for: an end of a module at a boot of its node, and the connection's
 /// epoch.
@@ -33,7 +34,7 @@ impl Model for Grant {
 }
 
 /// For an end of a module at a boot, in the connection's present epoch.
-fn grant_for(deployer: &Deployer, holder: u8, boot: u32, end: End) -> Grant
+fn grant_for<T: Tag>(deployer: &Deployer<T>, holder: u8, boot: u32, end: End) -> Grant
     ensures { result ≡ grant deployer.now.state.epochs holder boot «end» }
 {
     Grant {
@@ -45,8 +46,8 @@ fn grant_for(deployer: &Deployer, holder: u8, boot: u32, end: End) -> Grant
 }
 
 /// Adds the grant for an end of a module, if it has the end.
-fn add_end(
-    deployer: &Deployer,
+fn add_end<T: Tag>(
+    deployer: &Deployer<T>,
     m: u8,
     boot: u32,
     end: Option<End>,
@@ -65,8 +66,8 @@ fn add_end(
 }
 
 /// Adds the grants for a module's ends of the n-th connection.
-fn add_ends(
-    deployer: &Deployer,
+fn add_ends<T: Tag>(
+    deployer: &Deployer<T>,
     m: u8,
     boot: u32,
     n: u8,
@@ -81,8 +82,8 @@ fn add_ends(
 }
 
 /// Adds the grants for a module's own ends.
-fn add_own(
-    deployer: &Deployer,
+fn add_own<T: Tag>(
+    deployer: &Deployer<T>,
     m: u8,
     boot: u32,
     links: &[Link],
@@ -99,7 +100,7 @@ fn add_own(
 }
 
 /// The boot at which the k-th of this many modules was last attested, if it was.
-fn attested(deployer: &Deployer, parts: usize, k: u8) -> Option<u32>
+fn attested<T: Tag>(deployer: &Deployer<T>, parts: usize, k: u8) -> Option<u32>
     requires { parts ≤ length deployer.now.targets }
     ensures { result ≡ boot_in deployer.now parts k }
 {
@@ -111,7 +112,7 @@ fn attested(deployer: &Deployer, parts: usize, k: u8) -> Option<u32>
 }
 
 /// The grant for an end of a module, where that was attested.
-fn grant_to(deployer: &Deployer, parts: usize, k: u8, end: End) -> Option<Grant>
+fn grant_to<T: Tag>(deployer: &Deployer<T>, parts: usize, k: u8, end: End) -> Option<Grant>
     requires { parts ≤ length deployer.now.targets }
     ensures { result ≡ grant_if_any deployer.now.state.epochs k «end» (boot_in deployer.now parts k) }
 {
@@ -123,7 +124,7 @@ fn grant_to(deployer: &Deployer, parts: usize, k: u8, end: End) -> Option<Grant>
 
 /// The grant for the end of the n-th connection that is in another module, where one end is in this
 /// module.
-fn across(deployer: &Deployer, parts: usize, m: u8, n: u8, link: &Link) -> Option<Grant>
+fn across<T: Tag>(deployer: &Deployer<T>, parts: usize, m: u8, n: u8, link: &Link) -> Option<Grant>
     requires { parts ≤ length deployer.now.targets }
     ensures { result ≡ across_at deployer.now parts m n link.now }
 {
@@ -162,8 +163,8 @@ fn add_grant(grant: Option<Grant>, grants: &mut Vec<Grant>) -> Result<(), AllocE
 }
 
 /// Adds the grants for the other ends of a module's connections.
-fn add_across(
-    deployer: &Deployer,
+fn add_across<T: Tag>(
+    deployer: &Deployer<T>,
     parts: usize,
     m: u8,
     links: &[Link],
@@ -182,9 +183,9 @@ fn add_across(
 
 /// The grants after an accepted answer of a module that was last attested at a boot, if any: those
 /// for the module's own ends, and where it was attested before those for the ends beyond.
-pub(crate) fn granted(
+pub(crate) fn granted<T: Tag>(
     alloc: Global,
-    deployer: &Deployer,
+    deployer: &Deployer<T>,
     app: &App,
     m: u8,
     boot: u32,

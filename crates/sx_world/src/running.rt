@@ -17,7 +17,7 @@ pub(crate) struct Running<B: Bus, T: Tag> {
     pub(crate) tag: T,
     pub(crate) nodes: Vec<Node<B, T>>,
     pub(crate) packets: Vec<Vec<u8>>,
-    pub(crate) deployer: Deployer,
+    pub(crate) deployer: Deployer<T>,
     pub(crate) ledger: Ledger,
     /// How many steps of nodes were taken.
     pub(crate) steps: u64,
@@ -44,7 +44,7 @@ impl<B: Copied, T: Tag> Running<B, T> {
         alloc: Global,
         tag: T,
         nodes: Vec<Node<B, T>>,
-        deployer: Deployer,
+        deployer: Deployer<T>,
     ) -> Running<B, T>
         ensures { result ≡ record {
           nodes = nodes.items;

@@ -33,7 +33,7 @@ fn target(alloc: Global) -> Result<Target, AllocError>
     })
 }
 
-fn deployer(alloc: Global) -> Result<Deployer, AllocError>
+fn deployer(alloc: Global) -> Result<Deployer<Weak>, AllocError>
     ensures { IfOk result (λ d. (length d.targets ≡ 1) × (d.state.asks ≡ 0)
         × (length (spec.target_at d 0).ends ≡ 1)) }
 {
@@ -44,7 +44,7 @@ fn deployer(alloc: Global) -> Result<Deployer, AllocError>
 
 // The tags and keys are sums, added by hand.
 
-fn judges(rt: &impl Abort, d: &mut Deployer)
+fn judges(rt: &impl Abort, d: &mut Deployer<Weak>)
     requires one { length d.old.targets ≡ 1 }
     requires new { d.old.state.asks ≡ 0 }
 {
@@ -63,7 +63,7 @@ fn an_answer_is_judged(rt: HostRuntime) -> Result<(), AllocError> {
     Ok(())
 }
 
-fn renews(rt: &impl Abort, d: &mut Deployer)
+fn renews(rt: &impl Abort, d: &mut Deployer<Weak>)
     requires one { length d.old.targets ≡ 1 }
     requires new { d.old.state.asks ≡ 0 }
     ensures { d.new.targets ≡ d.old.targets }
@@ -77,7 +77,7 @@ fn renews(rt: &impl Abort, d: &mut Deployer)
 }
 
 /// The epochs of four connections, of which the module has the second.
-fn has_epochs(rt: &impl Abort, d: &Deployer, want: [u8; 4]) {
+fn has_epochs(rt: &impl Abort, d: &Deployer<Weak>, want: [u8; 4]) {
     assert!(rt; [d.epoch(0), d.epoch(1), d.epoch(63), d.epoch(255)] == want);
 }
 
@@ -100,7 +100,7 @@ fn holds(rt: &impl Abort, packet: &[u8; 38], want: &[(usize, u8)]) {
 
 /// The set-key packet for the module's end at a boot and in an epoch has these bytes at these
 /// places.
-fn gives(rt: &impl Abort, d: &Deployer, boot: u32, epoch: u8, want: &[(usize, u8)]) {
+fn gives(rt: &impl Abort, d: &Deployer<Weak>, boot: u32, epoch: u8, want: &[(usize, u8)]) {
     holds(
         rt,
         &d.packet(&Weak, 0, boot, UP, epoch).unwrap_or([0; 38]),
@@ -109,7 +109,7 @@ fn gives(rt: &impl Abort, d: &Deployer, boot: u32, epoch: u8, want: &[(usize, u8
 }
 
 /// The set-key packet that the attested module's end is due has these bytes at these places.
-fn gives_attested(rt: &impl Abort, d: &Deployer, want: &[(usize, u8)])
+fn gives_attested(rt: &impl Abort, d: &Deployer<Weak>, want: &[(usize, u8)])
     requires one { length d.now.targets ≡ 1 }
     requires end { length (spec.target_at d.now 0).ends ≡ 1 }
 {
