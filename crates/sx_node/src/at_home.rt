@@ -17,7 +17,7 @@ ghost use Rattle.spec_machine.specs.Step.{start, entered_from, left};
 ghost use Rattle.sx_node.specs.Telling.{told, Tells, is_told, IsAtHome};
 
 use crate::node::Node;
-use crate::quick::is_untouched;
+use crate::quick::{is_anything, is_untouched};
 use spec_machine::{Seen, Touch};
 use sx_bus::Bus;
 use sx_core::{Stepped, step_quick};
@@ -98,23 +98,8 @@ impl<B: Bus, T: Tag> Node<B, T> {
         ensures state { self.new ≡ (step T.mac self.old).state }
         ensures shown { told result seen.new ≡ (step T.mac self.old).shown }
     {
-        if self.cur == 0 {
-            return self.step_told::<2>(seen);
-        }
-        self.step_learning(seen)
-    }
-
-    /// One step where a module runs. Its code stays out of the way of what most steps of code
-    /// outside do.
-    #[inline(never)]
-    pub(crate) fn step_inside(&mut self, seen: &mut Seen) -> bool
-        requires { self.old.boot < 4294967295 }
-        ensures { Tells self.old (attempt T.mac self.old) result seen.new self.new }
-    {
-        if !self.goes_on(false) {
-            return self.step_learning(seen);
-        }
-        self.step_at_home::<1>(seen).is_told()
+        *seen = self.step_learning();
+        is_anything(seen)
     }
 
     /// One step of a module at home.

@@ -33,7 +33,7 @@ pub(crate) fn is_untouched(touch: &[Touch; 2]) -> bool
 }
 
 /// Whether a step shows anything.
-fn is_anything(seen: &Seen) -> bool
+pub(crate) fn is_anything(seen: &Seen) -> bool
     ensures { told result seen.now ≡ seen.now }
 {
     !is_untouched(&seen.touch) || !matches!(seen.event, Event::Quiet)
@@ -52,8 +52,10 @@ fn tell_touches(touch: [Touch; 2], seen: &mut Seen) -> bool
 }
 
 impl<B: Bus, T: Tag> Node<B, T> {
-    /// One step, as `step` takes it. Whether it shows something, as few steps do; that is then left
-    /// in `seen`. Each caller has a number above 2, and so code of its own (`step_quick`).
+    /// One step, as `step` takes it. Whether it shows something, as few steps do, or leaves a module
+    /// running; what is seen is then left in `seen`. So a loop of code outside ends where a module
+    /// is entered, and none of its own steps asks for that. Each caller has a number, and so code of
+    /// its own (`step_quick`).
     #[inline(always)]
     pub fn step_told<const CALLER: u8>(&mut self, seen: &mut Seen) -> bool
         requires { self.old.boot < 4294967295 }
@@ -61,11 +63,8 @@ impl<B: Bus, T: Tag> Node<B, T> {
         ensures shown { told result seen.new ≡ (step T.mac self.old).shown }
     {
         let pc = self.executor.register(PC);
-        if self.cur != 0 {
-            return self.step_inside(seen);
-        }
-        if self.last != 0 || !self.is_apart(pc) {
-            return self.step_learning(seen);
+        if self.cur != 0 || self.last != 0 || !self.is_apart(pc) {
+            return self.step_near(seen);
         }
         match self.executor.windows().at(pc) {
             Some(_device) => self.end_reset(Violation::Device, seen),
@@ -73,29 +72,33 @@ impl<B: Bus, T: Tag> Node<B, T> {
         }
     }
 
-    /// The same in each case. From the next step on the home of the module that runs is known, or
-    /// the gap where PC is may be. Its code stays out of the way of what most steps do.
+    /// The same in each case. Its code stays out of the way of what most steps do.
     #[inline(never)]
-    pub(crate) fn step_learning(&mut self, seen: &mut Seen) -> bool
+    fn step_near(&mut self, seen: &mut Seen) -> bool
         requires { self.old.boot < 4294967295 }
-        ensures { Tells self.old (attempt T.mac self.old) result seen.new self.new }
+        ensures state { self.new ≡ (step T.mac self.old).state }
+        ensures shown { told result seen.new ≡ (step T.mac self.old).shown }
     {
-        let is_seen = self.step_near(seen);
+        *seen = self.step_learning();
+        self.cur != 0 || is_anything(seen)
+    }
+
+    /// One step, after which the home of the module that runs is known, or the gap where PC is may
+    /// be.
+    #[inline(never)]
+    pub(crate) fn step_learning(&mut self) -> Seen
+        requires { self.old.boot < 4294967295 }
+        ensures state { self.new ≡ (step T.mac self.old).state }
+        ensures seen { result ≡ (step T.mac self.old).shown }
+    {
+        let seen = self.step();
         let pc = self.executor.register(PC);
         if self.cur == 0 {
             self.executor.learn_gap(pc);
         } else if !self.executor.is_at_home(self.cur, pc) {
             self.executor.learn_home(self.cur);
         }
-        is_seen
-    }
-
-    fn step_near(&mut self, seen: &mut Seen) -> bool
-        requires { self.old.boot < 4294967295 }
-        ensures { Tells self.old (attempt T.mac self.old) result seen.new self.new }
-    {
-        *seen = self.step();
-        is_anything(seen)
+        seen
     }
 
     /// The end of a step by a violation, which is always told.

@@ -39,8 +39,8 @@ fn silent() -> Seen
     }
 }
 
-/// Steps of a node, at most `count`, up to the first that shows something. The loop is code of its
-/// own, so that the processor's registers are its alone.
+/// Steps of a node, at most `count`, up to the first that shows something or leaves a module
+/// running. The loop is code of its own, so that the processor's registers are its alone.
 #[inline(never)]
 fn quiet_stretch<B: Bus, T: Tag>(node: &mut Node<B, T>, count: u32) -> QuietSteps
     requires { node.old.boot < 4294967295 }
@@ -50,7 +50,7 @@ fn quiet_stretch<B: Bus, T: Tag>(node: &mut Node<B, T>, count: u32) -> QuietStep
 {
     let mut seen = silent();
     for done in 0..count {
-        if node.step_told::<3>(&mut seen) {
+        if node.step_told::<1>(&mut seen) {
             return QuietSteps {
                 count: done,
                 last: Some(seen),
@@ -72,7 +72,7 @@ fn module_stretch<B: Bus, T: Tag>(node: &mut Node<B, T>, count: u32) -> QuietSte
     let mut seen = silent();
     let mut at_home = false;
     for done in 0..count {
-        match node.step_running::<4>(at_home, &mut seen) {
+        match node.step_running::<2>(at_home, &mut seen) {
             StepEnd::AtHome => at_home = true,
             StepEnd::Silent => {
                 if node.running() == 0 {
@@ -95,9 +95,8 @@ fn module_stretch<B: Bus, T: Tag>(node: &mut Node<B, T>, count: u32) -> QuietSte
 }
 
 /// Steps of a node, at most `count`, up to the first that shows something or, where `idle` says so,
-/// leaves no module running. Where a module runs they end when it leaves even if `idle` doesn't say
-/// so, since the loop for a module is the shorter one; a caller goes on. Code outside is mostly run
-/// without that word, so its loop asks for no module.
+/// leaves no module running. Even if `idle` doesn't say so they end where a module is entered or
+/// left, since code outside and a module have loops of their own; a caller goes on.
 #[tactic(auto, using(crate::proofs::passing::Passed::quiet_either))]
 pub(crate) fn stretch<B: Bus, T: Tag>(node: &mut Node<B, T>, count: u32, idle: bool) -> QuietSteps
     requires { node.old.boot < 4294967295 }
