@@ -1,6 +1,7 @@
 //! The result and the flags of each calculation.
 
-ghost use Rattle.std.specs.Prelude.{◌≡◌, ◌%◌, ◌<◌, ◌&&◌, IsTrue};
+ghost use Rattle.std.specs.Prelude.{◌≡◌, ◌+◌, ◌*◌, ◌%◌, ◌<◌, ◌&&◌, IsTrue, true, not, nat_le};
+ghost use Rattle.std.specs.Prelude.{if◌then◌else◌};
 ghost use Rattle.sx_alu.specs.Table.{limit, half, is_negative, row, sum_row};
 ghost use Rattle.sx_alu.specs.Widths.{has_width};
 ghost use Rattle.sx_alu.specs.Table.{difference_row, carried, differ, tested, shifted, extended};
@@ -75,6 +76,77 @@ fn difference(wide: bool, s: u16, d: u16, carry: bool) -> (u16, StatusBits)
     carried(wide, sum, d, is_negative(wide, d) != is_negative(wide, s))
 }
 
+/// A word with its sign in all bits above it.
+fn sign_extended(x: u16) -> u32
+    ensures { result ≡ x + truth (is_negative true x) * 0xffff0000 }
+{
+    u32::from(x.wrapping_add(0x8000)).wrapping_sub(0x8000)
+}
+
+/// Whether a sum of words is wrong as a signed number.
+fn sum_overflows(s: u16, d: u16) -> bool
+    ensures { result ≡ (not (differ (is_negative true d) (is_negative true s))
+        && differ (is_negative true ((d + s) % 65536)) (is_negative true d)) }
+{
+    let sum = sign_extended(d).wrapping_add(sign_extended(s));
+    sum.wrapping_add(0x8000) > 0xffff
+}
+
+/// Whether a word is below another as a signed number.
+fn is_less(d: u16, s: u16) -> bool
+    ensures { result ≡ if differ (is_negative true d) (is_negative true s) then is_negative true d
+        else nat_le (d + 1) s }
+{
+    d.wrapping_add(0x8000) < s.wrapping_add(0x8000)
+}
+
+/// The sum of two words, in a form of which the compiler makes one addition and takes its flags.
+#[inline(always)]
+fn word_sum(s: u16, d: u16) -> (u16, StatusBits)
+    ensures { result ≡ sum_row true s d 0 }
+{
+    let r = d.wrapping_add(s);
+    with_flags(true, r, r < d, sum_overflows(s, d))
+}
+
+/// The difference of two words, in such a form. V is set where N doesn't say whether the
+/// destination is below the source as a signed number.
+#[inline(always)]
+fn word_difference(s: u16, d: u16) -> (u16, StatusBits)
+    ensures { result ≡ difference_row true s d 1 }
+{
+    let r = d.wrapping_sub(s);
+    with_flags(true, r, s <= d, is_negative(true, r) != is_less(d, s))
+}
+
+/// A sum without a carry. Bytes have the flags of the words whose high bytes they are.
+#[inline(always)]
+fn plain_sum(wide: bool, s: u16, d: u16) -> (u16, StatusBits)
+    requires s { s < limit wide }
+    requires d { d < limit wide }
+    ensures { result ≡ sum_row wide s d 0 }
+{
+    if wide {
+        return word_sum(s, d);
+    }
+    let (r, flags) = word_sum(s * 256, d * 256);
+    (r / 256, flags)
+}
+
+/// The same of a difference.
+#[inline(always)]
+fn plain_difference(wide: bool, s: u16, d: u16) -> (u16, StatusBits)
+    requires s { s < limit wide }
+    requires d { d < limit wide }
+    ensures { result ≡ difference_row wide s d 1 }
+{
+    if wide {
+        return word_difference(s, d);
+    }
+    let (r, flags) = word_difference(s * 256, d * 256);
+    (r / 256, flags)
+}
+
 fn tested(wide: bool, r: u16, v: bool) -> (u16, StatusBits)
     ensures { result ≡ tested wide r v }
 {
@@ -130,9 +202,9 @@ pub fn calc_status(
     let s = cut(wide, src);
     let d = cut(wide, dst);
     match kind {
-        Calc::Add => sum(wide, s, d, false),
+        Calc::Add => plain_sum(wide, s, d),
         Calc::AddCarry => sum(wide, s, d, flags.c()),
-        Calc::Sub => difference(wide, s, d, true),
+        Calc::Sub => plain_difference(wide, s, d),
         Calc::SubCarry => difference(wide, s, d, flags.c()),
         Calc::And => tested(wide, d & s, false),
         Calc::AndNot => (d & cut(wide, !s), flags),
