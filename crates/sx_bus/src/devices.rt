@@ -193,6 +193,10 @@ fn index(pages: &mut [bool], places: &[u16])
     }
 }
 
+/// The first of the devices whose word holds the byte. Its code stays out of the way of the many
+/// accesses on pages without a device, and the compiler takes those for likely.
+#[cold]
+#[inline(never)]
 fn first_at(windows: &[Window], at: u16) -> Option<u8>
     requires { length windows.now ≤ 256 }
     ensures device { result ≡ device_at windows.now at }
