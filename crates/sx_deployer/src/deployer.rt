@@ -82,7 +82,7 @@ impl<T: Tag> Deployer<T> {
     /// module's open ask.
     pub fn ask(&mut self, _tag: &T, module: u8) -> [u8; 18]
         requires known { «module» < length self.old.targets }
-        requires few { self.old.state.asks < 4294967295 }
+        requires few { self.old.state.asks < u32.MAX }
         ensures packet { result ≡ ask_packet self.old.state.asks }
         ensures state { self.new ≡ spec.asked self.old «module» }
     {

@@ -32,7 +32,7 @@ impl<B: Bus, T: Tag> Node<B, T> {
     /// Clears memory, registers, sections and the sensors' fresh marks, sets PC to 0 and raises the
     /// boot count by one. The sensors keep their values.
     pub fn reset(&mut self)
-        requires { self.old.boot < 4294967295 }
+        requires { self.old.boot < u32.MAX }
         ensures state { self.new ≡ reset self.old }
         ensures guarded { (s : Section)
             → Guarded (Unit {0}) (λ a. record { state = reset a; shown = tt }) s self.old }
@@ -208,7 +208,7 @@ impl<B: Bus, T: Tag> Node<B, T> {
     /// of SR, is 0.
     pub fn irq(&mut self, line: u8) -> Result<Seen, Refused>
         requires line { line ≤ 14 }
-        requires boots { self.old.boot < 4294967295 }
+        requires boots { self.old.boot < u32.MAX }
         ensures state { self.new ≡ (irq self.old line).state }
         ensures answer { result ≡ (irq self.old line).shown }
         ensures guarded { (s : Section) → Placed self.old.sections → Lives self.old.sections.live s

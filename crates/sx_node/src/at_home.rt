@@ -65,7 +65,7 @@ impl<B: Bus, T: Tag> Node<B, T> {
     /// `at_home`. The caller has a number as in `step_told`.
     #[inline(always)]
     pub fn step_running<const CALLER: u8>(&mut self, at_home: bool, seen: &mut Seen) -> StepEnd
-        requires boot { self.old.boot < 4294967295 }
+        requires boot { self.old.boot < u32.MAX }
         requires home { IsTrue at_home → IsAtHome self.old }
         ensures state { self.new ≡ (step T.mac self.old).state }
         ensures shown { told (is_told result) seen.new ≡ (step T.mac self.old).shown }
@@ -94,7 +94,7 @@ impl<B: Bus, T: Tag> Node<B, T> {
     #[cold]
     #[inline(never)]
     fn step_elsewhere(&mut self, seen: &mut Seen) -> bool
-        requires { self.old.boot < 4294967295 }
+        requires { self.old.boot < u32.MAX }
         ensures state { self.new ≡ (step T.mac self.old).state }
         ensures shown { told result seen.new ≡ (step T.mac self.old).shown }
     {
@@ -105,7 +105,7 @@ impl<B: Bus, T: Tag> Node<B, T> {
     /// One step of a module at home.
     #[inline(always)]
     fn step_at_home<const CALLER: u8>(&mut self, seen: &mut Seen) -> StepEnd
-        requires boot { self.old.boot < 4294967295 }
+        requires boot { self.old.boot < u32.MAX }
         requires home { IsAtHome self.old }
         ensures tells { Tells self.old (attempt T.mac self.old) (is_told result) seen.new self.new }
         ensures home { result ≡ StepEnd.AtHome → IsAtHome self.new }
@@ -121,7 +121,7 @@ impl<B: Bus, T: Tag> Node<B, T> {
     #[inline(always)]
     #[tactic(auto, using(sx_executor::proofs::Rights::outside_word, sx_executor::proofs::Clear::none_found))]
     fn instruction_inside<const CALLER: u8>(&mut self, own: u16, seen: &mut Seen) -> StepEnd
-        requires boot { self.old.boot < 4294967295 }
+        requires boot { self.old.boot < u32.MAX }
         requires cur { own ≡ self.old.cur }
         requires home { IsAtHome self.old }
         requires memory { device_at self.old.devices (pc_of self.old) ≡ None }
@@ -141,7 +141,7 @@ impl<B: Bus, T: Tag> Node<B, T> {
     /// A plain instruction with a shortcut.
     #[inline(always)]
     fn plain_inside<const CALLER: u8>(&mut self, own: u16, first: u16, seen: &mut Seen) -> StepEnd
-        requires boot { self.old.boot < 4294967295 }
+        requires boot { self.old.boot < u32.MAX }
         requires some { 0 < own }
         requires own { own ≡ own_of self.old }
         requires cur { self.old.cur ≡ own }

@@ -58,7 +58,7 @@ impl<B: Bus, T: Tag> Node<B, T> {
     /// its own (`step_quick`).
     #[inline(always)]
     pub fn step_told<const CALLER: u8>(&mut self, seen: &mut Seen) -> bool
-        requires { self.old.boot < 4294967295 }
+        requires { self.old.boot < u32.MAX }
         ensures state { self.new ≡ (step T.mac self.old).state }
         ensures shown { told result seen.new ≡ (step T.mac self.old).shown }
     {
@@ -75,7 +75,7 @@ impl<B: Bus, T: Tag> Node<B, T> {
     /// The same in each case. Its code stays out of the way of what most steps do.
     #[inline(never)]
     fn step_near(&mut self, seen: &mut Seen) -> bool
-        requires { self.old.boot < 4294967295 }
+        requires { self.old.boot < u32.MAX }
         ensures state { self.new ≡ (step T.mac self.old).state }
         ensures shown { told result seen.new ≡ (step T.mac self.old).shown }
     {
@@ -87,7 +87,7 @@ impl<B: Bus, T: Tag> Node<B, T> {
     /// be.
     #[inline(never)]
     pub(crate) fn step_learning(&mut self) -> Seen
-        requires { self.old.boot < 4294967295 }
+        requires { self.old.boot < u32.MAX }
         ensures state { self.new ≡ (step T.mac self.old).state }
         ensures seen { result ≡ (step T.mac self.old).shown }
     {
@@ -104,7 +104,7 @@ impl<B: Bus, T: Tag> Node<B, T> {
     /// The end of a step by a violation, which is always told.
     #[inline(never)]
     pub(crate) fn end_reset(&mut self, violation: Violation, seen: &mut Seen) -> bool
-        requires { self.old.boot < 4294967295 }
+        requires { self.old.boot < u32.MAX }
         ensures { Tells self.old (Violated violation) result seen.new self.new }
     {
         self.reset();
@@ -116,7 +116,7 @@ impl<B: Bus, T: Tag> Node<B, T> {
     #[inline(always)]
     #[tactic(auto, using(sx_executor::proofs::Rights::outside_word, sx_executor::proofs::Clear::none_found))]
     fn instruction_idle<const CALLER: u8>(&mut self, seen: &mut Seen) -> bool
-        requires boot { self.old.boot < 4294967295 }
+        requires boot { self.old.boot < u32.MAX }
         requires own { own_of self.old ≡ 0 }
         requires cur { self.old.cur ≡ 0 }
         requires last { self.old.last ≡ 0 }
@@ -136,7 +136,7 @@ impl<B: Bus, T: Tag> Node<B, T> {
     /// A plain instruction with a shortcut.
     #[inline(always)]
     fn plain_idle<const CALLER: u8>(&mut self, first: u16, seen: &mut Seen) -> bool
-        requires boot { self.old.boot < 4294967295 }
+        requires boot { self.old.boot < u32.MAX }
         requires own { own_of self.old ≡ 0 }
         requires cur { self.old.cur ≡ 0 }
         requires last { self.old.last ≡ 0 }
@@ -170,7 +170,7 @@ impl<B: Bus, T: Tag> Node<B, T> {
     /// stays out of the way of what most steps do.
     #[inline(never)]
     pub(crate) fn instruction_near(&mut self, own: u16, first: u16, seen: &mut Seen) -> bool
-        requires boot { self.old.boot < 4294967295 }
+        requires boot { self.old.boot < u32.MAX }
         requires own { own ≡ own_of self.old }
         requires word { first ≡ word self.old.mem (pc_of self.old) }
         ensures { Tells self.old (instruction T.mac self.old) result seen.new self.new }
@@ -190,7 +190,7 @@ impl<B: Bus, T: Tag> Node<B, T> {
     /// A plain instruction without a shortcut.
     #[inline(always)]
     fn plain_long(&mut self, own: u16, first: u16, seen: &mut Seen) -> bool
-        requires boot { self.old.boot < 4294967295 }
+        requires boot { self.old.boot < u32.MAX }
         requires own { own ≡ own_of self.old }
         ensures { Tells self.old
             (exec self.old.sections own (program first self.old.regs) (start self.old))

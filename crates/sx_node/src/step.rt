@@ -74,7 +74,7 @@ impl<B: Bus, T: Tag> Node<B, T> {
     /// Executes one instruction. A violation resets the node; its cause is then the event, both
     /// touches are quiet, and nothing else of the step is seen.
     pub fn step(&mut self) -> Seen
-        requires { self.old.boot < 4294967295 }
+        requires { self.old.boot < u32.MAX }
         ensures state { self.new ≡ (step T.mac self.old).state }
         ensures seen { result ≡ (step T.mac self.old).shown }
         ensures guarded { (s : Section) → Placed self.old.sections → Lives self.old.sections.live s

@@ -43,7 +43,7 @@ fn silent() -> Seen
 /// running. The loop is code of its own, so that the processor's registers are its alone.
 #[inline(never)]
 fn quiet_stretch<B: Bus, T: Tag>(node: &mut Node<B, T>, count: u32) -> QuietSteps
-    requires { node.old.boot < 4294967295 }
+    requires { node.old.boot < u32.MAX }
     ensures quiet { AreQuiet T.mac false result.count node.old }
     ensures last { EndsWith T.mac count result.count result.last node.old }
     ensures left { node.new ≡ after_steps T.mac (taken result.count result.last) node.old }
@@ -64,7 +64,7 @@ fn quiet_stretch<B: Bus, T: Tag>(node: &mut Node<B, T>, count: u32) -> QuietStep
 /// running. Its loop is code of its own, too.
 #[inline(never)]
 fn module_stretch<B: Bus, T: Tag>(node: &mut Node<B, T>, count: u32) -> QuietSteps
-    requires { node.old.boot < 4294967295 }
+    requires { node.old.boot < u32.MAX }
     ensures quiet { AreQuiet T.mac true result.count node.old }
     ensures last { EndsWith T.mac count result.count result.last node.old }
     ensures left { node.new ≡ after_steps T.mac (taken result.count result.last) node.old }
@@ -99,7 +99,7 @@ fn module_stretch<B: Bus, T: Tag>(node: &mut Node<B, T>, count: u32) -> QuietSte
 /// left, since code outside and a module have loops of their own; a caller goes on.
 #[tactic(auto, using(crate::proofs::passing::Passed::quiet_either))]
 pub(crate) fn stretch<B: Bus, T: Tag>(node: &mut Node<B, T>, count: u32, idle: bool) -> QuietSteps
-    requires { node.old.boot < 4294967295 }
+    requires { node.old.boot < u32.MAX }
     ensures quiet { AreQuiet T.mac idle result.count node.old }
     ensures last { EndsWith T.mac count result.count result.last node.old }
     ensures left { node.new ≡ after_steps T.mac (taken result.count result.last) node.old }
