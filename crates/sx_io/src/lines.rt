@@ -120,6 +120,18 @@ impl Lines {
         }
     }
 
+    /// A reader that holds the same: what it gives of that, this one still gives.
+    pub fn copy(&self) -> Lines
+        ensures { result ≡ self.now }
+    {
+        Lines {
+            held: self.held,
+            from: self.from,
+            to: self.to,
+            state: self.state,
+        }
+    }
+
     /// The next line, without its newline and one carriage return before it: its text is at the
     /// start of `into`. It reads only where it holds no newline, and never after the end of the
     /// input or a failed read.
