@@ -31,9 +31,9 @@ class Memory(Room):
             self.assertLess(self.run_of(b"put n 0x4000 2645\nreset n\n" * 32768) - few, 6 * 1024)
 
     def test_queries(self):
-        """Nine worlds and the one that is asked for, each with its own packets."""
+        """Nine worlds and the one that is asked for, which share their packets."""
         queries = b"items 65536\n" * 64
-        self.assertLess(self.room_of("snap", b"%%\n" + PACKET * 65536 + b"%%\n" + queries), 256 * 1024)
+        self.assertLess(self.room_of("snap", b"%%\n" + PACKET * 65536 + b"%%\n" + queries), 48 * 1024)
 
     def test_readings(self):
         """16,010 packets of at most 38 bytes, as many entries of the ledger, and no items."""

@@ -24,7 +24,7 @@ use sx_snap::Timeline;
 use sx_tag::Tag;
 
 /// A checkpoint comes after each so many lines, so a query performs fewer lines than this. The
-/// longest schedule has 8 of them, each a world of its own, in 180 MB; more would take more.
+/// longest schedule has 8 of them, each a world of its own; more would take more memory.
 const EVERY: u32 = 8192;
 
 /// The timeline of a deployment with these images of its modules, without a line.

@@ -1,10 +1,12 @@
 //! Copies of worlds, and the nodes of a world.
 
 ghost use Rattle.std.specs.Prelude.{◌≡◌, ◌<◌, Some, IfOk, length, map, slice_get};
+ghost use Rattle.std.specs.Rc.{rc_slice_items};
 
 use crate::running::Running;
 use crate::world::World;
 use std::alloc::{AllocError, Global};
+use std::rc::RcSlice;
 use sx_bus::{Bus, Copied};
 use sx_node::Node;
 use sx_observe::sites::Site;
@@ -44,19 +46,20 @@ fn copy_of_nodes<B: Copied, T: Tag + Copy>(
     Ok(copies)
 }
 
-fn copy_of_packets(alloc: Global, packets: &[Vec<u8>]) -> Result<Vec<Vec<u8>>, AllocError>
+/// The same packets, each shared.
+fn copy_of_packets(alloc: Global, packets: &[RcSlice<u8>]) -> Result<Vec<RcSlice<u8>>, AllocError>
     ensures { IfOk result (λ copies.
-        map (λ p. p.items) copies.items ≡ map (λ p. p.items) packets.now) }
+        map rc_slice_items copies.items ≡ map rc_slice_items packets.now) }
 {
     let mut copies = Vec::new(alloc);
     for packet in packets {
-        copies.push(packet.to_vec(alloc)?)?;
+        copies.push(packet.clone()?)?;
     }
     Ok(copies)
 }
 
 impl<B: Copied, T: Tag + Copy> Running<B, T> {
-    /// An equal run, with nodes, packets, a deployer and a ledger of its own.
+    /// An equal run, with nodes, a deployer and a ledger of its own.
     fn copy(&self, alloc: Global) -> Result<Running<B, T>, AllocError>
         ensures { IfOk result (λ copy. copy ≡ self.now) }
     {

@@ -1,6 +1,7 @@
 //! Attestation: the deployer asks a module, and judges what is given to it as the answer.
 
 ghost use Rattle.std.specs.Prelude.{◌≡◌, ◌+◌, ◌<◌, ◌≤◌, List, length, map, slice_get, OnOk};
+ghost use Rattle.std.specs.Rc.{rc_slice_items};
 ghost use Rattle.spec_run.specs.Acts.{after_answer, ask};
 ghost use Rattle.sx_world.specs.Granted.{accepted_ask, confirmed, judged_by};
 ghost use Rattle.sx_world.specs.Held.{DoesAct};
@@ -11,6 +12,7 @@ use crate::grants::granted;
 use crate::network::add_packet;
 use crate::running::Running;
 use std::alloc::AllocError;
+use std::rc::RcSlice;
 use sx_bus::Copied;
 use sx_deploy::deployment::Deployment;
 use sx_deployer::{Deployer, Verdict};
@@ -25,16 +27,16 @@ use sx_wire::challenge_in;
 fn judge_answer<T: Tag>(
     tag: &T,
     deployer: &mut Deployer<T>,
-    packets: &[Vec<u8>],
+    packets: &[RcSlice<u8>],
     m: u8,
     boot: u32,
     k: u32,
 ) -> Option<[u8; 18]>
     requires { m < length deployer.old.targets }
     ensures ask { result ≡ accepted_ask T.mac deployer.old m boot
-        (slice_get (map (λ p. p.items) packets.now) k) }
+        (slice_get (map rc_slice_items packets.now) k) }
     ensures state { deployer.new ≡ judged_by T.mac deployer.old m boot
-        (slice_get (map (λ p. p.items) packets.now) k) }
+        (slice_get (map rc_slice_items packets.now) k) }
 {
     let ask = deployer.open_ask(m);
     match packets.get(k as usize) {

@@ -4,6 +4,7 @@ ghost use Rattle.std.specs.Prelude.{◌≡◌, []};
 
 use std::alloc::Global;
 use std::marker::Model;
+use std::rc::RcSlice;
 use sx_bus::{Bus, Copied};
 use sx_deployer::Deployer;
 use sx_ledger::Ledger;
@@ -16,7 +17,8 @@ pub(crate) struct Running<B: Bus, T: Tag> {
     pub(crate) alloc: Global,
     pub(crate) tag: T,
     pub(crate) nodes: Vec<Node<B, T>>,
-    pub(crate) packets: Vec<Vec<u8>>,
+    /// Worlds that are copies of one another share the packets that were there: none ever changes.
+    pub(crate) packets: Vec<RcSlice<u8>>,
     pub(crate) deployer: Deployer<T>,
     pub(crate) ledger: Ledger,
     /// How many steps of nodes were taken.
@@ -25,13 +27,14 @@ pub(crate) struct Running<B: Bus, T: Tag> {
 
 impl<B: Bus, T: Tag> Model for Running<B, T> {
     ghost use Rattle.std.specs.Prelude.{map};
+    ghost use Rattle.std.specs.Rc.{rc_slice_items};
     ghost use Rattle.sx_world.specs.Held.{Running as Kept};
 
     ghost Value = { Kept };
 
     ghost view = { λ r. record {
       nodes = r.nodes.items;
-      packets = map (λ p. p.items) r.packets.items;
+      packets = map rc_slice_items r.packets.items;
       deployer = r.deployer;
       ledger = r.ledger;
       steps = r.steps;

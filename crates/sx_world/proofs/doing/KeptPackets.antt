@@ -1,5 +1,5 @@
 -- Packets that are kept, and what is given of them.
-use Rattle.std.proofs.Common.{◌≡◌, ℕ, ◌<◌, ◌≤◌, List, [], ◌∷◌, ◌++◌, length, map, get_or, Vec, Global, Some, None, Result, Ok, Err, OnOk, OnErr, sym, subst, ap, ◌∙◌}
+use Rattle.std.proofs.Common.{◌≡◌, ℕ, ◌<◌, ◌≤◌, List, [], ◌∷◌, ◌++◌, length, map, get_or, Some, None, Result, Ok, Err, OnOk, OnErr, sym, subst, ap, ◌∙◌}
 use Rattle.std.specs.Prelude.{slice_get}
 use Rattle.std.proofs.lemmas.Option.{slice_get-map, slice_get-get_or, slice_get_past, get_or_from_slice_get}
 use Rattle.std.specs.Option.{option_map}
@@ -16,23 +16,21 @@ use Rattle.sx_world.specs.Held.{Running, Shows, Did, DoesAct}
 use Rattle.sx_world.proofs.doing.Composed.{does_same}
 use Rattle.sx_observe.proofs.Fronts.{front_same}
 
--- the bytes of a packet in memory
-abbrev pub bytes_in : Vec ℕ Global → List ℕ
-bytes_in p = p.items
-
 -- what is kept, with other packets
 abbrev pub with_packets : Running → List (List ℕ) → Running
 with_packets h packets = record { nodes = h.nodes; packets = packets; deployer = h.deployer; ledger = h.ledger; steps = h.steps }
 
-pub packet_found : (xs lent : List (Vec ℕ Global)) (packets : List (List ℕ)) (k : ℕ) (v : Vec ℕ Global) → map bytes_in xs ≡ packets → lent ≡ xs → k < length lent → v ≡ get_or lent k v
-    → slice_get packets k ≡ Some v.items
-packet_found xs lent packets k v e same lt here =
-    ap (λ ps. slice_get ps k) (sym e) ∙ slice_get-map bytes_in xs k
-    ∙ ap (option_map bytes_in) (ap (λ l. slice_get l k) (sym same) ∙ slice_get-get_or lent k v lt ∙ ap (λ x. Some x) (sym here))
+-- packets in memory, each with the bytes in it
+module _ {X : Type 0} (bytes_in : X → List ℕ) where
+  pub packet_found : (xs lent : List X) (packets : List (List ℕ)) (k : ℕ) (v : X) → map bytes_in xs ≡ packets → lent ≡ xs → k < length lent → v ≡ get_or lent k v
+      → slice_get packets k ≡ Some (bytes_in v)
+  packet_found xs lent packets k v e same lt here =
+      ap (λ ps. slice_get ps k) (sym e) ∙ slice_get-map bytes_in xs k
+      ∙ ap (option_map bytes_in) (ap (λ l. slice_get l k) (sym same) ∙ slice_get-get_or lent k v lt ∙ ap (λ x. Some x) (sym here))
 
-pub packet_none : (xs lent : List (Vec ℕ Global)) (packets : List (List ℕ)) (k : ℕ) → map bytes_in xs ≡ packets → lent ≡ xs → length lent ≤ k → slice_get packets k ≡ None
-packet_none xs lent packets k e same le =
-    ap (λ ps. slice_get ps k) (sym e) ∙ slice_get-map bytes_in xs k ∙ ap (option_map bytes_in) (ap (λ l. slice_get l k) (sym same) ∙ slice_get_past lent k le)
+  pub packet_none : (xs lent : List X) (packets : List (List ℕ)) (k : ℕ) → map bytes_in xs ≡ packets → lent ≡ xs → length lent ≤ k → slice_get packets k ≡ None
+  packet_none xs lent packets k e same le =
+      ap (λ ps. slice_get ps k) (sym e) ∙ slice_get-map bytes_in xs k ∙ ap (option_map bytes_in) (ap (λ l. slice_get l k) (sym same) ∙ slice_get_past lent k le)
 
 -- a packet that is there is put
 pub give_did : {T E : Type 0} (r : Result T E) (old new : Running) (before after : List Item) (n at k : ℕ) (bytes : List ℕ) → slice_get old.packets k ≡ Some bytes

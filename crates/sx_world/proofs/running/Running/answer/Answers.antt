@@ -1,6 +1,7 @@
 use Rattle.std.proofs.Common.{◌<◌, ◌≤◌, List, length, map, arith, sym, subst, ap, ◌∙◌}
 use Rattle.std.specs.Prelude.{slice_get}
 use Rattle.std.proofs.lemmas.List.{length-map}
+use Rattle.std.specs.Rc.{rc_slice_items}
 use Rattle.sx_deploy.specs.SeenDeployment.{deployed_as}
 use Rattle.sx_mean.specs.View.{part_as}
 use Rattle.spec_run.specs.Acts.{after_answer}
@@ -16,7 +17,7 @@ returns-in-Some-clause-does g c =
     let parts = c.args.deployment.now.app.parts.items in
     let mac = g.T.Tag.mac in
     let targets : length parts ≤ length c.self.inside.deployer.targets = subst (λ (o : Running). length parts ≤ length o.deployer.targets) (sym c.self.view_is) c.requires.parts in
-    let packets = ap (λ ps. map (λ p. p.items) ps) c.deref.ensures.value in
+    let packets = ap (λ ps. map rc_slice_items ps) c.deref.ensures.value in
     subst (λ (o : Running). (sites : List Site) → DoesAct (setting mac (deployed_as c.args.deployment.now) sites) c.confirm.result o c.confirm.new.self c.args.items.now.items c.confirm.new.items.items
     (λ w. after_answer (setting mac (deployed_as c.args.deployment.now) sites) w c.args.m c.args.boot (slice_get sites c.args.m) (slice_get w.packets c.args.k))) c.self.view_is
     (λ sites. answer_does (setting mac (deployed_as c.args.deployment.now) sites) c.confirm.result _ c.confirm.new.self c.judge_answer.new.deployer c.args.items.now.items c.confirm.new.items.items
@@ -30,11 +31,10 @@ pub returns-in-None-clause-does : goal.returns-in-None-clause-does
 returns-in-None-clause-does g c =
     let parts = c.args.deployment.now.app.parts.items in
     let mac = g.T.Tag.mac in
-    let packets = ap (λ ps. map (λ p. p.items) ps) c.deref.ensures.value in
+    let packets = ap (λ ps. map rc_slice_items ps) c.deref.ensures.value in
     let new : Running = record {
       nodes = c.self.inside.nodes.items;
-      packets = map
-          (λ p. p.items) c.self.inside.packets.items;
+      packets = map rc_slice_items c.self.inside.packets.items;
       deployer = c.judge_answer.new.deployer;
       ledger = c.self.inside.ledger;
       steps = c.self.inside.steps;

@@ -1,5 +1,6 @@
 use Rattle.std.proofs.Common.{◌≡◌, Some, [], length, refl, sym, ap, ◌∙◌}
 use Rattle.std.specs.Prelude.{slice_get}
+use Rattle.std.specs.Rc.{rc_slice_items}
 use Rattle.std.proofs.lemmas.List.{with_items_is}
 use Rattle.spec_machine.specs.State.{State}
 use Rattle.spec_machine.specs.Acts.{put, put_refusal}
@@ -16,7 +17,7 @@ returns-in-Some g c =
     let act : State → State = λ s. (put s c.args.at bytes).state in
     let same : c.deref_mut.result.now ≡ c.args.self.now.nodes = c.deref_mut.ensures.value ∙ ap (λ (k : Running). k.nodes) c.self.view_is in
     let there : slice_get c.args.self.now.packets c.args.k ≡ Some bytes =
-    packet_found c.self.inside.packets.items c.deref.result.now c.args.self.now.packets c.args.k c.in-Some.bytes.now (ap (λ (k : Running). k.packets) c.self.view_is) c.deref.ensures.value
+    packet_found rc_slice_items c.self.inside.packets.items c.deref.result.now c.args.self.now.packets c.args.k c.in-Some.bytes.now (ap (λ (k : Running). k.packets) c.self.view_is) c.deref.ensures.value
     c.in-Some.ensures.lookup.3.0 c.in-Some.ensures.lookup.1 ∙ ap (λ x. Some x) (sym c.deref-in-Some.ensures.value) in
     λ any. does_any any c.add_answer.result c.args.self.now _ c.args.items.now.items c.add_answer.new.items.items
     (λ w. give w c.args.n c.args.at (slice_get w.packets c.args.k))
@@ -37,6 +38,6 @@ returns-in-None g c =
     λ any. does_any any c.push_item.result c.args.self.now c.args.self.now c.args.items.now.items c.push_item.new.items.items
     (λ w. give w c.args.n c.args.at (slice_get w.packets c.args.k))
     (give_none c.push_item.result c.args.self.now c.args.items.now.items c.push_item.new.items.items c.args.n c.args.at c.args.k
-    (packet_none c.self.inside.packets.items c.deref.result.now c.args.self.now.packets c.args.k (ap (λ (k : Running). k.packets) c.self.view_is) c.deref.ensures.value c.in-None.ensures.lookup.3)
+    (packet_none rc_slice_items c.self.inside.packets.items c.deref.result.now c.args.self.now.packets c.args.k (ap (λ (k : Running). k.packets) c.self.view_is) c.deref.ensures.value c.in-None.ensures.lookup.3)
     c.push_item.ensures.ok)
     (wanted_same c.push_item.result c.args.self.now c.args.items.now.items c.push_item.new.items.items (λ w. give w c.args.n c.args.at (slice_get w.packets c.args.k)) c.push_item.ensures.err)

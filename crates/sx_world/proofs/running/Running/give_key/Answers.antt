@@ -1,6 +1,7 @@
 use Rattle.std.proofs.Common.{map, List, refl, sym, subst, ◌∙◌}
 use Rattle.std.specs.Prelude.{slice_get}
 use Rattle.std.proofs.lemmas.List.{length-map}
+use Rattle.std.specs.Rc.{rc_slice_items}
 use Rattle.sx_deploy.specs.SeenDeployment.{deployed_as}
 use Rattle.spec_run.specs.Acts.{key_given}
 use Rattle.sx_deployer.specs.Granting.{Grant}
@@ -13,7 +14,7 @@ use Rattle.sx_world.proofs.running.Running.give_key.Goals as goal
 
 pub returns-in_ok-record-in-Some-clause-does : goal.returns-in_ok-record-in-Some-clause-does
 returns-in_ok-record-in-Some-clause-does g c =
-    let packets = map (λ p. p.items) c.add_packet.new.packets.items in
+    let packets = map rc_slice_items c.add_packet.new.packets.items in
     let new : Running = record { nodes = c.self.inside.nodes.items; packets = packets; deployer = c.self.inside.deployer; ledger = c.record.new.ledger; steps = c.self.inside.steps } in
     let given : Grant = record { holder = c.g.inside.holder; boot = c.g.inside.boot; «end» = c.g.inside.«end»; epoch = c.g.inside.epoch } in
     subst (λ (x : Grant). (sites : List Site) → DoesAct (setting g.T.Tag.mac (deployed_as c.args.deployment.now) sites) c.add_packet.result c.args.self.now new
@@ -22,7 +23,7 @@ returns-in_ok-record-in-Some-clause-does g c =
     c.args.items.now.items c.add_packet.new.items.items (λ w. key_given (setting g.T.Tag.mac (deployed_as c.args.deployment.now) sites) w given (slice_get sites given.holder))) c.self.view_is
     (λ sites. given_some (setting g.T.Tag.mac (deployed_as c.args.deployment.now) sites) c.add_packet.result _ c.record.new.ledger packets c.args.items.now.items c.add_packet.new.items.items given
     _ c.in-Some.packet c.connection_key-key.result (sym c.in-Some.is ∙ c.packet.ensures) c.connection_key-key.ensures c.in_ok-record-in-Some.ensures
-    (sym (length-map c.self.inside.packets.items (λ p. p.items))) c.add_packet.ensures.packet c.add_packet.ensures.ok c.add_packet.ensures.err))
+    (sym (length-map c.self.inside.packets.items rc_slice_items)) c.add_packet.ensures.packet c.add_packet.ensures.ok c.add_packet.ensures.err))
 
 pub returns-in-None-clause-does : goal.returns-in-None-clause-does
 returns-in-None-clause-does g c =
