@@ -7,7 +7,9 @@ use Rattle.sx_lang.specs.declared.tree.Stmt.{Stmt}
 use Rattle.sx_lang.specs.View.{statement_of, block_of}
 use Rattle.sx_check.specs.Names.{defined}
 use Rattle.sx_check.specs.Scopes.{definitions}
+use Rattle.sx_check.specs.Seen.{Knows}
 use Rattle.sx_check.specs.Uses.{Use, statement_uses, block_uses}
+use Rattle.sx_check.specs.declared.seen.Seen.{Seen}
 use Rattle.lemmas.proofs.Lists.{rest_is}
 
 definitions-push : (xs : List Stmt) (s : Stmt) → definitions (block_of (xs ++ s ∷ [])) ≡ definitions (block_of xs) ++ defined (statement_of s)
@@ -48,3 +50,15 @@ loop_further F seen items left right earlier i s x r l k h e f given none all =
     let p : earlier ≡ take i items = f ∙ ap (λ xs. take i xs) k in
     one_further F seen items i s x n g
     (ap (λ xs. list_any F (statement_uses (seen ++ definitions (block_of xs)) (statement_of s))) (sym p) ∙ sym given ∙ none) all
+
+-- and the set of the locals in sight takes its name in
+pub known_further : (set : Seen) (seen : List (List ℕ)) (items left right earlier : List Stmt) (i : ℕ) (s : Stmt)
+    → left ≡ items → right ≡ items → i < length left → s ≡ get_or left i s → earlier ≡ take i right
+    → Knows set ((seen ++ definitions (block_of earlier)) ++ defined (statement_of s)) → Knows set (seen ++ definitions (block_of (take (i + 1) items)))
+known_further set seen items left right earlier i s l k h e f known =
+    let n : i < length items = subst (λ xs. i < length xs) l h in
+    let g : s ≡ get_or items i s = e ∙ ap (λ xs. get_or xs i s) l in
+    let p : earlier ≡ take i items = f ∙ ap (λ xs. take i xs) k in
+    let names : (seen ++ definitions (block_of earlier)) ++ defined (statement_of s) ≡ seen ++ definitions (block_of (take (i + 1) items)) =
+    ap (λ xs. (seen ++ definitions (block_of xs)) ++ defined (statement_of s)) p ∙ sym (seen_next seen items i s n g) in
+    subst (λ (names : List (List ℕ)). Knows set names) names known

@@ -18,4 +18,5 @@ mod locals;
 mod repeated;
 pub mod rules;
 mod scopes;
+mod seen;
 mod uses;

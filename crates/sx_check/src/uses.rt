@@ -1,12 +1,13 @@
 //! The rules on how names are used.
 
-ghost use Rattle.std.specs.Prelude.{◌≡◌, ◌&&◌, map, not};
+ghost use Rattle.std.specs.Prelude.{◌≡◌, ◌&&◌, false, map, not};
 ghost use Rattle.std.specs.List.{list_any};
 ghost use Rattle.sx_lang.specs.View.{block_of, expression_of, handler_of, module_of, statement_of};
 ghost use Rattle.sx_check.specs.Bounds.{block_emits};
 ghost use Rattle.sx_check.specs.Names.{is_actuator, is_sample, is_sensor};
 ghost use Rattle.sx_check.specs.Rules.{breaks};
 ghost use Rattle.sx_check.specs.Scopes.{is_flawed, seen_in};
+ghost use Rattle.sx_check.specs.Seen.{Knows};
 ghost use Rattle.sx_check.specs.Uses.{block_uses, expression_uses, handler_uses, handlers_uses};
 ghost use Rattle.sx_check.specs.Uses.{input_uses, is_local, is_misused, is_unknown, statement_uses};
 ghost use Rattle.sx_check.specs.Uses.{used};
@@ -15,7 +16,9 @@ ghost use Rattle.sx_check.specs.declared.rules.Rule.TheVariants.{Kind, Unknown};
 use crate::bounds::has_emit;
 use crate::declared::{Role, has_actuator, has_sensor};
 use crate::indexed::Declared;
-use crate::scopes::{Scope, sees};
+use crate::scopes::Scope;
+use crate::seen::Seen;
+use std::alloc::Global;
 use sx_lang::names::Name;
 use sx_lang::tree::{Expr, Handler, Module, Stmt};
 
@@ -28,67 +31,88 @@ pub enum Flaw {
     Misused,
 }
 
-fn is_word(role: Role, x: &Name, scope: &Scope<'_>) -> bool
+fn is_word(role: Role, x: &Name, scope: &Scope<'_>, seen: &Seen) -> bool
+    requires { Knows seen.now (seen_in scope.now) }
     ensures { result ≡ is_local role x.now (seen_in scope.now) }
 {
     match role {
-        Role::Word => sees(scope, x),
+        Role::Word => seen.sees(scope, x),
         _ => false,
     }
 }
 
 #[tactic(auto, unfolding(crate::specs::Scopes::is_flawed))]
-fn has_flaw(flaw: Flaw, decls: &Declared<'_>, role: Role, x: &Name, scope: &Scope<'_>) -> bool
+fn has_flaw(
+    flaw: Flaw,
+    decls: &Declared<'_>,
+    role: Role,
+    x: &Name,
+    scope: &Scope<'_>,
+    seen: &Seen,
+) -> bool
+    requires { Knows seen.now (seen_in scope.now) }
     ensures { result ≡ is_flawed flaw decls.now (used role x.now (seen_in scope.now)) }
 {
-    let known = decls.has_name(x) || sees(scope, x);
+    let known = decls.has_name(x) || seen.sees(scope, x);
     match flaw {
         Flaw::Unknown => !known,
-        Flaw::Misused => known && !(decls.has_role(role, x) || is_word(role, x, scope)),
+        Flaw::Misused => known && !(decls.has_role(role, x) || is_word(role, x, scope, seen)),
     }
 }
 
-fn in_expression(flaw: Flaw, decls: &Declared<'_>, e: &Expr, scope: &Scope<'_>) -> bool
+fn in_expression(flaw: Flaw, decls: &Declared<'_>, e: &Expr, scope: &Scope<'_>, seen: &Seen) -> bool
+    requires { Knows seen.now (seen_in scope.now) }
     ensures { result ≡ list_any (is_flawed flaw decls.now)
         (expression_uses (seen_in scope.now) (expression_of e.now)) }
 {
     match e {
         Expr::Number(_) => false,
-        Expr::Read(x) => has_flaw(flaw, decls, Role::Word, x, scope),
+        Expr::Read(x) => has_flaw(flaw, decls, Role::Word, x, scope, seen),
         Expr::At(x, index) => {
-            has_flaw(flaw, decls, Role::Element, x, scope)
-                || in_expression(flaw, decls, index, scope)
+            has_flaw(flaw, decls, Role::Element, x, scope, seen)
+                || in_expression(flaw, decls, index, scope, seen)
         }
-        Expr::Unary(_, operand) => in_expression(flaw, decls, operand, scope),
+        Expr::Unary(_, operand) => in_expression(flaw, decls, operand, scope, seen),
         Expr::Binary(_, left, right) => {
-            in_expression(flaw, decls, left, scope) || in_expression(flaw, decls, right, scope)
+            in_expression(flaw, decls, left, scope, seen)
+                || in_expression(flaw, decls, right, scope, seen)
         }
     }
 }
 
 #[cycle(uses)]
-fn in_statement<'a>(flaw: Flaw, decls: &Declared<'_>, s: &'a Stmt, scope: &'a Scope<'a>) -> bool
-    ensures { result ≡ list_any (is_flawed flaw decls.now)
+fn in_statement<'a>(
+    flaw: Flaw,
+    decls: &Declared<'_>,
+    s: &'a Stmt,
+    scope: &'a Scope<'a>,
+    seen: &mut Seen,
+) -> bool
+    requires { Knows seen.old (seen_in scope.now) }
+    ensures flawed { result ≡ list_any (is_flawed flaw decls.now)
         (statement_uses (seen_in scope.now) (statement_of s.now)) }
+    ensures known { result ≡ false → Knows seen.new (seen_in scope.now) }
 {
     match s {
-        Stmt::Let(_, e) | Stmt::Emit(e) => in_expression(flaw, decls, e, scope),
+        Stmt::Let(_, e) | Stmt::Emit(e) => in_expression(flaw, decls, e, scope, seen),
         Stmt::Assign(x, e) => {
-            has_flaw(flaw, decls, Role::Word, x, scope) || in_expression(flaw, decls, e, scope)
+            has_flaw(flaw, decls, Role::Word, x, scope, seen)
+                || in_expression(flaw, decls, e, scope, seen)
         }
         Stmt::Element(x, index, e) => {
-            has_flaw(flaw, decls, Role::Element, x, scope)
-                || in_expression(flaw, decls, index, scope)
-                || in_expression(flaw, decls, e, scope)
+            has_flaw(flaw, decls, Role::Element, x, scope, seen)
+                || in_expression(flaw, decls, index, scope, seen)
+                || in_expression(flaw, decls, e, scope, seen)
         }
         Stmt::If(e, then, otherwise) => {
-            in_expression(flaw, decls, e, scope)
-                || in_block(flaw, decls, then, scope)
-                || in_block(flaw, decls, otherwise, scope)
+            in_expression(flaw, decls, e, scope, seen)
+                || in_block(flaw, decls, then, scope, seen)
+                || in_block(flaw, decls, otherwise, scope, seen)
         }
-        Stmt::Repeat(_, body) => in_block(flaw, decls, body, scope),
+        Stmt::Repeat(_, body) => in_block(flaw, decls, body, scope, seen),
         Stmt::Send(x, e) => {
-            has_flaw(flaw, decls, Role::Sending, x, scope) || in_expression(flaw, decls, e, scope)
+            has_flaw(flaw, decls, Role::Sending, x, scope, seen)
+                || in_expression(flaw, decls, e, scope, seen)
         }
     }
 }
@@ -99,16 +123,21 @@ fn in_block<'a>(
     decls: &Declared<'_>,
     block: &'a Vec<Stmt>,
     scope: &'a Scope<'a>,
+    seen: &mut Seen,
 ) -> bool
-    ensures { result ≡ list_any (is_flawed flaw decls.now)
+    requires { Knows seen.old (seen_in scope.now) }
+    ensures flawed { result ≡ list_any (is_flawed flaw decls.now)
         (block_uses (seen_in scope.now) (block_of block.now.items)) }
+    ensures known { result ≡ false → Knows seen.new (seen_in scope.now) }
 {
     for (i, s) in block.iter().enumerate() {
         let (earlier, _) = block.split_at(i);
-        if in_statement(flaw, decls, s, &Scope::Block(scope, earlier)) {
+        if in_statement(flaw, decls, s, &Scope::Block(scope, earlier), seen) {
             return true;
         }
+        seen.define(s);
     }
+    seen.leave(block);
     false
 }
 
@@ -117,22 +146,31 @@ fn in_input(flaw: Flaw, decls: &Declared<'_>, input: &Option<Name>) -> bool
 {
     match input {
         None => false,
-        Some(x) => has_flaw(flaw, decls, Role::Handling, x, &Scope::Module),
+        Some(x) => has_flaw(
+            flaw,
+            decls,
+            Role::Handling,
+            x,
+            &Scope::Module,
+            &Seen::none(),
+        ),
     }
 }
 
-fn in_handler(flaw: Flaw, decls: &Declared<'_>, h: &Handler) -> bool
+fn in_handler(alloc: Global, flaw: Flaw, decls: &Declared<'_>, h: &Handler) -> bool
     ensures { result ≡ list_any (is_flawed flaw decls.now) (handler_uses (handler_of h.now)) }
 {
-    in_input(flaw, decls, &h.input) || in_block(flaw, decls, &h.body, &Scope::Handler(&h.param))
+    let scope = Scope::Handler(&h.param);
+    let mut seen = Seen::of(alloc, h);
+    in_input(flaw, decls, &h.input) || in_block(flaw, decls, &h.body, &scope, &mut seen)
 }
 
-fn in_handlers(flaw: Flaw, decls: &Declared<'_>, handlers: &[Handler]) -> bool
+fn in_handlers(alloc: Global, flaw: Flaw, decls: &Declared<'_>, handlers: &[Handler]) -> bool
     ensures { result ≡ list_any (is_flawed flaw decls.now)
         (handlers_uses (map handler_of handlers.now)) }
 {
     for h in handlers {
-        if in_handler(flaw, decls, h) {
+        if in_handler(alloc, flaw, decls, h) {
             return true;
         }
     }
@@ -145,7 +183,7 @@ fn has_unknown(m: &Module, decls: &Declared<'_>) -> bool
     ensures { result ≡ list_any (is_unknown (module_of m.now).decls)
         (handlers_uses (module_of m.now).handlers) }
 {
-    in_handlers(Flaw::Unknown, decls, &m.handlers)
+    in_handlers(*m.decls.allocator(), Flaw::Unknown, decls, &m.handlers)
 }
 
 #[tactic(auto, unfolding(crate::specs::Scopes::is_flawed))]
@@ -154,7 +192,7 @@ fn has_misused(m: &Module, decls: &Declared<'_>) -> bool
     ensures { result ≡ list_any (is_misused (module_of m.now).decls)
         (handlers_uses (module_of m.now).handlers) }
 {
-    in_handlers(Flaw::Misused, decls, &m.handlers)
+    in_handlers(*m.decls.allocator(), Flaw::Misused, decls, &m.handlers)
 }
 
 /// Whether a name that is used isn't known where it is used.
