@@ -27,7 +27,7 @@ use sx_wire::challenge_in;
 fn judge_answer<T: Tag>(
     tag: &T,
     deployer: &mut Deployer<T>,
-    packets: &[RcSlice<u8>],
+    packets: &[Vec<u8>],
     m: u8,
     boot: u32,
     k: u32,
