@@ -1,6 +1,6 @@
 -- Labels by their names: what an index of the names says of them.
-use Rattle.std.proofs.Common.{◌≡◌, ◌∙◌, ℕ, zero, suc, ◌+◌, Bool, true, false, not, ◌||◌, cond, nat_lt, if◌then◌else◌, List, [], ◌∷◌, length, map, take, Option, Some, None, refl, ap, sym, subst, arith}
-use Rattle.std.specs.Prelude.{IfSome, slice_get}
+use Rattle.std.proofs.Common.{◌≡◌, ◌∙◌, ℕ, zero, suc, ◌+◌, Bool, true, false, not, ◌||◌, cond, nat_lt, if◌then◌else◌, List, [], ◌∷◌, length, map, take, Option, Some, None, refl, ap, sym, arith}
+use Rattle.std.specs.Prelude.{slice_get}
 use Rattle.std.specs.List.{list_any, position_or_len}
 use Rattle.std.specs.Str.{bytes_eq}
 use Rattle.std.proofs.lemmas.Bool.Decides.{nat_tests}
@@ -10,9 +10,6 @@ use Rattle.sx_asm.specs.Meaning.{address_of, is_label}
 
 abbrev pub names : List Label → List (List ℕ)
 names labels = map (λ label. label.name) labels
-
-pub some_of : {A : Type 0} (P : A → Type 0) (o : Option A) (x : A) → o ≡ Some x → IfSome o P → P x
-some_of {A} P o x is h = let Q : Option A → Type 0 = λ o. IfSome o P in let here : Q (Some x) = subst Q is h in here
 
 pub labelled : (labels : List Label) (name : List ℕ) → list_any (λ n. bytes_eq n name) (names labels) ≡ is_label labels name
 labelled [] name = refl

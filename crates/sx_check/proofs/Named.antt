@@ -1,6 +1,5 @@
 -- Names in a list: what an index of them answers, and which are in it twice.
 use Rattle.std.proofs.Common.{◌≡◌, ℕ, ◌+◌, Bool, true, false, ◌&&◌, ◌||◌, cond, nat_lt, List, [], ◌∷◌, Option, Some, None, count_by, refl, ap, sym, subst, ◌∙◌, arith}
-use Rattle.std.specs.Prelude.{IfSome}
 use Rattle.std.specs.List.{list_any}
 use Rattle.std.specs.Str.{bytes_eq}
 use Rattle.sx_lang.specs.declared.tree.Decl.{Decl}
@@ -179,6 +178,3 @@ handled_is hs = alike_is (λ (h : HandlerTree). h.input) hs
 pub taken_is : (ds : List Decl) (h : HandlerTree) → has_taken ds h ≡ (list_any (is_declared ds) (locals h) || is_in_twice (locals h))
 unfolding has_taken is_taken
 taken_is ds h = any_or (is_declared ds) (λ x. nat_lt 1 (count_by (same x) (locals h))) (locals h)
-
-pub some_of : {A : Type 0} (P : A → Type 0) (o : Option A) (x : A) → o ≡ Some x → IfSome o P → P x
-some_of {A} P o x is h = let Q : Option A → Type 0 = λ o. IfSome o P in let here : Q (Some x) = subst Q is h in here

@@ -1,9 +1,14 @@
 -- What the place of a name says of the list, and of its first names.
-use Rattle.std.proofs.Common.{◌≡◌, ℕ, zero, suc, ◌+◌, Bool, true, false, not, ◌&&◌, ◌||◌, cond, nat_lt, List, [], ◌∷◌, length, take, Option, Some, None, is_some, refl, ap, sym, ◌∙◌, arith}
+use Rattle.std.proofs.Common.{◌≡◌, ℕ, zero, suc, ◌+◌, Bool, true, false, not, ◌&&◌, ◌||◌, cond, nat_lt, List, [], ◌∷◌, length, take, Option, Some, None, is_some, refl, ap, sym, subst, ◌∙◌, arith}
+use Rattle.std.specs.Prelude.{IfSome}
 use Rattle.std.specs.List.{list_any, position_or_len}
 use Rattle.std.specs.Str.{bytes_eq}
 use Rattle.std.proofs.lemmas.Bool.Decides.{nat_tests}
 use Rattle.sx_index.specs.Places.{place_of}
+
+-- what holds of an option's value, if there is one, holds of the one that it is
+pub some_of : {A : Type 0} (P : A → Type 0) (o : Option A) (x : A) → o ≡ Some x → IfSome o P → P x
+some_of {A} P o x is h = let Q : Option A → Type 0 = λ o. IfSome o P in let here : Q (Some x) = subst Q is h in here
 
 -- the first place that passes is before the end where one passes
 first_lt : (n l m : ℕ) (t : Bool) → m ≡ l + 1 → nat_lt (cond (not t) (1 + n) 0) m ≡ (t || nat_lt n l)

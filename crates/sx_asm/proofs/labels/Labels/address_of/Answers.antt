@@ -1,7 +1,8 @@
 use Rattle.std.proofs.Common.{◌∙◌, ap}
+use Rattle.sx_index.proofs.Placed.{some_of}
 use Rattle.sx_index.specs.Index.{IsNameIndex}
 use Rattle.sx_asm.specs.Meaning.{address_of}
-use Rattle.sx_asm.proofs.Labelled.{names, some_of}
+use Rattle.sx_asm.proofs.Labelled.{names}
 use Rattle.sx_asm.proofs.labels.Labels.address_of.Goals as goal
 
 pub indexed_address-requires : goal.indexed_address-requires

@@ -1,9 +1,10 @@
 use Rattle.std.proofs.Common.{◌∙◌, ap, take}
 use Rattle.std.specs.List.{list_any}
 use Rattle.std.specs.Str.{bytes_eq}
+use Rattle.sx_index.proofs.Placed.{some_of}
 use Rattle.sx_index.specs.Index.{IsNameIndex}
 use Rattle.sx_asm.specs.Meaning.{is_label}
-use Rattle.sx_asm.proofs.Labelled.{labelled, names, names_take, some_of}
+use Rattle.sx_asm.proofs.Labelled.{labelled, names, names_take}
 use Rattle.sx_asm.proofs.labels.Labels.has_before.Goals as goal
 
 pub returns-in-Some : goal.returns-in-Some

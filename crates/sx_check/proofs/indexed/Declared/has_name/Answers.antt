@@ -1,8 +1,9 @@
 use Rattle.std.proofs.Common.{◌∙◌, None, ap}
+use Rattle.sx_index.proofs.Placed.{some_of}
 use Rattle.sx_index.specs.Index.{IsNameIndex}
 use Rattle.sx_check.specs.Names.{is_declared}
 use Rattle.sx_check.specs.Listed.{names_as}
-use Rattle.sx_check.proofs.Named.{declared_is, some_of}
+use Rattle.sx_check.proofs.Named.{declared_is}
 use Rattle.sx_check.proofs.indexed.Declared.has_name.Goals as goal
 
 pub returns-in-Some : goal.returns-in-Some

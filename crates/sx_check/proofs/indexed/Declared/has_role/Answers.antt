@@ -1,7 +1,8 @@
 use Rattle.std.proofs.Common.{◌∙◌, Some}
+use Rattle.sx_index.proofs.Placed.{some_of}
 use Rattle.sx_index.specs.Index.{IsNameIndex}
 use Rattle.sx_check.specs.Listed.{names_as}
-use Rattle.sx_check.proofs.Named.{role_is, some_of}
+use Rattle.sx_check.proofs.Named.{role_is}
 use Rattle.sx_check.proofs.indexed.Declared.has_role.Goals as goal
 
 pub returns-in-Some : goal.returns-in-Some
