@@ -1,20 +1,17 @@
 -- Entries and the index of their names.
-use Rattle.std.proofs.Common.{◌≡◌, ℕ, suc, ◌+◌, cond, nat_lt, arith, Bool, true, false, List, [], ◌∷◌, map, length, Option, Some, None, is_some, refl, sym, ◌∙◌}
+use Rattle.std.proofs.Common.{◌≡◌, ℕ, suc, ◌+◌, cond, nat_lt, arith, Bool, true, false, List, [], ◌∷◌, map, length, Option, is_some, refl, sym, ◌∙◌}
 use Rattle.std.specs.List.{position, position_or_len, list_any}
 use Rattle.std.specs.Str.{bytes_eq}
 use Rattle.std.proofs.lemmas.Bool.Decides.{nat_tests}
 use Rattle.sx_index.specs.Places.{place_of}
 use Rattle.sx_index.proofs.Indexed.{position-map}
+use Rattle.sx_index.proofs.Placed.{is_some-cond}
 use Rattle.lemmas.proofs.Numbers.{less_by_one}
 
 -- the place of a name among the names is the place of its entry
 pub place_entry : {B : Type 0} (name_of : B → List ℕ) (entries : List B) (name : List ℕ) (o : Option ℕ) → o ≡ place_of (map name_of entries) name
     → o ≡ position (λ e. bytes_eq (name_of e) name) entries
 place_entry name_of entries name o h = h ∙ sym (position-map name_of (λ n. bytes_eq n name) entries)
-
-is_some-cond : (b : Bool) (n : ℕ) → is_some (cond b (Some n) None) ≡ b
-is_some-cond true n = refl
-is_some-cond false n = refl
 
 first : (l : ℕ) → nat_lt 0 (suc l) ≡ true
 first l = grind (arith, nat_tests)

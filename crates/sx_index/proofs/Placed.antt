@@ -48,9 +48,9 @@ module _ {A : Type 0} (p : A → Bool) where
   lt_take (x ∷ xs) zero = sym (ap (λ b. b && list_any p (x ∷ xs)) (not_below (position_or_len p (x ∷ xs))))
   lt_take (x ∷ xs) (suc c) = ap (λ b. p x || b) (lt_take xs c) ∙ next_lt (position_or_len p xs) c (p x) (list_any p xs)
 
-some_is : (b : Bool) (n : ℕ) → is_some (cond b (Some n) None) ≡ b
-some_is true n = refl
-some_is false n = refl
+pub is_some-cond : (b : Bool) (n : ℕ) → is_some (cond b (Some n) None) ≡ b
+is_some-cond true n = refl
+is_some-cond false n = refl
 
 module _ (names : List (List ℕ)) (text : List ℕ) where
   abbrev is : List ℕ → Bool
@@ -61,7 +61,7 @@ module _ (names : List (List ℕ)) (text : List ℕ) where
 
   -- a name has a place where it is in the list
   pub placed : is_some (place_of names text) ≡ list_any is names
-  placed = some_is (nat_lt first (length names)) first ∙ lt_any is names
+  placed = is_some-cond (nat_lt first (length names)) first ∙ lt_any is names
 
   module _ (count : ℕ) where
     -- it is among the first ones where its place is one of theirs
