@@ -468,6 +468,8 @@ class Warnings(Room):
             (b"v > limit", b"65535 < v", "this never holds", b"< v"),
             (b"v > limit", b"last[9]", "the last element of `last` is last[2], and past it 0 is read", b"last[9]"),
             (b"if v", b"last[3] = v; if v", "past it nothing is stored", b"last[3]"),
+            (b"v > limit", b"limit == 1 & !v", "is `(.. == ..) & ..` meant?", b"=="),
+            (b"v > limit", b"!limit | v < 9", "is `.. | (.. < ..)` meant?", b"<"),
         ):
             text = HEAD.replace(b"var limit = 100;", array).replace(old, new)
             with self.subTest(new):
@@ -479,7 +481,7 @@ class Warnings(Room):
 
     def test_no_warning(self):
         array = b"var limit = 100; array last[3];"
-        for new in (b"v == -1", b"v - 3 > limit", b"v > 0", b"last[2] > last[v]", b"0 - v > 9", b"9 - 7 < v"):
+        for new in (b"v == -1", b"v - 3 > limit", b"v > 0", b"last[2] > last[v]", b"0 - v > 9", b"9 - 7 < v", b"v & 7 == limit"):
             text = HEAD.replace(b"var limit = 100;", array).replace(b"v > limit", new)
             self.assertEqual(warnings.of_values(Teller(kept_of(text), "check")), [], new)
         for file in whole_examples():

@@ -120,13 +120,16 @@ class Searching(unittest.TestCase):
         self.assertGreater(found.steps[-1].items[-1].value, 40)
 
     def test_places_where_a_run_must_come_by(self):
-        source = "on reset b { assume 0; }\non out lamp(v) { if v { let x = 1; } if v > 1 { fail; } }\n"
+        source = (
+            "on reset b { assume 0; }\n"
+            "on out lamp(v) { assume v < 9; if v { let x = 1; } if v > 1 { fail; } }\n"
+        )
         self.assertEqual(
             [it.what for it in vacuity.places(source)],
             [
                 "no legal run has an item `reset b`",
-                "line 1: this assumption fails whenever it is reached",
                 "no legal run has an item `out lamp`",
+                "line 2: this assumption fails whenever it is reached",
                 "line 2: this test is never true in a legal run",
             ],
         )
@@ -186,6 +189,13 @@ class Answers(Room):
         self.assertEqual(ran.status, 0)
         self.assertIn("line 1: this test is never true in a legal run", ran.said)
 
+    def test_what_is_hardly_meant(self):
+        for source, said in (
+            ("var bright;\non sense light(v) { bright = v > 100; }\n", "it has no `fail`, so nothing can break it"),
+            ("on out lamp(v) { if v == 1 & !v { fail; } }\n", "it.property:1: `&` binds more than `==`"),
+        ):
+            self.assertIn(said, self.holds(LAMP, self.file("it.property", source)).said)
+
     def test_a_forged_ends_the_answer(self):
         text = b"trace\nforged lamp\nout lamp 1\nend\n"
         ran = sancus("watch", LAMP, PROPERTIES / "bright.property", text=text)
@@ -198,7 +208,9 @@ class Answers(Room):
             ("on out lamp(v) { emit v; }\n", "P2 1 18", "it has no `emit`"),
             ("on reset b(v) { }\n", "P2 1 11", "these items have no value"),
             ("on uot lamp(v) { }\n", "P2 1 4", "did you mean `out`?"),
+            ("on emit lamp(v) { fail; }\n", "P2 1 4", "is seen as `on out MODULE(v)`"),
             ("on out lampp(v) { fail; }\n", "P3 1 8", "did you mean `lamp`?"),
+            ("on out bulb(v) { fail; }\n", "P3 1 8", "drives an actuator: lamp; `bulb` is a device; did you mean `lamp`?"),
             ("on out eye(v) { fail; }\n", "P3 1 8", "`eye` drives no actuator"),
             ("on raw light(v) { fail; }\n", "P3 1 8", "`light` is a sensor"),
             ("on reset b { }\non reset b { }\n", "P4 2 10", "these items have two handlers"),
@@ -222,6 +234,8 @@ class Answers(Room):
     def test_a_deployment_that_is_none(self):
         ran = self.holds(self.file("it.toml", "node = 1\n"), PROPERTIES / "bright.property")
         self.assertEqual((ran.status, ran.lines), (1, ["fault deployment D4 top"]))
+        ran = self.holds(PROPERTIES / "bright.property", LAMP)
+        self.assertIn("this looks like a property, or a module's source", ran.said)
 
 
 @needs_program

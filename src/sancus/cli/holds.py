@@ -14,7 +14,7 @@ from sancus.cli.question import BROKEN, HELD, UNCONFIRMED, UNKNOWN, Question, Re
 from sancus.cli.question import watch as watch_trace
 from sancus.cli.showing import Shown, shown
 from sancus.cli.vacuity import unreached
-from sancus.model import solvers, warnings
+from sancus.model import language, precedence, solvers, warnings
 from sancus.model.counterexample import moves_said
 from sancus.model.deployment import Tables, tables_of
 from sancus.model.described import Deployment
@@ -65,6 +65,12 @@ def of_outputs(deployment: Deployment, property: Property) -> List[str]:
                 f"{device.name} while {module} is absent"
             )
     return lines
+
+
+def of_comparisons(property: Property) -> List[str]:
+    """A property that compares with more than it seems to."""
+    found = sorted(precedence.places(property.tree))
+    return [f"note: {property.name}:{language.place_of(property.source, at)[0]}: {what}" for at, _, what in found]
 
 
 def of_keys(tables: Tables) -> List[str]:
@@ -249,7 +255,8 @@ def holds(context: Context, given: Given) -> int:
         answer = answered(question, seconds, moves, path)
     except Refused as error:
         return refused(context, error)
-    context.voice.say(*of_outputs(question.deployment, question.property()), *answer.notes)
+    property = question.property()
+    context.voice.say(*of_outputs(question.deployment, property), *of_comparisons(property), *answer.notes)
     lines = [json.dumps(as_object(question, answer))] if given.has("json") else told(question, answer)
     print_lines(*lines)
     return answer.status

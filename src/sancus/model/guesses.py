@@ -48,7 +48,7 @@ def in_property(error: NotInGrammar) -> List[str]:
 
     found = error.token.text
     if "drain" in error.expected:
-        return [near(found, list(WATCHED)).lstrip("; ")] if near(found, list(WATCHED)) else []
+        return of_kind(found)
     if found in ("send", "emit"):
         return [f"a property changes nothing but its own variables, so it has no `{found}`: `fail;` breaks it"]
     if found in ("sensor", "actuator", "input", "output", "sample"):
@@ -60,8 +60,43 @@ def in_property(error: NotInGrammar) -> List[str]:
     return []
 
 
+# Where a property sees what was tried at a heading.
+SEEN = {
+    "emit": "what a module emits is seen as `on out MODULE(v)`",
+    "send": "what a module sends is seen where it is taken: `on take CONNECTION(v)`",
+    "sample": "a sensor's new reading is `on sense SENSOR(v)`, and its driver reads it at `on read MODULE(v)`",
+}
+
+
+def of_kind(found: str) -> List[str]:
+    """Where a property sees what was tried at a heading, or the kind of items that was meant."""
+    from sancus.model.rules import near
+
+    if found in ITEMS:
+        return [f"`{found}` is an item of a trace at which no handler may stand"]
+    said = SEEN.get(found) or near(found, list(WATCHED)).lstrip("; ")
+    return [said] if said else []
+
+
 # Of the kinds of items that need one: what a device is, or what a module drives.
 NEEDED = {"sense": "sensor", "drain": "sensor", "raw": "actuator", "read": "sensor", "out": "actuator"}
+
+
+def fitting(kind: str, what: str, tables: Tables) -> List[str]:
+    """The names that a kind of items takes."""
+    needed = NEEDED.get(kind)
+    if not needed:
+        return tables.names(what)
+    devices = [str(it.get("name")) for it in tables.devices if it.get("kind") == needed]
+    drivers = [str(it.get("name")) for it in tables.modules if it.get("device") in devices]
+    return devices if what == "device" else drivers
+
+
+def other_half(name: str, kind: str, tables: Tables) -> str:
+    """The module that drives a device, or the device that a module drives."""
+    if kind == "device":
+        return str((tables.driver_of(name) or {}).get("name", ""))
+    return str((tables.named("module", name) or {}).get("device", ""))
 
 
 def of_heading(kind: str, name: str, tables: Tables) -> List[str]:
@@ -75,8 +110,12 @@ def of_heading(kind: str, name: str, tables: Tables) -> List[str]:
     if not entry:
         other = next((it for it in ("node", "device", "module", "connection") if tables.named(it, name)), None)
         more = f"; `{name}` is {a(other)}" if other else ""
-        known = tables.names(what)
-        return [f"`{kind}` takes {a(what)}{more}: {' '.join(known) or 'there is none'}{near(name, known)}"]
+        known = fitting(kind, what, tables)
+        half = other_half(name, other or "", tables)
+        meant = f"; did you mean `{half}`?" if half in known else near(name, known)
+        which = f" that drives {a(needed)}" if needed and what == "module" else ""
+        said = f"`{kind}` takes {a(what if which or not needed else needed)}{which}"
+        return [f"{said}: {' '.join(known) or 'there is none'}{more}{meant}"]
     if what == "device":
         return [f"`{name}` is {a(str(entry.get('kind')))}, and `{kind}` is of {a(str(needed))}"]
     return [f"`{name}` drives no {needed}, so no `{kind}` of it comes"]
@@ -129,6 +168,8 @@ def of_head(command: str, first: bytes) -> List[str]:
         if command == "explain":
             return ["this is the output of a run: `sancus explain` takes the deployment first, and then the trace"]
         return ["this is the output of a run, and no deployment"]
+    if begun.startswith((b"//", b"on ", b"var ", b"array ")):
+        return ["this looks like a property, or a module's source: the deployment comes before it"]
     if begun.startswith(b"<"):
         return ["this looks like a page of HTML or XML, and a deployment is TOML"]
     if begun.startswith((b"{", b"[")):

@@ -2,19 +2,19 @@
 
 from __future__ import annotations
 
-from typing import Dict, Iterator, List, Tuple
+from typing import Dict, Iterator, List
 
-from sancus.model import language
+from sancus.model import language, precedence
 from sancus.model.deployment import Tables, module_of, port_of
 from sancus.model.faults import Teller
 from sancus.model.language import Applied, Combined, Constant, Element, Expression, Module, Statement, Store, subexpressions
+from sancus.model.precedence import Place
 from sancus.model.rules import walk
 from sancus.records import dataclass
 
 WORD = 65536
 # More places of one module aren't told.
 MOST_PLACES = 4
-Place = Tuple[int, int, str]
 
 
 @dataclass(frozen=True)
@@ -126,11 +126,13 @@ class InSource:
 
 
 def about_values(tables: Tables) -> Iterator[InSource]:
-    """Comparisons with a number below 0, those that are always or never true, and elements past an array's end."""
+    """Comparisons with a number below 0, those that are always or never true or take in an `&`, and elements past an
+    array's end."""
     for index, name in enumerate(tables.names("module")):
         tree = tables.tree(name)
         statements = [it for handler in (tree.handlers if tree else []) for it in walk(handler.body)]
         found = [place for it in statements for place in of_statement(tree, it)] if tree else []
+        found += precedence.places(tree) if tree else []
         yield from (InSource(index, *place) for place in found[:MOST_PLACES])
 
 
