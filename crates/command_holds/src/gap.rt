@@ -9,7 +9,7 @@ use sx_lang::names::Name;
 use sx_search::gaps::{Gap, Reason};
 use sx_span::intervals::Interval;
 use sx_trace::names::Names;
-use sx_watch::topics::Topic;
+use sx_watch::topics::{Topic, TopicKind};
 
 /// The word for why the search gave up.
 fn reason_word(reason: Reason) -> &'static [u8] {
@@ -23,18 +23,18 @@ fn reason_word(reason: Reason) -> &'static [u8] {
     }
 }
 
-/// The word for what an item is about.
-fn kind_word(topic: Topic) -> &'static [u8] {
-    match topic {
-        Topic::Sense(_) => b"sense",
-        Topic::Read(_) => b"read",
-        Topic::Take(_) => b"take",
-        Topic::Out(_) => b"out",
-        Topic::Raw(_) => b"raw",
-        Topic::Drain(_) => b"drain",
-        Topic::Reset(_) => b"reset",
-        Topic::Protect(_) => b"protect",
-        Topic::Attested(_) => b"attested",
+/// The word for a kind of items.
+fn kind_word(kind: TopicKind) -> &'static [u8] {
+    match kind {
+        TopicKind::Sense => b"sense",
+        TopicKind::Read => b"read",
+        TopicKind::Take => b"take",
+        TopicKind::Out => b"out",
+        TopicKind::Raw => b"raw",
+        TopicKind::Drain => b"drain",
+        TopicKind::Reset => b"reset",
+        TopicKind::Protect => b"protect",
+        TopicKind::Attested => b"attested",
     }
 }
 
@@ -48,17 +48,14 @@ fn push_name(words: &mut Vec<u8>, names: &[Name], place: u8) -> Result<(), Alloc
 
 /// The name of what an item is about.
 fn push_topic(words: &mut Vec<u8>, names: &Names, topic: Topic) -> Result<(), AllocError> {
-    match topic {
-        Topic::Sense(device) | Topic::Raw(device) | Topic::Drain(device) => {
-            push_name(words, &names.devices, device)
-        }
-        Topic::Read(module) | Topic::Out(module) => push_name(words, &names.modules, module),
-        Topic::Protect(module) | Topic::Attested(module) => {
-            push_name(words, &names.modules, module)
-        }
-        Topic::Take(link) => push_name(words, &names.links, link),
-        Topic::Reset(node) => push_name(words, &names.nodes, node),
-    }
+    let list = match topic.kind {
+        TopicKind::Sense | TopicKind::Raw | TopicKind::Drain => &names.devices,
+        TopicKind::Read | TopicKind::Out => &names.modules,
+        TopicKind::Protect | TopicKind::Attested => &names.modules,
+        TopicKind::Take => &names.links,
+        TopicKind::Reset => &names.nodes,
+    };
+    push_name(words, list, topic.index)
 }
 
 /// A space, and the bounds of a cell.
@@ -75,7 +72,7 @@ fn gap_words(alloc: Global, names: &Names, gap: &Gap) -> Result<Vec<u8>, AllocEr
     let mut words = Vec::new(alloc);
     words.extend_from_slice(reason_word(gap.reason))?;
     words.extend_from_slice(b" ")?;
-    words.extend_from_slice(kind_word(gap.topic))?;
+    words.extend_from_slice(kind_word(gap.topic.kind))?;
     words.extend_from_slice(b" ")?;
     push_topic(&mut words, names, gap.topic)?;
     for cell in &gap.cells {

@@ -5,7 +5,7 @@ ghost use Rattle.std.specs.Prelude.{◌≡◌, IfErr, IfOk, IsTrue, OnErr};
 ghost use Rattle.command_promise.specs.Told.{CommandEnds, command_at};
 ghost use Rattle.sx_trace.specs.ValidNames.{are_valid};
 ghost use Rattle.sx_deploy.specs.SeenDeployment.{deployed_as};
-ghost use Rattle.sx_watch.specs.Watched.{property_as};
+ghost use Rattle.sx_watch.specs.Watching.{property_as};
 ghost use Rattle.command_head.specs.Ends.{EndsRefused};
 ghost use Rattle.command_holds.specs.Ending.{AnswersOf, DeployedEnds, EndsOf, GivesUp};
 ghost use Rattle.command_holds.specs.Ending.{TextEnds, ToldOf};

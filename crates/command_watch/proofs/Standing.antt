@@ -7,8 +7,8 @@ use Rattle.sx_trace.specs.declared.items.Item.{Item}
 use Rattle.sx_model.specs.Legal.{before, is_forged}
 use Rattle.sx_explain.specs.Judging.{first_forged}
 use Rattle.sx_explain.proofs.Following.{any_more, any_still, before_front}
-use Rattle.sx_watch.specs.Watched.{PropertyTree, broken_at, broken_from, has_emit, watched}
-use Rattle.sx_watch.specs.Watching.{Follows, Heeds}
+use Rattle.sx_watch.specs.Watched.{PropertyTree, broken_at, is_emit, watched}
+use Rattle.sx_watch.specs.Watching.{Follows, Heeds, broken_from}
 use Rattle.sx_watch.specs.declared.watcher.Watcher.{Watcher}
 use Rattle.command_watch.specs.Following.{Heeded, Stands}
 use Rattle.command_watch.specs.declared.following.Following.{Following}
@@ -107,7 +107,7 @@ from_more p n k cells (i ∷ is) more h = at (is_forged i) h (λ h. from_more p 
         → (broken_from p (n + 1) (watched p cells i).cells (before is) ≡ Some k → broken_from p (n + 1) (watched p cells i).cells (before (is ++ more)) ≡ Some k)
         → broken_from p n cells (if f then [] else i ∷ before (is ++ more)) ≡ Some k
     at true h rest = absurd (cc h)
-    at false h rest = emits (has_emit (watched p cells i).acts) h rest
+    at false h rest = emits (list_any is_emit (watched p cells i).acts) h rest
 
 pub broken_more : (p : PropertyTree) (k : ℕ) (items more : List Item) → broken_at p (before items) ≡ Some k → broken_at p (before (items ++ more)) ≡ Some k
 broken_more p k items more h = from_more p 1 k _ items more h

@@ -3,7 +3,8 @@
 ghost use Rattle.std.specs.Prelude.{◌≡◌, ◌+◌, [], IfOk, List, length};
 ghost use Rattle.sx_trace.specs.declared.items.Item.{Item as Listed};
 ghost use Rattle.sx_model.specs.Legal.{is_forged};
-ghost use Rattle.sx_watch.specs.Watched.{PropertyTree, property_as};
+ghost use Rattle.sx_watch.specs.Watched.{PropertyTree};
+ghost use Rattle.sx_watch.specs.Watching.{property_as};
 ghost use Rattle.command_watch.specs.Following.{Heeded, Stands};
 
 use std::alloc::{AllocError, Global};

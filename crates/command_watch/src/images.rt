@@ -4,7 +4,7 @@ ghost use Rattle.std.specs.Prelude.{◌≡◌, IsTrue};
 ghost use Rattle.command_promise.specs.Told.{command_at, out_of_memory};
 ghost use Rattle.command_promise.specs.Parts.{Rest};
 ghost use Rattle.sx_trace.specs.ValidNames.{are_valid};
-ghost use Rattle.sx_watch.specs.Watched.{property_as};
+ghost use Rattle.sx_watch.specs.Watching.{property_as};
 ghost use Rattle.command_explain.specs.Meant.{AreMeanings, Meanings};
 ghost use Rattle.command_explain.specs.Trace.{image_lines, start};
 ghost use Rattle.command_watch.specs.Output.{watch_start};

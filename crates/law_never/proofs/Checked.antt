@@ -18,7 +18,8 @@ use Rattle.law_never.specs.Laws.{IsOpen}
 use Rattle.law_never.proofs.Lists.{each_map, one_map}
 use Rattle.law_never.proofs.Tests.{box_true, each_true, index_true, one_true, or_false, or_not}
 use Rattle.law_never.proofs.Tests.{spans_true, topic_true}
-use Rattle.sx_watch.specs.declared.topics.Topic.TheVariants as about
+use Rattle.sx_watch.specs.declared.topics.TopicKind.TheVariants as kind
+use Rattle.sx_watch.specs.Watching.{about}
 use Rattle.sx_watch.specs.declared.topics.Topic.{Topic}
 use Rattle.sx_watch.specs.Watched.{PropertyTree, input_of}
 
@@ -66,15 +67,15 @@ module _ (reacts' : Reactions) (app : AppTree) (o : PropertyTree) (t : Table) (r
       here (Some q) e p = or_not (q.node == n) (may_absent new m) (index_true (λ m q. not (q.node == n) || may_absent new m) app.parts h m q e) p
 
   -- where the reset of a node isn't heard, its modules may be absent
-  pub unheard_gone : (n : ℕ) → each_from (λ m q. is_some (input_of o (about.Reset q.node)) || may_absent r m) 0 app.parts ≡ true → input_of o (about.Reset n) ≡ None
+  pub unheard_gone : (n : ℕ) → each_from (λ m q. is_some (input_of o (about kind.Reset q.node)) || may_absent r m) 0 app.parts ≡ true → input_of o (about kind.Reset n) ≡ None
       → (m : ℕ) → is_part_at n (slice_get app.parts m) ≡ true → MayBeAbsent r m
   unheard_gone n h none' m part = here (slice_get app.parts m) refl part
     where
       here : (x : Option PartTree) → slice_get app.parts m ≡ x → is_part_at n x ≡ true → MayBeAbsent r m
       here None e p = absurd cc
       here (Some q) e p =
-          or_false (is_some (input_of o (about.Reset q.node))) (may_absent r m) (index_true (λ m q. is_some (input_of o (about.Reset q.node)) || may_absent r m) app.parts h m q e)
-          (subst (λ k. is_some (input_of o (about.Reset k)) ≡ false) (sym (eqb-true q.node n p)) (ap (λ x. is_some x) none'))
+          or_false (is_some (input_of o (about kind.Reset q.node))) (may_absent r m) (index_true (λ m q. is_some (input_of o (about kind.Reset q.node)) || may_absent r m) app.parts h m q e)
+          (subst (λ k. is_some (input_of o (about kind.Reset k)) ≡ false) (sym (eqb-true q.node n p)) (ap (λ x. is_some x) none'))
 
   abbrev pub Resets : ℕ → Row → Type 0
   Resets n new = Stays (λ m. is_part_at n (slice_get app.parts m)) (λ d. is_device_at n (slice_get app.devices d)) r new
@@ -88,8 +89,8 @@ pub each_both : {A : Type 0} → (P Q : A → Type 0) → (xs : List A) → Each
 each_both P Q [] a b = tt
 each_both P Q (x ∷ xs) a b = ((a.0, b.0), each_both P Q xs a.1 b.1)
 
-raw_true : (o : PropertyTree) (t : Table) (d : ℕ) → (input_of o (about.Raw d) ≡ None) ⊎ (has_raw t (about.Raw d) ≡ true)
-    → (input_of o (about.Raw d) ≡ None) ⊎ ((v : ℕ) → v < 65536 → IsAmong (at t.given d) v)
+raw_true : (o : PropertyTree) (t : Table) (d : ℕ) → (input_of o (about kind.Raw d) ≡ None) ⊎ (has_raw t (about kind.Raw d) ≡ true)
+    → (input_of o (about kind.Raw d) ≡ None) ⊎ ((v : ℕ) → v < 65536 → IsAmong (at t.given d) v)
 raw_true o t d (inl e) = inl e
 raw_true o t d (inr e) = inr (λ v small. spans_true 0 65535 (at t.given d) e v (omega arith) (omega (arith, small)))
 
@@ -100,5 +101,5 @@ open_true app o t h =
     record {
       sensed = λ d x e kind v small. spans_true 0 32767 (at t.given d)
           (or_not (is_sensor x.kind) (spans 0 32767 (at t.given d)) (index_true test app.devices k.0 d x e) kind) v (omega arith) (omega (arith, small));
-      raw = λ d. raw_true o t d (topic_true o (has_raw t) k.1 (about.Raw d));
+      raw = λ d. raw_true o t d (topic_true o (has_raw t) k.1 (about kind.Raw d));
     }

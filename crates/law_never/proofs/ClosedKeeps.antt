@@ -39,9 +39,10 @@ use Rattle.law_never.proofs.Carried.{emits_done, own_ends, words_done}
 use Rattle.law_never.proofs.Kept.{absent_shown, each_there, first_places, first_readings, first_words, idle_owes, inside_none, inside_one}
 use Rattle.law_never.proofs.Kept.{nothing_owed, place_like, place_of_present, places_but, places_like, places_reset}
 use Rattle.law_never.proofs.Kept.{places_stay, shown_stays, readings_reset, readings_set, readings_stay, words_stay}
-use Rattle.sx_watch.specs.declared.topics.Topic.TheVariants as about
+use Rattle.sx_watch.specs.declared.topics.TopicKind.TheVariants as kind
+use Rattle.sx_watch.specs.Watching.{about, hears}
 use Rattle.sx_watch.specs.declared.topics.Topic.{Topic}
-use Rattle.sx_watch.specs.Watched.{PropertyTree, hears, input_of, watched}
+use Rattle.sx_watch.specs.Watched.{PropertyTree, input_of, watched}
 use Rattle.law_never.specs.Kept.{AreQuiet}
 use Rattle.spec_run.proofs.tie.Lists.{get_within}
 
@@ -114,7 +115,7 @@ module _ (reacts' : Reactions) (app : AppTree) (o : PropertyTree) (t : Table) (f
       where
         here : (boot : ℕ) → Fine cells (Reset n cause) (reset_at app s n boot)
         here boot =
-            from _ (λ r c h. shown r s cells h (about.Reset n) nought 0 _ (reset_at app s n boot) (c.reset n) zero_in
+            from _ (λ r c h. shown r s cells h (about kind.Reset n) nought 0 _ (reset_at app s n boot) (c.reset n) zero_in
             (λ new st. (places_reset app r new _ n s.modules h.places st.0 st.1, readings_reset app r new _ n s.devices h.readings st.0, words_stay r new _ _ s.sent h.words st.0)))
 
         any : (o : Option ℕ) → IfSome (Rattle.sx_model.specs.Step.◌>>?◌ o (λ boot. Some (reset_at app s n boot))) (Fine cells (Reset n cause))
@@ -124,7 +125,7 @@ module _ (reacts' : Reactions) (app : AppTree) (o : PropertyTree) (t : Table) (f
     protects : (n m : ℕ) → IfSome (step app s (Protect n (Some m))) (Fine cells (Protect n (Some m)))
     protects n m =
         on_protect app s (Fine cells (Protect n (Some m))) n m (λ q x eq ex none'.
-        from _ (λ r c h. shown r s cells h (about.Protect m) nought 0 _ (with_present s m x (first_present q.tree (ends_of app m)))
+        from _ (λ r c h. shown r s cells h (about kind.Protect m) nought 0 _ (with_present s m x (first_present q.tree (ends_of app m)))
         (c.protect m q eq (absent_shown r m x.present none' (h.places m x ex))) zero_in
         (λ new st. (
           places_but r new none s.modules m _ h.places st.0 st.1,
@@ -137,7 +138,7 @@ module _ (reacts' : Reactions) (app : AppTree) (o : PropertyTree) (t : Table) (f
         on_sense app s (Fine cells (Sense d v)) d v
         (from _ (λ r c h.
         let w = one_with _ (λ i. IsInside i v) (at t.given d) (c.sense d) given in
-        shown r s cells h (about.Sense d) w.0 v _ (with_device s d (record { value = v; fresh = true })) w.1 w.2
+        shown r s cells h (about kind.Sense d) w.0 v _ (with_device s d (record { value = v; fresh = true })) w.1 w.2
         (λ new st. (
           places_stay r new _ s.modules h.places st.0,
           readings_set r new _ s.devices d (record { value = v; fresh = true }) h.readings st.0 (λ f. st.1 v w.2),
@@ -147,7 +148,7 @@ module _ (reacts' : Reactions) (app : AppTree) (o : PropertyTree) (t : Table) (f
     drains : (d : ℕ) → IfSome (step app s (Drain d)) (Fine cells (Drain d))
     drains d =
         on_drain app s (Fine cells (Drain d)) d (λ y.
-        from _ (λ r c h. shown r s cells h (about.Drain d) nought 0 _ (with_device s d (record y { fresh = false })) (c.drain d) zero_in
+        from _ (λ r c h. shown r s cells h (about kind.Drain d) nought 0 _ (with_device s d (record y { fresh = false })) (c.drain d) zero_in
         (λ new st. (
           places_stay r new _ s.modules h.places st,
           readings_set r new _ s.devices d (record y { fresh = false }) h.readings st (λ f. absurd cc),
@@ -157,7 +158,7 @@ module _ (reacts' : Reactions) (app : AppTree) (o : PropertyTree) (t : Table) (f
     attests : (m b : ℕ) → IfSome (step app s (Attested m b)) (Fine cells (Attested m b))
     attests m b =
         on_attested app s (Fine cells (Attested m b)) m b (λ x ex.
-        from _ (λ r c h. shown r s cells h (about.Attested m) nought 0 _ (attested_at app s m b x) (c.attested m) zero_in
+        from _ (λ r c h. shown r s cells h (about kind.Attested m) nought 0 _ (attested_at app s m b x) (c.attested m) zero_in
         (λ new st. (
           places_like new s.modules m x _ ex (places_stay r new _ s.modules h.places st) (shown_stays r new none none m x.present st refl (h.places m x ex)),
           readings_stay r new _ s.devices h.readings st,
@@ -172,10 +173,10 @@ module _ (reacts' : Reactions) (app : AppTree) (o : PropertyTree) (t : Table) (f
     raws d v given =
         on_raw app s (Fine cells (Raw d v)) d v
         (elim given [
-          | inl e ↦ unheard (input_of o (about.Raw d)) (v % 65536) e
+          | inl e ↦ unheard (input_of o (about kind.Raw d)) (v % 65536) e
           | inr g ↦ from (Fine cells (Raw d v) s) (λ r c h.
-              let w = one_with (λ i. Leads reacts' o t (about.Raw d) i r (Stays none none r)) (λ i. IsInside i (v % 65536)) (at t.given d) (c.raw d) g in
-              shown r s cells h (about.Raw d) w.0 (v % 65536) (Stays none none r) s w.1 w.2
+              let w = one_with (λ i. Leads reacts' o t (about kind.Raw d) i r (Stays none none r)) (λ i. IsInside i (v % 65536)) (at t.given d) (c.raw d) g in
+              shown r s cells h (about kind.Raw d) w.0 (v % 65536) (Stays none none r) s w.1 w.2
               (λ new st. (places_stay r new none s.modules h.places st, readings_stay r new none s.devices h.readings st, words_stay r new none none s.sent h.words st)))
         ])
 
@@ -222,7 +223,7 @@ module _ (reacts' : Reactions) (app : AppTree) (o : PropertyTree) (t : Table) (f
         let w = one_with _ (λ place. IsAtPlace place p) (at r.places m) (c.out m) (place_of_present r m x p ep (h.places m x ex)) in
         let are : owed_of p.pending ≡ v ∷ left.emits = ap (λ o. owed_of o) eo ∙ first_owed v owed.emits owed.pieces left el in
         let one = inside_one w.0.owed v left.emits (subst (AreInside w.0.owed) are w.2.owed) in
-        shown r s cells h (about.Out m) one.first v _ (with_present s m x (with_pending p (Some left))) (w.1 one.first one.rest one.are) one.one
+        shown r s cells h (about kind.Out m) one.first v _ (with_present s m x (with_pending p (Some left))) (w.1 one.first one.rest one.are) one.one
         (λ new st. (
           places_but r new none s.modules m _ h.places st.0 (st.1 (with_pending p (Some left)) w.2.cells one.more),
           readings_stay r new _ s.devices h.readings st.0,
@@ -236,14 +237,14 @@ module _ (reacts' : Reactions) (app : AppTree) (o : PropertyTree) (t : Table) (f
         let fresh = and_parts y.fresh (y.value == v) b in
         let w = one_with _ (λ i. IsInside i v) (at r.readings d) (c.read m q d eq ed) (subst (HasReading r d) (eqb-true y.value v fresh.1) (h.readings d y ey fresh.0)) in
         let s1 = with_device s d (record y { fresh = false }) in
-        shown r s cells h (about.Read m) w.0 v _ (reacts app s1 m q x p (event_of None v)) w.1 w.2
+        shown r s cells h (about kind.Read m) w.0 v _ (reacts app s1 m q x p (event_of None v)) w.1 w.2
         (λ new st.
         let k = reacted r new s1 m q None w.0 v x p none (λ k. d == k) (sound.parts m q eq) w.2 (place_of_present r m x p (idle_is x p ep) (h.places m x ex))
         (idle_owes x p ep) h.places h.words st.0 st.1 in
         (k.0, readings_set r new _ s.devices d (record y { fresh = false }) h.readings st.0 (λ f. absurd cc), k.1))))
 
     abbrev TakesAt : Row → ℕ → Link → PartTree → ℕ → Interval → Type 0
-    TakesAt r c l q m i = Leads reacts' o t (about.Take c) i r (λ new. Stays (λ n. m == n) none r new × IsAnswered reacts' app r m q (Some l.input) i new)
+    TakesAt r c l q m i = Leads reacts' o t (about kind.Take c) i r (λ new. Stays (λ n. m == n) none r new × IsAnswered reacts' app r m q (Some l.input) i new)
 
     takes_word : (m c i v : ℕ) → IfSome (step app s (Take m c i v)) (Fine cells (Take m c i v))
     takes_word m c i v =
@@ -258,7 +259,7 @@ module _ (reacts' : Reactions) (app : AppTree) (o : PropertyTree) (t : Table) (f
         let w = one_with (TakesAt r c l q m) (λ j. IsInside j v) (at r.words c)
         (subst (λ z. Each (TakesAt r c l q z) (at r.words c)) to (k.take c l q el (subst (λ z. slice_get app.parts z ≡ Some q) (sym to) eq))) word in
         let p1 : Present = record p { ends = views } in
-        shown r s cells h (about.Take c) w.0 v (λ new. Stays (λ n. m == n) none r new × IsAnswered reacts' app r m q (Some l.input) w.0 new) (reacts app s m q x p1 (event_of (Some l.input) v)) w.1 w.2
+        shown r s cells h (about kind.Take c) w.0 v (λ new. Stays (λ n. m == n) none r new × IsAnswered reacts' app r m q (Some l.input) w.0 new) (reacts app s m q x p1 (event_of (Some l.input) v)) w.1 w.2
         (λ new st.
         let z = reacted r new s m q (Some l.input) w.0 v x p1 none none (sound.parts m q eq) w.2
         (place_like r m p p1 refl refl (place_of_present r m x p (idle_is x p ep) (h.places m x ex))) (idle_owes x p ep) h.places h.words st.0 st.1 in

@@ -20,12 +20,13 @@ use Rattle.law_never.specs.Tables.{Table, IsAmong, IsGiven, at}
 use Rattle.law_never.specs.Laws.{ClosedKeepsInRuns, IsOpen}
 use Rattle.law_never.proofs.Cases.{sensed_device}
 use Rattle.law_never.proofs.ClosedKeeps.{closed_keeps}
-use Rattle.sx_watch.specs.declared.topics.Topic.TheVariants as about
+use Rattle.sx_watch.specs.declared.topics.TopicKind.TheVariants as kind
+use Rattle.sx_watch.specs.Watching.{about}
 use Rattle.sx_watch.specs.Watched.{PropertyTree, input_of}
 
 module _ (app : AppTree) (o : PropertyTree) (t : Table) (open' : IsOpen app o t) where
-  raw_of : (d v : ℕ) → (input_of o (about.Raw d) ≡ None) ⊎ ((v : ℕ) → v < 65536 → IsAmong (at t.given d) v) → v % 65536 < 65536
-      → (input_of o (about.Raw d) ≡ None) ⊎ IsAmong (at t.given d) (v % 65536)
+  raw_of : (d v : ℕ) → (input_of o (about kind.Raw d) ≡ None) ⊎ ((v : ℕ) → v < 65536 → IsAmong (at t.given d) v) → v % 65536 < 65536
+      → (input_of o (about kind.Raw d) ≡ None) ⊎ IsAmong (at t.given d) (v % 65536)
   raw_of d v (inl e) w = inl e
   raw_of d v (inr f) w = inr (f (v % 65536) w)
 

@@ -24,7 +24,8 @@ use Rattle.law_never.proofs.Lists.{each_map, one_map}
 use Rattle.law_never.proofs.Tests.{box_has_true, each_true, fills_true, index_true, lists_true, one_true, or_not, owes_none_of, place_true, stays_same}
 use Rattle.law_never.proofs.Tests.{stays_true, topic_true}
 use Rattle.law_never.proofs.Checked.{open_true, each_both, each_there, gone_true, leads_true, unheard, unheard_gone, Resets}
-use Rattle.sx_watch.specs.declared.topics.Topic.TheVariants as about
+use Rattle.sx_watch.specs.declared.topics.TopicKind.TheVariants as kind
+use Rattle.sx_watch.specs.Watching.{about}
 use Rattle.sx_watch.specs.declared.topics.Topic.{Topic}
 use Rattle.sx_watch.specs.Watched.{PropertyTree, input_of}
 
@@ -148,90 +149,90 @@ module _ (reacts' : Reactions) (app : AppTree) (o : PropertyTree) (t : Table) (r
   abbrev TopicTrue : Topic → Type 0
   TopicTrue topic = (input_of o topic ≡ None) ⊎ (leads_if reacts' app o t r topic (topic_demand topic) ≡ true)
 
-  resets_shut : (n : ℕ) → each_from (λ m q. is_some (input_of o (about.Reset q.node)) || may_absent r m) 0 app.parts ≡ true → TopicTrue (about.Reset n)
-      → Leads reacts' o t (about.Reset n) nought r (Resets reacts' app o t r there n)
+  resets_shut : (n : ℕ) → each_from (λ m q. is_some (input_of o (about kind.Reset q.node)) || may_absent r m) 0 app.parts ≡ true → TopicTrue (about kind.Reset n)
+      → Leads reacts' o t (about kind.Reset n) nought r (Resets reacts' app o t r there n)
   resets_shut n all (inl e) =
-      unheard reacts' o t (about.Reset n) nought r (Resets reacts' app o t r there n) there
+      unheard reacts' o t (about kind.Reset n) nought r (Resets reacts' app o t r there n) there
       (stays_same (λ m. is_part_at n (slice_get app.parts m)) (λ d. is_device_at n (slice_get app.devices d)) r, unheard_gone reacts' app o t r there n all e) e
   resets_shut n all (inr e) =
-      leads_met (about.Reset n) nought (frees (AtNode n) (AtNode n)) (Resets reacts' app o t r there n) (λ new k. (k.stays, gone_true reacts' app o t r there n new k.gone)) e
+      leads_met (about kind.Reset n) nought (frees (AtNode n) (AtNode n)) (Resets reacts' app o t r there n) (λ new k. (k.stays, gone_true reacts' app o t r there n new k.gone)) e
 
-  drains_shut : (d : ℕ) → TopicTrue (about.Drain d) → Leads reacts' o t (about.Drain d) nought r (Stays none (λ k. d == k) r)
-  drains_shut d (inl e) = unheard reacts' o t (about.Drain d) nought r (Stays none (λ k. d == k) r) there (stays_same none (λ k. d == k) r) e
-  drains_shut d (inr e) = leads_met (about.Drain d) nought (frees Nobody (Only d)) (Stays none (λ k. d == k) r) (λ new k. k.stays) e
+  drains_shut : (d : ℕ) → TopicTrue (about kind.Drain d) → Leads reacts' o t (about kind.Drain d) nought r (Stays none (λ k. d == k) r)
+  drains_shut d (inl e) = unheard reacts' o t (about kind.Drain d) nought r (Stays none (λ k. d == k) r) there (stays_same none (λ k. d == k) r) e
+  drains_shut d (inr e) = leads_met (about kind.Drain d) nought (frees Nobody (Only d)) (Stays none (λ k. d == k) r) (λ new k. k.stays) e
 
-  attested_shut : (m : ℕ) → TopicTrue (about.Attested m) → Leads reacts' o t (about.Attested m) nought r (Stays none none r)
-  attested_shut m (inl e) = unheard reacts' o t (about.Attested m) nought r (Stays none none r) there (stays_same none none r) e
-  attested_shut m (inr e) = leads_met (about.Attested m) nought (frees Nobody Nobody) (Stays none none r) (λ new k. k.stays) e
+  attested_shut : (m : ℕ) → TopicTrue (about kind.Attested m) → Leads reacts' o t (about kind.Attested m) nought r (Stays none none r)
+  attested_shut m (inl e) = unheard reacts' o t (about kind.Attested m) nought r (Stays none none r) there (stays_same none none r) e
+  attested_shut m (inr e) = leads_met (about kind.Attested m) nought (frees Nobody Nobody) (Stays none none r) (λ new k. k.stays) e
 
-  protect_shut : (m : ℕ) (q : PartTree) → (not (may_absent r m) || leads_on reacts' app o t r (about.Protect m) nought (protect_demand m q)) ≡ true → MayBeAbsent r m
-      → Leads reacts' o t (about.Protect m) nought r (λ new. Stays (λ k. m == k) none r new × HasPlace new m (first_present q.tree (ends_of app m)))
+  protect_shut : (m : ℕ) (q : PartTree) → (not (may_absent r m) || leads_on reacts' app o t r (about kind.Protect m) nought (protect_demand m q)) ≡ true → MayBeAbsent r m
+      → Leads reacts' o t (about kind.Protect m) nought r (λ new. Stays (λ k. m == k) none r new × HasPlace new m (first_present q.tree (ends_of app m)))
   protect_shut m q h gone =
-      leads_met (about.Protect m) nought (protect_demand m q) (λ new. Stays (λ k. m == k) none r new × HasPlace new m (first_present q.tree (ends_of app m)))
+      leads_met (about kind.Protect m) nought (protect_demand m q) (λ new. Stays (λ k. m == k) none r new × HasPlace new m (first_present q.tree (ends_of app m)))
       (λ new k. (k.stays, fit_one new m (alone (initial_cells q.tree.decls)) [] k.places.0 (first_present q.tree (ends_of app m)) (alone_has (initial_cells q.tree.decls)) tt))
-      (or_not (may_absent r m) (leads_on reacts' app o t r (about.Protect m) nought (protect_demand m q)) h gone)
+      (or_not (may_absent r m) (leads_on reacts' app o t r (about kind.Protect m) nought (protect_demand m q)) h gone)
 
-  sense_shut : (d : ℕ) (i : Interval) → leads_on reacts' app o t r (about.Sense d) i (sense_demand d i) ≡ true
-      → Leads reacts' o t (about.Sense d) i r (λ new. Stays none (λ k. d == k) r new × ((v : ℕ) → IsInside i v → HasReading new d v))
+  sense_shut : (d : ℕ) (i : Interval) → leads_on reacts' app o t r (about kind.Sense d) i (sense_demand d i) ≡ true
+      → Leads reacts' o t (about kind.Sense d) i r (λ new. Stays none (λ k. d == k) r new × ((v : ℕ) → IsInside i v → HasReading new d v))
   sense_shut d i h =
-      leads_met (about.Sense d) i (sense_demand d i) (λ new. Stays none (λ k. d == k) r new × ((v : ℕ) → IsInside i v → HasReading new d v))
+      leads_met (about kind.Sense d) i (sense_demand d i) (λ new. Stays none (λ k. d == k) r new × ((v : ℕ) → IsInside i v → HasReading new d v))
       (λ new k. (k.stays, fills_true (at new.readings d) i k.readings.0)) h
 
   reads_shut : (m : ℕ) (q : PartTree) (device : Option ℕ) (d : ℕ) → device ≡ Some d → reads_on reacts' app o t r m q device ≡ true
-      → Each (λ i. Leads reacts' o t (about.Read m) i r (λ new. Stays (λ k. m == k) (λ k. d == k) r new × IsAnswered reacts' app r m q None i new)) (at r.readings d)
+      → Each (λ i. Leads reacts' o t (about kind.Read m) i r (λ new. Stays (λ k. m == k) (λ k. d == k) r new × IsAnswered reacts' app r m q None i new)) (at r.readings d)
   reads_shut m q None d e h = absurd cc
   reads_shut m q (Some b) d e h =
-      let k : each (λ i. leads_on reacts' app o t r (about.Read m) i (answers reacts' app r m q None i (Only d))) (at r.readings d) ≡ true =
+      let k : each (λ i. leads_on reacts' app o t r (about kind.Read m) i (answers reacts' app r m q None i (Only d))) (at r.readings d) ≡ true =
       subst (λ d. reads_on reacts' app o t r m q (Some d) ≡ true) (same_Some b d e) h in
-      each_map (λ i. leads_on reacts' app o t r (about.Read m) i (answers reacts' app r m q None i (Only d)) ≡ true)
-      (λ i. Leads reacts' o t (about.Read m) i r (λ new. Stays (λ k. m == k) (λ k. d == k) r new × IsAnswered reacts' app r m q None i new))
-      (λ i g. leads_met (about.Read m) i (answers reacts' app r m q None i (Only d)) (λ new. Stays (λ k. m == k) (λ k. d == k) r new × IsAnswered reacts' app r m q None i new)
+      each_map (λ i. leads_on reacts' app o t r (about kind.Read m) i (answers reacts' app r m q None i (Only d)) ≡ true)
+      (λ i. Leads reacts' o t (about kind.Read m) i r (λ new. Stays (λ k. m == k) (λ k. d == k) r new × IsAnswered reacts' app r m q None i new))
+      (λ i g. leads_met (about kind.Read m) i (answers reacts' app r m q None i (Only d)) (λ new. Stays (λ k. m == k) (λ k. d == k) r new × IsAnswered reacts' app r m q None i new)
       (λ new w. (w.stays, answered reacts' app r new m q None i (Only d) w)) g) (at r.readings d)
-      (each_true (λ i. leads_on reacts' app o t r (about.Read m) i (answers reacts' app r m q None i (Only d))) (at r.readings d) k)
+      (each_true (λ i. leads_on reacts' app o t r (about kind.Read m) i (answers reacts' app r m q None i (Only d))) (at r.readings d) k)
 
   takes_shut : (c : ℕ) (l : Link) (part : Option PartTree) (q : PartTree) → part ≡ Some q → takes_on reacts' app o t r c l part ≡ true
-      → Each (λ i. Leads reacts' o t (about.Take c) i r (λ new. Stays (λ k. l.to == k) none r new × IsAnswered reacts' app r l.to q (Some l.input) i new)) (at r.words c)
+      → Each (λ i. Leads reacts' o t (about kind.Take c) i r (λ new. Stays (λ k. l.to == k) none r new × IsAnswered reacts' app r l.to q (Some l.input) i new)) (at r.words c)
   takes_shut c l None q e h = absurd cc
   takes_shut c l (Some z) q e h =
-      let k : each (λ i. leads_on reacts' app o t r (about.Take c) i (answers reacts' app r l.to q (Some l.input) i Nobody)) (at r.words c) ≡ true =
+      let k : each (λ i. leads_on reacts' app o t r (about kind.Take c) i (answers reacts' app r l.to q (Some l.input) i Nobody)) (at r.words c) ≡ true =
       subst (λ q. takes_on reacts' app o t r c l (Some q) ≡ true) (same_Some z q e) h in
-      each_map (λ i. leads_on reacts' app o t r (about.Take c) i (answers reacts' app r l.to q (Some l.input) i Nobody) ≡ true)
-      (λ i. Leads reacts' o t (about.Take c) i r (λ new. Stays (λ k. l.to == k) none r new × IsAnswered reacts' app r l.to q (Some l.input) i new))
-      (λ i g. leads_met (about.Take c) i (answers reacts' app r l.to q (Some l.input) i Nobody) (λ new. Stays (λ k. l.to == k) none r new × IsAnswered reacts' app r l.to q (Some l.input) i new)
+      each_map (λ i. leads_on reacts' app o t r (about kind.Take c) i (answers reacts' app r l.to q (Some l.input) i Nobody) ≡ true)
+      (λ i. Leads reacts' o t (about kind.Take c) i r (λ new. Stays (λ k. l.to == k) none r new × IsAnswered reacts' app r l.to q (Some l.input) i new))
+      (λ i g. leads_met (about kind.Take c) i (answers reacts' app r l.to q (Some l.input) i Nobody) (λ new. Stays (λ k. l.to == k) none r new × IsAnswered reacts' app r l.to q (Some l.input) i new)
       (λ new w. (w.stays, answered reacts' app r new l.to q (Some l.input) i Nobody w)) g) (at r.words c)
-      (each_true (λ i. leads_on reacts' app o t r (about.Take c) i (answers reacts' app r l.to q (Some l.input) i Nobody)) (at r.words c) k)
+      (each_true (λ i. leads_on reacts' app o t r (about kind.Take c) i (answers reacts' app r l.to q (Some l.input) i Nobody)) (at r.words c) k)
 
   writes_shut : (m : ℕ) (box owed : List Interval) → writes_on reacts' app o t r m box owed ≡ true → (i : Interval) (rest : List Interval) → owed ≡ i ∷ rest
-      → Leads reacts' o t (about.Out m) i r (λ new. Stays (λ k. m == k) none r new × Fits new m box rest)
+      → Leads reacts' o t (about kind.Out m) i r (λ new. Stays (λ k. m == k) none r new × Fits new m box rest)
   writes_shut m box [] h i rest e = absurd cc
   writes_shut m box (j ∷ more) h i rest e =
-      leads_met (about.Out m) i (out_demand m box rest) (λ new. Stays (λ k. m == k) none r new × Fits new m box rest) (λ new k. (k.stays, fit_one new m box rest k.places.0))
+      leads_met (about kind.Out m) i (out_demand m box rest) (λ new. Stays (λ k. m == k) none r new × Fits new m box rest) (λ new k. (k.stays, fit_one new m box rest k.places.0))
       (subst (λ owed. writes_on reacts' app o t r m box owed ≡ true) e h)
 
   shut_at : is_shut_at reacts' app o t r ≡ true → IsClosedAt reacts' app o t r
   shut_at h =
       let p0 = and_parts (each (λ topic. leads_if reacts' app o t r topic (topic_demand topic)) o.topics) _ h in
-      let p00 = and_parts (each_from (λ m q. is_some (input_of o (about.Reset q.node)) || may_absent r m) 0 app.parts) _ p0.1 in
-      let p1 = and_parts (each_from (λ m q. not (may_absent r m) || leads_on reacts' app o t r (about.Protect m) nought (protect_demand m q)) 0 app.parts) _ p00.1 in
-      let p2 = and_parts (each_from (λ d xs. each (λ i. leads_on reacts' app o t r (about.Sense d) i (sense_demand d i)) xs) 0 t.given) _ p1.1 in
+      let p00 = and_parts (each_from (λ m q. is_some (input_of o (about kind.Reset q.node)) || may_absent r m) 0 app.parts) _ p0.1 in
+      let p1 = and_parts (each_from (λ m q. not (may_absent r m) || leads_on reacts' app o t r (about kind.Protect m) nought (protect_demand m q)) 0 app.parts) _ p00.1 in
+      let p2 = and_parts (each_from (λ d xs. each (λ i. leads_on reacts' app o t r (about kind.Sense d) i (sense_demand d i)) xs) 0 t.given) _ p1.1 in
       let p3 = and_parts (each_from (λ m q. reads_on reacts' app o t r m q q.device) 0 app.parts) _ p2.1 in
       let p4 = and_parts (each_from (λ c l. takes_on reacts' app o t r c l (slice_get app.parts l.to)) 0 app.links) _ p3.1 in
       let p5 = and_parts (each_from (λ m xs. each (λ p. writes_on reacts' app o t r m p.cells p.owed) xs) 0 r.places) _ p4.1 in
       let heard_of : (topic : Topic) → TopicTrue topic = topic_true o (λ topic. leads_if reacts' app o t r topic (topic_demand topic)) p0.0 in
       record {
-        reset = λ n. resets_shut n p00.0 (heard_of (about.Reset n));
-        protect = λ m q e. protect_shut m q (index_true (λ m q. not (may_absent r m) || leads_on reacts' app o t r (about.Protect m) nought (protect_demand m q)) app.parts p1.0 m q e);
-        sense = λ d. each_map (λ i. leads_on reacts' app o t r (about.Sense d) i (sense_demand d i) ≡ true) _ (sense_shut d) (at t.given d)
-            (lists_true (λ d i. leads_on reacts' app o t r (about.Sense d) i (sense_demand d i)) t.given p2.0 d);
+        reset = λ n. resets_shut n p00.0 (heard_of (about kind.Reset n));
+        protect = λ m q e. protect_shut m q (index_true (λ m q. not (may_absent r m) || leads_on reacts' app o t r (about kind.Protect m) nought (protect_demand m q)) app.parts p1.0 m q e);
+        sense = λ d. each_map (λ i. leads_on reacts' app o t r (about kind.Sense d) i (sense_demand d i) ≡ true) _ (sense_shut d) (at t.given d)
+            (lists_true (λ d i. leads_on reacts' app o t r (about kind.Sense d) i (sense_demand d i)) t.given p2.0 d);
         read = λ m q d e f. reads_shut m q q.device d f (index_true (λ m q. reads_on reacts' app o t r m q q.device) app.parts p3.0 m q e);
-        drain = λ d. drains_shut d (heard_of (about.Drain d));
-        attested = λ m. attested_shut m (heard_of (about.Attested m));
+        drain = λ d. drains_shut d (heard_of (about kind.Drain d));
+        attested = λ m. attested_shut m (heard_of (about kind.Attested m));
         take = λ c l q e f. takes_shut c l (slice_get app.parts l.to) q f (index_true (λ c l. takes_on reacts' app o t r c l (slice_get app.parts l.to)) app.links p4.0 c l e);
         out = λ m. each_map (λ (p : Place). writes_on reacts' app o t r m p.cells p.owed ≡ true) _ (λ p e. writes_shut m p.cells p.owed e) (at r.places m)
             (lists_true (λ m (p : Place). writes_on reacts' app o t r m p.cells p.owed) r.places p5.0 m);
-        raw = λ d. each_map (λ i. leads_on reacts' app o t r (about.Raw d) i (frees Nobody Nobody) ≡ true) _
-            (λ i e. leads_met (about.Raw d) i (frees Nobody Nobody) (Stays none none r) (λ new k. k.stays) e) (at t.given d)
-            (lists_true (λ d i. leads_on reacts' app o t r (about.Raw d) i (frees Nobody Nobody)) t.given p5.1 d);
+        raw = λ d. each_map (λ i. leads_on reacts' app o t r (about kind.Raw d) i (frees Nobody Nobody) ≡ true) _
+            (λ i e. leads_met (about kind.Raw d) i (frees Nobody Nobody) (Stays none none r) (λ new k. k.stays) e) (at t.given d)
+            (lists_true (λ d i. leads_on reacts' app o t r (about kind.Raw d) i (frees Nobody Nobody)) t.given p5.1 d);
       }
 
 pub shut_is_closed : (reacts : Reactions) (app : AppTree) (o : PropertyTree) (t : Table) → is_shut reacts app o t ≡ true → IsClosed reacts app o t

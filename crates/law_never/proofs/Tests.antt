@@ -1,6 +1,6 @@
 -- What tests of lists, boxes and rows say.
 use Rattle.std.proofs.Common.{◌≡◌, ℕ, zero, suc, ◌+◌, ◌≤◌, ◌⊎◌, inl, inr, ◌&&◌, ◌||◌, max, Bool, true, false, not, if◌then◌else◌, List, [], ◌∷◌, Option, Some}
-use Rattle.std.proofs.Common.{None, refl, sym, ap, subst, arith}
+use Rattle.std.proofs.Common.{None, refl, sym, ap, subst, arith, ◌∙◌, ◌==◌}
 use Rattle.std.specs.Prelude.{nat_le, slice_get, unwrap_or}
 use Rattle.std.specs.List.{position_from}
 use Rattle.std.proofs.lemmas.Bool.{and_parts, eqb-true, leb-true, ltb-true, cases_lt}
@@ -12,10 +12,13 @@ use Rattle.law_never.specs.Tables.{Place, Row, at, IsAmong, IsAtPlace}
 use Rattle.law_never.specs.Closed.{Stays}
 use Rattle.law_never.specs.Check.{box_has, box_within, covers, each, each_from, fills, may_absent, one, owes_none, place_within, spans, stays, within}
 use Rattle.law_never.proofs.Lists.{one_map, one_with}
-use Rattle.sx_watch.specs.declared.topics.Topic.TheVariants as about
+use Rattle.sx_watch.specs.declared.topics.TopicKind.TheVariants as kind
+use Rattle.sx_watch.specs.Watching.{about}
 use Rattle.sx_watch.specs.declared.topics.Topic.{Topic}
 use Rattle.sx_watch.specs.Watched.{PropertyTree, input_of}
 use Rattle.sx_watch.specs.Topics.{same_topic}
+use denote.Enum.Bare.{sameb, same_true}
+use Rattle.sx_watch.specs.contracts.topics.TopicKind.{the_type}
 
 pub or_false : (b c : Bool) → (b || c) ≡ true → b ≡ false → c ≡ true
 or_false true c h e = absurd cc
@@ -177,16 +180,9 @@ stays_same modules devices r = record { absent = λ m free k. k; places = λ m f
 -- topics
 
 same_topic-true : (a b : Topic) → same_topic a b ≡ true → a ≡ b
-same_topic-true (about.Sense a) (about.Sense b) h = ap about.Sense (eqb-true a b h)
-same_topic-true (about.Read a) (about.Read b) h = ap about.Read (eqb-true a b h)
-same_topic-true (about.Take a) (about.Take b) h = ap about.Take (eqb-true a b h)
-same_topic-true (about.Out a) (about.Out b) h = ap about.Out (eqb-true a b h)
-same_topic-true (about.Raw a) (about.Raw b) h = ap about.Raw (eqb-true a b h)
-same_topic-true (about.Drain a) (about.Drain b) h = ap about.Drain (eqb-true a b h)
-same_topic-true (about.Reset a) (about.Reset b) h = ap about.Reset (eqb-true a b h)
-same_topic-true (about.Protect a) (about.Protect b) h = ap about.Protect (eqb-true a b h)
-same_topic-true (about.Attested a) (about.Attested b) h = ap about.Attested (eqb-true a b h)
-same_topic-true a b h = absurd cc
+same_topic-true a b h =
+    let p = and_parts (sameb the_type a.kind b.kind) (a.index == b.index) h in
+    ap (λ k. about k a.index) (same_true the_type tt a.kind b.kind p.0) ∙ ap (λ n. about b.kind n) (eqb-true a.index b.index p.1)
 
 place_or_not : (topic : Topic) (n : ℕ) (us : List Topic) → (position_from (same_topic topic) n us ≡ None) ⊎ OneOf (λ u. same_topic topic u ≡ true) us
 place_or_not topic n [] = inl refl

@@ -4,10 +4,12 @@ use Rattle.sx_mean.specs.declared.events.Act.{Act}
 use Rattle.sx_mean.specs.declared.events.Act.TheVariants.{Send, Emit}
 use Rattle.sx_mean.specs.Places.{initial_cells}
 use Rattle.sx_trace.specs.declared.items.Item.{Item}
-use Rattle.sx_watch.specs.Watched.{PropertyTree, broken_at, broken_from, has_emit, watched}
+use Rattle.std.specs.List.{list_any}
+use Rattle.sx_watch.specs.Watched.{PropertyTree, broken_at, is_emit, watched}
+use Rattle.sx_watch.specs.Watching.{broken_from}
 use Rattle.law_never.specs.Kept.{AreQuiet, Keeps, KeepsFrom}
 
-quiet : (acts : List Act) → AreQuiet acts → has_emit acts ≡ false
+quiet : (acts : List Act) → AreQuiet acts → list_any is_emit acts ≡ false
 quiet [] h = refl
 quiet (Send output v ∷ acts) h = quiet acts h.1
 quiet (Emit v ∷ acts) h = absurd h.0

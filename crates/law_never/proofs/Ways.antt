@@ -11,7 +11,8 @@ use Rattle.law_never.specs.Tables.{Row, Table}
 use Rattle.law_never.specs.Closed.{Hears, IsLed, IsQuietDoing, Leads}
 use Rattle.law_never.proofs.Lists.{one_with, one_map}
 use Rattle.sx_watch.specs.declared.topics.Topic.{Topic}
-use Rattle.sx_watch.specs.Watched.{PropertyTree, hears, input_of}
+use Rattle.sx_watch.specs.Watched.{PropertyTree, input_of}
+use Rattle.sx_watch.specs.Watching.{hears}
 use Rattle.law_never.specs.Kept.{AreQuiet}
 
 -- with what holds of each way, it holds of the way that a module goes

@@ -6,7 +6,8 @@ use Rattle.sx_lang.specs.Tree.{ModuleTree}
 use Rattle.sx_mean.specs.Application.{AppTree, is_sensor}
 use Rattle.law_never.specs.Intervals.{Interval, Doing, MaySend, MayEmit, Path, Reactions}
 use Rattle.law_never.specs.Tables.{Place, Row, Table, at}
-use Rattle.sx_watch.specs.declared.topics.Topic.TheVariants as about
+use Rattle.sx_watch.specs.declared.topics.TopicKind.{TopicKind}
+use Rattle.sx_watch.specs.declared.topics.TopicKind.TheVariants as kind
 use Rattle.sx_watch.specs.declared.topics.Topic.{Topic}
 use Rattle.sx_watch.specs.Watched.{PropertyTree, input_of}
 
@@ -96,9 +97,12 @@ abbrev pub leads : Reactions → PropertyTree → Table → Topic → Interval �
 leads reacts o t topic i r test = heard reacts o.tree (input_of o topic) i r.watch (led t test)
 
 -- the table has each word for an actuator if the topic is what other code writes to it
+abbrev pub fills_raw : Table → TopicKind → ℕ → Bool
+fills_raw t kind.Raw d = spans 0 65535 (at t.given d)
+fills_raw t _ d = true
+
 abbrev pub has_raw : Table → Topic → Bool
-has_raw t (about.Raw d) = spans 0 65535 (at t.given d)
-has_raw t _ = true
+has_raw t u = fills_raw t u.kind u.index
 
 -- the table has each value that a line can give a sensor, and each that other code can write to an
 -- actuator of which the property hears that

@@ -14,7 +14,8 @@ use Rattle.law_never.specs.Intervals.{Interval, IsInside, AreInside, OneOf, Doin
 use Rattle.law_never.specs.Intervals.{Path, Reactions, nought}
 use Rattle.law_never.specs.Tables.{Row, Table, at, HasPlace, HasReading, HasWord, MayBeAbsent}
 use Rattle.law_never.specs.Tables.{owed_of}
-use Rattle.sx_watch.specs.declared.topics.Topic.TheVariants as about
+use Rattle.sx_watch.specs.declared.topics.TopicKind.TheVariants as kind
+use Rattle.sx_watch.specs.Watching.{about}
 use Rattle.sx_watch.specs.declared.topics.Topic.{Topic}
 use Rattle.sx_watch.specs.Watched.{PropertyTree, input_of}
 
@@ -83,31 +84,31 @@ IsAnswered reacts app r m q input i new = Each (λ place. place.owed ≡ []
 -- From the row no item leads out of the table.
 pub record IsClosedAt (reacts : Reactions) (app : AppTree) (o : PropertyTree) (t : Table) (r : Row)
     : Type 0 where
-  pub reset : (n : ℕ) → Leads reacts o t (about.Reset n) nought r
+  pub reset : (n : ℕ) → Leads reacts o t (about kind.Reset n) nought r
       (λ new. Stays (λ m. is_part_at n (slice_get app.parts m))
       (λ d. is_device_at n (slice_get app.devices d)) r new
       × ((m : ℕ) → is_part_at n (slice_get app.parts m) ≡ true → MayBeAbsent new m))
   pub protect : (m : ℕ) (q : PartTree) → slice_get app.parts m ≡ Some q → MayBeAbsent r m
-      → Leads reacts o t (about.Protect m) nought r (λ new. Stays (λ k. m == k) none r new
+      → Leads reacts o t (about kind.Protect m) nought r (λ new. Stays (λ k. m == k) none r new
       × HasPlace new m (first_present q.tree (ends_of app m)))
-  pub sense : (d : ℕ) → Each (λ i. Leads reacts o t (about.Sense d) i r
+  pub sense : (d : ℕ) → Each (λ i. Leads reacts o t (about kind.Sense d) i r
       (λ new. Stays none (λ k. d == k) r new × ((v : ℕ) → IsInside i v → HasReading new d v)))
       (at t.given d)
   pub read : (m : ℕ) (q : PartTree) (d : ℕ) → slice_get app.parts m ≡ Some q
-      → q.device ≡ Some d → Each (λ i. Leads reacts o t (about.Read m) i r
+      → q.device ≡ Some d → Each (λ i. Leads reacts o t (about kind.Read m) i r
       (λ new. Stays (λ k. m == k) (λ k. d == k) r new × IsAnswered reacts app r m q None i new))
       (at r.readings d)
-  pub drain : (d : ℕ) → Leads reacts o t (about.Drain d) nought r (Stays none (λ k. d == k) r)
-  pub attested : (m : ℕ) → Leads reacts o t (about.Attested m) nought r (Stays none none r)
+  pub drain : (d : ℕ) → Leads reacts o t (about kind.Drain d) nought r (Stays none (λ k. d == k) r)
+  pub attested : (m : ℕ) → Leads reacts o t (about kind.Attested m) nought r (Stays none none r)
   pub take : (c : ℕ) (l : Link) (q : PartTree) → slice_get app.links c ≡ Some l
-      → slice_get app.parts l.to ≡ Some q → Each (λ i. Leads reacts o t (about.Take c) i r
+      → slice_get app.parts l.to ≡ Some q → Each (λ i. Leads reacts o t (about kind.Take c) i r
       (λ new. Stays (λ k. l.to == k) none r new
       × IsAnswered reacts app r l.to q (Some l.input) i new)) (at r.words c)
   pub out : (m : ℕ) → Each (λ place. (i : Interval) (rest : List Interval) → place.owed ≡ i ∷ rest
-      → Leads reacts o t (about.Out m) i r (λ new. Stays (λ k. m == k) none r new
+      → Leads reacts o t (about kind.Out m) i r (λ new. Stays (λ k. m == k) none r new
       × Fits new m place.cells rest)) (at r.places m)
   pub raw : (d : ℕ)
-      → Each (λ i. Leads reacts o t (about.Raw d) i r (Stays none none r))
+      → Each (λ i. Leads reacts o t (about kind.Raw d) i r (Stays none none r))
       (at t.given d)
 
 -- The table has the property's first cells, with all modules absent, and it is closed at each row.

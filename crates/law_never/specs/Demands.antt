@@ -10,7 +10,9 @@ use Rattle.law_never.specs.Tables.{Place, Row, Table, at}
 use Rattle.law_never.specs.Closed.{may_emit}
 use Rattle.law_never.specs.Check.{each, each_from, one, fills, leads, may_absent, owes_none}
 use Rattle.law_never.specs.Check.{place_within, stays, box_has}
-use Rattle.sx_watch.specs.declared.topics.Topic.TheVariants as about
+use Rattle.sx_watch.specs.declared.topics.TopicKind.{TopicKind}
+use Rattle.sx_watch.specs.declared.topics.TopicKind.TheVariants as kind
+use Rattle.sx_watch.specs.Watching.{about}
 use Rattle.sx_watch.specs.declared.topics.Topic.{Topic}
 use Rattle.sx_watch.specs.Watched.{PropertyTree, input_of}
 
@@ -125,11 +127,14 @@ answers reacts app r m q input i devices =
     }
 
 -- at each heard reset, drain and attestation
+abbrev pub kind_demand : TopicKind → ℕ → Option Demand
+kind_demand kind.Reset n = Some (frees (AtNode n) (AtNode n))
+kind_demand kind.Drain d = Some (frees Nobody (Only d))
+kind_demand kind.Attested m = Some (frees Nobody Nobody)
+kind_demand _ n = None
+
 abbrev pub topic_demand : Topic → Option Demand
-topic_demand (about.Reset n) = Some (frees (AtNode n) (AtNode n))
-topic_demand (about.Drain d) = Some (frees Nobody (Only d))
-topic_demand (about.Attested m) = Some (frees Nobody Nobody)
-topic_demand _ = None
+topic_demand u = kind_demand u.kind u.index
 
 abbrev pub leads_if : Reactions → AppTree → PropertyTree → Table → Row → Topic → Option Demand
     → Bool
@@ -180,37 +185,38 @@ out_demand m box rest = record {
 abbrev pub reads_on : Reactions → AppTree → PropertyTree → Table → Row → ℕ → PartTree → Option ℕ
     → Bool
 reads_on reacts app o t r m q None = true
-reads_on reacts app o t r m q (Some d) = each (λ i. leads_on reacts app o t r (about.Read m) i
+reads_on reacts app o t r m q (Some d) = each (λ i. leads_on reacts app o t r (about kind.Read m) i
     (answers reacts app r m q None i (Only d))) (at r.readings d)
 
 abbrev pub takes_on : Reactions → AppTree → PropertyTree → Table → Row → ℕ → Link
     → Option PartTree →
     Bool
 takes_on reacts app o t r c l None = true
-takes_on reacts app o t r c l (Some q) = each (λ i. leads_on reacts app o t r (about.Take c) i
+takes_on reacts app o t r c l (Some q) = each (λ i. leads_on reacts app o t r (about kind.Take c) i
     (answers reacts app r l.to q (Some l.input) i Nobody)) (at r.words c)
 
 abbrev pub writes_on : Reactions → AppTree → PropertyTree → Table → Row → ℕ → List Interval
     → List Interval → Bool
 writes_on reacts app o t r m box [] = true
 writes_on reacts app o t r m box (i ∷ rest) =
-    leads_on reacts app o t r (about.Out m) i (out_demand m box rest)
+    leads_on reacts app o t r (about kind.Out m) i (out_demand m box rest)
 
 -- from the row no item leads out of the table
 abbrev pub is_shut_at : Reactions → AppTree → PropertyTree → Table → Row → Bool
 is_shut_at reacts app o t r =
     each (λ topic. leads_if reacts app o t r topic (topic_demand topic)) o.topics
-    && (each_from (λ m q. is_some (input_of o (about.Reset q.node)) || may_absent r m) 0 app.parts
+    && (each_from (λ m q. is_some (input_of o (about kind.Reset q.node)) || may_absent r m) 0
+    app.parts
     && (each_from (λ m q. not (may_absent r m)
-    || leads_on reacts app o t r (about.Protect m) nought (protect_demand m q)) 0 app.parts
+    || leads_on reacts app o t r (about kind.Protect m) nought (protect_demand m q)) 0 app.parts
     && (each_from
-    (λ d xs. each (λ i. leads_on reacts app o t r (about.Sense d) i (sense_demand d i)) xs) 0
+    (λ d xs. each (λ i. leads_on reacts app o t r (about kind.Sense d) i (sense_demand d i)) xs) 0
     t.given
     && (each_from (λ m q. reads_on reacts app o t r m q q.device) 0 app.parts
     && (each_from (λ c l. takes_on reacts app o t r c l (slice_get app.parts l.to)) 0 app.links
     && (each_from (λ m xs. each (λ p. writes_on reacts app o t r m p.cells p.owed) xs) 0 r.places
     && each_from
-    (λ d xs. each (λ i. leads_on reacts app o t r (about.Raw d) i (frees Nobody Nobody)) xs)
+    (λ d xs. each (λ i. leads_on reacts app o t r (about kind.Raw d) i (frees Nobody Nobody)) xs)
     0 t.given))))))
 
 -- the table has the property's first cells, with all modules absent, and it is closed at each row

@@ -14,7 +14,8 @@ use Rattle.law_never.specs.Closed.{IsClosed}
 use Rattle.law_never.specs.Check.{is_open}
 use Rattle.law_never.specs.Demands.{is_shut}
 use Rattle.law_never.specs.Never.{IsNeverBroken}
-use Rattle.sx_watch.specs.declared.topics.Topic.TheVariants as about
+use Rattle.sx_watch.specs.declared.topics.TopicKind.TheVariants as kind
+use Rattle.sx_watch.specs.Watching.{about}
 use Rattle.sx_watch.specs.Watched.{PropertyTree, broken_at, input_of}
 use Rattle.law_never.specs.Kept.{Keeps}
 
@@ -35,7 +36,7 @@ ClosedKeeps = (reacts : Reactions) (app : AppTree) (o : PropertyTree) (t : Table
 pub record IsOpen (app : AppTree) (o : PropertyTree) (t : Table) : Type 0 where
   pub sensed : (d : ℕ) (x : AppDevice) → slice_get app.devices d ≡ Some x
       → is_sensor x.kind ≡ true → (v : ℕ) → v < 32768 → IsAmong (at t.given d) v
-  pub raw : (d : ℕ) → (input_of o (about.Raw d) ≡ None)
+  pub raw : (d : ℕ) → (input_of o (about kind.Raw d) ≡ None)
       ⊎ ((v : ℕ) → v < 65536 → IsAmong (at t.given d) v)
 
 -- And in no run of a sound setting, whatever its schedule, before the first forged item.

@@ -6,7 +6,8 @@ use Rattle.sx_trace.specs.declared.items.Item.TheVariants.{Sense, Raw}
 use Rattle.sx_model.specs.State.{Model, Pending, Present, Reading, Standing}
 use Rattle.law_never.specs.Rules.{Each}
 use Rattle.law_never.specs.Intervals.{Interval, IsInside, AreInside, OneOf}
-use Rattle.sx_watch.specs.declared.topics.Topic.TheVariants as about
+use Rattle.sx_watch.specs.declared.topics.TopicKind.TheVariants as kind
+use Rattle.sx_watch.specs.Watching.{about}
 use Rattle.sx_watch.specs.Watched.{PropertyTree, input_of}
 
 -- where a present module may be: its cells, and the emits that it owes
@@ -94,5 +95,5 @@ pub record Shows (r : Row) (s : Model) (cells : List ℕ) : Type 0 where
 -- actuator if the property hears of it
 abbrev pub IsGiven : PropertyTree → Table → Item → Type 0
 IsGiven o t (Sense d v) = IsAmong (at t.given d) v
-IsGiven o t (Raw d v) = (input_of o (about.Raw d) ≡ None) ⊎ IsAmong (at t.given d) (v % 65536)
+IsGiven o t (Raw d v) = (input_of o (about kind.Raw d) ≡ None) ⊎ IsAmong (at t.given d) (v % 65536)
 IsGiven o t _ = Unit {0}

@@ -5,7 +5,7 @@ ghost use Rattle.sx_mean.specs.View.{app_as};
 ghost use Rattle.law_never.specs.Never.{IsNeverBroken};
 ghost use Rattle.sx_table.specs.Rows.{table_as};
 ghost use Rattle.sx_table.specs.Shut.{is_open, is_shut};
-ghost use Rattle.sx_watch.specs.Watched.{property_as};
+ghost use Rattle.sx_watch.specs.Watching.{property_as};
 
 use std::alloc::Global;
 use sx_mean::apps::App;

@@ -4,7 +4,7 @@ ghost use Rattle.std.specs.Prelude.{◌≡◌, IfOk};
 ghost use Rattle.sx_mean.specs.View.{app_as};
 ghost use Rattle.law_never.specs.Never.{IsNeverBroken};
 ghost use Rattle.sx_search.specs.declared.decide.Decided.TheVariants.{Holds};
-ghost use Rattle.sx_watch.specs.Watched.{property_as};
+ghost use Rattle.sx_watch.specs.Watching.{property_as};
 
 use crate::blocks::finest;
 use crate::gaps::{Gap, Halt, Reason};
@@ -14,7 +14,7 @@ use std::alloc::{AllocError, Global};
 use sx_mean::apps::App;
 use sx_table::rows::Table;
 use sx_watch::property::Property;
-use sx_watch::topics::Topic;
+use sx_watch::topics::{Topic, TopicKind};
 
 /// What the search for a table and its check say of a property.
 #[derive(Drop)]
@@ -32,7 +32,7 @@ fn unplaced(alloc: Global, reason: Reason) -> Decided
     Decided::Unknown(Gap {
         reason,
         cells: Vec::new(alloc),
-        topic: Topic::Reset(0),
+        topic: Topic::new(TopicKind::Reset, 0),
     })
 }
 

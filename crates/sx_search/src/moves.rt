@@ -12,7 +12,7 @@ use sx_table::places::{Place, has_place};
 use sx_table::rows::{Row, places_at};
 use sx_table::shut::{frees, nought, place_demand, protect_demand, sense_demand};
 use sx_table::stays::{Freed, is_set, values_at};
-use sx_watch::topics::Topic;
+use sx_watch::topics::{Topic, TopicKind};
 
 /// A visit to a row: its items are followed, as far as they weren't at the visit before.
 #[derive(Drop)]
@@ -51,7 +51,7 @@ fn push_resets(alloc: Global, app: &App, visit: &Visit, moves: &mut Vec<Move>) -
     for n in 0..app.nodes {
         let node = Freed::AtNode(usize::from(n));
         moves.push(Move {
-            topic: Topic::Reset(n),
+            topic: Topic::new(TopicKind::Reset, n),
             values: nought(),
             demand: frees(alloc, node, node),
             new: visit.first,
@@ -70,7 +70,7 @@ fn push_protects(
         if is_set(&visit.row.absent, m) {
             let demand = protect_demand(alloc, m, &parts[m].code)?;
             moves.push(Move {
-                topic: Topic::Protect(byte(m)?),
+                topic: Topic::new(TopicKind::Protect, byte(m)?),
                 values: nought(),
                 demand,
                 new: !is_set(&visit.seen.absent, m),
@@ -82,9 +82,9 @@ fn push_protects(
 
 /// The device that an item frees of which nothing else changes, if it is such an item.
 fn freed_alone(topic: Topic) -> Option<Freed> {
-    match topic {
-        Topic::Drain(d) => Some(Freed::Only(usize::from(d))),
-        Topic::Attested(_) => Some(Freed::Nobody),
+    match topic.kind {
+        TopicKind::Drain => Some(Freed::Only(usize::from(topic.index))),
+        TopicKind::Attested => Some(Freed::Nobody),
         _ => None,
     }
 }
@@ -113,7 +113,7 @@ fn push_heard(
 fn given(alloc: Global, d: usize, sensor: bool, values: Interval, new: bool) -> Result<Move, Stop> {
     let number = byte(d)?;
     if sensor {
-        let topic = Topic::Sense(number);
+        let topic = Topic::new(TopicKind::Sense, number);
         let demand = sense_demand(alloc, d, values)?;
         return Ok(Move {
             topic,
@@ -122,7 +122,7 @@ fn given(alloc: Global, d: usize, sensor: bool, values: Interval, new: bool) -> 
             new,
         });
     }
-    let topic = Topic::Raw(number);
+    let topic = Topic::new(TopicKind::Raw, number);
     let demand = frees(alloc, Freed::Nobody, Freed::Nobody);
     Ok(Move {
         topic,
@@ -176,7 +176,7 @@ fn push_readings(
     for i in values_at(&visit.row.readings, device) {
         let new = !fills(values_at(&visit.seen.readings, device), *i);
         moves.push(Move {
-            topic: Topic::Read(byte(m)?),
+            topic: Topic::new(TopicKind::Read, byte(m)?),
             values: *i,
             demand: answers(
                 alloc,
@@ -219,7 +219,7 @@ fn push_words(
         let new = !fills(values_at(&visit.seen.words, c), *i);
         let from = visit.source(new);
         moves.push(Move {
-            topic: Topic::Take(byte(c)?),
+            topic: Topic::new(TopicKind::Take, byte(c)?),
             values: *i,
             demand: answers(alloc, app, from, to, code, input, *i, Freed::Nobody)?,
             new,
@@ -248,7 +248,7 @@ fn push_write(
             let cells = Vec::from_slice(alloc, &place.cells)?;
             let owed = Vec::from_slice(alloc, rest)?;
             moves.push(Move {
-                topic: Topic::Out(byte(m)?),
+                topic: Topic::new(TopicKind::Out, byte(m)?),
                 values: *first,
                 demand: place_demand(alloc, m, cells, owed)?,
                 new,

@@ -2,7 +2,7 @@
 
 use std::alloc::{AllocError, Global};
 use sx_mean::apps::{App, Link, Part};
-use sx_watch::topics::Topic;
+use sx_watch::topics::{Topic, TopicKind};
 
 /// For each module, device and connection, whether what the property hears of can depend on it.
 #[derive(Drop)]
@@ -29,11 +29,12 @@ pub fn has(bits: &[bool], n: usize) -> bool {
 
 /// What a topic's values come from: an output from its module, a reading from the module's device.
 fn begin_at(topic: Topic, parts: &[Part], found: &mut Relevance) {
-    match topic {
-        Topic::Sense(d) => set(&mut found.devices, usize::from(d)),
-        Topic::Take(c) => set(&mut found.links, usize::from(c)),
-        Topic::Out(m) => set(&mut found.modules, usize::from(m)),
-        Topic::Read(m) => mark_device(parts, usize::from(m), &mut found.devices),
+    let index = usize::from(topic.index);
+    match topic.kind {
+        TopicKind::Sense => set(&mut found.devices, index),
+        TopicKind::Take => set(&mut found.links, index),
+        TopicKind::Out => set(&mut found.modules, index),
+        TopicKind::Read => mark_device(parts, index, &mut found.devices),
         _ => {}
     }
 }

@@ -19,7 +19,7 @@ use sx_table::rows::{Row, Table, places_at};
 use sx_table::shut::push_alone;
 use sx_table::stays::values_at;
 use sx_watch::property::Property;
-use sx_watch::topics::Topic;
+use sx_watch::topics::{Topic, TopicKind};
 
 /// A table has at most so many rows.
 pub const MOST_ROWS: usize = 1_024;
@@ -187,7 +187,7 @@ fn given_to(
         let blocks = grid.blocks_for(has(&grid.relevant.devices, d));
         return Ok(cut(alloc, blocks, Interval { low, high: 32_767 })?);
     }
-    match input_of(topics, Topic::Raw(byte(d)?)) {
+    match input_of(topics, Topic::new(TopicKind::Raw, byte(d)?)) {
         None => Ok(Vec::new(alloc)),
         Some(_) => Ok(cut(alloc, &grid.blocks, Interval { low, high: 65_535 })?),
     }
@@ -224,7 +224,7 @@ fn begin(alloc: Global, app: &App, property: &Property, grid: &Grid) -> Result<S
         visited: vec![in alloc; false; 1]?,
         changed: vec![in alloc; true; 1]?,
         row: 0,
-        topic: Topic::Reset(0),
+        topic: Topic::new(TopicKind::Reset, 0),
         led: Vec::new(alloc),
     })
 }

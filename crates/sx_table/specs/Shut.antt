@@ -2,6 +2,7 @@
 use Rattle.std.specs.Prelude.{ℕ, ◌+◌, ◌&&◌, ◌||◌, not, Bool, true, false, List, [], ◌∷◌}
 use Rattle.std.specs.Prelude.{Option, Some, None}
 use Rattle.std.specs.Prelude.{is_some, slice_get}
+use Rattle.std.specs.Option.{option_map_or}
 use Rattle.sx_lang.specs.Tree.{ModuleTree}
 use Rattle.sx_mean.specs.declared.apps.AppDevice.{AppDevice}
 use Rattle.sx_mean.specs.declared.apps.Link.{Link}
@@ -15,8 +16,11 @@ use Rattle.sx_table.specs.Made.{answers}
 use Rattle.sx_table.specs.Leads.{leads_on}
 use Rattle.sx_table.specs.Rows.{RowTree, TableTree}
 use Rattle.sx_watch.specs.declared.topics.Topic.{Topic}
+use Rattle.sx_watch.specs.declared.topics.TopicKind.{TopicKind}
+use Rattle.sx_watch.specs.declared.topics.TopicKind.TheVariants.{Attested, Drain, Out, Protect, Raw}
+use Rattle.sx_watch.specs.declared.topics.TopicKind.TheVariants.{Read, Reset, Sense, Take}
 use Rattle.sx_watch.specs.Watched.{PropertyTree, input_of}
-use Rattle.sx_watch.specs.declared.topics.Topic.TheVariants as topic
+use Rattle.sx_watch.specs.Watching.{about}
 
 abbrev pub nought : Interval
 nought = record { low = 0; high = 0 }
@@ -57,16 +61,17 @@ alone (v ∷ vs) = record { low = v; high = v } ∷ alone vs
 abbrev pub protect_demand : ℕ → ModuleTree → DemandTree
 protect_demand m tree = place_demand m (alone (initial_cells tree.decls)) []
 
--- at each heard reset, drain and attestation
+-- what is asked at a heard reset, drain or attestation, by its index
+abbrev pub heard_demand : TopicKind → ℕ → Option DemandTree
+heard_demand Reset n = Some (frees (AtNode n) (AtNode n))
+heard_demand Drain d = Some (frees Nobody (Only d))
+heard_demand Attested m = Some (frees Nobody Nobody)
+heard_demand _ n = None
 
+-- at each of these
 abbrev pub heard_on : AppTree → PropertyTree → TableTree → RowTree → Topic → Bool
-heard_on app o t r (topic.Reset n) = leads_on app o t r (topic.Reset n) nought
-    (frees (AtNode n) (AtNode n))
-heard_on app o t r (topic.Drain d) = leads_on app o t r (topic.Drain d) nought
-    (frees Nobody (Only d))
-heard_on app o t r (topic.Attested m) = leads_on app o t r (topic.Attested m) nought
-    (frees Nobody Nobody)
-heard_on app o t r _ = true
+heard_on app o t r u =
+    option_map_or (λ d. leads_on app o t r u nought d) (heard_demand u.kind u.index) true
 
 abbrev pub topics_on : AppTree → PropertyTree → TableTree → RowTree → List Topic → Bool
 topics_on app o t r [] = true
@@ -75,7 +80,7 @@ topics_on app o t r (u ∷ us) = heard_on app o t r u && topics_on app o t r us
 -- a reset is heard, or the module may be absent
 
 abbrev pub resets_at : PropertyTree → RowTree → ℕ → PartTree → Bool
-resets_at o r m q = is_some (input_of o (topic.Reset q.node)) || is_set r.absent m
+resets_at o r m q = is_some (input_of o (about Reset q.node)) || is_set r.absent m
 
 abbrev pub resets_on : PropertyTree → RowTree → ℕ → List PartTree → Bool
 resets_on o r m [] = true
@@ -85,45 +90,38 @@ resets_on o r m (q ∷ qs) = resets_at o r m q && resets_on o r (m + 1) qs
 
 abbrev pub protects_at : AppTree → PropertyTree → TableTree → RowTree → ℕ → PartTree → Bool
 protects_at app o t r m q = not (is_set r.absent m)
-    || leads_on app o t r (topic.Protect m) nought (protect_demand m q.tree)
+    || leads_on app o t r (about Protect m) nought (protect_demand m q.tree)
 
 abbrev pub protects_on : AppTree → PropertyTree → TableTree → RowTree → ℕ → List PartTree → Bool
 protects_on app o t r m [] = true
 protects_on app o t r m (q ∷ qs) = protects_at app o t r m q && protects_on app o t r (m + 1) qs
 
--- a sensor gets a value
+-- a sensor gets a value, or other code writes to an actuator
 
-abbrev pub sense_at : AppTree → PropertyTree → TableTree → RowTree → ℕ → Interval → Bool
-sense_at app o t r d i = leads_on app o t r (topic.Sense d) i (sense_demand d i)
+abbrev pub given_demand : TopicKind → ℕ → Interval → DemandTree
+given_demand Sense d i = sense_demand d i
+given_demand _ d i = frees Nobody Nobody
 
-abbrev pub senses_of : AppTree → PropertyTree → TableTree → RowTree → ℕ → List Interval → Bool
-senses_of app o t r d [] = true
-senses_of app o t r d (i ∷ is) = sense_at app o t r d i && senses_of app o t r d is
+abbrev pub gives_at : AppTree → PropertyTree → TableTree → RowTree → TopicKind → ℕ → Interval → Bool
+gives_at app o t r kind d i = leads_on app o t r (about kind d) i (given_demand kind d i)
 
-abbrev pub senses_on : AppTree → PropertyTree → TableTree → RowTree → ℕ → List (List Interval)
+abbrev pub gives_of : AppTree → PropertyTree → TableTree → RowTree → TopicKind → ℕ → List Interval
     → Bool
-senses_on app o t r d [] = true
-senses_on app o t r d (xs ∷ xss) = senses_of app o t r d xs && senses_on app o t r (d + 1) xss
+gives_of app o t r kind d [] = true
+gives_of app o t r kind d (i ∷ is) = gives_at app o t r kind d i && gives_of app o t r kind d is
 
--- other code writes to an actuator
-
-abbrev pub raws_at : AppTree → PropertyTree → TableTree → RowTree → ℕ → Interval → Bool
-raws_at app o t r d i = leads_on app o t r (topic.Raw d) i (frees Nobody Nobody)
-
-abbrev pub raws_of : AppTree → PropertyTree → TableTree → RowTree → ℕ → List Interval → Bool
-raws_of app o t r d [] = true
-raws_of app o t r d (i ∷ is) = raws_at app o t r d i && raws_of app o t r d is
-
-abbrev pub raws_on : AppTree → PropertyTree → TableTree → RowTree → ℕ → List (List Interval) → Bool
-raws_on app o t r d [] = true
-raws_on app o t r d (xs ∷ xss) = raws_of app o t r d xs && raws_on app o t r (d + 1) xss
+abbrev pub gives_on : AppTree → PropertyTree → TableTree → RowTree → TopicKind → ℕ
+    → List (List Interval) → Bool
+gives_on app o t r kind d [] = true
+gives_on app o t r kind d (xs ∷ xss) = gives_of app o t r kind d xs
+    && gives_on app o t r kind (d + 1) xss
 
 -- a module reads the value of its device
 
 abbrev pub reads_at : AppTree → PropertyTree → TableTree → RowTree → ℕ → ModuleTree → ℕ → Interval
     → Bool
 reads_at app o t r m tree d i =
-    leads_on app o t r (topic.Read m) i (answers app r m tree None i (Only d))
+    leads_on app o t r (about Read m) i (answers app r m tree None i (Only d))
 
 abbrev pub reads_of : AppTree → PropertyTree → TableTree → RowTree → ℕ → ModuleTree → ℕ
     → List Interval → Bool
@@ -146,7 +144,7 @@ reads_on app o t r m (q ∷ qs) = reads_if app o t r m q.tree q.device
 abbrev pub takes_at : AppTree → PropertyTree → TableTree → RowTree → ℕ → Link → ModuleTree
     → Interval → Bool
 takes_at app o t r c l tree i =
-    leads_on app o t r (topic.Take c) i (answers app r l.to tree (Some l.input) i Nobody)
+    leads_on app o t r (about Take c) i (answers app r l.to tree (Some l.input) i Nobody)
 
 abbrev pub takes_of : AppTree → PropertyTree → TableTree → RowTree → ℕ → Link → ModuleTree
     → List Interval → Bool
@@ -172,7 +170,7 @@ takes_on app o t r c (l ∷ ls) = takes_part app o t r c l app.parts && takes_on
 abbrev pub writes_owed : AppTree → PropertyTree → TableTree → RowTree → ℕ → List Interval
     → List Interval → Bool
 writes_owed app o t r m box [] = true
-writes_owed app o t r m box (i ∷ rest) = leads_on app o t r (topic.Out m) i
+writes_owed app o t r m box (i ∷ rest) = leads_on app o t r (about Out m) i
     (place_demand m box rest)
 
 abbrev pub writes_of : AppTree → PropertyTree → TableTree → RowTree → ℕ → List PlaceTree → Bool
@@ -188,10 +186,10 @@ writes_on app o t r m (ps ∷ pss) = writes_of app o t r m ps && writes_on app o
 
 abbrev pub shut_last : AppTree → PropertyTree → TableTree → RowTree → Bool
 shut_last app o t r = takes_on app o t r 0 app.links
-    && (writes_on app o t r 0 r.places && raws_on app o t r 0 t.given)
+    && (writes_on app o t r 0 r.places && gives_on app o t r Raw 0 t.given)
 
 abbrev pub shut_within : AppTree → PropertyTree → TableTree → RowTree → Bool
-shut_within app o t r = senses_on app o t r 0 t.given
+shut_within app o t r = gives_on app o t r Sense 0 t.given
     && (reads_on app o t r 0 app.parts && shut_last app o t r)
 
 abbrev pub is_shut_at : AppTree → PropertyTree → TableTree → RowTree → Bool
@@ -231,9 +229,12 @@ abbrev pub opens_from : List (List Interval) → ℕ → List AppDevice → Bool
 opens_from xss d [] = true
 opens_from xss d (x ∷ xs) = opens_at xss d x && opens_from xss (d + 1) xs
 
+abbrev pub fills_raw : List (List Interval) → TopicKind → ℕ → Bool
+fills_raw xss Raw d = fills (values_at xss d) (record { low = 0; high = 65535 })
+fills_raw xss _ d = true
+
 abbrev pub has_raw : List (List Interval) → Topic → Bool
-has_raw xss (topic.Raw d) = fills (values_at xss d) (record { low = 0; high = 65535 })
-has_raw xss _ = true
+has_raw xss u = fills_raw xss u.kind u.index
 
 abbrev pub have_raw : List (List Interval) → List Topic → Bool
 have_raw xss [] = true

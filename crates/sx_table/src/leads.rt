@@ -9,7 +9,7 @@ ghost use Rattle.sx_table.specs.Leads.{are_quiet, each_led, finds, finds_in, is_
 ghost use Rattle.sx_table.specs.Leads.{leads_at, leads_on};
 ghost use Rattle.sx_table.specs.Rows.{row_as, table_as};
 ghost use Rattle.sx_watch.specs.Topics.{same_topic};
-ghost use Rattle.sx_watch.specs.Watched.{property_as};
+ghost use Rattle.sx_watch.specs.Watching.{property_as};
 
 use crate::boxes::box_within;
 use crate::demands::{Demand, meets};
@@ -26,18 +26,7 @@ use sx_watch::topics::Topic;
 fn same_topic(left: Topic, right: Topic) -> bool
     ensures { result ≡ same_topic left right }
 {
-    match (left, right) {
-        (Topic::Sense(a), Topic::Sense(b)) => a == b,
-        (Topic::Read(a), Topic::Read(b)) => a == b,
-        (Topic::Take(a), Topic::Take(b)) => a == b,
-        (Topic::Out(a), Topic::Out(b)) => a == b,
-        (Topic::Raw(a), Topic::Raw(b)) => a == b,
-        (Topic::Drain(a), Topic::Drain(b)) => a == b,
-        (Topic::Reset(a), Topic::Reset(b)) => a == b,
-        (Topic::Protect(a), Topic::Protect(b)) => a == b,
-        (Topic::Attested(a), Topic::Attested(b)) => a == b,
-        _ => false,
-    }
+    left.kind == right.kind && left.index == right.index
 }
 
 /// The number of the first of the property's inputs that is of this topic.

@@ -1,26 +1,21 @@
 //! From no row an item leads out of the table.
 
-ghost use Rattle.std.specs.Prelude.{◌≡◌, ◌++◌, IfOk, OnOk, None, Some, map};
+ghost use Rattle.std.specs.Prelude.{◌≡◌, ◌++◌, IfOk, OnOk, None, Some, map, option_map};
 ghost use Rattle.sx_check.specs.Source.{source_tree};
 ghost use Rattle.sx_mean.specs.View.{app_as, part_as};
 ghost use Rattle.sx_table.specs.Demands.{demand_as};
 ghost use Rattle.sx_table.specs.Places.{place_as};
 ghost use Rattle.sx_table.specs.Shut.{absent_at, absent_from, alone, begins, begins_at, each_shut};
-ghost use Rattle.sx_table.specs.Shut.{frees, has_raw, have_raw};
-ghost use Rattle.sx_table.specs.Shut.{heard_on, is_open, is_shut, is_shut_at, nought, opens_at};
-ghost use Rattle.sx_table.specs.Shut.{opens_from};
-ghost use Rattle.sx_table.specs.Shut.{place_demand, protect_demand, protects_at, protects_on};
-ghost use Rattle.sx_table.specs.Shut.{raws_at, raws_of};
-ghost use Rattle.sx_table.specs.Shut.{raws_on, reads_at, reads_if, reads_of, reads_on, resets_at};
-ghost use Rattle.sx_table.specs.Shut.{resets_on};
-ghost use Rattle.sx_table.specs.Shut.{sense_at, sense_demand, senses_of, senses_on, shut_last};
-ghost use Rattle.sx_table.specs.Shut.{shut_within};
-ghost use Rattle.sx_table.specs.Shut.{takes_at, takes_of, takes_on, takes_part, topics_on};
-ghost use Rattle.sx_table.specs.Shut.{writes_of, writes_on};
-ghost use Rattle.sx_table.specs.Shut.{writes_owed};
+ghost use Rattle.sx_table.specs.Shut.{frees, given_demand, gives_at, gives_of, gives_on, has_raw};
+ghost use Rattle.sx_table.specs.Shut.{have_raw, heard_demand, heard_on, is_open, is_shut};
+ghost use Rattle.sx_table.specs.Shut.{is_shut_at, nought, opens_at, opens_from, place_demand};
+ghost use Rattle.sx_table.specs.Shut.{protect_demand, protects_at, protects_on, reads_at, reads_if};
+ghost use Rattle.sx_table.specs.Shut.{reads_of, reads_on, resets_at, resets_on, sense_demand};
+ghost use Rattle.sx_table.specs.Shut.{shut_last, shut_within, takes_at, takes_of, takes_on};
+ghost use Rattle.sx_table.specs.Shut.{takes_part, topics_on, writes_of, writes_on, writes_owed};
 ghost use Rattle.sx_table.specs.Stays.{item_lists};
 ghost use Rattle.sx_table.specs.Rows.{place_lists, row_as, table_as};
-ghost use Rattle.sx_watch.specs.Watched.{property_as};
+ghost use Rattle.sx_watch.specs.Watching.{property_as};
 
 use crate::boxes::{box_has, fills};
 use crate::demands::{Demand, NeededPlace, NeededValues};
@@ -36,7 +31,7 @@ use sx_mean::stores::Store;
 use sx_span::intervals::Interval;
 use sx_span::stop::Stop;
 use sx_watch::property::Property;
-use sx_watch::topics::Topic;
+use sx_watch::topics::{Topic, TopicKind};
 
 /// 0 alone.
 pub fn nought() -> Interval
@@ -119,6 +114,18 @@ pub fn protect_demand(alloc: Global, m: usize, code: &Checked) -> Result<Demand,
     place_demand(alloc, m, cells, Vec::new(alloc))
 }
 
+fn heard_demand(alloc: Global, topic: Topic) -> Option<Demand>
+    ensures { option_map demand_as result ≡ heard_demand topic.kind topic.index }
+{
+    let index = usize::from(topic.index);
+    match topic.kind {
+        TopicKind::Reset => Some(frees(alloc, Freed::AtNode(index), Freed::AtNode(index))),
+        TopicKind::Drain => Some(frees(alloc, Freed::Nobody, Freed::Only(index))),
+        TopicKind::Attested => Some(frees(alloc, Freed::Nobody, Freed::Nobody)),
+        _ => None,
+    }
+}
+
 fn heard_on(
     alloc: Global,
     app: &App,
@@ -130,47 +137,9 @@ fn heard_on(
     ensures { IfOk result (λ b. b ≡ heard_on (app_as app.now) (property_as property.now)
         (table_as table.now) (row_as row.now) topic) }
 {
-    match topic {
-        Topic::Reset(n) => leads_on(
-            alloc,
-            app,
-            property,
-            table,
-            row,
-            topic,
-            nought(),
-            &frees(
-                alloc,
-                Freed::AtNode(usize::from(n)),
-                Freed::AtNode(usize::from(n)),
-            ),
-        ),
-        Topic::Drain(d) => leads_on(
-            alloc,
-            app,
-            property,
-            table,
-            row,
-            topic,
-            nought(),
-            &frees(alloc, Freed::Nobody, Freed::Only(usize::from(d))),
-        ),
-        Topic::Attested(_) => leads_on(
-            alloc,
-            app,
-            property,
-            table,
-            row,
-            topic,
-            nought(),
-            &frees(alloc, Freed::Nobody, Freed::Nobody),
-        ),
-        Topic::Sense(_)
-        | Topic::Read(_)
-        | Topic::Take(_)
-        | Topic::Out(_)
-        | Topic::Raw(_)
-        | Topic::Protect(_) => Ok(true),
+    match heard_demand(alloc, topic) {
+        Some(d) => leads_on(alloc, app, property, table, row, topic, nought(), &d),
+        None => Ok(true),
     }
 }
 
@@ -196,7 +165,8 @@ fn topics_on(
 fn resets_at(property: &Property, row: &Row, m: usize, q: &Part) -> bool
     ensures { result ≡ resets_at (property_as property.now) (row_as row.now) m (part_as q.now) }
 {
-    input_of(&property.topics, Topic::Reset(q.node)).is_some() || is_set(&row.absent, m)
+    input_of(&property.topics, Topic::new(TopicKind::Reset, q.node)).is_some()
+        || is_set(&row.absent, m)
 }
 
 fn resets_on(property: &Property, row: &Row, parts: &[Part]) -> bool
@@ -233,7 +203,7 @@ fn protects_at(
         property,
         table,
         row,
-        Topic::Protect(byte(m)?),
+        Topic::new(TopicKind::Protect, byte(m)?),
         nought(),
         &d,
     )
@@ -258,127 +228,68 @@ fn protects_on(
     Ok(true)
 }
 
-fn sense_at(
+fn given_demand(alloc: Global, kind: TopicKind, d: usize, i: Interval) -> Result<Demand, Stop>
+    ensures { IfOk result (λ k. demand_as k ≡ given_demand kind d i) }
+{
+    match kind {
+        TopicKind::Sense => sense_demand(alloc, d, i),
+        _ => Ok(frees(alloc, Freed::Nobody, Freed::Nobody)),
+    }
+}
+
+fn gives_at(
     alloc: Global,
     app: &App,
     property: &Property,
     table: &Table,
     row: &Row,
+    kind: TopicKind,
     d: usize,
     i: Interval,
 ) -> Result<bool, Stop>
-    ensures { IfOk result (λ b. b ≡ sense_at (app_as app.now) (property_as property.now)
-        (table_as table.now) (row_as row.now) d i) }
+    ensures { IfOk result (λ b. b ≡ gives_at (app_as app.now) (property_as property.now)
+        (table_as table.now) (row_as row.now) kind d i) }
 {
-    let k = sense_demand(alloc, d, i)?;
-    leads_on(
-        alloc,
-        app,
-        property,
-        table,
-        row,
-        Topic::Sense(byte(d)?),
-        i,
-        &k,
-    )
+    let k = given_demand(alloc, kind, d, i)?;
+    let topic = Topic::new(kind, byte(d)?);
+    leads_on(alloc, app, property, table, row, topic, i, &k)
 }
 
-fn senses_of(
+fn gives_of(
     alloc: Global,
     app: &App,
     property: &Property,
     table: &Table,
     row: &Row,
+    kind: TopicKind,
     d: usize,
     list: &[Interval],
 ) -> Result<bool, Stop>
-    ensures { IfOk result (λ b. b ≡ senses_of (app_as app.now) (property_as property.now)
-        (table_as table.now) (row_as row.now) d list.now) }
+    ensures { IfOk result (λ b. b ≡ gives_of (app_as app.now) (property_as property.now)
+        (table_as table.now) (row_as row.now) kind d list.now) }
 {
     for i in list {
-        if !sense_at(alloc, app, property, table, row, d, *i)? {
+        if !gives_at(alloc, app, property, table, row, kind, d, *i)? {
             return Ok(false);
         }
     }
     Ok(true)
 }
 
-fn senses_on(
+fn gives_on(
     alloc: Global,
     app: &App,
     property: &Property,
     table: &Table,
     row: &Row,
+    kind: TopicKind,
     lists: &[Vec<Interval>],
 ) -> Result<bool, Stop>
-    ensures { IfOk result (λ b. b ≡ senses_on (app_as app.now) (property_as property.now)
-        (table_as table.now) (row_as row.now) 0 (item_lists lists.now)) }
+    ensures { IfOk result (λ b. b ≡ gives_on (app_as app.now) (property_as property.now)
+        (table_as table.now) (row_as row.now) kind 0 (item_lists lists.now)) }
 {
     for d in 0..lists.len() {
-        if !senses_of(alloc, app, property, table, row, d, &lists[d])? {
-            return Ok(false);
-        }
-    }
-    Ok(true)
-}
-
-fn raws_at(
-    alloc: Global,
-    app: &App,
-    property: &Property,
-    table: &Table,
-    row: &Row,
-    d: usize,
-    i: Interval,
-) -> Result<bool, Stop>
-    ensures { IfOk result (λ b. b ≡ raws_at (app_as app.now) (property_as property.now)
-        (table_as table.now) (row_as row.now) d i) }
-{
-    leads_on(
-        alloc,
-        app,
-        property,
-        table,
-        row,
-        Topic::Raw(byte(d)?),
-        i,
-        &frees(alloc, Freed::Nobody, Freed::Nobody),
-    )
-}
-
-fn raws_of(
-    alloc: Global,
-    app: &App,
-    property: &Property,
-    table: &Table,
-    row: &Row,
-    d: usize,
-    list: &[Interval],
-) -> Result<bool, Stop>
-    ensures { IfOk result (λ b. b ≡ raws_of (app_as app.now) (property_as property.now)
-        (table_as table.now) (row_as row.now) d list.now) }
-{
-    for i in list {
-        if !raws_at(alloc, app, property, table, row, d, *i)? {
-            return Ok(false);
-        }
-    }
-    Ok(true)
-}
-
-fn raws_on(
-    alloc: Global,
-    app: &App,
-    property: &Property,
-    table: &Table,
-    row: &Row,
-    lists: &[Vec<Interval>],
-) -> Result<bool, Stop>
-    ensures { IfOk result (λ b. b ≡ raws_on (app_as app.now) (property_as property.now)
-        (table_as table.now) (row_as row.now) 0 (item_lists lists.now)) }
-{
-    for d in 0..lists.len() {
-        if !raws_of(alloc, app, property, table, row, d, &lists[d])? {
+        if !gives_of(alloc, app, property, table, row, kind, d, &lists[d])? {
             return Ok(false);
         }
     }
@@ -406,7 +317,7 @@ fn reads_at(
         property,
         table,
         row,
-        Topic::Read(byte(m)?),
+        Topic::new(TopicKind::Read, byte(m)?),
         i,
         &k,
     )
@@ -511,7 +422,7 @@ fn takes_at(
         property,
         table,
         row,
-        Topic::Take(byte(c)?),
+        Topic::new(TopicKind::Take, byte(c)?),
         i,
         &k,
     )
@@ -614,7 +525,7 @@ fn writes_owed(
                 property,
                 table,
                 row,
-                Topic::Out(byte(m)?),
+                Topic::new(TopicKind::Out, byte(m)?),
                 *i,
                 &k,
             )
@@ -677,7 +588,15 @@ fn shut_last(
     if !writes_on(alloc, app, property, table, row, &row.places)? {
         return Ok(false);
     }
-    raws_on(alloc, app, property, table, row, &table.given)
+    gives_on(
+        alloc,
+        app,
+        property,
+        table,
+        row,
+        TopicKind::Raw,
+        &table.given,
+    )
 }
 
 fn shut_within(
@@ -690,7 +609,15 @@ fn shut_within(
     ensures { IfOk result (λ b. b ≡ shut_within (app_as app.now) (property_as property.now)
         (table_as table.now) (row_as row.now)) }
 {
-    if !senses_on(alloc, app, property, table, row, &table.given)? {
+    if !gives_on(
+        alloc,
+        app,
+        property,
+        table,
+        row,
+        TopicKind::Sense,
+        &table.given,
+    )? {
         return Ok(false);
     }
     if !reads_on(alloc, app, property, table, row, &app.parts)? {
@@ -813,22 +740,15 @@ fn opens_from(lists: &[Vec<Interval>], devices: &[AppDevice]) -> bool
 fn has_raw(lists: &[Vec<Interval>], topic: Topic) -> bool
     ensures { result ≡ has_raw (item_lists lists.now) topic }
 {
-    match topic {
-        Topic::Raw(d) => fills(
-            values_at(lists, usize::from(d)),
+    match topic.kind {
+        TopicKind::Raw => fills(
+            values_at(lists, usize::from(topic.index)),
             Interval {
                 low: 0,
                 high: 65535,
             },
         ),
-        Topic::Sense(_)
-        | Topic::Read(_)
-        | Topic::Take(_)
-        | Topic::Out(_)
-        | Topic::Drain(_)
-        | Topic::Reset(_)
-        | Topic::Protect(_)
-        | Topic::Attested(_) => true,
+        _ => true,
     }
 }
 

@@ -3,10 +3,11 @@ use Rattle.std.proofs.Common.{◌≡◌, ◌∙◌, ℕ, ◌+◌, Bool, true, fa
 use Rattle.std.proofs.lemmas.List.{length-append}
 use Rattle.sx_trace.specs.declared.items.Item.{Item}
 use Rattle.sx_watch.specs.declared.watcher.Watcher.{Watcher}
-use Rattle.sx_watch.specs.Watched.{PropertyTree, broken_at, broken_from, has_emit, property_as, watched}
-use Rattle.sx_watch.specs.Watching.{Follows, Heeds}
+use Rattle.std.specs.List.{list_any}
+use Rattle.sx_watch.specs.Watched.{PropertyTree, broken_at, is_emit, watched}
+use Rattle.sx_watch.specs.Watching.{Follows, Heeds, broken_from, property_as}
 
-turn : (p : PropertyTree) (n : ℕ) (cells : List ℕ) (item : Item) (more : List Item) (b : Bool) → b ≡ has_emit (watched p cells item).acts
+turn : (p : PropertyTree) (n : ℕ) (cells : List ℕ) (item : Item) (more : List Item) (b : Bool) → b ≡ list_any is_emit (watched p cells item).acts
     → broken_from p n cells (item ∷ more) ≡ (if b then Some n else broken_from p (n + 1) (watched p cells item).cells more)
 turn p n cells item more b h = ap (λ (x : Bool). if x then Some n else broken_from p (n + 1) (watched p cells item).cells more) (sym h)
 
@@ -14,7 +15,7 @@ longer : (items : List Item) (item : Item) → length items + 1 + 1 ≡ length (
 longer items item = omega (arith, length-append items (item ∷ []))
 
 heeds_as : (p : PropertyTree) (items : List Item) (item : Item) (old new : Watcher) (broken : Bool) → Follows p items old → property_as new.property ≡ p
-    → broken ≡ has_emit (watched p old.store.cells.items item).acts → new.store.cells.items ≡ (watched p old.store.cells.items item).cells
+    → broken ≡ list_any is_emit (watched p old.store.cells.items item).acts → new.store.cells.items ≡ (watched p old.store.cells.items item).cells
     → Heeds p items item new broken
 heeds_as p items item old new true f same b cells = λ more.
     f.unbroken (item ∷ more) ∙ turn p (length items + 1) old.store.cells.items item more true b
@@ -27,8 +28,8 @@ heeds_as p items item old new false f same b cells = record {
 }
 
 pub heeds : (p : PropertyTree) (items : List Item) (item : Item) (old new : Watcher) (broken : Bool) → Follows p items old → new.property ≡ old.property
-    → broken ≡ has_emit (watched (property_as old.property) old.store.cells.items item).acts
+    → broken ≡ list_any is_emit (watched (property_as old.property) old.store.cells.items item).acts
     → new.store.cells.items ≡ (watched (property_as old.property) old.store.cells.items item).cells → Heeds p items item new broken
 heeds p items item old new broken f same b cells = heeds_as p items item old new broken f (ap property_as same ∙ f.property)
-    (subst (λ (q : PropertyTree). broken ≡ has_emit (watched q old.store.cells.items item).acts) f.property b)
+    (subst (λ (q : PropertyTree). broken ≡ list_any is_emit (watched q old.store.cells.items item).acts) f.property b)
     (subst (λ (q : PropertyTree). new.store.cells.items ≡ (watched q old.store.cells.items item).cells) f.property cells)

@@ -25,8 +25,9 @@ use Rattle.sx_watch.specs.declared.reading.PropertyFault.{PropertyFault}
 use Rattle.sx_watch.specs.declared.reading.PropertyFault.TheVariants.{Syntax}
 use Rattle.sx_watch.specs.Read.{GivesOne, no_module}
 use Rattle.sx_watch.specs.Watched.{PropertyTree}
-use Rattle.sx_watch.specs.Rewriting.{heads_of, module_tokens}
-use Rattle.sx_watch.specs.Text.{IsMeant, IsProperty, judged}
+use Rattle.sx_watch.specs.Rewriting.{module_tokens}
+use Rattle.sx_watch.specs.Parts.{IsMeant, heads_of}
+use Rattle.sx_watch.specs.Text.{IsProperty, judged}
 use Rattle.sx_watch.specs.Laws.{OneProperty, SomeProperty}
 
 same_fault : (ts : List Placed) (p q : Option Placed) → IsFaultAt ts p → IsFaultAt ts q → p ≡ q

@@ -1,4 +1,5 @@
--- What the call that reads a property answers.
+-- What the call that reads a property answers. Nobody has to believe this file: it is for contracts
+-- of functions.
 use Rattle.std.specs.Prelude.{◌≡◌, List, [], Option, Result, Ok, Err}
 use Rattle.std.specs.Option.{option_map_or}
 use Rattle.sx_watch.specs.declared.property.Property.{Property}
@@ -15,8 +16,10 @@ use Rattle.sx_mean.specs.Application.{AppTree}
 use Rattle.sx_check.specs.Rules.{first_broken}
 use Rattle.sx_watch.specs.declared.rewriting.Head.{Head}
 use Rattle.sx_watch.specs.declared.topics.Topic.{Topic}
-use Rattle.sx_watch.specs.Text.{second_from, topics_of}
-use Rattle.sx_watch.specs.Watched.{PropertyTree, property_as}
+use Rattle.sx_watch.specs.Parts.{topics_of}
+use Rattle.sx_watch.specs.Text.{second_from}
+use Rattle.sx_watch.specs.Watched.{PropertyTree}
+use Rattle.sx_watch.specs.Watching.{property_as}
 
 -- the answer is one that is meant, unless memory ran out
 abbrev pub GivesOne : Result Property PropertyError

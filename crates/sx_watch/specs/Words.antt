@@ -1,57 +1,26 @@
 -- The words of properties: what begins a handler's head, and what the text becomes.
-use Rattle.std.specs.Prelude.{ℕ, Bool, true, false, if◌then◌else◌, List, [], ◌∷◌, codes}
-use Rattle.std.specs.Prelude.{Option, Some, None, min, ◌+◌}
-use Rattle.std.specs.Str.{bytes_eq}
+use Rattle.std.specs.Prelude.{ℕ, min, List, [], ◌∷◌, codes}
 use Rattle.sx_lex.specs.declared.tokens.Kind.{Kind}
 use Rattle.sx_lex.specs.declared.tokens.Kind.TheVariants.{Sensor, Actuator, Input, Output, Sample}
 use Rattle.sx_lex.specs.declared.tokens.Kind.TheVariants.{Send, Emit}
-use Rattle.sx_watch.specs.declared.words.TopicKind.{TopicKind}
-use Rattle.sx_watch.specs.declared.words.TopicKind.TheVariants.{Sense, Read, Take, Out, Raw, Drain}
-use Rattle.sx_watch.specs.declared.words.TopicKind.TheVariants.{Reset, Protect, Attested}
+use Rattle.sx_watch.specs.declared.topics.TopicKind.{TopicKind}
+use Rattle.sx_watch.specs.declared.topics.TopicKind.TheVariants.{Sense, Read, Take, Out, Raw}
+use Rattle.sx_watch.specs.declared.topics.TopicKind.TheVariants.{Drain, Reset, Protect, Attested}
 
--- what a handler hears of whose head has this word
-abbrev pub kind_of : List ℕ → Option TopicKind
-kind_of w =
-    if bytes_eq w (codes "sense") then Some Sense else
-    if bytes_eq w (codes "read") then Some Read else
-    if bytes_eq w (codes "take") then Some Take else
-    if bytes_eq w (codes "out") then Some Out else
-    if bytes_eq w (codes "raw") then Some Raw else
-    if bytes_eq w (codes "drain") then Some Drain else
-    if bytes_eq w (codes "reset") then Some Reset else
-    if bytes_eq w (codes "protect") then Some Protect else
-    if bytes_eq w (codes "attested") then Some Attested else None
-
--- whether items of this kind have a value
-abbrev pub has_value : TopicKind → Bool
-has_value Drain = false
-has_value Reset = false
-has_value Protect = false
-has_value Attested = false
-has_value _ = true
+-- the words that a head begins with, and the kind of items that its handler hears of
+abbrev pub topic_words : List (List ℕ × TopicKind)
+topic_words = (codes "sense", Sense) ∷ (codes "read", Read) ∷ (codes "take", Take)
+    ∷ (codes "out", Out) ∷ (codes "raw", Raw) ∷ (codes "drain", Drain) ∷ (codes "reset", Reset)
+    ∷ (codes "protect", Protect) ∷ (codes "attested", Attested) ∷ []
 
 -- the words of the language that properties don't have
-abbrev pub is_left_out : Kind → Bool
-is_left_out Sensor = true
-is_left_out Actuator = true
-is_left_out Input = true
-is_left_out Output = true
-is_left_out Sample = true
-is_left_out Send = true
-is_left_out Emit = true
-is_left_out _ = false
+abbrev pub left_out : List Kind
+left_out = Sensor ∷ Actuator ∷ Input ∷ Output ∷ Sample ∷ Send ∷ Emit ∷ []
 
--- names that no text spells: the variable that is 1 once an assumption failed, the parameter of a
--- handler without one, and the input of the head of this number
+-- names that no text spells: the variable that is 1 once an assumption failed, and the input of the
+-- head of this number, from 0; no deployment has items for more than 255 heads
 abbrev pub ended : List ℕ
 ended = codes "!ended"
 
-abbrev pub unnamed : List ℕ
-unnamed = codes "_"
-
 abbrev pub input_name : ℕ → List ℕ
-input_name n = 35 ∷ n ∷ []
-
--- the number of the next head; no deployment has items for more than 255
-abbrev pub next : ℕ → ℕ
-next n = min (n + 1) 255
+input_name n = 35 ∷ min n 255 ∷ []

@@ -1,41 +1,35 @@
 //! What the heads of a property name in a deployment.
 
-ghost use Rattle.std.specs.Prelude.{◌≡◌, ◌++◌, IfOk, IsTrue, OnOk, [], false};
-ghost use Rattle.std.specs.Prelude.{slice_get};
+ghost use Rattle.std.specs.Prelude.{◌≡◌, ◌++◌, IfOk, IsTrue, OnOk, [], false, is_some};
+ghost use Rattle.std.specs.Prelude.{if◌then◌else◌, None, slice_get};
 ghost use Rattle.std.specs.List.{list_any};
-ghost use Rattle.std.specs.Option.{option_map_or, option_to_list};
+ghost use Rattle.std.specs.Option.{option_eq, option_map_or, option_to_list};
 ghost use Rattle.sx_mean.specs.Application.{same_kind};
 ghost use Rattle.sx_mean.specs.View.{app_as};
+ghost use Rattle.sx_index.specs.Places.{place_of};
+ghost use Rattle.sx_trace.specs.Names.{sensor_place};
 ghost use Rattle.sx_trace.specs.ValidNames.{are_valid};
-ghost use Rattle.sx_watch.specs.Parts.{first_unknown, if_actuator, if_drives, is_unknown};
-ghost use Rattle.sx_watch.specs.Text.{actuator_place, driver_place, drives, is_heard, second_from};
-ghost use Rattle.sx_watch.specs.Text.{topic_named, topic_of, topics_of};
+ghost use Rattle.sx_watch.specs.Parts.{first_unknown, if_drives, is_unknown, topics_of};
+ghost use Rattle.sx_watch.specs.Text.{driver_place, drives, index_of, second_from, topic_of};
 ghost use Rattle.sx_watch.specs.Topics.{same_topic};
 
 use crate::rewriting::Head;
-use crate::topics::Topic;
-use crate::words::TopicKind;
+use crate::topics::{Topic, TopicKind};
 use std::alloc::{AllocError, Global};
 use sx_lang::tree::DeviceKind;
 use sx_mean::apps::{App, declared_kind};
 use sx_trace::names::Names;
 
-fn if_actuator(sensors: &[bool], device: u8) -> Option<u8>
-    ensures { result ≡ if_actuator sensors.now device }
-{
-    match sensors.get(usize::from(device)) {
-        Some(false) => Some(device),
-        _ => None,
-    }
-}
-
 /// The index among the devices of the actuator of this name.
 fn actuator(names: &Names, name: &[u8]) -> Option<u8>
     requires { IsTrue (are_valid names.now) }
-    ensures { result ≡ actuator_place names.now name.now }
+    ensures { result ≡ (if is_some (sensor_place names.now name.now) then None else
+        place_of names.now.devices name.now) }
 {
-    let device = names.device(name)?;
-    if_actuator(&names.sensors, device)
+    match names.sensor(name) {
+        Some(_) => None,
+        None => names.device(name),
+    }
 }
 
 fn has_kind(kind: DeviceKind, found: Option<DeviceKind>) -> bool
@@ -78,29 +72,29 @@ fn driver(names: &Names, app: &App, kind: DeviceKind, name: &[u8]) -> Option<u8>
     if_drives(app, kind, module)
 }
 
-/// The topic that the words of a head name.
-fn topic_named(names: &Names, app: &App, kind: TopicKind, name: &[u8]) -> Option<Topic>
+/// The index of what a name names for items of a kind.
+fn index_of(names: &Names, app: &App, kind: TopicKind, name: &[u8]) -> Option<u8>
     requires { IsTrue (are_valid names.now) }
-    ensures { result ≡ topic_named names.now (app_as app.now) kind name.now }
+    ensures { result ≡ index_of names.now (app_as app.now) kind name.now }
 {
     match kind {
-        TopicKind::Sense => Some(Topic::Sense(names.sensor(name)?)),
-        TopicKind::Drain => Some(Topic::Drain(names.sensor(name)?)),
-        TopicKind::Raw => Some(Topic::Raw(actuator(names, name)?)),
-        TopicKind::Read => Some(Topic::Read(driver(names, app, DeviceKind::Sensor, name)?)),
-        TopicKind::Out => Some(Topic::Out(driver(names, app, DeviceKind::Actuator, name)?)),
-        TopicKind::Take => Some(Topic::Take(names.link(name)?)),
-        TopicKind::Reset => Some(Topic::Reset(names.node(name)?)),
-        TopicKind::Protect => Some(Topic::Protect(names.module(name)?)),
-        TopicKind::Attested => Some(Topic::Attested(names.module(name)?)),
+        TopicKind::Sense | TopicKind::Drain => names.sensor(name),
+        TopicKind::Raw => actuator(names, name),
+        TopicKind::Read => driver(names, app, DeviceKind::Sensor, name),
+        TopicKind::Out => driver(names, app, DeviceKind::Actuator, name),
+        TopicKind::Take => names.link(name),
+        TopicKind::Reset => names.node(name),
+        TopicKind::Protect | TopicKind::Attested => names.module(name),
     }
 }
 
+/// The topic that the words of a head name.
 fn topic_of(names: &Names, app: &App, head: &Head) -> Option<Topic>
     requires { IsTrue (are_valid names.now) }
     ensures { result ≡ topic_of names.now (app_as app.now) head.now }
 {
-    topic_named(names, app, head.kind, head.name.bytes())
+    let index = index_of(names, app, head.kind, head.name.bytes())?;
+    Some(Topic::new(head.kind, index))
 }
 
 /// Whether the words of a head name no topic.
@@ -128,38 +122,28 @@ pub(crate) fn first_unknown(names: &Names, app: &App, heads: &[Head]) -> Option<
 pub(crate) fn is_same_topic(left: Topic, right: Topic) -> bool
     ensures { result ≡ same_topic left right }
 {
+    left.kind == right.kind && left.index == right.index
+}
+
+fn are_same(left: Option<Topic>, right: Option<Topic>) -> bool
+    ensures { result ≡ option_eq same_topic left right }
+{
     match (left, right) {
-        (Topic::Sense(a), Topic::Sense(b)) => a == b,
-        (Topic::Read(a), Topic::Read(b)) => a == b,
-        (Topic::Take(a), Topic::Take(b)) => a == b,
-        (Topic::Out(a), Topic::Out(b)) => a == b,
-        (Topic::Raw(a), Topic::Raw(b)) => a == b,
-        (Topic::Drain(a), Topic::Drain(b)) => a == b,
-        (Topic::Reset(a), Topic::Reset(b)) => a == b,
-        (Topic::Protect(a), Topic::Protect(b)) => a == b,
-        (Topic::Attested(a), Topic::Attested(b)) => a == b,
+        (Some(left), Some(right)) => is_same_topic(left, right),
+        (None, None) => true,
         _ => false,
     }
 }
 
-fn has_topic(topics: &[Topic], topic: Topic) -> bool
-    ensures { result ≡ list_any (same_topic topic) topics.now }
+fn has_topic(topics: &[Option<Topic>], topic: Option<Topic>) -> bool
+    ensures { result ≡ list_any (option_eq same_topic topic) topics.now }
 {
     for other in topics {
-        if is_same_topic(topic, *other) {
+        if are_same(topic, *other) {
             return true;
         }
     }
     false
-}
-
-fn is_heard(topics: &[Topic], topic: Option<Topic>) -> bool
-    ensures { result ≡ is_heard topics.now topic }
-{
-    match topic {
-        Some(topic) => has_topic(topics, topic),
-        None => false,
-    }
 }
 
 fn push_topic(topics: &mut Vec<Topic>, topic: Option<Topic>) -> Result<(), AllocError>
@@ -205,10 +189,10 @@ pub(crate) fn first_second(
     let mut topics = Vec::new(alloc);
     for head in heads {
         let topic = topic_of(names, app, head);
-        if is_heard(&topics, topic) {
+        if has_topic(&topics, topic) {
             return Ok(Some(*head));
         }
-        push_topic(&mut topics, topic)?;
+        topics.push(topic)?;
     }
     Ok(None)
 }

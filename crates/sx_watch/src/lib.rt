@@ -16,4 +16,4 @@ pub mod reading;
 pub mod rewriting;
 pub mod topics;
 pub mod watcher;
-pub mod words;
+mod words;

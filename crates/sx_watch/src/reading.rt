@@ -5,11 +5,12 @@ ghost use Rattle.sx_lang.specs.View.{module_of};
 ghost use Rattle.sx_mean.specs.View.{app_as};
 ghost use Rattle.sx_trace.specs.ValidNames.{are_valid};
 ghost use Rattle.sx_watch.specs.Read.{Gives, GivesOne, apart, made, no_module};
-ghost use Rattle.sx_watch.specs.Text.{IsMeant, IsProperty, judged};
+ghost use Rattle.sx_watch.specs.Parts.{IsMeant};
+ghost use Rattle.sx_watch.specs.Text.{IsProperty, judged};
 
 use crate::finding::{first_second, first_unknown, topics_of};
 use crate::property::Property;
-use crate::rewriting::{Head, heads_of, module_tokens};
+use crate::rewriting::{Head, rewrite};
 use crate::topics::Topic;
 use std::alloc::{AllocError, Global};
 use sx_check::checks::check;
@@ -121,10 +122,9 @@ fn meant(
     requires { IsTrue (are_valid names.now) }
     ensures { GivesOne result (IsMeant names.now (app_as app.now) tokens.now end) }
 {
-    let heads = heads_of(alloc, tokens)?;
-    let list = module_tokens(alloc, tokens, &heads)?;
-    match parse_tokens(alloc, &list, end) {
-        Ok(tree) => judged(alloc, names, app, &heads, tree),
+    let module = rewrite(alloc, tokens)?;
+    match parse_tokens(alloc, &module.tokens, end) {
+        Ok(tree) => judged(alloc, names, app, &module.heads, tree),
         Err(error) => Err(no_module(error)),
     }
 }

@@ -1,15 +1,14 @@
 //! The module that a property's tokens stand for. Each token becomes others at its own place.
 
-ghost use Rattle.std.specs.Prelude.{◌≡◌, ◌++◌, IfOk, OnOk, true};
-ghost use Rattle.sx_watch.specs.Rewriting.{assume_ends, count_after, fail_begins, head_at};
-ghost use Rattle.sx_watch.specs.Rewriting.{heads_of, inputs_from, is_reserved, mode_after};
-ghost use Rattle.sx_watch.specs.Rewriting.{module_tokens, other, placed, rewritten};
-ghost use Rattle.sx_watch.specs.Parts.{assumed, fail_end, front, head_word, item_name, of_input};
-ghost use Rattle.sx_watch.specs.Parts.{plain, written};
+ghost use Rattle.std.specs.Prelude.{◌≡◌, ◌++◌, [], ◌∷◌, IfOk, OnOk};
+ghost use Rattle.sx_watch.specs.Rewriting.{assume_ends, fail_begins, head_at, input_for};
+ghost use Rattle.sx_watch.specs.Rewriting.{module_tokens, placed, plain, read, read_as};
+ghost use Rattle.sx_watch.specs.Parts.{assumed, fail_end, front, head_word, inputs_from};
+ghost use Rattle.sx_watch.specs.Parts.{is_reserved, named, other};
 
+use crate::topics::TopicKind;
 use crate::words::{
-    TopicKind, ended, has_value, input_name, is_assume, is_fail, is_left_out, kind_of, next,
-    unnamed,
+    ended, has_no_value, input_name, is_assume, is_fail, is_left_out, kind_of, unnamed,
 };
 use std::alloc::{AllocError, Global};
 use sx_lang::names::Name;
@@ -39,6 +38,15 @@ pub struct Head {
     pub name: Name,
     /// Where the name is.
     pub place: Place,
+}
+
+/// What the tokens of a property become.
+#[derive(Drop)]
+pub(crate) struct Rewritten {
+    /// What its handlers hear of, in order.
+    pub(crate) heads: Vec<Head>,
+    /// Tokens of the language.
+    pub(crate) tokens: Vec<Placed>,
 }
 
 /// Appends tokens at this place. The error says that memory ran out.
@@ -97,15 +105,20 @@ fn is_reserved(word: &Name) -> bool
     is_fail(word) || is_assume(word)
 }
 
-fn put_name(list: &mut Vec<Placed>, place: Place, word: Name) -> Result<(), AllocError>
-    ensures { OnOk result (list.new.items ≡ list.old.items ++ placed place (plain (Kind.Name word)).0) }
+fn put_name(list: &mut Vec<Placed>, place: Place, word: Name) -> Result<Mode, AllocError>
+    ensures tokens { OnOk result (list.new.items
+        ≡ list.old.items ++ placed place (plain (Kind.Name word)).0) }
+    ensures mode { IfOk result (λ mode. mode ≡ (plain (Kind.Name word)).1) }
 {
     if is_fail(&word) {
-        put_fail(list, place)
+        put_fail(list, place)?;
+        Ok(Mode::Failing)
     } else if is_assume(&word) {
-        put(list, place, &[Kind::If])
+        put(list, place, &[Kind::If])?;
+        Ok(Mode::Assuming)
     } else {
-        put(list, place, &[Kind::Name(word)])
+        put(list, place, &[Kind::Name(word)])?;
+        Ok(Mode::Plain)
     }
 }
 
@@ -119,167 +132,141 @@ fn put_other(list: &mut Vec<Placed>, place: Place, kind: Kind) -> Result<(), All
     }
 }
 
-fn put_plain(list: &mut Vec<Placed>, place: Place, kind: Kind) -> Result<(), AllocError>
-    ensures { OnOk result (list.new.items ≡ list.old.items ++ placed place (plain kind).0) }
+/// Appends what a token becomes among the language's own, and tells how the next one is read.
+fn put_plain(list: &mut Vec<Placed>, place: Place, kind: Kind) -> Result<Mode, AllocError>
+    ensures tokens { OnOk result (list.new.items ≡ list.old.items ++ placed place (plain kind).0) }
+    ensures mode { IfOk result (λ mode. mode ≡ (plain kind).1) }
 {
     match kind {
+        Kind::On => {
+            put(list, place, &[Kind::On])?;
+            Ok(Mode::Head)
+        }
         Kind::Name(word) => put_name(list, place, word),
-        _ => put_other(list, place, kind),
+        _ => {
+            put_other(list, place, kind)?;
+            Ok(Mode::Plain)
+        }
     }
 }
 
-fn put_kind(list: &mut Vec<Placed>, place: Place, kind: Kind) -> Result<(), AllocError>
-    ensures { OnOk result (list.new.items ≡ list.old.items ++ placed place (head_word kind).0) }
+fn put_bad(list: &mut Vec<Placed>, place: Place) -> Result<Mode, AllocError>
+    ensures tokens { OnOk result (list.new.items
+        ≡ list.old.items ++ placed place (Kind.Bad ∷ [])) }
+    ensures mode { IfOk result (λ mode. mode ≡ Mode.Plain) }
+{
+    put(list, place, &[Kind::Bad])?;
+    Ok(Mode::Plain)
+}
+
+/// The same of the first word of a head.
+fn put_head_word(list: &mut Vec<Placed>, place: Place, kind: Kind) -> Result<Mode, AllocError>
+    ensures tokens { OnOk result (list.new.items
+        ≡ list.old.items ++ placed place (head_word kind).0) }
+    ensures mode { IfOk result (λ mode. mode ≡ (head_word kind).1) }
 {
     match kind {
         Kind::Name(word) => match kind_of(word.bytes()) {
-            Some(_) => Ok(()),
-            None => put(list, place, &[Kind::Bad]),
+            Some(item) => Ok(Mode::Item(item)),
+            None => put_bad(list, place),
         },
-        _ => put(list, place, &[Kind::Bad]),
+        _ => put_bad(list, place),
     }
 }
 
 fn put_input(
     list: &mut Vec<Placed>,
     place: Place,
-    valued: bool,
-    number: u8,
+    bare: bool,
+    input: Name,
 ) -> Result<(), AllocError>
-    ensures { OnOk result (list.new.items
-        ≡ list.old.items ++ placed place (of_input valued number)) }
+    ensures { OnOk result (list.new.items ≡ list.old.items ++ placed place (named bare input)) }
 {
-    let name = Kind::Name(input_name(number));
-    if valued {
-        put(list, place, &[name])
+    let name = Kind::Name(input);
+    if bare {
+        let parameter = Kind::Name(unnamed());
+        put(list, place, &[name, Kind::Open, parameter, Kind::Close])
     } else {
-        put(
-            list,
-            place,
-            &[name, Kind::Open, Kind::Name(unnamed()), Kind::Close],
-        )
+        put(list, place, &[name])
     }
 }
 
+/// Appends what the name in a head becomes.
 fn put_item(
     list: &mut Vec<Placed>,
     place: Place,
     item: TopicKind,
-    number: u8,
-    kind: Kind,
+    input: Name,
+    word: Name,
 ) -> Result<(), AllocError>
     ensures { OnOk result (list.new.items
-        ≡ list.old.items ++ placed place (item_name item number kind)) }
+        ≡ list.old.items ++ placed place (input_for item input word)) }
+{
+    if is_reserved(&word) {
+        put(list, place, &[Kind::Bad])
+    } else {
+        put_input(list, place, has_no_value(item), input)
+    }
+}
+
+/// The same of a token after `fail`.
+fn put_fail_end(list: &mut Vec<Placed>, place: Place, kind: Kind) -> Result<Mode, AllocError>
+    ensures tokens { OnOk result (list.new.items
+        ≡ list.old.items ++ placed place (fail_end kind).0) }
+    ensures mode { IfOk result (λ mode. mode ≡ (fail_end kind).1) }
 {
     match kind {
-        Kind::Name(word) => {
-            if is_reserved(&word) {
-                put(list, place, &[Kind::Bad])
-            } else {
-                put_input(list, place, has_value(item), number)
-            }
+        Kind::Semicolon => {
+            put(list, place, &[Kind::Semicolon, Kind::CloseBrace])?;
+            Ok(Mode::Plain)
         }
-        _ => put(list, place, &[Kind::Bad]),
+        _ => put_bad(list, place),
     }
 }
 
-fn put_fail_end(list: &mut Vec<Placed>, place: Place, kind: Kind) -> Result<(), AllocError>
-    ensures { OnOk result (list.new.items ≡ list.old.items ++ placed place (fail_end kind)) }
+/// The same of a token after `assume`, up to its end.
+fn put_assumed(list: &mut Vec<Placed>, place: Place, kind: Kind) -> Result<Mode, AllocError>
+    ensures tokens { OnOk result (list.new.items
+        ≡ list.old.items ++ placed place (assumed kind).0) }
+    ensures mode { IfOk result (λ mode. mode ≡ (assumed kind).1) }
 {
     match kind {
-        Kind::Semicolon => put(list, place, &[Kind::Semicolon, Kind::CloseBrace]),
-        _ => put(list, place, &[Kind::Bad]),
-    }
-}
-
-fn put_assumed(list: &mut Vec<Placed>, place: Place, kind: Kind) -> Result<(), AllocError>
-    ensures { OnOk result (list.new.items ≡ list.old.items ++ placed place (assumed kind).0) }
-{
-    match kind {
-        Kind::Semicolon => put_assume_end(list, place),
-        Kind::OpenBrace => put(list, place, &[Kind::Bad]),
-        Kind::Name(word) => {
-            if is_reserved(&word) {
-                put(list, place, &[Kind::Bad])
-            } else {
-                put(list, place, &[kind])
-            }
+        Kind::Semicolon => {
+            put_assume_end(list, place)?;
+            Ok(Mode::Plain)
         }
-        _ => put_other(list, place, kind),
+        Kind::OpenBrace => put_bad(list, place),
+        _ => {
+            put_plain(list, place, kind)?;
+            Ok(Mode::Assuming)
+        }
     }
 }
 
-/// Appends what a token becomes after this many heads. The error says that memory ran out.
+/// Appends what a token becomes that is read so, where this is the next head's input, and tells how
+/// the token after it is read. The error says that memory ran out.
 fn put_token(
     list: &mut Vec<Placed>,
     mode: Mode,
-    number: u8,
+    input: Name,
     token: &Placed,
-) -> Result<(), AllocError>
-    ensures { OnOk result (list.new.items ≡ list.old.items
-        ++ placed token.now.place (written mode number token.now.kind)) }
+) -> Result<Mode, AllocError>
+    ensures tokens { OnOk result (list.new.items
+        ≡ list.old.items ++ placed token.now.place (read_as mode input token.now.kind).0) }
+    ensures mode { IfOk result (λ next. next ≡ (read_as mode input token.now.kind).1) }
 {
     match mode {
         Mode::Plain => put_plain(list, token.place, token.kind),
-        Mode::Head => put_kind(list, token.place, token.kind),
-        Mode::Item(item) => put_item(list, token.place, item, number, token.kind),
+        Mode::Head => put_head_word(list, token.place, token.kind),
+        Mode::Item(item) => match token.kind {
+            Kind::Name(word) => {
+                put_item(list, token.place, item, input, word)?;
+                Ok(Mode::Plain)
+            }
+            _ => put_bad(list, token.place),
+        },
         Mode::Failing => put_fail_end(list, token.place, token.kind),
         Mode::Assuming => put_assumed(list, token.place, token.kind),
-    }
-}
-
-fn plain_mode(kind: &Kind) -> Mode
-    ensures { result ≡ (plain kind.now).1 }
-{
-    match kind {
-        Kind::On => Mode::Head,
-        Kind::Name(word) => {
-            if is_fail(word) {
-                Mode::Failing
-            } else if is_assume(word) {
-                Mode::Assuming
-            } else {
-                Mode::Plain
-            }
-        }
-        _ => Mode::Plain,
-    }
-}
-
-fn head_mode(kind: &Kind) -> Mode
-    ensures { result ≡ (head_word kind.now).1 }
-{
-    match kind {
-        Kind::Name(word) => match kind_of(word.bytes()) {
-            Some(item) => Mode::Item(item),
-            None => Mode::Plain,
-        },
-        _ => Mode::Plain,
-    }
-}
-
-/// How the token after this one is read.
-fn mode_after(mode: Mode, kind: &Kind) -> Mode
-    ensures { result ≡ mode_after mode kind.now }
-{
-    match mode {
-        Mode::Plain => plain_mode(kind),
-        Mode::Head => head_mode(kind),
-        Mode::Assuming => match kind {
-            Kind::Semicolon => Mode::Plain,
-            _ => Mode::Assuming,
-        },
-        Mode::Item(_) | Mode::Failing => Mode::Plain,
-    }
-}
-
-/// How many heads there are with this token.
-fn count_after(mode: Mode, number: u8, kind: &Kind) -> u8
-    ensures { result ≡ count_after mode number kind.now }
-{
-    match (mode, kind) {
-        (Mode::Item(_), Kind::Name(_)) => next(number),
-        _ => number,
     }
 }
 
@@ -300,28 +287,35 @@ fn put_head(heads: &mut Vec<Head>, mode: Mode, token: &Placed) -> Result<(), All
     }
 }
 
-/// The heads of a property's tokens. The error says that memory ran out.
-pub(crate) fn heads_of(alloc: Global, tokens: &[Placed]) -> Result<Vec<Head>, AllocError>
-    ensures { IfOk result (λ heads. heads.items ≡ heads_of tokens.now) }
+/// What a property's own tokens become. The error says that memory ran out.
+fn read(alloc: Global, tokens: &[Placed]) -> Result<Rewritten, AllocError>
+    ensures heads { IfOk result (λ r. r.heads.items ≡ (read Mode.Plain 0 tokens.now).0) }
+    ensures tokens { IfOk result (λ r. r.tokens.items ≡ (read Mode.Plain 0 tokens.now).1) }
 {
     let mut heads = Vec::new(alloc);
+    let mut list = Vec::new(alloc);
     let mut mode = Mode::Plain;
     for token in tokens {
+        let input = input_name(heads.len());
+        let next = put_token(&mut list, mode, input, token)?;
         put_head(&mut heads, mode, token)?;
-        mode = mode_after(mode, &token.kind);
+        mode = next;
     }
-    Ok(heads)
+    Ok(Rewritten {
+        heads,
+        tokens: list,
+    })
 }
 
 /// Appends an input for each head. The error says that memory ran out.
 fn put_inputs(list: &mut Vec<Placed>, heads: &[Head]) -> Result<(), AllocError>
     ensures { OnOk result (list.new.items ≡ list.old.items ++ inputs_from 0 heads.now) }
 {
-    let mut number = 0;
+    let mut number: usize = 0;
     for head in heads {
         let name = Kind::Name(input_name(number));
         put(list, head.place, &[Kind::Input, name, Kind::Semicolon])?;
-        number = next(number);
+        number += 1;
     }
     Ok(())
 }
@@ -343,32 +337,17 @@ fn put_front(list: &mut Vec<Placed>, heads: &[Head]) -> Result<(), AllocError>
     put_inputs(list, heads)
 }
 
-/// Appends what a property's tokens become. The error says that memory ran out.
-fn put_rewritten(list: &mut Vec<Placed>, tokens: &[Placed]) -> Result<(), AllocError>
-    ensures { OnOk result (list.new.items ≡ list.old.items ++ rewritten Mode.Plain 0 tokens.now) }
+/// The module of a property with these tokens. The error says that memory ran out.
+pub(crate) fn rewrite(alloc: Global, tokens: &[Placed]) -> Result<Rewritten, AllocError>
+    ensures heads { IfOk result (λ r. r.heads.items ≡ (read Mode.Plain 0 tokens.now).0) }
+    ensures tokens { IfOk result (λ r. r.tokens.items ≡ module_tokens tokens.now) }
 {
-    let mut mode = Mode::Plain;
-    let mut number = 0;
-    for token in tokens {
-        put_token(list, mode, number, token)?;
-        number = count_after(mode, number, &token.kind);
-        mode = mode_after(mode, &token.kind);
-    }
-    Ok(())
-}
-
-/// The tokens of a property's module, of which these are the heads. The error says that memory ran
-/// out.
-pub(crate) fn module_tokens(
-    alloc: Global,
-    tokens: &[Placed],
-    heads: &[Head],
-) -> Result<Vec<Placed>, AllocError>
-    requires { heads.now ≡ heads_of tokens.now }
-    ensures { IfOk result (λ list. list.items ≡ module_tokens tokens.now) }
-{
+    let own = read(alloc, tokens)?;
     let mut list = Vec::new(alloc);
-    put_front(&mut list, heads)?;
-    put_rewritten(&mut list, tokens)?;
-    Ok(list)
+    put_front(&mut list, &own.heads)?;
+    list.extend_from_slice(&own.tokens)?;
+    Ok(Rewritten {
+        heads: own.heads,
+        tokens: list,
+    })
 }

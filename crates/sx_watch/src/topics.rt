@@ -1,25 +1,44 @@
 //! What an item of a trace is about.
 
-/// What an item can be about, as far as a property can hear of it. Nodes, devices, modules and
-/// connections are given by their indices, as in items.
+ghost use Rattle.std.specs.Prelude.{◌≡◌};
+
+/// A kind of items that a handler of a property can hear of.
 #[derive(Clone, Copy, PartialEq, Eq, Debug)]
-pub enum Topic {
-    /// A line gave the sensor a value.
-    Sense(u8),
-    /// The module read the value of its sensor.
-    Read(u8),
-    /// A value was taken over the connection.
-    Take(u8),
-    /// The module wrote this value to its actuator.
-    Out(u8),
-    /// Other code wrote this value to the actuator.
-    Raw(u8),
-    /// Other code read the sensor.
-    Drain(u8),
-    /// The node was reset.
-    Reset(u8),
-    /// The module was protected.
-    Protect(u8),
-    /// The deployer accepted an answer of the module.
-    Attested(u8),
+pub enum TopicKind {
+    /// A line gives a sensor a value.
+    Sense,
+    /// A module reads the value of its sensor.
+    Read,
+    /// A value is taken over a connection.
+    Take,
+    /// A module writes a value to its actuator.
+    Out,
+    /// Other code writes a value to an actuator.
+    Raw,
+    /// Other code reads a sensor.
+    Drain,
+    /// A node is reset.
+    Reset,
+    /// A module is protected.
+    Protect,
+    /// The deployer accepts an answer of a module.
+    Attested,
+}
+
+/// What an item can be about, as far as a property can hear of it.
+#[derive(Clone, Copy, PartialEq, Eq, Debug)]
+pub struct Topic {
+    /// The kind of the item.
+    pub kind: TopicKind,
+    /// The index of its node, device, module or connection, as in the item.
+    pub index: u8,
+}
+
+impl Topic {
+    /// The topic of items of this kind, at this index.
+    pub const fn new(kind: TopicKind, index: u8) -> Topic
+        ensures { result ≡ record { kind = kind; index = index } }
+    {
+        Topic { kind, index }
+    }
 }

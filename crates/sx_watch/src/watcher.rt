@@ -2,17 +2,17 @@
 
 ghost use Rattle.std.specs.Prelude.{◌≡◌, ◌<◌, [], IfOk, List, None, OnErr, OnOk, Some, false};
 ghost use Rattle.std.specs.Prelude.{option_map, true};
-ghost use Rattle.std.specs.List.{position_from};
+ghost use Rattle.std.specs.List.{list_any, position_from};
 ghost use Rattle.sx_check.specs.Source.{source_tree};
 ghost use Rattle.sx_mean.specs.React.{input_names, nth};
 ghost use Rattle.sx_trace.specs.declared.items.Item.{Item as Listed};
 ghost use Rattle.sx_watch.specs.Topics.{heard_of, same_topic};
-ghost use Rattle.sx_watch.specs.Watched.{PropertyTree, has_emit, hears, property_as, watched};
-ghost use Rattle.sx_watch.specs.Watching.{Follows, Heeds, noticed_as};
+ghost use Rattle.sx_watch.specs.Watched.{PropertyTree, is_emit, watched};
+ghost use Rattle.sx_watch.specs.Watching.{Follows, Heeds, hears, noticed_as, property_as};
 
 use crate::finding::is_same_topic;
 use crate::property::Property;
-use crate::topics::Topic;
+use crate::topics::{Topic, TopicKind};
 use std::alloc::{AllocError, Global};
 use sx_check::checked::Checked;
 use sx_mean::events::{Act, SourceEvent};
@@ -38,9 +38,11 @@ pub struct Watcher {
     pub store: Store,
 }
 
-fn made(topic: Topic, value: u16) -> Option<Heard>
-    ensures { result ≡ Some (record { topic = topic; value = value }) }
+fn made(kind: TopicKind, index: u8, value: u16) -> Option<Heard>
+    ensures { result
+        ≡ Some (record { topic = record { kind = kind; index = index }; value = value }) }
 {
+    let topic = Topic::new(kind, index);
     Some(Heard { topic, value })
 }
 
@@ -48,15 +50,15 @@ fn heard_of(item: &Item) -> Option<Heard>
     ensures { option_map noticed_as result ≡ heard_of item.now }
 {
     match *item {
-        Item::Reset { node, .. } => made(Topic::Reset(node), 0),
-        Item::Protect { module, .. } => made(Topic::Protect(module?), 0),
-        Item::Sense { device, value } => made(Topic::Sense(device), value),
-        Item::Read { module, value } => made(Topic::Read(module), value),
-        Item::Drain { device } => made(Topic::Drain(device), 0),
-        Item::Attested { module, .. } => made(Topic::Attested(module), 0),
-        Item::Take { link, value, .. } => made(Topic::Take(link), value),
-        Item::Out { module, value } => made(Topic::Out(module), value),
-        Item::Raw { device, value } => made(Topic::Raw(device), value),
+        Item::Reset { node, .. } => made(TopicKind::Reset, node, 0),
+        Item::Protect { module, .. } => made(TopicKind::Protect, module?, 0),
+        Item::Sense { device, value } => made(TopicKind::Sense, device, value),
+        Item::Read { module, value } => made(TopicKind::Read, module, value),
+        Item::Drain { device } => made(TopicKind::Drain, device, 0),
+        Item::Attested { module, .. } => made(TopicKind::Attested, module, 0),
+        Item::Take { link, value, .. } => made(TopicKind::Take, link, value),
+        Item::Out { module, value } => made(TopicKind::Out, module, value),
+        Item::Raw { device, value } => made(TopicKind::Raw, device, value),
         _ => None,
     }
 }
@@ -76,7 +78,7 @@ fn place_of(topics: &[Topic], topic: Topic) -> Option<usize>
 }
 
 fn has_emit(acts: &[Act]) -> bool
-    ensures { result ≡ has_emit acts.now }
+    ensures { result ≡ list_any is_emit acts.now }
 {
     for act in acts {
         if let Act::Emit(_) = act {
@@ -105,7 +107,8 @@ fn give(
     value: u16,
 ) -> Result<bool, AllocError>
     ensures broken { IfOk result (λ broken. broken
-        ≡ has_emit (hears (source_tree code.now) store.old.cells.items input value).acts) }
+        ≡ list_any is_emit
+        (hears (source_tree code.now) store.old.cells.items input value).acts) }
     ensures cells { OnOk result (store.new.cells.items
         ≡ (hears (source_tree code.now) store.old.cells.items input value).cells) }
     ensures unchanged { OnErr result (store.new ≡ store.old) }
@@ -131,7 +134,7 @@ impl Watcher {
 
     fn hear(&mut self, alloc: Global, item: &Item) -> Result<bool, AllocError>
         ensures property { self.new.property ≡ self.old.property }
-        ensures broken { IfOk result (λ broken. broken ≡ has_emit (watched
+        ensures broken { IfOk result (λ broken. broken ≡ list_any is_emit (watched
             (property_as self.old.property) self.old.store.cells.items item.now).acts) }
         ensures cells { OnOk result (self.new.store.cells.items ≡ (watched
             (property_as self.old.property) self.old.store.cells.items item.now).cells) }

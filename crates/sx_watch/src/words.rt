@@ -1,36 +1,13 @@
 //! The words that properties have beside the language's own.
 
-ghost use Rattle.std.specs.Prelude.{◌≡◌, ◌+◌, ◌≤◌};
-ghost use Rattle.std.specs.Str.{bytes_eq};
-ghost use Rattle.sx_watch.specs.Words.{ended, has_value, input_name, is_left_out, kind_of};
-ghost use Rattle.sx_watch.specs.Words.{next, unnamed};
-ghost use Rattle.sx_watch.specs.Parts.{is_assume, is_fail};
+ghost use Rattle.std.specs.Prelude.{◌≡◌};
+ghost use Rattle.sx_watch.specs.Words.{ended, input_name};
+ghost use Rattle.sx_watch.specs.Parts.{has_no_value, is_assume, is_fail, is_left_out, kind_of};
+ghost use Rattle.sx_watch.specs.Parts.{unnamed};
 
+use crate::topics::TopicKind;
 use sx_lang::names::Name;
 use sx_lex::tokens::Kind;
-
-/// What a handler of a property can hear of.
-#[derive(Clone, Copy, PartialEq, Eq, Debug)]
-pub enum TopicKind {
-    /// A line that gives a sensor a value.
-    Sense,
-    /// A module's reading of its sensor.
-    Read,
-    /// A value that is taken over a connection.
-    Take,
-    /// A module's write to its actuator.
-    Out,
-    /// Another write to an actuator.
-    Raw,
-    /// Another reading of a sensor.
-    Drain,
-    /// A reset of a node.
-    Reset,
-    /// A module's protection.
-    Protect,
-    /// An answer of a module that the deployer accepts.
-    Attested,
-}
 
 /// What a handler hears of whose head has this word.
 pub(crate) fn kind_of(word: &[u8]) -> Option<TopicKind>
@@ -59,13 +36,13 @@ pub(crate) fn kind_of(word: &[u8]) -> Option<TopicKind>
     }
 }
 
-/// Whether items of this kind have a value.
-pub(crate) fn has_value(kind: TopicKind) -> bool
-    ensures { result ≡ has_value kind }
+/// Whether items of this kind have no value.
+pub(crate) fn has_no_value(kind: TopicKind) -> bool
+    ensures { result ≡ has_no_value kind }
 {
     match kind {
-        TopicKind::Drain | TopicKind::Reset | TopicKind::Protect | TopicKind::Attested => false,
-        _ => true,
+        TopicKind::Drain | TopicKind::Reset | TopicKind::Protect | TopicKind::Attested => true,
+        _ => false,
     }
 }
 
@@ -108,16 +85,10 @@ pub(crate) fn unnamed() -> Name
     Name::new(b"_").unwrap()
 }
 
-/// The name of the input of the head of this number. No text spells it.
-pub(crate) fn input_name(number: u8) -> Name
+/// The name of the input of the head of this number. No text spells it, and no deployment has items
+/// for more than 255 heads.
+pub(crate) fn input_name(number: usize) -> Name
     ensures { result ≡ input_name number }
 {
-    Name::new(&[b'#', number]).unwrap()
-}
-
-/// The number of the next head. No deployment has items for more heads than 255.
-pub(crate) fn next(number: u8) -> u8
-    ensures { result ≡ next number }
-{
-    number.saturating_add(1)
+    Name::new(&[b'#', number.min(255) as u8]).unwrap()
 }

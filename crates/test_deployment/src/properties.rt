@@ -43,12 +43,13 @@ const BROKEN: [(&str, Option<usize>); 9] = [
 ];
 
 /// Texts with the rule that they break, and the column of it on the first line.
-const SYNTAX: [(&str, u32); 12] = [
+const SYNTAX: [(&str, u32); 13] = [
     ("on out lamp(v) { fail }", 23),
     ("on out lamp(v) { fail + 1; }", 23),
     ("on out lamp(v) { fail; else { } }", 24),
     ("on out lamp(v) { if fail { } }", 21),
     ("on out lamp(v) { assume v { } }", 27),
+    ("on out lamp(v) { assume v & fail; }", 29),
     ("on out lamp(v) { assume v) & (v; }", 26),
     ("on out lamp(v) { emit 1; }", 18),
     ("sensor;", 1),

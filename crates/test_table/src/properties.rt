@@ -6,10 +6,10 @@ use std::alloc::Global;
 use std::process::Abort;
 use std::test::Fail;
 use sx_search::decide::{Decided, decide};
-use sx_watch::topics::Topic;
+use sx_watch::topics::TopicKind::{self, Out, Raw, Read, Reset, Sense};
 
 /// A property: what its inputs hear of, its text, and whether it holds.
-type Asked<'a> = (&'a [Topic], &'a str, bool);
+type Asked<'a> = (&'a [(TopicKind, u8)], &'a str, bool);
 
 /// Whether each property that holds is shown, and no other.
 fn are_decided(
@@ -29,7 +29,7 @@ fn are_decided(
 const OF_LIGHTING: [Asked; 4] = [
     // a lamp is switched on only after a reading above 100
     (
-        &[Topic::Sense(0), Topic::Out(2)],
+        &[(Sense, 0), (Out, 2)],
         "actuator; input light; input lamp; var bright; \
             on light(v) { if v > 100 { bright = 1; } } \
             on lamp(v) { if (v == 1) & !bright { emit 1; } }",
@@ -37,20 +37,20 @@ const OF_LIGHTING: [Asked; 4] = [
     ),
     // it gets 0 or 1
     (
-        &[Topic::Out(2)],
+        &[(Out, 2)],
         "actuator; input lamp; on lamp(v) { if v > 1 { emit 1; } }",
         true,
     ),
     // it is on only while the last reading is above 100
     (
-        &[Topic::Sense(0), Topic::Out(2)],
+        &[(Sense, 0), (Out, 2)],
         "actuator; input light; input lamp; var bright; on light(v) { bright = v > 100; } \
             on lamp(v) { if (v == 1) & !bright { emit 1; } }",
         false,
     ),
     // other code doesn't write to the bulb either
     (
-        &[Topic::Sense(0), Topic::Out(2), Topic::Raw(1)],
+        &[(Sense, 0), (Out, 2), (Raw, 1)],
         "actuator; input light; input lamp; input bulb; var bright; \
             on light(v) { if v > 100 { bright = 1; } } \
             on lamp(v) { if v & !bright { emit 1; } } on bulb(v) { if v & !bright { emit 1; } }",
@@ -66,20 +66,20 @@ fn lighting(rt: HostRuntime) -> Result<(), Fail> {
 const OF_PARKING: [Asked; 5] = [
     // an alarm for the first spot only after a car was there
     (
-        &[Topic::Sense(0), Topic::Out(5)],
+        &[(Sense, 0), (Out, 5)],
         "actuator; input spot1; input dvio; var car; on spot1(v) { if v > 100 { car = 1; } } \
             on dvio(v) { if (v & 1) & !car { emit 1; } }",
         true,
     ),
     // the board shows at most 2
     (
-        &[Topic::Out(6)],
+        &[(Out, 6)],
         "actuator; input dfree; on dfree(v) { if v > 2 { emit 1; } }",
         true,
     ),
     // it shows 0 only after a car was on each spot
     (
-        &[Topic::Sense(0), Topic::Sense(1), Topic::Out(6)],
+        &[(Sense, 0), (Sense, 1), (Out, 6)],
         "actuator; input spot1; input spot2; input dfree; var one; var two; \
             on spot1(v) { if v > 100 { one = 1; } } on spot2(v) { if v > 100 { two = 1; } } \
             on dfree(v) { if (v == 0) & !(one & two) { emit 1; } }",
@@ -87,14 +87,14 @@ const OF_PARKING: [Asked; 5] = [
     ),
     // an alarm only while a car is on the first spot
     (
-        &[Topic::Read(0), Topic::Out(5)],
+        &[(Read, 0), (Out, 5)],
         "actuator; input p1; input dvio; var car; on p1(v) { car = v > 100; } \
             on dvio(v) { if (v & 1) & !car { emit 1; } }",
         false,
     ),
     // an alarm only after the clock showed above 120
     (
-        &[Topic::Sense(2), Topic::Out(5)],
+        &[(Sense, 2), (Out, 5)],
         "actuator; input clock; input dvio; var late; on clock(t) { if t > 120 { late = 1; } } \
             on dvio(v) { if v & !late { emit 1; } }",
         false,
@@ -111,26 +111,26 @@ const SINGLE_DOSE: &str = "actuator; input pump; on pump(v) { if v > 40 { emit 1
 const SUM_OF_DOSES: &str = "actuator; input pump; var total; \
     on pump(v) { total = total + v; if (v > 40) | (total > 40) { emit 1; } }";
 
-const OF_DOSE: [Asked; 1] = [(&[Topic::Out(2)], SINGLE_DOSE, false)];
+const OF_DOSE: [Asked; 1] = [(&[(Out, 2)], SINGLE_DOSE, false)];
 
 const OF_DOSE_MENDED: [Asked; 4] = [
-    (&[Topic::Out(2)], SINGLE_DOSE, true),
+    (&[(Out, 2)], SINGLE_DOSE, true),
     // all doses since the last reset of the pump's node
     (
-        &[Topic::Reset(1), Topic::Out(2)],
+        &[(Reset, 1), (Out, 2)],
         "actuator; input b; input pump; var total; on b(v) { total = 0; } \
             on pump(v) { total = total + v; if (v > 40) | (total > 40) { emit 1; } }",
         true,
     ),
     // all doses, if nobody resets that node
     (
-        &[Topic::Reset(1), Topic::Out(2)],
+        &[(Reset, 1), (Out, 2)],
         "actuator; input b; input pump; var total; var over; on b(v) { over = 1; } on pump(v) { \
             total = total + v; if ((v > 40) | (total > 40)) & !over { emit 1; } }",
         true,
     ),
     // all doses, also over resets
-    (&[Topic::Out(2)], SUM_OF_DOSES, false),
+    (&[(Out, 2)], SUM_OF_DOSES, false),
 ];
 
 #[test]
@@ -142,7 +142,7 @@ fn doses(rt: HostRuntime) -> Result<(), Fail> {
 const OF_HEAT: [Asked; 2] = [
     // the heater goes on only after a reading below 200, if all readings have ten bits
     (
-        &[Topic::Sense(0), Topic::Out(2)],
+        &[(Sense, 0), (Out, 2)],
         "actuator; input temp; input heater; var cold; var over; \
             on temp(v) { if v > 1023 { over = 1; } if v < 200 { cold = 1; } } \
             on heater(v) { if v & !cold & !over { emit 1; } }",
@@ -150,7 +150,7 @@ const OF_HEAT: [Asked; 2] = [
     ),
     // the same for all readings
     (
-        &[Topic::Sense(0), Topic::Out(2)],
+        &[(Sense, 0), (Out, 2)],
         "actuator; input temp; input heater; var cold; \
             on temp(v) { if v < 200 { cold = 1; } } on heater(v) { if v & !cold { emit 1; } }",
         false,
@@ -160,12 +160,7 @@ const OF_HEAT: [Asked; 2] = [
 const OF_VOTE: [Asked; 3] = [
     // the siren sounds only after two detectors had high readings
     (
-        &[
-            Topic::Sense(0),
-            Topic::Sense(1),
-            Topic::Sense(2),
-            Topic::Out(4),
-        ],
+        &[(Sense, 0), (Sense, 1), (Sense, 2), (Out, 4)],
         "actuator; input smoke1; input smoke2; input smoke3; input siren; array high[3]; \
             on smoke1(v) { if v > 500 { high[0] = 1; } } \
             on smoke2(v) { if v > 500 { high[1] = 1; } } \
@@ -175,18 +170,13 @@ const OF_VOTE: [Asked; 3] = [
     ),
     // it gets 0 or 1
     (
-        &[Topic::Out(4)],
+        &[(Out, 4)],
         "actuator; input siren; on siren(v) { if v > 1 { emit 1; } }",
         true,
     ),
     // it sounds only while two are high
     (
-        &[
-            Topic::Sense(0),
-            Topic::Sense(1),
-            Topic::Sense(2),
-            Topic::Out(4),
-        ],
+        &[(Sense, 0), (Sense, 1), (Sense, 2), (Out, 4)],
         "actuator; input smoke1; input smoke2; input smoke3; input siren; array high[3]; \
             on smoke1(v) { high[0] = v > 500; } on smoke2(v) { high[1] = v > 500; } \
             on smoke3(v) { high[2] = v > 500; } \

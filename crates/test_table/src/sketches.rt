@@ -8,7 +8,7 @@ use sx_lang::tree::DeviceKind;
 use sx_mean::apps::{App, AppDevice, Link, Part};
 use sx_parse::parse::parse;
 use sx_watch::property::Property;
-use sx_watch::topics::Topic;
+use sx_watch::topics::{Topic, TopicKind};
 
 /// An application: how many nodes it has, its devices, each with its node, its modules, each with
 /// node, device and text, and its connections, as sender, output, receiver, input.
@@ -69,10 +69,18 @@ fn parts(alloc: Global, rows: &[(u8, Option<u8>, &str)]) -> Result<Vec<Part>, Fa
     Ok(parts)
 }
 
-/// The property of a text, whose inputs hear of the topics in order.
-pub(crate) fn property(alloc: Global, text: &str, topics: &[Topic]) -> Result<Property, Fail> {
+/// The property of a text, whose inputs hear of items of these kinds at these indices, in order.
+pub(crate) fn property(
+    alloc: Global,
+    text: &str,
+    heard: &[(TopicKind, u8)],
+) -> Result<Property, Fail> {
+    let mut topics = Vec::new(alloc);
+    for (kind, index) in heard {
+        topics.push(Topic::new(*kind, *index))?;
+    }
     Ok(Property {
         code: checked(alloc, text)?,
-        topics: Vec::from_slice(alloc, topics)?,
+        topics,
     })
 }

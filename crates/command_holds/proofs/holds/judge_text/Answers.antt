@@ -1,6 +1,6 @@
 use Rattle.sx_deploy.specs.SeenDeployment.{deployed_as}
 use Rattle.sx_mean.specs.View.{app_as}
-use Rattle.sx_watch.specs.Watched.{property_as}
+use Rattle.sx_watch.specs.Watching.{property_as}
 use Rattle.command_holds.proofs.Endings.{fault_ends, fault_read, property_ends}
 use Rattle.command_holds.proofs.holds.judge_text.Goals as goal
 

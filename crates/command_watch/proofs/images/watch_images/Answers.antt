@@ -1,7 +1,7 @@
 use Rattle.std.proofs.Common.{◌∙◌, ◌+◌, arith, ap, refl, sym}
 use Rattle.command_promise.specs.Told.{read_line}
 use Rattle.command_promise.proofs.Laws.{ends-same, told-stop, told-end, told-too-long, told-failed}
-use Rattle.sx_watch.specs.Watched.{property_as}
+use Rattle.sx_watch.specs.Watching.{property_as}
 use Rattle.command_explain.specs.Trace.{on_image, start}
 use Rattle.command_explain.proofs.Fronts.{passed_line}
 use Rattle.command_explain.proofs.Starting.{behind_image, behind_trace, given, start_from}

@@ -2,7 +2,7 @@ use Rattle.std.specs.Prelude.{◌≡◌, ◌-◌, ◌≤◌, ℕ, List}
 use Rattle.sx_io.specs.Reading.{Answer, Limit}
 use Rattle.command_promise.specs.Told.{CommandAt, Output, command_at}
 use Rattle.command_promise.specs.Parts.{Begun, Notes}
-use Rattle.sx_watch.specs.Watched.{property_as}
+use Rattle.sx_watch.specs.Watching.{property_as}
 use Rattle.command_explain.specs.Meant.{AreMeanings, Meanings}
 use Rattle.command_explain.specs.Trace.{image_lines}
 use Rattle.command_explain.proofs.Starting.{start_from}

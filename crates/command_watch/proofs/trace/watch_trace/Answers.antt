@@ -1,6 +1,6 @@
 use Rattle.std.proofs.Common.{refl, []}
 use Rattle.command_promise.proofs.Laws.{told-stop, ends-out-of-memory, prefix-none}
-use Rattle.sx_watch.specs.Watched.{property_as}
+use Rattle.sx_watch.specs.Watching.{property_as}
 use Rattle.command_watch.specs.Output.{watch_from}
 use Rattle.command_watch.proofs.trace.watch_trace.Goals as goal
 

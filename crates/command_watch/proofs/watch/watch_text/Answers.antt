@@ -3,7 +3,8 @@ use Rattle.command_promise.specs.Told.{command_at}
 use Rattle.command_promise.specs.Parts.{Rest}
 use Rattle.sx_mean.specs.View.{app_as}
 use Rattle.sx_watch.specs.declared.reading.PropertyFault.{PropertyFault}
-use Rattle.sx_watch.specs.Watched.{PropertyTree, property_as}
+use Rattle.sx_watch.specs.Watched.{PropertyTree}
+use Rattle.sx_watch.specs.Watching.{property_as}
 use Rattle.sx_watch.proofs.Meanings.{one_property}
 use Rattle.command_explain.specs.Trace.{image_lines}
 use Rattle.command_watch.specs.Parts.{watch_judged}

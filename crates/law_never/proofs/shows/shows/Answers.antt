@@ -1,6 +1,6 @@
 use Rattle.sx_mean.specs.View.{app_as}
 use Rattle.sx_table.specs.Rows.{table_as}
-use Rattle.sx_watch.specs.Watched.{property_as}
+use Rattle.sx_watch.specs.Watching.{property_as}
 use Rattle.law_never.proofs.Keeping.{shown_never}
 use Rattle.law_never.proofs.shows.shows.Goals as goal
 

@@ -1,7 +1,7 @@
 use Rattle.std.proofs.Common.{◌≡◌, drop, map}
 use Rattle.sx_mean.specs.View.{app_as, part_as}
 use Rattle.sx_table.specs.Rows.{row_as, table_as}
-use Rattle.sx_watch.specs.Watched.{property_as}
+use Rattle.sx_watch.specs.Watching.{property_as}
 use Rattle.sx_table.specs.Shut.{protects_on}
 use Rattle.sx_table.proofs.shut.protects_on.Given as goal
 

@@ -5,5 +5,5 @@ use Rattle.sx_watch.proofs.reading.meant.Goals as goal
 
 pub returns : goal.returns
 returns c =
-    refused_as c.args.names.now (app_as c.args.app.now) c.args.tokens.now c.deref-2.result.now c.args.end c.in-Err.error c.no_module.result
-    (c.deref-2.ensures.value ∙ c.in_ok-list.ensures) c.in-Err.ensures.fault c.no_module.ensures
+    refused_as c.args.names.now (app_as c.args.app.now) c.args.tokens.now c.deref.result.now c.args.end c.in-Err.error c.no_module.result
+    (c.deref.ensures.value ∙ c.in_ok-module.ensures.tokens) c.in-Err.ensures.fault c.no_module.ensures
