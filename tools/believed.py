@@ -38,8 +38,9 @@ FORGED = [f"law_forgery.{law}" for law in (
 )]
 # What the keys of connections show.
 LINKS = [f"law_connections.{law}" for law in ("LinksUnseen.LinksAreUnseen", "Unlinks.HasMoved", "Found.KeysFound")]
-# What a property's text means, and when it is broken; what `watch` says of it is reached from the program.
-PROPERTIES = ["sx_watch.Text.IsProperty", "sx_watch.Watched.broken_at"]
+# What a property's text means, when it is broken, and that no run breaks it. What `watch` and `holds` say of that is the program's, as what all
+# commands say of their input.
+PROPERTIES = ["sx_watch.Text.IsProperty", "sx_watch.Watched.broken_at", "law_never.Never.IsNeverBroken"]
 # How seldom a `forged` comes: counts of tables, makers of schedules, and what their distinguishers say.
 ODDS = [
     "law_rarity.Erring.ForgersAreTold", "law_rarity.Erring.DistinguisherSeldomErrs",
@@ -83,7 +84,7 @@ PROMISES = {
     "memory in pages": ["sx_pages.Pages.*", "sx_paged.Memory.*"],
 }
 OF_FORGED = ("law_forgery", "law_connections")
-OF_PROPERTIES = ("sx_watch", "law_never", "command_property", "command_watch", "command_holds")
+OF_PROPERTIES = ("sx_watch", "law_never")
 # The images are a function of the deployment; which one, the compiler says, and nobody has to believe that.
 FUNCTIONS = {("command_world.Compiled", "compiled_texts")}
 
@@ -305,7 +306,7 @@ def main():
     repository.show("The core, beside it", core - source)
     repository.show("From the text on", headline - core)
     repository.show("What a reader may take from a trace, and the other commands", program - headline)
-    repository.show("Properties: what their texts mean, and when they are broken", properties)
+    repository.show("Properties: what their texts mean, when they are broken, and that none is", properties)
     repository.show("What `forged` says, beside all of these", forged - links)
     repository.show("What the keys of connections show, beside that", links)
     repository.show("How seldom a `forged` comes, beside all of these", odds)
