@@ -27,7 +27,7 @@ use sx_wire::challenge_in;
 fn judge_answer<T: Tag>(
     tag: &T,
     deployer: &mut Deployer<T>,
-    packets: &[Vec<u8>],
+    packets: &[RcSlice<u8>],
     m: u8,
     boot: u32,
     k: u32,

@@ -17,7 +17,8 @@ pub(crate) struct Running<B: Bus, T: Tag> {
     pub(crate) alloc: Global,
     pub(crate) tag: T,
     pub(crate) nodes: Vec<Node<B, T>>,
-    pub(crate) packets: Vec<Vec<u8>>,
+    /// Worlds that are copies of one another share the packets that were there: none ever changes.
+    pub(crate) packets: Vec<RcSlice<u8>>,
     pub(crate) deployer: Deployer<T>,
     pub(crate) ledger: Ledger,
     /// How many steps of nodes were taken.
