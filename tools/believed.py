@@ -30,7 +30,7 @@ CORE = SOURCE + [
 ]
 # The record of the command `run` with the moments that it is about, and what the whole program promises.
 HEADLINE = ["*.Promise.RunDeployPromise", "command_promise.Told.command_at"]
-PROGRAM = ["*.Promise.ProgramPromise"]
+PROGRAM = ["*.Promise.ProgramPromise", "command_promise.Status.status_number"]
 # What the first `forged` of a run says, and what keys show.
 FORGED = [f"law_forgery.{law}" for law in (
     "Forgery.ForgedUnmade", "Forgery.ForgedShown", "Logged.LedgerTells",

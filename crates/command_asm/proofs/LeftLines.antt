@@ -7,6 +7,8 @@ use Rattle.command_text.specs.Address.{address}
 use Rattle.std.proofs.lemmas.Bool.Decides.{nat_tests}
 use Rattle.std.proofs.Math.Seq.{take-append_seam}
 use Rattle.sx_io.specs.Streams.{SinkAt}
+use Rattle.command_promise.specs.declared.status.Status.{Status}
+use Rattle.command_promise.specs.declared.status.Status.TheVariants.{Done}
 use Rattle.command_promise.specs.Told.{Output, CommandEnds, behind}
 use Rattle.command_promise.specs.Parts.{WroteSome}
 use Rattle.command_promise.proofs.Laws.{ends-behind, ends-same}
@@ -19,13 +21,13 @@ use Rattle.command_asm.proofs.Sizes.{listed_sized}
 
 -- these lines, and `end`
 abbrev pub and_end : List ℕ → Output
-and_end text = record { text = text ++ end_line; status = 0 }
+and_end text = record { text = text ++ end_line; status = Done }
 
 -- of a listing all was written but the lines of these bytes
 pub record LeftLines (to_tell : Bool) (k0 k1 : SinkAt) (whole : Output) (at : ℕ) (bytes : List ℕ) : Type 0 where
   pub most : ℕ
   pub enough : length bytes ≤ most
-  pub ends : (k2 : SinkAt) (status : ℕ) → CommandEnds to_tell k1 k2 status (and_end (listing_lines most at bytes))
+  pub ends : (k2 : SinkAt) (status : Status) → CommandEnds to_tell k1 k2 status (and_end (listing_lines most at bytes))
       → CommandEnds to_tell k0 k2 status whole
 
 pub left_new : (to_tell : Bool) (k : SinkAt) (at : ℕ) (code : List ℕ) → LeftLines to_tell k k (and_end (listing at code)) at code
@@ -76,7 +78,7 @@ next_is most at bytes text n same =
     let rest : List ℕ = listing_lines n.fewer (further at (listed at bytes).1) (drop (listed at bytes).1 bytes) in
     let e : listing_lines most at bytes ++ end_line ≡ text ++ (rest ++ end_line) =
     ap (λ (t : List ℕ). t ++ end_line) (n.lines ∙ ap (λ (t : List ℕ). t ++ rest) (sym same)) ∙ append_assoc text rest end_line in
-    ap (λ (t : List ℕ). record { text = t; status = 0 }) e
+    ap (λ (t : List ℕ). record { text = t; status = Done }) e
 
 -- a line was written
 pub left_line : {to_tell : Bool} {k0 k1 k2 : SinkAt} {whole : Output} (at to : ℕ) (bytes rest text : List ℕ) → 2 ≤ length bytes
@@ -99,7 +101,7 @@ left_line {to_tell} {k0} {k1} {k2} {whole} at to bytes rest text long b same t r
     }))
 
 -- the command ends at a line
-pub left_stop : {to_tell : Bool} {k0 k1 k2 : SinkAt} {whole : Output} {status : ℕ} (at : ℕ) (bytes text : List ℕ) → 2 ≤ length bytes
+pub left_stop : {to_tell : Bool} {k0 k1 k2 : SinkAt} {whole : Output} {status : Status} (at : ℕ) (bytes text : List ℕ) → 2 ≤ length bytes
     → LeftLines to_tell k0 k1 whole at bytes → text ≡ listing_line at bytes
     → ((left : List Answer → Output) (more : List Answer) → CommandEnds to_tell k1 k2 status (behind text (left more))) → CommandEnds to_tell k0 k2 status whole
 left_stop {to_tell} {k0} {k1} {k2} {whole} {status} at bytes text long b same stop =
@@ -112,8 +114,8 @@ no_lines zero at bytes h = refl
 no_lines (suc k) at bytes h = let none : nat_lt (length bytes) 2 ≡ true = grind (arith, nat_tests, h) in rw none refl
 
 -- the command ends after the last line
-pub left_end : {to_tell : Bool} {k0 k1 k2 : SinkAt} {whole : Output} {status : ℕ} (at : ℕ) (bytes : List ℕ) → length bytes ≡ 0
-    → LeftLines to_tell k0 k1 whole at bytes → CommandEnds to_tell k1 k2 status (record { text = end_line; status = 0 })
+pub left_end : {to_tell : Bool} {k0 k1 k2 : SinkAt} {whole : Output} {status : Status} (at : ℕ) (bytes : List ℕ) → length bytes ≡ 0
+    → LeftLines to_tell k0 k1 whole at bytes → CommandEnds to_tell k1 k2 status (record { text = end_line; status = Done })
     → CommandEnds to_tell k0 k2 status whole
 left_end {to_tell} {k0} {k1} {k2} {whole} {status} at bytes none b e =
     b.ends k2 status (ends-same to_tell k1 k2 status _ _ (ap and_end (no_lines b.most at bytes none)) e)

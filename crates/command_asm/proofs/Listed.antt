@@ -1,8 +1,10 @@
 -- What follows for `dis` from what it wrote and read.
-use Rattle.std.proofs.Common.{◌≡◌, ◌∙◌, ◌⊎◌, inl, inr, ℕ, ◌+◌, Bool, List, [], ◌∷◌, ◌++◌, length, refl, sym, ap, arith, Option, Some, None}
+use Rattle.std.proofs.Common.{◌≡◌, ◌∙◌, ◌⊎◌, inl, inr, ℕ, ◌+◌, Bool, List, [], ◌∷◌, ◌++◌, length, refl, sym, ap, Option, Some, None}
 use Rattle.sx_io.specs.Streams.{SourceAt, SinkAt}
 use Rattle.sx_io.specs.Reading.{Answer, Line, End, Long, Fault, Ended, Broken, scan}
 use Rattle.std.specs.Prelude.{IsTrue}
+use Rattle.command_promise.specs.declared.status.Status.{Status}
+use Rattle.command_promise.specs.declared.status.Status.TheVariants.{Done, ReadFailed}
 use Rattle.command_promise.specs.Reads.{anything}
 use Rattle.command_promise.specs.Told.{CommandEnds, CommandAt, Output, Told, command_at, out_of_memory}
 use Rattle.command_promise.proofs.Laws.{told-all, told-quiet, told-reads}
@@ -63,48 +65,48 @@ unfinished_none number (Line text ∷ more) u h =
     unfinished_none (number + 1) more u
     (bytes_line number (line_bytes number text) (hex_input (number + 1) more) h)
 
-bytes_not_four : (at : ℕ) (bytes : List ℕ) → (dis_bytes at bytes).status ≡ 4 → ⊥
+bytes_not_four : (at : ℕ) (bytes : List ℕ) → (dis_bytes at bytes).status ≡ ReadFailed → ⊥
 bytes_not_four at bytes e =
-    pick (is_listed at (length bytes)) _ unlisted (λ o. o.status ≡ 4 → ⊥)
-    (λ x. omega (arith, x)) (λ x. omega (arith, x)) e
+    pick (is_listed at (length bytes)) _ unlisted (λ o. o.status ≡ ReadFailed → ⊥)
+    (λ x. cc x) (λ x. cc x) e
 
-four_unread : (at : ℕ) (g : HexInput) → (dis_given at g).status ≡ 4 → IsUnread g
+four_unread : (at : ℕ) (g : HexInput) → (dis_given at g).status ≡ ReadFailed → IsUnread g
 four_unread at (Bytes bytes) e = absurd (bytes_not_four at bytes e)
-four_unread at (BadLine number) e = absurd (omega (arith, e))
+four_unread at (BadLine number) e = absurd (cc e)
 four_unread at Unread e = tt
 
-zero_bytes : (at : ℕ) (g : HexInput) → (dis_given at g).status ≡ 0 → IsBytes g
+zero_bytes : (at : ℕ) (g : HexInput) → (dis_given at g).status ≡ Done → IsBytes g
 zero_bytes at (Bytes bytes) e = tt
-zero_bytes at (BadLine number) e = absurd (omega (arith, e))
-zero_bytes at Unread e = absurd (omega (arith, e))
+zero_bytes at (BadLine number) e = absurd (cc e)
+zero_bytes at Unread e = absurd (cc e)
 
-never_four : (at : ℕ) (bytes : List ℕ) → (dis_all at (scan dis_lines Ended [] bytes)).status ≡ 4
+never_four : (at : ℕ) (bytes : List ℕ) → (dis_all at (scan dis_lines Ended [] bytes)).status ≡ ReadFailed
     → ⊥
 never_four at bytes e =
     let answers = scan dis_lines Ended [] bytes in
     faultless_read 1 answers (faultless dis_lines [] bytes) (four_unread at (hex_input 1 answers) e)
 
-never_zero : (at : ℕ) (bytes : List ℕ) → (dis_all at (scan dis_lines Broken [] bytes)).status ≡ 0
+never_zero : (at : ℕ) (bytes : List ℕ) → (dis_all at (scan dis_lines Broken [] bytes)).status ≡ Done
     → ⊥
 never_zero at bytes e =
     let answers = scan dis_lines Broken [] bytes in
     unfinished_none 1 answers (unfinished dis_lines [] bytes) (zero_bytes at (hex_input 1 answers) e)
 
 -- the lines were read, and what they write was told
-pub told_given : {tells to_tell : Bool} {s0 s1 : SourceAt} {k0 k1 : SinkAt} {status : ℕ}
+pub told_given : {tells to_tell : Bool} {s0 s1 : SourceAt} {k0 k1 : SinkAt} {status : Status}
     (at : ℕ) (g : HexInput) → ReadsGiven tells s0 s1 g → CommandEnds to_tell k0 k1 status (dis_given at g)
     → Told tells to_tell dis_lines (command_at s0 k0) (command_at s1 k1) status (dis_all at) anything
 told_given {tells} {to_tell} {s0} {s1} {k0} {k1} {status} at g r w =
     told-reads (dis_given at) (dis_given at g) refl r (λ answers q. (ap (dis_given at) q, tt)) w
 
 -- where nothing failed, and memory never runs out, all that is defined was written
-ended : (to_tell : Bool) (m0 m1 : CommandAt) (status : ℕ) (o : Output) → (status ≡ out_of_memory → ⊥)
+ended : (to_tell : Bool) (m0 m1 : CommandAt) (status : Status) (o : Output) → (status ≡ out_of_memory → ⊥)
     → (status ≡ out_of_memory) ⊎ ((status ≡ o.status) × (IsTrue to_tell → m1.sink.written ≡ m0.sink.written ++ o.text))
     → (status ≡ o.status) × (IsTrue to_tell → m1.sink.written ≡ m0.sink.written ++ o.text)
 ended to_tell m0 m1 status o never (inl six) = absurd (never six)
 ended to_tell m0 m1 status o never (inr all) = all
 
-pub dis_promise : {tells to_tell : Bool} {m0 m1 : CommandAt} {status : ℕ} (at : ℕ)
+pub dis_promise : {tells to_tell : Bool} {m0 m1 : CommandAt} {status : Status} (at : ℕ)
     → Told tells to_tell dis_lines m0 m1 status (dis_all at) anything → (status ≡ out_of_memory → ⊥)
     → DisPromise at tells to_tell m0 m1 status
 dis_promise {tells} {to_tell} {m0} {m1} {status} at told never = record {
@@ -112,7 +114,7 @@ dis_promise {tells} {to_tell} {m0} {m1} {status} at told never = record {
   memory = never;
   faults = faults_of (never_four at) told;
   read_all = λ zero.
-      told-all told (λ five. omega (arith, zero, five)) (λ six. omega (arith, zero, six))
+      told-all told (λ five. cc (zero, five)) (λ six. cc (zero, six))
       (λ bytes e. never_zero at bytes (sym e ∙ zero));
   complete = λ t good quiet.
       let o = dis_all at (scan dis_lines Ended [] m0.source.rest) in

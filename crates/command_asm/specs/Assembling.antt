@@ -6,6 +6,8 @@ use Rattle.std.specs.Option.{option_or}
 use Rattle.std.specs.Str.{is_utf8}
 use Rattle.sx_io.specs.Reading.{Answer, Line, End, Long, Fault, Ended, Limit, always, longest}
 use Rattle.sx_io.specs.Reading.{newline, scan}
+use Rattle.command_promise.specs.declared.status.Status.{Status}
+use Rattle.command_promise.specs.declared.status.Status.TheVariants.{Done, NoCode}
 use Rattle.command_promise.specs.Reads.{anything}
 use Rattle.command_promise.specs.Told.{Output, CommandAt, Told, out_of_memory, unread_output}
 use Rattle.sx_asm.specs.declared.error.AsmError.{AsmError}
@@ -92,12 +94,12 @@ code_at at g = judged g.bad (assembled at g.text)
 
 -- status 10: a rule is broken; no text gives the error `OutOfMemory`
 abbrev pub asm_fault_output : AsmError → Output
-asm_fault_output (error.Fault rule number) = fault_output (codes "fault asm A") rule number 10
+asm_fault_output (error.Fault rule number) = fault_output (codes "fault asm A") rule number NoCode
 asm_fault_output error.OutOfMemory = record { text = []; status = out_of_memory }
 
 -- the listing of the code, or the fault
 abbrev pub told_code : ℕ → Result (List ℕ) AsmError → Output
-told_code at (Ok code) = record { text = listing at code ++ end_line; status = 0 }
+told_code at (Ok code) = record { text = listing at code ++ end_line; status = Done }
 told_code at (Err e) = asm_fault_output e
 
 -- what `asm` writes of what was read
@@ -115,11 +117,12 @@ asm_of at m0 = asm_all at (scan asm_lines Ended [] m0.source.rest)
 
 -- What the command promises, of its streams at its start (m0) and at its end (m1). Status 0 says
 -- that the input was read to its end.
-pub record AsmPromise (at : ℕ) (tells to_tell : Bool) (m0 m1 : CommandAt) (status : ℕ) : Type 0 where
+pub record AsmPromise (at : ℕ) (tells to_tell : Bool) (m0 m1 : CommandAt)
+    (status : Status) : Type 0 where
   pub told : Told tells to_tell asm_lines m0 m1 status (asm_all at) anything
   pub faults : TellsFaults m0 m1 status
-  pub read_all : status ≡ 0 → IsTrue tells → m1.source.rest ≡ []
-  pub complete : IsTrue tells → (asm_of at m0).status ≡ 0 → IsFaultless m0 m1
+  pub read_all : status ≡ Done → IsTrue tells → m1.source.rest ≡ []
+  pub complete : IsTrue tells → (asm_of at m0).status ≡ Done → IsFaultless m0 m1
       → CameToItsEnd to_tell m0 m1 status (asm_of at m0)
   pub exact : IsTrue tells → IsFaultless m0 m1
       → (status ≡ out_of_memory) ⊎ (status ≡ (asm_of at m0).status)

@@ -6,6 +6,8 @@ use Rattle.std.specs.Prelude.{Option, Some, None, Result, Ok, Err}
 use Rattle.hex.specs.Hex.{decode_of}
 use Rattle.hex.specs.declared.error.FromHexError.{FromHexError}
 use Rattle.sx_io.specs.Reading.{Answer, Line, End, Long, Fault, Ended, Limit, always, longest, scan}
+use Rattle.command_promise.specs.declared.status.Status.{Status}
+use Rattle.command_promise.specs.declared.status.Status.TheVariants.{Done, NoCode}
 use Rattle.command_promise.specs.Reads.{anything}
 use Rattle.command_promise.specs.Told.{CommandAt, Output, Told, out_of_memory, unread_output}
 use Rattle.command_text.specs.Faults.{IsFaultless, TellsFaults}
@@ -74,17 +76,16 @@ unlisted_line = line (codes "fault hex B2 -")
 
 -- status 10: this line is the first that breaks the rule of lines
 abbrev pub broken_line : ℕ → Output
-broken_line number = fault_output (codes "fault hex B") 1 number 10
+broken_line number = fault_output (codes "fault hex B") 1 number NoCode
 
 -- status 10: the bytes can't be listed from the address on
 abbrev pub unlisted : Output
-unlisted = record { text = unlisted_line; status = 10 }
+unlisted = record { text = unlisted_line; status = NoCode }
 
 -- the listing of the bytes, if they can be listed
 abbrev pub dis_bytes : ℕ → List ℕ → Output
-dis_bytes at bytes =
-    if is_listed at (length bytes) then record { text = listing at bytes ++ end_line; status = 0 }
-    else unlisted
+dis_bytes at bytes = if is_listed at (length bytes)
+    then record { text = listing at bytes ++ end_line; status = Done } else unlisted
 
 -- what `dis` writes of what was read
 abbrev pub dis_given : ℕ → HexInput → Output
@@ -103,12 +104,13 @@ dis_input at input = dis_all at (scan dis_lines Ended [] input)
 -- What the command `dis` says of its streams at its start (m0) and at its end (m1). It takes no
 -- memory. Status 0 says that the input was read to its end. If no read and no write failed, an
 -- input that is to be listed is listed, and the status of any input is the defined one.
-pub record DisPromise (at : ℕ) (tells to_tell : Bool) (m0 m1 : CommandAt) (status : ℕ) : Type 0 where
+pub record DisPromise (at : ℕ) (tells to_tell : Bool) (m0 m1 : CommandAt)
+    (status : Status) : Type 0 where
   pub told : Told tells to_tell dis_lines m0 m1 status (dis_all at) anything
   pub memory : status ≡ out_of_memory → ⊥
   pub faults : TellsFaults m0 m1 status
-  pub read_all : status ≡ 0 → IsTrue tells → m1.source.rest ≡ []
-  pub complete : IsTrue tells → (dis_input at m0.source.rest).status ≡ 0 → IsFaultless m0 m1
-      → (status ≡ 0)
+  pub read_all : status ≡ Done → IsTrue tells → m1.source.rest ≡ []
+  pub complete : IsTrue tells → (dis_input at m0.source.rest).status ≡ Done → IsFaultless m0 m1
+      → (status ≡ Done)
       × (IsTrue to_tell → m1.sink.written ≡ m0.sink.written ++ (dis_input at m0.source.rest).text)
   pub exact : IsTrue tells → IsFaultless m0 m1 → status ≡ (dis_input at m0.source.rest).status

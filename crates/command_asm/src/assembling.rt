@@ -10,15 +10,12 @@ ghost use Rattle.command_asm.specs.Assembling.{most_bytes, told_code, with_line}
 ghost use Rattle.command_asm.specs.Gathering.{Gathers, gathered_bytes};
 
 use crate::listing::list;
-use command_promise::{OUT_OF_MEMORY, READ_FAILED, finish};
+use command_promise::{Status, finish};
 use command_text::fault::finish_fault;
 use std::alloc::{AllocError, Global};
 use std::str;
 use sx_asm::{AsmError, assemble};
 use sx_io::{LineRead, Lines, Sink, Source};
-
-/// The exit status for a text that breaks a rule.
-const REFUSED: u8 = 10;
 
 /// The most bytes of a text, each line counted with one newline.
 const MOST_BYTES: usize = 262_144;
@@ -147,21 +144,21 @@ fn code_at(alloc: Global, at: u16, gathered: &GatheredText) -> Result<Vec<u8>, A
 }
 
 /// Lists the code of what was read, or writes which rule it breaks.
-fn tell_code<K: Sink>(alloc: Global, at: u16, gathered: &GatheredText, output: &mut K) -> u8
+fn tell_code<K: Sink>(alloc: Global, at: u16, gathered: &GatheredText, output: &mut K) -> Status
     ensures { CommandEnds K.tells (K.at output.old) (K.at output.new) result
         (told_code at (code_at at (gathered_bytes gathered.now))) }
 {
     match code_at(alloc, at, gathered) {
         Ok(code) => list(output, at, &code),
         Err(AsmError::Fault { rule, line }) => {
-            finish_fault(output, b"fault asm A", rule, line, REFUSED)
+            finish_fault(output, b"fault asm A", rule, line, Status::NoCode)
         }
-        Err(AsmError::OutOfMemory) => OUT_OF_MEMORY,
+        Err(AsmError::OutOfMemory) => Status::OutOfMemory,
     }
 }
 
 /// What the command `asm` writes is that of the text that it read.
-fn asm_told<S: Source, K: Sink>(alloc: Global, at: u16, input: &mut S, output: &mut K) -> u8
+fn asm_told<S: Source, K: Sink>(alloc: Global, at: u16, input: &mut S, output: &mut K) -> Status
     ensures { Told S.tells K.tells asm_lines
         (command_at (S.at input.old) (K.at output.old))
         (command_at (S.at input.new) (K.at output.new))
@@ -169,8 +166,8 @@ fn asm_told<S: Source, K: Sink>(alloc: Global, at: u16, input: &mut S, output: &
 {
     match gather(alloc, input) {
         Ok(gathered) => tell_code(alloc, at, &gathered, output),
-        Err(GatherFault::Failed) => finish(output, b"fault read\n", READ_FAILED),
-        Err(GatherFault::OutOfMemory) => OUT_OF_MEMORY,
+        Err(GatherFault::Failed) => finish(output, b"fault read\n", Status::ReadFailed),
+        Err(GatherFault::OutOfMemory) => Status::OutOfMemory,
     }
 }
 
@@ -178,7 +175,7 @@ fn asm_told<S: Source, K: Sink>(alloc: Global, at: u16, input: &mut S, output: &
 /// first of five rules that the text breaks, and the first line that breaks it. Gives the exit
 /// status. The input is read to its end before it is judged, or to a line or a byte that passes a
 /// limit.
-pub fn asm_over<S: Source, K: Sink>(alloc: Global, at: u16, input: &mut S, output: &mut K) -> u8
+pub fn asm_over<S: Source, K: Sink>(alloc: Global, at: u16, input: &mut S, output: &mut K) -> Status
     ensures { AsmPromise at S.tells K.tells
         (command_at (S.at input.old) (K.at output.old))
         (command_at (S.at input.new) (K.at output.new))

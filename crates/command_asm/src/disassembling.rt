@@ -10,12 +10,9 @@ ghost use Rattle.command_asm.specs.Kept.{KeepsBytes, KeepsMore, CodeRead};
 
 use crate::listing::list;
 use arrayvec::ArrayVec;
-use command_promise::{READ_FAILED, finish};
+use command_promise::{Status, finish};
 use command_text::fault::finish_fault;
 use sx_io::{LONGEST, LineRead, Lines, Sink, Source};
-
-/// The exit status for an input that breaks a rule.
-const BROKEN: u8 = 10;
 
 /// An input has at most this many lines, blank ones counted.
 const MOST_LINES: u32 = 65_536;
@@ -147,13 +144,13 @@ fn is_listed(at: u16, count: usize) -> bool
 /// Writes the listing of all bytes that have come, or that they can't be listed. It takes no
 /// memory.
 #[tactic(auto, unfolding(crate::specs::Disassembling::unlisted_line))]
-fn tell<K: Sink>(at: u16, code: &Code, output: &mut K) -> u8
+fn tell<K: Sink>(at: u16, code: &Code, output: &mut K) -> Status
     ensures told { (bytes : List ℕ) → KeepsBytes code.now bytes
         → CommandEnds K.tells (K.at output.old) (K.at output.new) result (dis_bytes at bytes) }
     ensures memory { result ≢ out_of_memory }
 {
     if !code.is_listed(at) {
-        return finish(output, b"fault hex B2 -\n", BROKEN);
+        return finish(output, b"fault hex B2 -\n", Status::NoCode);
     }
     list(output, at, &code.kept)
 }
@@ -161,7 +158,7 @@ fn tell<K: Sink>(at: u16, code: &Code, output: &mut K) -> u8
 /// The command `dis`: lines of hexadecimal digits, whole bytes in each. It writes the listing of
 /// all their bytes from the address on, and `end`; or one line, which names the first rule that the
 /// input breaks. Gives the exit status. It takes no memory.
-pub fn dis_over<S: Source, K: Sink>(at: u16, input: &mut S, output: &mut K) -> u8
+pub fn dis_over<S: Source, K: Sink>(at: u16, input: &mut S, output: &mut K) -> Status
     ensures { DisPromise at S.tells K.tells
         (command_at (S.at input.old) (K.at output.old))
         (command_at (S.at input.new) (K.at output.new))
@@ -170,7 +167,7 @@ pub fn dis_over<S: Source, K: Sink>(at: u16, input: &mut S, output: &mut K) -> u
     let mut code = Code::new();
     match read_code(input, &mut code) {
         Reading::AtEnd => tell(at, &code, output),
-        Reading::BadLine(number) => finish_fault(output, b"fault hex B", 1, number, BROKEN),
-        Reading::Failed => finish(output, b"fault read\n", READ_FAILED),
+        Reading::BadLine(number) => finish_fault(output, b"fault hex B", 1, number, Status::NoCode),
+        Reading::Failed => finish(output, b"fault read\n", Status::ReadFailed),
     }
 }

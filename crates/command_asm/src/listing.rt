@@ -2,12 +2,13 @@
 
 ghost use Rattle.std.specs.Prelude.{◌≡◌, ◌≢◌, ◌+◌, ◌%◌, ◌≤◌, ◌<◌, ◌++◌, length};
 ghost use Rattle.hex.specs.Hex.{encode_lower};
+ghost use Rattle.command_promise.specs.declared.status.Status.TheVariants.{Done};
 ghost use Rattle.command_promise.specs.Told.{CommandEnds, out_of_memory};
 ghost use Rattle.sx_asm.specs.Shown.{listed};
 ghost use Rattle.command_asm.specs.Listing.{listing_line, listing};
 ghost use Rattle.command_text.specs.Output.{end_line};
 
-use command_promise::{Turned, finish, put_text};
+use command_promise::{Status, Turned, finish, put_text};
 use command_text::address::address;
 use command_text::text::{Text, put};
 use sx_asm::dis;
@@ -47,11 +48,11 @@ fn first_line(at: u16, code: &[u8]) -> (Text, u8)
 }
 
 /// Writes the listing of code from an address on, and `end`: status 0. It takes no memory.
-pub(crate) fn list<K: Sink>(output: &mut K, at: u16, code: &[u8]) -> u8
+pub(crate) fn list<K: Sink>(output: &mut K, at: u16, code: &[u8]) -> Status
     requires even { length code.now % 2 ≡ 0 }
     requires fits { at + length code.now ≤ 65536 }
     ensures ends { CommandEnds K.tells (K.at output.old) (K.at output.new) result
-        (record { text = listing at code.now ++ end_line; status = 0 }) }
+        (record { text = listing at code.now ++ end_line; status = Done }) }
     ensures memory { result ≢ out_of_memory }
 {
     let mut address = at;
@@ -65,5 +66,5 @@ pub(crate) fn list<K: Sink>(output: &mut K, at: u16, code: &[u8]) -> u8
         let (_, behind) = rest.split_at(usize::from(size));
         rest = behind;
     }
-    finish(output, b"end\n", 0)
+    finish(output, b"end\n", Status::Done)
 }

@@ -6,6 +6,7 @@ use Rattle.sx_asm.specs.Assembled.{assembled}
 use Rattle.sx_io.specs.Reading.{Answer}
 use Rattle.sx_io.specs.Reading as answer
 use Rattle.sx_io.specs.Streams.{SinkAt}
+use Rattle.command_promise.specs.declared.status.Status.{Status}
 use Rattle.command_promise.specs.Head.{is_mark}
 use Rattle.command_promise.specs.Parts.{WroteSome}
 use Rattle.command_promise.specs.Told.{CommandEnds, Output, behind, out_of_memory, write_failed}
@@ -35,7 +36,7 @@ pub wrote_same : {to_tell : Bool} {k0 k1 : SinkAt} (f g after : List Answer → 
 wrote_same f g after h w = record { text = w.text; wrote = w.wrote; same = λ more. h more ∙ w.same more; no_fault = w.no_fault }
 
 -- the line of a fault was written whole, and the command goes on
-pub broken_told : {to_tell : Bool} {k0 k1 : SinkAt} {status : ℕ} (rule number : ℕ) → CommandEnds to_tell k0 k1 status (broken_output rule number)
+pub broken_told : {to_tell : Bool} {k0 k1 : SinkAt} {status : Status} (rule number : ℕ) → CommandEnds to_tell k0 k1 status (broken_output rule number)
     → (status ≡ write_failed → ⊥) → (status ≡ out_of_memory → ⊥) → (left : List Answer → Output) → WroteSome to_tell k0 k1 (λ more. behind (broken_line rule number) (left more)) left
 broken_told rule number w five six left = record { text = broken_line rule number; wrote = (w.whole five six).1; same = λ more. refl; no_fault = w.no_fault five }
 
@@ -65,7 +66,7 @@ module _ (names : NameLists) (set : Setting) (w : World) (number : ℕ) (text : 
         (λ more. runs more ∙ ap (λ (items : List Item). behind (items_text names items) (left more)) (sym same)) (wrote left)
 
     -- or a write of them failed
-    pub line_stopped : {to_tell : Bool} {k0 k1 : SinkAt} {status : ℕ} (made : List Item) → made ≡ (after_next set w line).items
+    pub line_stopped : {to_tell : Bool} {k0 k1 : SinkAt} {status : Status} (made : List Item) → made ≡ (after_next set w line).items
         → ((left : List Answer → Output) (more : List Answer) → CommandEnds to_tell k0 k1 status (behind (items_text names made) (left more)))
         → (more : List Answer) → CommandEnds to_tell k0 k1 status (due more)
     line_stopped made same does more =
@@ -83,7 +84,7 @@ module _ (names : NameLists) (set : Setting) (w : World) (number : ℕ) (text : 
         (λ t. prefix_told Items names _ _ text made front.0 next.items left.text front.1 (prefix-all _ _ _ (wrote t))) same)
 
     -- or a write of them failed
-    pub line_unwritten : {to_tell : Bool} {k0 k1 : SinkAt} {status : ℕ} (made : List Item) → IsFront made (after_next set w line).items
+    pub line_unwritten : {to_tell : Bool} {k0 k1 : SinkAt} {status : Status} (made : List Item) → IsFront made (after_next set w line).items
         → ((left : List Answer → Output) (more : List Answer) → CommandEnds to_tell k0 k1 status (behind (items_text names made) (left more)))
         → (more : List Answer) → CommandEnds to_tell k0 k1 status (due more)
     line_unwritten {to_tell} {k0} {k1} {status} made front does more =
@@ -100,6 +101,6 @@ module _ (names : NameLists) (set : Setting) (w : World) (number : ℕ) (text : 
     line_broken wrote =
         let left = passed_from names set start first count number in wrote_same due (λ more. behind (broken_line rule number) (left more)) left breaks (wrote left)
 
-    pub line_unbroken : {to_tell : Bool} {k0 k1 : SinkAt} {status : ℕ} → ((left : List Answer → Output) (more : List Answer) → CommandEnds to_tell k0 k1 status (behind (broken_line rule number) (left more)))
+    pub line_unbroken : {to_tell : Bool} {k0 k1 : SinkAt} {status : Status} → ((left : List Answer → Output) (more : List Answer) → CommandEnds to_tell k0 k1 status (behind (broken_line rule number) (left more)))
         → (more : List Answer) → CommandEnds to_tell k0 k1 status (due more)
     line_unbroken does more = ends-same _ _ _ _ _ _ (breaks more) (does (passed_from names set start first count number) more)

@@ -6,6 +6,7 @@ use Rattle.sx_asm.specs.Assembled.{assembled}
 use Rattle.sx_io.specs.Next.{Ahead}
 use Rattle.sx_io.specs.Reading.{Answer, End, Fault, Limit, Long}
 use Rattle.sx_io.specs.Reading as answer
+use Rattle.command_promise.specs.declared.status.Status.TheVariants.{Done}
 use Rattle.command_promise.specs.Head.{head_lines, is_mark}
 use Rattle.command_promise.specs.Parts.{Begun}
 use Rattle.command_promise.specs.Told.{CommandAt, Output, behind, unread_output}
@@ -44,7 +45,7 @@ module _ (assemble : Assembler) (names : NameLists) (set : Setting) where
       unfolding common_from
       common_breaks rule e judged = rw (e, judged) refl
 
-    pub common_ended : common_from assemble names set w number (End ∷ []) ≡ record { text = end_line; status = 0 }
+    pub common_ended : common_from assemble names set w number (End ∷ []) ≡ record { text = end_line; status = Done }
     unfolding common_from
     common_ended = refl
 
@@ -77,7 +78,7 @@ module _ (assemble : Assembler) (names : NameLists) (set : Setting) where
         unfolding schedules_from
         schedule_replies r e judged = rw (e, judged) refl
 
-      pub schedule_ended : schedules_from assemble names set start first count s number (End ∷ []) ≡ record { text = last_text s; status = 0 }
+      pub schedule_ended : schedules_from assemble names set start first count s number (End ∷ []) ≡ record { text = last_text s; status = Done }
       unfolding schedules_from
       schedule_ended = refl
 

@@ -3,6 +3,7 @@
 use Rattle.std.specs.Prelude.{ℕ, ◌+◌, ◌==◌, if◌then◌else◌, List, [], ◌∷◌, codes, Result, Ok, Err}
 use Rattle.sx_io.specs.Reading.{Answer, End, Long, Fault}
 use Rattle.sx_io.specs.Reading as answer
+use Rattle.command_promise.specs.declared.status.Status.TheVariants.{Done, TooLong}
 use Rattle.command_promise.specs.Head.{is_mark}
 use Rattle.command_promise.specs.Told.{Output, behind, unread_output}
 use Rattle.sx_tag.specs.Mac.{Mac}
@@ -33,7 +34,7 @@ long_line = line (codes "fault batch long")
 
 -- status 9: there are too many schedules, or too many lines are to be passed over
 abbrev pub long_output : Output
-long_output = record { text = long_line; status = 9 }
+long_output = record { text = long_line; status = TooLong }
 
 -- the state of a schedule between two lines: it came to this world, or one of its lines broke a
 -- rule, and the others are passed over
@@ -65,9 +66,9 @@ reply names set Passes number r = record { text = []; standing = Passes }
 unfoldable pub schedules_from : Assembler → NameLists → Setting → World → ℕ → ℕ → Standing → ℕ
     → List Answer → Output
 schedules_from assemble names set start first count s number [] =
-    record { text = last_text s; status = 0 }
+    record { text = last_text s; status = Done }
 schedules_from assemble names set start first count s number (End ∷ more) =
-    record { text = last_text s; status = 0 }
+    record { text = last_text s; status = Done }
 schedules_from assemble names set start first count s number (Long ∷ more) = broken_output 1 number
 schedules_from assemble names set start first count s number (Fault ∷ more) = unread_output
 schedules_from assemble names set start first count s number (answer.Line text ∷ more) =
@@ -86,8 +87,8 @@ on_common number (Ok l) rest = rest l
 
 -- what is written from the common line with this number on
 unfoldable pub common_from : Assembler → NameLists → Setting → World → ℕ → List Answer → Output
-common_from assemble names set w number [] = record { text = end_line; status = 0 }
-common_from assemble names set w number (End ∷ more) = record { text = end_line; status = 0 }
+common_from assemble names set w number [] = record { text = end_line; status = Done }
+common_from assemble names set w number (End ∷ more) = record { text = end_line; status = Done }
 common_from assemble names set w number (Long ∷ more) = broken_output 1 number
 common_from assemble names set w number (Fault ∷ more) = unread_output
 common_from assemble names set w number (answer.Line text ∷ more) =

@@ -1,6 +1,7 @@
 -- What the command `batch` promises, of its streams at its start (m0) and at its end (m1).
 use Rattle.std.specs.Prelude.{ℕ, ◌≡◌, ◌⊎◌, Bool, true, List}
 use Rattle.sx_io.specs.Reading.{Answer}
+use Rattle.command_promise.specs.declared.status.Status.{Status}
 use Rattle.command_promise.specs.Head.{is_mark}
 use Rattle.command_promise.specs.Told.{CommandAt, out_of_memory}
 use Rattle.sx_tag.specs.Mac.{Mac}
@@ -30,5 +31,5 @@ batch_part assemble mac = record {
 }
 
 -- the command `batch`
-abbrev pub BatchPromise : Assembler → Mac → Bool → Bool → CommandAt → CommandAt → ℕ → Type 0
+abbrev pub BatchPromise : Assembler → Mac → Bool → Bool → CommandAt → CommandAt → Status → Type 0
 BatchPromise assemble mac = DeployPromise mac (batch_part assemble mac)

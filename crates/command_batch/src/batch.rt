@@ -6,7 +6,7 @@ ghost use Rattle.command_batch.specs.Promise.{BatchPromise};
 
 use crate::common::common_lines;
 use command_deploy::{Deploys, deploy_over};
-use command_promise::OUT_OF_MEMORY;
+use command_promise::Status;
 use command_world::worlds::new_world;
 use std::alloc::Global;
 use sx_deploy::deployment::Deployment;
@@ -35,10 +35,10 @@ impl Deploys for BatchCommand {
         output: &mut K,
         deployment: &Deployment,
         images: &[Image],
-    ) -> u8 {
+    ) -> Status {
         match new_world(alloc, tag, deployment, images) {
             Ok(mut world) => common_lines(alloc, lines, input, output, deployment, &mut world),
-            Err(_) => OUT_OF_MEMORY,
+            Err(_) => Status::OutOfMemory,
         }
     }
 }
@@ -51,7 +51,7 @@ pub fn batch_over<S: Source, K: Sink, T: Tag + Copy>(
     tag: T,
     input: &mut S,
     output: &mut K,
-) -> u8
+) -> Status
     ensures { BatchPromise assembled T.mac S.tells K.tells
         (command_at (S.at input.old) (K.at output.old))
         (command_at (S.at input.new) (K.at output.new)) result }

@@ -20,7 +20,7 @@ ghost use Rattle.command_batch.specs.Promise.{batch_may};
 ghost use Rattle.command_batch.specs.Parts.{TurnsCommon};
 
 use crate::schedules::run_schedules;
-use command_promise::{OUT_OF_MEMORY, READ_FAILED, Turned, finish, is_mark};
+use command_promise::{Status, Turned, finish, is_mark};
 use command_world::judging::{TOO_LONG, break_off, judge_line};
 use std::alloc::Global;
 use sx_bus::Copied;
@@ -63,10 +63,10 @@ fn turn<K: Sink, B: Copied, T: Tag>(
     match judge_line(alloc, &deployment.names, said, number) {
         Ok(line) => match world.act(deployment, &line, items) {
             Ok(()) => Turned::On,
-            Err(_) => Turned::Stop(OUT_OF_MEMORY),
+            Err(_) => Turned::Stop(Status::OutOfMemory),
         },
         Err(LineError::Fault(rule)) => Turned::Stop(break_off(output, rule, number)),
-        Err(LineError::OutOfMemory) => Turned::Stop(OUT_OF_MEMORY),
+        Err(LineError::OutOfMemory) => Turned::Stop(Status::OutOfMemory),
     }
 }
 
@@ -78,7 +78,7 @@ pub(crate) fn common_lines<S: Source, K: Sink, B: Copied, T: Tag + Copy>(
     output: &mut K,
     deployment: &Deployment,
     world: &mut World<B, T>,
-) -> u8
+) -> Status
     requires sound { IsSoundDeployment (deployed_as deployment.now) }
     requires images { IsSoundSetting (world_setting T.mac deployment.now world.old) }
     requires names { IsTrue (are_valid (deployed_as deployment.now).names) }
@@ -100,9 +100,9 @@ pub(crate) fn common_lines<S: Source, K: Sink, B: Copied, T: Tag + Copy>(
     let mut number: u32 = 1;
     'lines: loop {
         match lines.next(input, &mut into) {
-            LineRead::End => return finish(output, b"end\n", 0),
+            LineRead::End => return finish(output, b"end\n", Status::Done),
             LineRead::TooLong => return break_off(output, TOO_LONG, number),
-            LineRead::Failed => return finish(output, b"fault read\n", READ_FAILED),
+            LineRead::Failed => return finish(output, b"fault read\n", Status::ReadFailed),
             LineRead::Text(n) => {
                 let said = &into[..n];
                 if is_mark(said) {

@@ -9,20 +9,17 @@ ghost use Rattle.spec_run.specs.State.{World};
 ghost use Rattle.command_batch.specs.Output.{long_output};
 ghost use Rattle.command_batch.specs.Parts.{EndsWanting, ReadsOn, next_from, passed_from};
 
-use command_promise::{READ_FAILED, Turned, finish, is_mark};
+use command_promise::{Status, Turned, finish, is_mark};
 use command_world::judging::{TOO_LONG, break_off};
 use sx_io::{LineRead, Lines, Sink, Source};
 
-/// The exit status where there are too many schedules, or one is too long to be passed over.
-const LONG: u8 = 9;
-
 /// Ends the command where there are too many schedules, or one is too long. It takes no memory.
 #[tactic(auto, unfolding(crate::specs::Output::long_line))]
-pub(crate) fn end_long<K: Sink>(output: &mut K) -> u8
+pub(crate) fn end_long<K: Sink>(output: &mut K) -> Status
     ensures ends { CommandEnds K.tells (K.at output.old) (K.at output.new) result long_output }
     ensures memory { result ≢ out_of_memory }
 {
-    finish(output, b"fault batch long\n", LONG)
+    finish(output, b"fault batch long\n", Status::TooLong)
 }
 
 /// Passes over the lines after the one with this number, up to the next mark.
@@ -47,10 +44,10 @@ pub(crate) fn pass_over<S: Source, K: Sink>(
     'lines: while number < u32::MAX {
         number += 1;
         match lines.next(input, &mut into) {
-            LineRead::End => return Turned::Stop(finish(output, b"", 0)),
+            LineRead::End => return Turned::Stop(finish(output, b"", Status::Done)),
             LineRead::TooLong => return Turned::Stop(break_off(output, TOO_LONG, number)),
             LineRead::Failed => {
-                return Turned::Stop(finish(output, b"fault read\n", READ_FAILED));
+                return Turned::Stop(finish(output, b"fault read\n", Status::ReadFailed));
             }
             LineRead::Text(n) => {
                 if is_mark(&into[..n]) {

@@ -22,9 +22,7 @@ ghost use Rattle.command_batch.specs.Parts.{EndsWanting, HasStood, KeepsWanting,
 ghost use Rattle.command_batch.specs.Parts.{RepliesLine, TellsMade, next_from};
 
 use crate::passing::{end_long, pass_over};
-use command_promise::{
-    OUT_OF_MEMORY, READ_FAILED, Turned, WRITE_FAILED, finish, is_mark, put_text,
-};
+use command_promise::{Status, Turned, finish, is_mark, put_text};
 use command_run::trace::{Shown, put_line};
 use command_world::judging::{TOO_LONG, break_off, judge_line};
 use std::alloc::Global;
@@ -47,7 +45,7 @@ enum Outcome {
     /// The line broke a rule, and this was written.
     Broken,
     /// The command stops with this exit status.
-    Stop(u8),
+    Stop(Status),
 }
 
 /// Writes which rule the line of this number breaks. The command goes on.
@@ -56,11 +54,9 @@ fn put_broken<K: Sink>(output: &mut K, rule: u8, number: u32) -> Turned
         (K.at output.new) (λ more. behind (broken_line rule number) (left more)) result left }
     ensures memory { result ≢ Turned.Stop out_of_memory }
 {
-    let status = break_off(output, rule, number);
-    if status == WRITE_FAILED {
-        Turned::Stop(status)
-    } else {
-        Turned::On
+    match break_off(output, rule, number) {
+        Status::WriteFailed => Turned::Stop(Status::WriteFailed),
+        _ => Turned::On,
     }
 }
 
@@ -102,7 +98,7 @@ fn turn<K: Sink, B: Copied, T: Tag>(
                 Turned::Stop(status) => Outcome::Stop(status),
             },
             Err(_) => match put_line(output, names, Shown::Items, said, items) {
-                Turned::On => Outcome::Stop(OUT_OF_MEMORY),
+                Turned::On => Outcome::Stop(Status::OutOfMemory),
                 Turned::Stop(status) => Outcome::Stop(status),
             },
         },
@@ -110,7 +106,7 @@ fn turn<K: Sink, B: Copied, T: Tag>(
             Turned::On => Outcome::Broken,
             Turned::Stop(status) => Outcome::Stop(status),
         },
-        Err(LineError::OutOfMemory) => Outcome::Stop(OUT_OF_MEMORY),
+        Err(LineError::OutOfMemory) => Outcome::Stop(Status::OutOfMemory),
     }
 }
 
@@ -150,10 +146,10 @@ fn run_schedule<S: Source, K: Sink, B: Copied, T: Tag>(
     let mut number = first;
     'lines: loop {
         match lines.next(input, &mut into) {
-            LineRead::End => return Turned::Stop(finish(output, b"end\n", 0)),
+            LineRead::End => return Turned::Stop(finish(output, b"end\n", Status::Done)),
             LineRead::TooLong => return Turned::Stop(break_off(output, TOO_LONG, number)),
             LineRead::Failed => {
-                return Turned::Stop(finish(output, b"fault read\n", READ_FAILED));
+                return Turned::Stop(finish(output, b"fault read\n", Status::ReadFailed));
             }
             LineRead::Text(n) => {
                 let said = &into[..n];
@@ -205,7 +201,7 @@ fn run_copy<S: Source, K: Sink, B: Copied, T: Tag + Copy>(
         Ok(mut world) => {
             run_schedule(alloc, lines, input, output, deployment, &mut world, first)
         }
-        Err(_) => Turned::Stop(OUT_OF_MEMORY),
+        Err(_) => Turned::Stop(Status::OutOfMemory),
     }
 }
 
@@ -218,7 +214,7 @@ pub(crate) fn run_schedules<S: Source, K: Sink, B: Copied, T: Tag + Copy>(
     deployment: &Deployment,
     start: &World<B, T>,
     first: u32,
-) -> u8
+) -> Status
     requires sound { IsSoundDeployment (deployed_as deployment.now) }
     requires images { IsSoundSetting (world_setting T.mac deployment.now start.now) }
     requires stood { HasStood (world_setting T.mac deployment.now start.now) start.now }

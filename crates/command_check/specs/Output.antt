@@ -1,5 +1,6 @@
 -- What the command `check` writes of a deployment.
 use Rattle.std.specs.Prelude.{ℕ, Bool, List, [], ◌∷◌, ◌++◌, codes}
+use Rattle.command_promise.specs.declared.status.Status.{Status}
 use Rattle.command_promise.specs.Told.{CommandAt}
 use Rattle.sx_rules.specs.declared.section.Layout.{Layout}
 use Rattle.command_text.specs.Address.{address}
@@ -24,5 +25,5 @@ abbrev pub check_report : Report
 check_report d = module_lines d.names.modules d.layouts
 
 -- The command `check`.
-abbrev pub CheckPromise : Bool → Bool → CommandAt → CommandAt → ℕ → Type 0
+abbrev pub CheckPromise : Bool → Bool → CommandAt → CommandAt → Status → Type 0
 CheckPromise tells to_tell m0 m1 status = ReportPromise check_report tells to_tell m0 m1 status

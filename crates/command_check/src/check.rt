@@ -5,6 +5,7 @@ ghost use Rattle.std.specs.Prelude.{◌≡◌, ◌++◌, IfOk, OnOk};
 ghost use Rattle.command_promise.specs.Told.{command_at};
 ghost use Rattle.command_check.specs.Output.{CheckPromise, module_line, module_lines};
 
+use command_promise::Status;
 use command_report::{Reports, report_over};
 use command_text::address::address;
 use std::alloc::{AllocError, Global};
@@ -60,7 +61,7 @@ impl Reports for CheckCommand {
 
 /// The command `check`: a deployment, and the line `%%`. Gives the exit status, as `top` does for
 /// this command. What follows that line isn't judged, and at most 4,096 bytes of it are read.
-pub fn check_over<S: Source, K: Sink>(alloc: Global, input: &mut S, output: &mut K) -> u8
+pub fn check_over<S: Source, K: Sink>(alloc: Global, input: &mut S, output: &mut K) -> Status
     ensures { CheckPromise S.tells K.tells (command_at (S.at input.old) (K.at output.old))
         (command_at (S.at input.new) (K.at output.new)) result }
 {

@@ -4,6 +4,7 @@ use Rattle.std.specs.Prelude.{IfErr, IfOk, OnErr}
 use Rattle.sx_io.specs.Streams.{SourceAt, SinkAt}
 use Rattle.sx_io.specs.Next.{Ahead}
 use Rattle.sx_io.specs.Reading.{Answer}
+use Rattle.command_promise.specs.declared.status.Status.{Status}
 use Rattle.command_promise.specs.Told.{CommandEnds, command_at, out_of_memory, Output, CommandAt, Told, unread_output}
 use Rattle.command_promise.specs.Parts.{Notes}
 use Rattle.command_promise.specs.Reads.{Reads, anything}
@@ -39,7 +40,7 @@ no_bytes : AreByteTexts []
 no_bytes m t e = absurd (cc e)
 
 -- what is done after a head of a text
-pub does_read : {tells to_tell : Bool} {now : Ahead} {s0 s1 : SourceAt} {k0 k1 : SinkAt} {status : ℕ} (mac : Mac) (own : OwnOutput) (may : Wants) (text : List ℕ) (r : Result Deployment DeployError)
+pub does_read : {tells to_tell : Bool} {now : Ahead} {s0 s1 : SourceAt} {k0 k1 : SinkAt} {status : Status} (mac : Mac) (own : OwnOutput) (may : Wants) (text : List ℕ) (r : Result Deployment DeployError)
     → GivesOne deployed_as r (IsRead text)
     → IfOk r (λ d. (text : List ℕ) → IsRead text (Ok (deployed_as d)) → DeploysOrRanOut mac own may tells to_tell now (command_at s0 k0) (command_at s1 k1) status text)
     → IfErr r (λ e. EndsRefused to_tell k0 k1 status e) → OnErr r (s1 ≡ s0) → DeploysOrRanOut mac own may tells to_tell now (command_at s0 k0) (command_at s1 k1) status text
@@ -75,7 +76,7 @@ has_head NoMark text e = absurd (cc e)
 has_head Unread text e = absurd (cc e)
 
 -- what is said of the answers, in other words
-told_also : {tells to_tell : Bool} {m0 m1 : CommandAt} {status : ℕ} {F : List Answer → Output} {also : List Answer → Type 0} (then : List Answer → Type 0)
+told_also : {tells to_tell : Bool} {m0 m1 : CommandAt} {status : Status} {F : List Answer → Output} {also : List Answer → Type 0} (then : List Answer → Type 0)
     → ((answers : List Answer) → also answers → then answers) → Told tells to_tell head_lines m0 m1 status F also → Told tells to_tell head_lines m0 m1 status F then
 told_also {tells} {to_tell} {m0} {m1} {status} {F} {also} then h told =
     let r = told.reads in record {
@@ -96,7 +97,7 @@ is_some : (text : List ℕ) → ◌≡◌ {A = Option (List ℕ)} (Some text) No
 is_some text e = cc
 
 -- a head was read, and the rest was done
-told_found : {tells to_tell : Bool} {s0 s1 : SourceAt} {k0 : SinkAt} {now : Ahead} {m2 : CommandAt} {status : ℕ} (mac : Mac) (own : OwnOutput) (may : Wants) (text : List ℕ)
+told_found : {tells to_tell : Bool} {s0 s1 : SourceAt} {k0 : SinkAt} {now : Ahead} {m2 : CommandAt} {status : Status} (mac : Mac) (own : OwnOutput) (may : Wants) (text : List ℕ)
     → HeadRead tells s0 s1 now (Ok text) → DeploysBehind mac own may tells to_tell now (command_at s1 k0) m2 status text → DeployTold mac own may tells to_tell (command_at s0 k0) m2 status
 told_found {tells} {to_tell} {s0} {s1} {k0} {now} {m2} {status} mac own may text got does = record {
   says = inr (record {
@@ -116,7 +117,7 @@ told_found {tells} {to_tell} {s0} {s1} {k0} {now} {m2} {status} mac own may text
 }
 
 -- there is none
-told_none : {tells to_tell : Bool} {s0 s1 : SourceAt} {k0 k1 : SinkAt} {status : ℕ} (mac : Mac) (own : OwnOutput) (may : Wants) (h : Head) (o : Output) → HasHead None h
+told_none : {tells to_tell : Bool} {s0 s1 : SourceAt} {k0 k1 : SinkAt} {status : Status} (mac : Mac) (own : OwnOutput) (may : Wants) (h : Head) (o : Output) → HasHead None h
     → ((meaning : Meaning) → head_output own meaning [] h ≡ o) → Reads tells head_lines s0 s1 head Unread (λ answers. head answers ≡ h) → CommandEnds to_tell k0 k1 status o
     → (status ≡ out_of_memory → ⊥) → DeployTold mac own may tells to_tell (command_at s0 k0) (command_at s1 k1) status
 told_none {tells} {to_tell} {s0} {s1} {k0} {k1} {status} mac own may h o none e r w never = record {
@@ -147,7 +148,7 @@ told_out_of_memory {tells} {to_tell} {s0} {s1} {k} {now} mac own may text got = 
 }
 
 -- there is no head, or no memory for one
-pub told_headless : {tells to_tell : Bool} {s0 s1 : SourceAt} {k0 k1 : SinkAt} {status : ℕ} (mac : Mac) (own : OwnOutput) (may : Wants) (now : Ahead) (why : HeadFault) → HeadRead tells s0 s1 now (Err why)
+pub told_headless : {tells to_tell : Bool} {s0 s1 : SourceAt} {k0 k1 : SinkAt} {status : Status} (mac : Mac) (own : OwnOutput) (may : Wants) (now : Ahead) (why : HeadFault) → HeadRead tells s0 s1 now (Err why)
     → EndsHeadless to_tell k0 k1 status why → DeployTold mac own may tells to_tell (command_at s0 k0) (command_at s1 k1) status
 told_headless {tells} {to_tell} {s0} {s1} {k0} {k1} {status} mac own may now none.TooLong r w =
     told_none mac own may TooLong (fault_output (fault 1 Nowhere)) tt (λ meaning. refl) r w.0 w.1
@@ -158,7 +159,7 @@ told_headless {tells} {to_tell} {s0} {s1} {k0} {k1} {status} mac own may now non
     rw (w.0, w.1) (told_out_of_memory {to_tell = to_tell} {k = k0} {now = now} mac own may text got)
 
 -- a head was read, and the rest was done, or memory ran out for it
-pub told_behind : {tells to_tell : Bool} {s0 s1 : SourceAt} {k0 : SinkAt} {now : Ahead} {m2 : CommandAt} {status : ℕ} (mac : Mac) (own : OwnOutput) (may : Wants) (text : List ℕ)
+pub told_behind : {tells to_tell : Bool} {s0 s1 : SourceAt} {k0 : SinkAt} {now : Ahead} {m2 : CommandAt} {status : Status} (mac : Mac) (own : OwnOutput) (may : Wants) (text : List ℕ)
     → HeadRead tells s0 s1 now (Ok text) → DeploysOrRanOut mac own may tells to_tell now (command_at s1 k0) m2 status text → DeployTold mac own may tells to_tell (command_at s0 k0) m2 status
 told_behind {tells} {to_tell} {s0} {s1} {k0} {now} {m2} {status} mac own may text got (inl out) =
     rw (out.six, out.same) (told_out_of_memory {to_tell = to_tell} {k = k0} {now = now} mac own may text got)

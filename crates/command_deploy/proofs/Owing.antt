@@ -1,6 +1,9 @@
 -- What is due of some lines of a command that deploys is due of more of them too, and its status, once its own part owes as it must.
 use Rattle.std.proofs.Common.{◌≡◌, ◌⊎◌, inl, inr, ℕ, ◌+◌, ◌<◌, Bool, true, false, List, [], ◌∷◌, ◌++◌, length, nat_lt, refl, subst, arith, Result, Ok, Err}
 use Rattle.sx_io.specs.Reading.{Answer, Line, End, Long, Fault, newline}
+use Rattle.command_promise.specs.declared.status.Status.{Status}
+use Rattle.command_promise.specs.declared.status.Status.TheVariants.{Done, Refused, Misused, ReadFailed}
+use Rattle.command_promise.specs.Status.{status_number}
 use Rattle.command_promise.specs.Told.{out_of_memory}
 use Rattle.command_promise.proofs.Due.{lines_then, EndsUnread, Due, due-behind}
 use Rattle.command_promise.proofs.Endings.{pick, Unfinished, Faultless}
@@ -16,37 +19,41 @@ use Rattle.command_deploy.specs.Output.{deploy_output, deploy_status, found_stat
 use Rattle.command_deploy.specs.Promise.{OwnPart}
 
 -- the status of the input, or the command was cut short
-abbrev pub CutOr : OwnPart → ℕ → ℕ → Type 0
+abbrev pub CutOr : OwnPart → Status → Status → Type 0
 CutOr part status n = part.Cut status ⊎ (status ≡ n)
 
 -- What the own part owes of each deployment: more is due of more lines, its status is that of the
--- answers unless it is cut short, and it is so with none of the statuses below 5.
+-- answers unless it is cut short, and it is so with none of the statuses whose numbers are below 5.
 pub record Owes (part : OwnPart) : Type 0 where
   pub due : (text : List ℕ) (d : Deployed) → IsRead text (Ok d) → (texts : List (List ℕ)) (ls : List (List ℕ)) → Due (λ more. part.output d texts (lines_then ls more))
   pub ends : (d : Deployed) (texts : List (List ℕ)) (more : List Answer) → EndsUnread (part.output d texts more)
   pub status : (d : Deployed) (texts : List (List ℕ)) (more : List Answer) → CutOr part (part.output d texts more).status (part.status d more)
   pub starved : part.Cut out_of_memory
-  pub cut : (n : ℕ) → n < 5 → part.Cut n → ⊥
-  pub not_zero : (d : Deployed) (answers : List Answer) → Unfinished answers → part.status d answers ≡ 0 → ⊥
-  pub not_four : (d : Deployed) (answers : List Answer) → Faultless answers → part.status d answers ≡ 4 → ⊥
-  pub not_two : (d : Deployed) (answers : List Answer) → part.status d answers ≡ 2 → ⊥
+  pub cut : (n : Status) → status_number n < 5 → part.Cut n → ⊥
+  pub not_zero : (d : Deployed) (answers : List Answer) → Unfinished answers → part.status d answers ≡ Done → ⊥
+  pub not_four : (d : Deployed) (answers : List Answer) → Faultless answers → part.status d answers ≡ ReadFailed → ⊥
+  pub not_two : (d : Deployed) (answers : List Answer) → part.status d answers ≡ Misused → ⊥
+
+-- memory runs out with a status above these
+pub memory_above : (n : Status) → status_number n < 5 → n ≡ out_of_memory → ⊥
+memory_above n few six = let P : Status → Type 0 = λ s. status_number s < 5 in omega (arith, subst P six few)
 
 -- ---- what is due
 
 found_ends : (part : OwnPart) → Owes part → (texts : List (List ℕ)) (r : Result Deployed DeployFault) (more : List Answer) → EndsUnread (found_output part.output texts r more)
 found_ends part owes texts (Ok d) more e = owes.ends d texts more e
-found_ends part owes texts (Err f) more e = absurd (omega (arith, e))
+found_ends part owes texts (Err f) more e = absurd (cc e)
 
 head_ends : (part : OwnPart) → Owes part → (meaning : Meaning) (texts : List (List ℕ)) (h : Head) → EndsUnread (head_output part.output meaning texts h)
 head_ends part owes meaning texts (Found text more) e = found_ends part owes texts (meaning text) more e
-head_ends part owes meaning texts TooLong e = absurd (omega (arith, e))
-head_ends part owes meaning texts NoMark e = absurd (omega (arith, e))
+head_ends part owes meaning texts TooLong e = absurd (cc e)
+head_ends part owes meaning texts NoMark e = absurd (cc e)
 head_ends part owes meaning texts Unread e = ([], refl)
 
 due_found : (part : OwnPart) → Owes part → (text : List ℕ) (texts : List (List ℕ)) (r : Result Deployed DeployFault) (ls : List (List ℕ)) → IsRead text r
     → Due (λ more. found_output part.output texts r (lines_then ls more))
 due_found part owes text texts (Ok d) ls read = owes.due text d read texts ls
-due_found part owes text texts (Err f) ls read = inl (fault_output f, λ x. omega (arith, x), λ more. refl)
+due_found part owes text texts (Err f) ls read = inl (fault_output f, λ x. cc x, λ more. refl)
 
 due_head_line : (part : OwnPart) → Owes part → (meaning : Meaning) → IsMeaning meaning → (texts : List (List ℕ)) (text l : List ℕ) (ls : List (List ℕ)) (p q : Bool) → is_mark l ≡ p
     → nat_lt most_bytes (length text + length l + 1) ≡ q → Due (λ more. head_output part.output meaning texts (head_behind (text ++ l ++ newline ∷ []) (lines_then ls more)))
@@ -54,7 +61,7 @@ due_head_line : (part : OwnPart) → Owes part → (meaning : Meaning) → IsMea
 due_head_line part owes meaning is texts text l ls true q x y d =
     due-behind (λ more. head_output part.output meaning texts (head_behind text (Line l ∷ lines_then ls more))) (λ more. found_output part.output texts (meaning text) (lines_then ls more)) []
     (λ more. rw x refl) (due_found part owes text texts (meaning text) ls (is text))
-due_head_line part owes meaning is texts text l ls false true x y d = inl (fault_output (fault 1 Nowhere), λ e. omega (arith, e), λ more. rw (x, y) refl)
+due_head_line part owes meaning is texts text l ls false true x y d = inl (fault_output (fault 1 Nowhere), λ e. cc e, λ more. rw (x, y) refl)
 due_head_line part owes meaning is texts text l ls false false x y d =
     due-behind (λ more. head_output part.output meaning texts (head_behind text (Line l ∷ lines_then ls more)))
     (λ more. head_output part.output meaning texts (head_behind (text ++ l ++ newline ∷ []) (lines_then ls more))) [] (λ more. rw (x, y) refl) d
@@ -67,7 +74,7 @@ due_head part owes meaning is texts [] text =
       λ more. head_output part.output meaning texts (head_behind text more),
       λ more. refl,
       refl,
-      λ e. omega (arith, e),
+      λ e. cc e,
       λ more. head_ends part owes meaning texts (head_behind text more),
     )
 due_head part owes meaning is texts (l ∷ ls) text =
@@ -95,53 +102,53 @@ pub output_status : (part : OwnPart) → Owes part → (meaning : Meaning) (text
     → CutOr part (deploy_output part.output meaning texts answers).status (deploy_status part.status meaning answers)
 output_status part owes meaning texts answers = head_same part owes meaning texts (head answers)
 
--- a status below 5 that isn't that of the answers
-status_not : (part : OwnPart) → Owes part → (n status other : ℕ) → n < 5 → CutOr part status other → (other ≡ n → ⊥) → status ≡ n → ⊥
+-- a status of a number below 5 that isn't that of the answers
+status_not : (part : OwnPart) → Owes part → (n status other : Status) → status_number n < 5 → CutOr part status other → (other ≡ n → ⊥) → status ≡ n → ⊥
 status_not part owes n status other few (inl cut) h e = owes.cut n few (subst part.Cut e cut)
 status_not part owes n status other few (inr same) h e = h (cc (same, e))
 
-pub output_not : (part : OwnPart) → Owes part → (n : ℕ) → n < 5 → (meaning : Meaning) (texts : List (List ℕ)) (answers : List Answer) → (deploy_status part.status meaning answers ≡ n → ⊥)
+pub output_not : (part : OwnPart) → Owes part → (n : Status) → status_number n < 5 → (meaning : Meaning) (texts : List (List ℕ)) (answers : List Answer) → (deploy_status part.status meaning answers ≡ n → ⊥)
     → (deploy_output part.output meaning texts answers).status ≡ n → ⊥
 output_not part owes n few meaning texts answers h e =
     status_not part owes n (deploy_output part.output meaning texts answers).status (deploy_status part.status meaning answers) few (output_status part owes meaning texts answers) h e
 
 -- ---- statuses that answers of a kind don't give
 
-found_not : (part : OwnPart) (n : ℕ) (r : Result Deployed DeployFault) (more : List Answer) → (1 ≡ n → ⊥) → ((d : Deployed) → part.status d more ≡ n → ⊥) → found_status part.status r more ≡ n → ⊥
+found_not : (part : OwnPart) (n : Status) (r : Result Deployed DeployFault) (more : List Answer) → (Refused ≡ n → ⊥) → ((d : Deployed) → part.status d more ≡ n → ⊥) → found_status part.status r more ≡ n → ⊥
 found_not part n (Ok d) more one h e = h d e
 found_not part n (Err f) more one h e = one e
 
 -- answers that no end of the input ends don't give status 0
-behind_not_zero : (part : OwnPart) → Owes part → (meaning : Meaning) (text : List ℕ) (answers : List Answer) → Unfinished answers → head_status part.status meaning (head_behind text answers) ≡ 0 → ⊥
+behind_not_zero : (part : OwnPart) → Owes part → (meaning : Meaning) (text : List ℕ) (answers : List Answer) → Unfinished answers → head_status part.status meaning (head_behind text answers) ≡ Done → ⊥
 behind_not_zero part owes meaning text [] u e = u
 behind_not_zero part owes meaning text (End ∷ more) u e = u
-behind_not_zero part owes meaning text (Long ∷ more) u e = omega (arith, e)
-behind_not_zero part owes meaning text (Fault ∷ more) u e = omega (arith, e)
+behind_not_zero part owes meaning text (Long ∷ more) u e = cc e
+behind_not_zero part owes meaning text (Fault ∷ more) u e = cc e
 behind_not_zero part owes meaning text (Line line ∷ more) u e =
-    pick (is_mark line) (Found text more) _ (λ h. head_status part.status meaning h ≡ 0 → ⊥)
-    (found_not part 0 (meaning text) more (λ x. omega (arith, x)) (λ d. owes.not_zero d more u))
-    (pick (nat_lt most_bytes (length text + length line + 1)) TooLong _ (λ h. head_status part.status meaning h ≡ 0 → ⊥) (λ x. omega (arith, x)) (behind_not_zero part owes meaning _ more u)) e
+    pick (is_mark line) (Found text more) _ (λ h. head_status part.status meaning h ≡ Done → ⊥)
+    (found_not part Done (meaning text) more (λ x. cc x) (λ d. owes.not_zero d more u))
+    (pick (nat_lt most_bytes (length text + length line + 1)) TooLong _ (λ h. head_status part.status meaning h ≡ Done → ⊥) (λ x. cc x) (behind_not_zero part owes meaning _ more u)) e
 
-pub not_zero : (part : OwnPart) → Owes part → (meaning : Meaning) (answers : List Answer) → Unfinished answers → deploy_status part.status meaning answers ≡ 0 → ⊥
+pub not_zero : (part : OwnPart) → Owes part → (meaning : Meaning) (answers : List Answer) → Unfinished answers → deploy_status part.status meaning answers ≡ Done → ⊥
 not_zero part owes meaning answers u = behind_not_zero part owes meaning [] answers u
 
 -- answers without a read that failed don't give status 4
-behind_not_four : (part : OwnPart) → Owes part → (meaning : Meaning) (text : List ℕ) (answers : List Answer) → Faultless answers → head_status part.status meaning (head_behind text answers) ≡ 4 → ⊥
-behind_not_four part owes meaning text [] u e = omega (arith, e)
-behind_not_four part owes meaning text (End ∷ more) u e = omega (arith, e)
-behind_not_four part owes meaning text (Long ∷ more) u e = omega (arith, e)
+behind_not_four : (part : OwnPart) → Owes part → (meaning : Meaning) (text : List ℕ) (answers : List Answer) → Faultless answers → head_status part.status meaning (head_behind text answers) ≡ ReadFailed → ⊥
+behind_not_four part owes meaning text [] u e = cc e
+behind_not_four part owes meaning text (End ∷ more) u e = cc e
+behind_not_four part owes meaning text (Long ∷ more) u e = cc e
 behind_not_four part owes meaning text (Fault ∷ more) u e = u
 behind_not_four part owes meaning text (Line line ∷ more) u e =
-    pick (is_mark line) (Found text more) _ (λ h. head_status part.status meaning h ≡ 4 → ⊥)
-    (found_not part 4 (meaning text) more (λ x. omega (arith, x)) (λ d. owes.not_four d more u))
-    (pick (nat_lt most_bytes (length text + length line + 1)) TooLong _ (λ h. head_status part.status meaning h ≡ 4 → ⊥) (λ x. omega (arith, x)) (behind_not_four part owes meaning _ more u)) e
+    pick (is_mark line) (Found text more) _ (λ h. head_status part.status meaning h ≡ ReadFailed → ⊥)
+    (found_not part ReadFailed (meaning text) more (λ x. cc x) (λ d. owes.not_four d more u))
+    (pick (nat_lt most_bytes (length text + length line + 1)) TooLong _ (λ h. head_status part.status meaning h ≡ ReadFailed → ⊥) (λ x. cc x) (behind_not_four part owes meaning _ more u)) e
 
-pub not_four : (part : OwnPart) → Owes part → (meaning : Meaning) (answers : List Answer) → Faultless answers → deploy_status part.status meaning answers ≡ 4 → ⊥
+pub not_four : (part : OwnPart) → Owes part → (meaning : Meaning) (answers : List Answer) → Faultless answers → deploy_status part.status meaning answers ≡ ReadFailed → ⊥
 not_four part owes meaning answers u = behind_not_four part owes meaning [] answers u
 
 -- no answers give status 2
-pub not_two : (part : OwnPart) → Owes part → (meaning : Meaning) (h : Head) → head_status part.status meaning h ≡ 2 → ⊥
-not_two part owes meaning (Found text more) e = found_not part 2 (meaning text) more (λ x. omega (arith, x)) (λ d. owes.not_two d more) e
-not_two part owes meaning TooLong e = omega (arith, e)
-not_two part owes meaning NoMark e = omega (arith, e)
-not_two part owes meaning Unread e = omega (arith, e)
+pub not_two : (part : OwnPart) → Owes part → (meaning : Meaning) (h : Head) → head_status part.status meaning h ≡ Misused → ⊥
+not_two part owes meaning (Found text more) e = found_not part Misused (meaning text) more (λ x. cc x) (λ d. owes.not_two d more) e
+not_two part owes meaning TooLong e = cc e
+not_two part owes meaning NoMark e = cc e
+not_two part owes meaning Unread e = cc e

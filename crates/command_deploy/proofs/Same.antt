@@ -5,8 +5,9 @@ use Rattle.std.proofs.lemmas.List.{append-nil}
 use Rattle.sx_io.specs.Counts.{Rose}
 use Rattle.sx_io.specs.Reading.{Answer, Ended, scan}
 use Rattle.sx_io.specs.Streams.{SourceAt}
+use Rattle.command_promise.specs.declared.status.Status.{Status}
 use Rattle.command_promise.specs.Reads.{AtEnd, AtFault, Decides, Enough, Left}
-use Rattle.command_promise.specs.Told.{CommandAt, CommandEnds, Output, Told}
+use Rattle.command_promise.specs.Told.{CommandAt, CommandEnds, Output, Told, out_of_memory}
 use Rattle.command_promise.proofs.Laws.{told-quiet}
 use Rattle.sx_entries.specs.declared.fault.DeployFault.{DeployFault}
 use Rattle.sx_tag.specs.Mac.{Mac}
@@ -32,7 +33,7 @@ of_input AtEnd s0 s1 taken P quiet e d =
 of_input AtFault s0 s1 taken P quiet e d = absurd (let f = d.0.faults in quiet (omega (arith, f)))
 of_input Enough s0 s1 taken P quiet e d = let Q : List ℕ → Type 0 = λ bytes. P (scan head_lines Ended [] bytes) in subst Q (sym e) (d.2 Ended s1.rest)
 
-has_input : {m0 m1 : CommandAt} {status : ℕ} {F : List Answer → Output} {also : List Answer → Type 0} → Told true true head_lines m0 m1 status F also → IsFaultless m0 m1 → also (input_of m0)
+has_input : {m0 m1 : CommandAt} {status : Status} {F : List Answer → Output} {also : List Answer → Type 0} → Told true true head_lines m0 m1 status F also → IsFaultless m0 m1 → also (input_of m0)
 has_input {m0} {m1} {status} {F} {also} told quiet =
     let r = told.reads in
     (of_input r.left m0.source m1.source r.taken (λ answers. CommandEnds true m0.sink m1.sink status (F answers) × also answers) quiet.0 (r.from_source refl) r.decides).1
@@ -70,7 +71,7 @@ agrees own deployment texts others TooLong has same = refl
 agrees own deployment texts others NoMark has same = refl
 agrees own deployment texts others Unread has same = refl
 
-module _ (mac : Mac) (part : OwnPart) (m0 m1 : CommandAt) (s : ℕ) (k0 k1 : CommandAt) (t : ℕ) (rest : m0.source.rest ≡ k0.source.rest) (quiet : IsUnhindered m0 m1 s)
+module _ (mac : Mac) (part : OwnPart) (m0 m1 : CommandAt) (s : Status) (k0 k1 : CommandAt) (t : Status) (rest : m0.source.rest ≡ k0.source.rest) (quiet : IsUnhindered m0 m1 s)
     (still : IsUnhindered k0 k1 t) where
   with_same : DeploysWith mac part true true m0 m1 s → DeploysWith mac part true true k0 k1 t → WriteTheSame m0 m1 s k0 k1 t
   with_same a b =
@@ -86,8 +87,8 @@ module _ (mac : Mac) (part : OwnPart) (m0 m1 : CommandAt) (s : ℕ) (k0 k1 : Com
       joined (deploy_output part.output known a.texts (input_of m0)) (deploy_output part.output known b.texts (input_of k0)) same
       (told-quiet (a.told known is_known) refl quiet.0.0 quiet.0.1) (told-quiet (b.told known is_known) refl still.0.0 still.0.1)
     where
-      joined : (o p : Output) → o ≡ p → (s ≡ 6) ⊎ ((s ≡ o.status) × (IsTrue true → m1.sink.written ≡ m0.sink.written ++ o.text))
-          → (t ≡ 6) ⊎ ((t ≡ p.status) × (IsTrue true → k1.sink.written ≡ k0.sink.written ++ p.text)) → WriteTheSame m0 m1 s k0 k1 t
+      joined : (o p : Output) → o ≡ p → (s ≡ out_of_memory) ⊎ ((s ≡ o.status) × (IsTrue true → m1.sink.written ≡ m0.sink.written ++ o.text))
+          → (t ≡ out_of_memory) ⊎ ((t ≡ p.status) × (IsTrue true → k1.sink.written ≡ k0.sink.written ++ p.text)) → WriteTheSame m0 m1 s k0 k1 t
       joined o p e (inl six) y = absurd (quiet.1 six)
       joined o p e (inr x) (inl six) = absurd (still.1 six)
       joined o p e (inr x) (inr y) = record {

@@ -3,6 +3,8 @@
 use Rattle.std.specs.Prelude.{ℕ, ◌≡◌, ◌⊎◌, Bool, List, Option, None, Result, Ok}
 use Rattle.sx_io.specs.Reading.{Answer}
 use Rattle.sx_io.specs.Next.{Ahead}
+use Rattle.command_promise.specs.declared.status.Status.{Status}
+use Rattle.command_promise.specs.declared.status.Status.TheVariants.{Refused}
 use Rattle.command_promise.specs.Told.{CommandAt, Output, Told, out_of_memory, read_failed}
 use Rattle.command_promise.specs.Parts.{Rest}
 use Rattle.command_promise.specs.Told.{unread_output}
@@ -30,15 +32,15 @@ abbrev pub head_output : OwnOutput → Meaning → List (List ℕ) → Head → 
 head_output own meaning texts h = by_head (λ d. own d texts) fault_output unread_output meaning h
 
 -- the exit status by an input's head
-abbrev pub head_status : (Deployed → List Answer → ℕ) → Meaning → Head → ℕ
-head_status own meaning h = by_head own (λ f. 1) read_failed meaning h
+abbrev pub head_status : (Deployed → List Answer → Status) → Meaning → Head → Status
+head_status own meaning h = by_head own (λ f. Refused) read_failed meaning h
 
 -- What does the rest of the command after a head of this text: with these images, which realize its
 -- modules, it writes what is defined for what is to come.
 pub record DeploysBehind (mac : Mac) (own : OwnOutput) (may : Wants) (tells to_tell : Bool)
     (now : Ahead)
     (m1 m2 : CommandAt)
-    (status : ℕ)
+    (status : Status)
     (text : List ℕ) : Type 0 where
   pub texts : List (List ℕ)
   pub realize : (d : Deployed) → IsRead text (Ok d) → AreImages mac d texts
@@ -52,14 +54,14 @@ pub record DeploysBehind (mac : Mac) (own : OwnOutput) (may : Wants) (tells to_t
 
 -- the rest of the command, or that memory ran out before the images were made
 abbrev pub DeploysOrRanOut : Mac → OwnOutput → Wants → Bool → Bool → Ahead → CommandAt → CommandAt
-    → ℕ → List ℕ → Type 0
+    → Status → List ℕ → Type 0
 DeploysOrRanOut mac own may tells to_tell now m1 m2 status text =
     RanOut m1 m2 status ⊎ DeploysBehind mac own may tells to_tell now m1 m2 status text
 
 -- The whole command: there are images that realize the modules of the deployment that was read, and
 -- what was written is what is defined with them.
 pub record ToldWith (mac : Mac) (own : OwnOutput) (tells to_tell : Bool) (m0 m1 : CommandAt)
-    (status : ℕ) : Type 0 where
+    (status : Status) : Type 0 where
   pub deployment : Option (List ℕ)
   pub texts : List (List ℕ)
   pub bytes : AreByteTexts texts
@@ -73,6 +75,6 @@ pub record ToldWith (mac : Mac) (own : OwnOutput) (tells to_tell : Bool) (m0 m1 
 -- this, or that memory ran out before the images were made; and where it ran out, at which line
 pub record DeployTold (mac : Mac) (own : OwnOutput) (may : Wants) (tells to_tell : Bool)
     (m0 m1 : CommandAt)
-    (status : ℕ) : Type 0 where
+    (status : Status) : Type 0 where
   pub says : Starved tells m0 m1 status ⊎ ToldWith mac own tells to_tell m0 m1 status
   pub memory : status ≡ out_of_memory → RanOutAt head_lines may tells m0 m1

@@ -2,6 +2,8 @@
 -- deployment, and its status there.
 use Rattle.std.specs.Prelude.{ℕ, List, Result, Ok, Err}
 use Rattle.sx_io.specs.Reading.{Answer}
+use Rattle.command_promise.specs.declared.status.Status.{Status}
+use Rattle.command_promise.specs.declared.status.Status.TheVariants.{Refused}
 use Rattle.command_promise.specs.Told.{Output, read_failed, unread_output}
 use Rattle.sx_entries.specs.declared.fault.Place.TheVariants.{Nowhere}
 use Rattle.sx_entries.specs.declared.fault.DeployFault.{DeployFault}
@@ -41,10 +43,10 @@ deploy_output own meaning texts answers =
     by_head (λ d. own d texts) fault_output unread_output meaning (head answers)
 
 -- the exit status, of the answers alone, over the status after the head
-abbrev pub deploy_status : (Deployed → List Answer → ℕ) → Meaning → List Answer → ℕ
-deploy_status own meaning answers = by_head own (λ f. 1) read_failed meaning (head answers)
+abbrev pub deploy_status : (Deployed → List Answer → Status) → Meaning → List Answer → Status
+deploy_status own meaning answers = by_head own (λ f. Refused) read_failed meaning (head answers)
 
 -- the exit status by the deployment that was read
-abbrev pub found_status : (Deployed → List Answer → ℕ) → Result Deployed DeployFault → List Answer
-    → ℕ
-found_status own r more = by_deployment own (λ f. 1) r more
+abbrev pub found_status : (Deployed → List Answer → Status) → Result Deployed DeployFault
+    → List Answer → Status
+found_status own r more = by_deployment own (λ f. Refused) r more

@@ -1,6 +1,8 @@
 -- What a command that deploys promises, of its streams at its start (m0) and at its end (m1).
 use Rattle.std.specs.Prelude.{ℕ, ◌≡◌, ◌⊎◌, ◌++◌, Bool, List, [], Option, None, IsTrue}
 use Rattle.sx_io.specs.Reading.{Answer}
+use Rattle.command_promise.specs.declared.status.Status.{Status}
+use Rattle.command_promise.specs.declared.status.Status.TheVariants.{Done}
 use Rattle.command_promise.specs.Told.{CommandAt, Told, out_of_memory}
 use Rattle.command_promise.specs.Further.{Streams}
 use Rattle.sx_tag.specs.Mac.{Mac}
@@ -20,8 +22,8 @@ use Rattle.command_deploy.specs.Output.{OwnOutput, Wants, deploy_output, deploy_
 -- text or for none.
 pub record OwnPart : Type 1 where
   pub output : OwnOutput
-  pub status : Deployed → List Answer → ℕ
-  pub Cut : ℕ → Type 0
+  pub status : Deployed → List Answer → Status
+  pub Cut : Status → Type 0
   pub MayWant : Wants
   pub With : Option (List ℕ) → List (List ℕ) → Type 0
 
@@ -31,7 +33,7 @@ pub record OwnPart : Type 1 where
 -- (`own`). An input of status 0 is taken to its end, unless the command was cut short (`complete`).
 -- That there is no head is reported without memory (`headed`).
 pub record DeploysWith (mac : Mac) (part : OwnPart) (tells to_tell : Bool) (m0 m1 : CommandAt)
-    (status : ℕ) : Type 0 where
+    (status : Status) : Type 0 where
   pub deployment : Option (List ℕ)
   pub texts : List (List ℕ)
   pub headed : deployment ≡ None → status ≡ out_of_memory → ⊥
@@ -44,8 +46,8 @@ pub record DeploysWith (mac : Mac) (part : OwnPart) (tells to_tell : Bool) (m0 m
       → Streams tells to_tell head_lines m0 m1 (deploy_output part.output meaning texts)
   pub own : part.With deployment texts
   pub complete : (meaning : Meaning) → IsMeaning meaning → IsTrue tells
-      → deploy_status part.status meaning (input_of m0) ≡ 0 → IsFaultless m0 m1
-      → part.Cut status ⊎ ((status ≡ 0) × (IsTrue to_tell → m1.sink.written
+      → deploy_status part.status meaning (input_of m0) ≡ Done → IsFaultless m0 m1
+      → part.Cut status ⊎ ((status ≡ Done) × (IsTrue to_tell → m1.sink.written
       ≡ m0.sink.written ++ (deploy_output part.output meaning texts (input_of m0)).text))
 
 -- A command that deploys. Whatever the images are, its status is that of the input if no read
@@ -53,10 +55,10 @@ pub record DeploysWith (mac : Mac) (part : OwnPart) (tells to_tell : Bool) (m0 m
 -- its end. If memory ran out, no line after the head was given, or the last that was given is
 -- one at which it may (`memory`).
 pub record DeployPromise (mac : Mac) (part : OwnPart) (tells to_tell : Bool) (m0 m1 : CommandAt)
-    (status : ℕ) : Type 0 where
+    (status : Status) : Type 0 where
   pub says : Starved tells m0 m1 status ⊎ DeploysWith mac part tells to_tell m0 m1 status
   pub faults : TellsFaults m0 m1 status
-  pub read_all : status ≡ 0 → IsTrue tells → m1.source.rest ≡ []
+  pub read_all : status ≡ Done → IsTrue tells → m1.source.rest ≡ []
   pub exact : (meaning : Meaning) → IsMeaning meaning → IsTrue tells → IsFaultless m0 m1
       → part.Cut status ⊎ (status ≡ deploy_status part.status meaning (input_of m0))
   pub memory : status ≡ out_of_memory → RanOutAt head_lines part.MayWant tells m0 m1

@@ -15,7 +15,7 @@ ghost use Rattle.command_deploy.specs.Afterwards.{DeployTold, DeploysOrRanOut};
 
 use crate::deploys::Deploys;
 use command_head::refusing::{refuse, refuse_head};
-use command_promise::{OUT_OF_MEMORY, read_head};
+use command_promise::{Status, read_head};
 use command_world::compiling::compile_all;
 use std::alloc::Global;
 use sx_deploy::DeployError;
@@ -33,7 +33,7 @@ fn deploy_read<C: Deploys, S: Source, K: Sink, T: Tag + Copy>(
     lines: &mut Lines,
     input: &mut S,
     output: &mut K,
-) -> u8
+) -> Status
     requires sound { IfOk read (λ deployment. IsSoundDeployment (deployed_as deployment)) }
     requires names { IfOk read (λ deployment. IsTrue (are_valid (deployed_as deployment).names)) }
     ensures deploys { IfOk read (λ deployment. (text : List ℕ)
@@ -48,7 +48,7 @@ fn deploy_read<C: Deploys, S: Source, K: Sink, T: Tag + Copy>(
     match read {
         Ok(deployment) => match compile_all(alloc, &tag, &deployment) {
             Ok(images) => C::perform(alloc, tag, lines, input, output, &deployment, &images),
-            Err(_) => OUT_OF_MEMORY,
+            Err(_) => Status::OutOfMemory,
         },
         Err(error) => refuse(error, output),
     }
@@ -63,7 +63,7 @@ pub fn deploy_over<C: Deploys, S: Source, K: Sink, T: Tag + Copy>(
     tag: T,
     input: &mut S,
     output: &mut K,
-) -> u8
+) -> Status
     ensures { DeployTold T.mac (C.behind T.mac) C.may S.tells K.tells
         (command_at (S.at input.old) (K.at output.old))
         (command_at (S.at input.new) (K.at output.new)) result }

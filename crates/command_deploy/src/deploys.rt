@@ -13,6 +13,7 @@ ghost use Rattle.sx_image.specs.InMemory.{texts_of};
 ghost use Rattle.command_head.specs.Given.{RanOutSince};
 ghost use Rattle.command_deploy.specs.Output.{OwnOutput, Wants};
 
+use command_promise::Status;
 use std::alloc::Global;
 use sx_deploy::deployment::Deployment;
 use sx_image::Image;
@@ -37,7 +38,7 @@ pub trait Deploys {
         output: &mut K,
         deployment: &Deployment,
         images: &[Image],
-    ) -> u8
+    ) -> Status
         requires sound { IsSoundDeployment (deployed_as deployment.now) }
         requires names { IsTrue (are_valid (deployed_as deployment.now).names) }
         requires many { length images.now ≡ length deployment.now.app.parts.items }

@@ -2,6 +2,7 @@
 use Rattle.std.specs.Prelude.{ℕ, ◌+◌, Bool, List, [], ◌∷◌, ◌++◌, codes, decimal, length}
 use Rattle.std.specs.Prelude.{Some, option_map, slice_get, unwrap_or}
 use Rattle.std.specs.List.{position_from}
+use Rattle.command_promise.specs.declared.status.Status.{Status}
 use Rattle.command_promise.specs.Told.{CommandAt}
 use Rattle.sx_lang.specs.declared.sides.Side.{Side}
 use Rattle.sx_lang.specs.declared.sides.Side.TheVariants.{From, To}
@@ -154,5 +155,5 @@ describe_report d =
     ++ each_from (link_line d) 0 d.app.links
 
 -- The command `describe`.
-abbrev pub DescribePromise : Bool → Bool → CommandAt → CommandAt → ℕ → Type 0
+abbrev pub DescribePromise : Bool → Bool → CommandAt → CommandAt → Status → Type 0
 DescribePromise tells to_tell m0 m1 status = ReportPromise describe_report tells to_tell m0 m1 status

@@ -10,6 +10,7 @@ ghost use Rattle.command_describe.specs.Output.{DescribePromise, describe_report
 use crate::connections::push_links;
 use crate::devices::{push_devices, push_nodes};
 use crate::modules::push_modules;
+use command_promise::Status;
 use command_report::{Reports, report_over};
 use std::alloc::{AllocError, Global};
 use sx_deploy::deployment::Deployment;
@@ -44,7 +45,7 @@ impl Reports for DescribeCommand {
 
 /// The command `describe`: a deployment, and the line `%%`. Gives the exit status, as `top` does for
 /// this command. What follows that line isn't judged, and at most 4,096 bytes of it are read.
-pub fn describe_over<S: Source, K: Sink>(alloc: Global, input: &mut S, output: &mut K) -> u8
+pub fn describe_over<S: Source, K: Sink>(alloc: Global, input: &mut S, output: &mut K) -> Status
     ensures { DescribePromise S.tells K.tells (command_at (S.at input.old) (K.at output.old))
         (command_at (S.at input.new) (K.at output.new)) result }
 {

@@ -1,8 +1,11 @@
 -- What `drive` owes after the head of a deployment.
-use Rattle.std.proofs.Common.{◌≡◌, ◌∙◌, ◌⊎◌, ℕ, ◌+◌, ◌<◌, List, [], ◌∷◌, refl, sym, ap, arith, Result, Ok, Err, inl, inr, Bool, true, false}
+use Rattle.std.proofs.Common.{◌≡◌, ◌∙◌, ◌⊎◌, ℕ, ◌+◌, ◌<◌, List, [], ◌∷◌, refl, sym, ap, arith, Result, Ok, Err, inl, inr, Bool, true, false, subst}
 use Rattle.std.specs.Prelude.{if◌then◌else◌}
 use Rattle.sx_io.specs.Reading.{Answer, Long}
 use Rattle.sx_io.specs.Reading as answer
+use Rattle.command_promise.specs.declared.status.Status.{Status}
+use Rattle.command_promise.specs.declared.status.Status.TheVariants.{ReadFailed, TooLong}
+use Rattle.command_promise.specs.Status.{status_number}
 use Rattle.command_promise.specs.Told.{Output, behind, out_of_memory}
 use Rattle.command_promise.proofs.Due.{lines_then, EndsUnread, Due, due-behind, behind-ends}
 use Rattle.sx_tag.specs.Mac.{Mac}
@@ -12,7 +15,7 @@ use Rattle.spec_run.specs.Setting.{Setting}
 use Rattle.spec_run.specs.Accepted.{setting_of}
 use Rattle.sx_drive.specs.Honest.{Driven, Honest, each, honest_run, reads, setup, start}
 use Rattle.sx_drive.specs.Driving.{reading}
-use Rattle.command_deploy.proofs.Owing.{Owes}
+use Rattle.command_deploy.proofs.Owing.{Owes, memory_above}
 use Rattle.command_world.specs.Images.{images_text}
 use Rattle.command_world.specs.Schedule.{Stop, AtEnd, Unread, Breaks}
 use Rattle.command_drive.specs.declared.readings.ReadingLine.{ReadingLine}
@@ -20,7 +23,7 @@ use Rattle.command_drive.specs.declared.readings.ReadingLine.TheVariants as says
 use Rattle.command_drive.specs.declared.readings.ReadingRule.{ReadingRule}
 use Rattle.command_drive.specs.Output.{drive_deployed, drive_readings, ended_output, long_output, reading_fault, said_text, stop_output, told_run}
 use Rattle.command_drive.specs.Parts.{drive_from, part_output}
-use Rattle.command_drive.specs.Promise.{drive_part, left_out}
+use Rattle.command_drive.specs.Promise.{drive_part}
 use Rattle.command_drive.specs.Input.{judged_reading, readings_from, rule_number}
 use Rattle.command_drive.proofs.Named.{are_there}
 use Rattle.command_drive.proofs.Playing.{follows_long, follows_short}
@@ -31,12 +34,12 @@ use Rattle.command_drive.proofs.Written.{drive_blank, drive_breaks, drive_readin
 -- ---- where a read failed, its line is the last
 
 stop_ends : (steps : ℕ) (x : Stop) → EndsUnread (stop_output steps x)
-stop_ends steps AtEnd e = absurd (omega (arith, e))
+stop_ends steps AtEnd e = absurd (cc e)
 stop_ends steps Unread e = ([], refl)
-stop_ends steps (Breaks rule number) e = absurd (omega (arith, e))
+stop_ends steps (Breaks rule number) e = absurd (cc e)
 
 ended_ends : (h : Honest) (x : Stop) (b : Bool) → EndsUnread (if b then long_output else stop_output h.world.steps x)
-ended_ends h x true e = absurd (omega (arith, e))
+ended_ends h x true e = absurd (cc e)
 ended_ends h x false e = stop_ends h.world.steps x e
 
 run_ends : (d : Deployed) (a : Driven) (x : Stop) → EndsUnread (told_run d.names a x)
@@ -58,18 +61,18 @@ deployed_ends mac d texts more e =
 
 -- ---- line by line
 
-status_of : (o p : Output) → o ≡ p → o.status ≡ 4 → p.status ≡ 4
+status_of : (o p : Output) → o ≡ p → o.status ≡ ReadFailed → p.status ≡ ReadFailed
 status_of o p e four = ap (λ (x : Output). x.status) (sym e) ∙ four
 
-drive_long : (d : Deployed) (set : Setting) (h : Honest) (number : ℕ) → h.long ≡ false → (drive_from d set h number (Long ∷ [])).status ≡ 4 → ⊥
+drive_long : (d : Deployed) (set : Setting) (h : Honest) (number : ℕ) → h.long ≡ false → (drive_from d set h number (Long ∷ [])).status ≡ ReadFailed → ⊥
 drive_long d set h number short e =
-    let four = status_of (drive_from d set h number (Long ∷ [])) (reading_fault 1 number) (drive_too_long d set h number short) e in omega (arith, four)
+    let four = status_of (drive_from d set h number (Long ∷ [])) (reading_fault 1 number) (drive_too_long d set h number short) e in cc four
 
 -- a part of the run is due, and what follows where it leads
 due_part : (d : Deployed) (a : Driven) (left : Honest → List Answer → Output) (G : List Answer → Output) (ls : List (List ℕ)) (b : Bool) → a.honest.long ≡ b
     → ((more : List Answer) → G more ≡ part_output d.names a left (lines_then ls more)) → (a.honest.long ≡ false → Due (λ more. left a.honest (lines_then ls more))) → Due G
 due_part d a left G ls true e same rest =
-    inl (behind (said_text d.names a.said) long_output, λ x. omega (arith, x), λ more. same more ∙ follows_long d.names a left (lines_then ls more) e)
+    inl (behind (said_text d.names a.said) long_output, λ x. cc x, λ more. same more ∙ follows_long d.names a left (lines_then ls more) e)
 due_part d a left G ls false e same rest =
     due-behind G (λ more. left a.honest (lines_then ls more)) (said_text d.names a.said) (λ more. same more ∙ follows_short d.names a left (lines_then ls more) e) (rest e)
 
@@ -77,7 +80,7 @@ due_line : (d : Deployed) (set : Setting) (h : Honest) (number : ℕ) (l : List 
     → judged_reading d number l ≡ r → ((g : Honest) → g.long ≡ false → Due (λ more. drive_from d set g (number + 1) (lines_then ls more)))
     → Due (λ more. drive_from d set h number (answer.Line l ∷ lines_then ls more))
 due_line d set h number l ls (Err rule) there short e f =
-    inl (reading_fault (rule_number rule) number, λ x. omega (arith, x), λ more. drive_breaks d set h number l rule (lines_then ls more) short e)
+    inl (reading_fault (rule_number rule) number, λ x. cc x, λ more. drive_breaks d set h number l rule (lines_then ls more) short e)
 due_line d set h number l ls (Ok says.Blank) there short e f =
     due-behind (λ more. drive_from d set h number (answer.Line l ∷ lines_then ls more)) (λ more. drive_from d set h (number + 1) (lines_then ls more)) []
     (λ more. drive_blank d set h number l (lines_then ls more) e) (f h short)
@@ -112,9 +115,9 @@ due_deployed mac d texts ls there =
     (images_text d.names.modules texts) (λ more. refl) (due_start d (setting_of mac d texts) ls there)
 
 -- memory ran out, or a line was left out: with a status above 4
-cut_above : (n : ℕ) → n < 5 → (n ≡ out_of_memory) ⊎ (n ≡ left_out) → ⊥
-cut_above n few (inl six) = omega (arith, few, six)
-cut_above n few (inr nine) = omega (arith, few, nine)
+cut_above : (n : Status) → status_number n < 5 → (n ≡ out_of_memory) ⊎ (n ≡ TooLong) → ⊥
+cut_above n few (inl six) = memory_above n few six
+cut_above n few (inr nine) = let P : Status → Type 0 = λ s. status_number s < 5 in omega (arith, subst P nine few)
 
 pub drive_owes : (mac : Mac) → Owes (drive_part mac)
 drive_owes mac = record {

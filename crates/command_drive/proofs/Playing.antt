@@ -1,8 +1,9 @@
 -- From what a part of the run says to what is written of it.
-use Rattle.std.proofs.Common.{◌≡◌, ◌∙◌, ℕ, Bool, true, false, List, [], ◌++◌, Result, Ok, Err, refl, sym, subst, ap}
+use Rattle.std.proofs.Common.{◌≡◌, ◌∙◌, Bool, true, false, List, [], ◌++◌, Result, Ok, Err, refl, sym, subst, ap}
 use Rattle.std.specs.Prelude.{IfOk, IsErr, IsTrue, OnOk, if◌then◌else◌}
 use Rattle.sx_io.specs.Streams.{SinkAt}
 use Rattle.sx_io.specs.Reading.{Answer}
+use Rattle.command_promise.specs.declared.status.Status.{Status}
 use Rattle.command_promise.specs.Told.{CommandEnds, Output, behind, out_of_memory}
 use Rattle.command_promise.specs.Parts.{WroteSome}
 use Rattle.command_promise.specs.declared.turned.Turned.{Turned}
@@ -91,7 +92,7 @@ told_done to_tell names k0 k1 said a e short wrote = λ left.
     does-same to_tell k0 k1 (part_output names a left) (λ more. behind (said_text names said) (left a.honest more)) (left a.honest) On
     (λ more. follows_short names a left more short ∙ text_same names said a (left a.honest more) e) (wrote (left a.honest))
 
-told_long : (to_tell : Bool) (names : NameLists) (k0 k1 k2 : SinkAt) (said : List Said) (a : Driven) (status : ℕ) → said ≡ a.said → a.honest.long ≡ true
+told_long : (to_tell : Bool) (names : NameLists) (k0 k1 k2 : SinkAt) (said : List Said) (a : Driven) (status : Status) → said ≡ a.said → a.honest.long ≡ true
     → (IsTrue to_tell → k1.written ≡ k0.written ++ said_text names said) → k1.faults ≡ k0.faults → CommandEnds to_tell k1 k2 status long_output
     → TellsPart to_tell k0 k2 names a (Stop status)
 told_long to_tell names k0 k1 k2 said a status e long wrote same ends = λ left more.
@@ -121,7 +122,7 @@ part_told to_tell names k0 k1 k2 said (Err e) a turned says does wrote ends =
     rw (ends.0, ends.1) (told_wanted to_tell names k0 k1 said says.0 a says.1 wrote (does (λ more. long_output)).no_fault)
 
 -- a write failed
-pub part_stopped : {E : Type 0} (to_tell : Bool) (names : NameLists) (k0 k1 : SinkAt) (said : List Said) (r : Result Drove E) (a : Driven) (status : ℕ)
+pub part_stopped : {E : Type 0} (to_tell : Bool) (names : NameLists) (k0 k1 : SinkAt) (said : List Said) (r : Result Drove E) (a : Driven) (status : Status)
     → SaysAll said r a → ((left : List Answer → Output) (more : List Answer) → CommandEnds to_tell k0 k1 status (behind (said_text names said) (left more)))
     → TellsPart to_tell k0 k1 names a (Stop status)
 part_stopped to_tell names k0 k1 said (Ok drove) a status says ends = λ left more.

@@ -2,6 +2,8 @@
 use Rattle.std.proofs.Common.{◌≡◌, ℕ, zero, suc, ◌<◌, Bool, true, false, List, [], ◌∷◌, length, get_or, refl, arith, Option, Some, None, Ok}
 use Rattle.std.specs.Prelude.{All, IsTrue, if◌then◌else◌}
 use Rattle.sx_io.specs.Reading.{Answer}
+use Rattle.command_promise.specs.declared.status.Status.{Status}
+use Rattle.command_promise.specs.declared.status.Status.TheVariants.{Misused, TooLong}
 use Rattle.command_promise.specs.Told.{CommandAt}
 use Rattle.sx_tag.specs.Mac.{Mac, IsTag}
 use Rattle.sx_deploy.specs.Deployment.{Deployed, IsRead}
@@ -22,7 +24,7 @@ use Rattle.command_deploy.specs.Afterwards.{DeployTold}
 use Rattle.command_deploy.proofs.Said.{deploy_not_two, deploy_says}
 use Rattle.command_world.specs.Schedule.{Stop}
 use Rattle.command_drive.specs.Output.{drive_deployed, drive_readings, driven_of, long_output, stop_output}
-use Rattle.command_drive.specs.Promise.{AreRead, DrivePromise, DrivesWith, IsPredicted, IsTheRun, drive_may, drive_part, left_out, lines_in}
+use Rattle.command_drive.specs.Promise.{AreRead, DrivePromise, DrivesWith, IsPredicted, IsTheRun, drive_may, drive_part, lines_in}
 use Rattle.command_drive.specs.Input.{readings_from}
 use Rattle.command_drive.specs.Status.{drive_status}
 use Rattle.command_drive.proofs.Named.{are_there}
@@ -83,12 +85,12 @@ module _ (mac : Mac) (text : List ℕ) (texts : List (List ℕ)) (d : Deployed) 
   room_by c honest = (honest_is_driven set rs c driveable honest).uncut
 
 -- the status is 9 exactly where a line was left out
-ended_status : (h : Honest) (x : Stop) (n : ℕ) (b : Bool) → (stop_output h.world.steps x).status ≡ n → (if b then long_output else stop_output h.world.steps x).status ≡ (if b then left_out else n)
+ended_status : (h : Honest) (x : Stop) (n : Status) (b : Bool) → (stop_output h.world.steps x).status ≡ n → (if b then long_output else stop_output h.world.steps x).status ≡ (if b then TooLong else n)
 ended_status h x n true e = refl
 ended_status h x n false e = e
 
 status_by : (mac : Mac) (d : Deployed) (texts : List (List ℕ)) (readings : List Answer)
-    → (drive_deployed mac d texts readings).status ≡ (if (driven_of mac d texts readings).honest.long then left_out else drive_status d readings)
+    → (drive_deployed mac d texts readings).status ≡ (if (driven_of mac d texts readings).honest.long then TooLong else drive_status d readings)
 unfolding drive_readings
 status_by mac d texts readings =
     let x = readings_from d 1 readings in
@@ -112,11 +114,11 @@ drives_with mac tag (Some text) texts bytes realize = record {
   status = λ d deploys readings. status_by mac d texts readings;
 }
 
-pub drive_says : {tells to_tell : Bool} {m0 m1 : CommandAt} {status : ℕ} (mac : Mac) → IsTag mac
+pub drive_says : {tells to_tell : Bool} {m0 m1 : CommandAt} {status : Status} (mac : Mac) → IsTag mac
     → DeployTold mac (drive_deployed mac) drive_may tells to_tell m0 m1 status → DrivePromise mac tells to_tell m0 m1 status
 drive_says {tells} {to_tell} {m0} {m1} {status} mac tag told =
     deploy_says {tells = tells} {to_tell = to_tell} {m0 = m0} {m1 = m1} {status = status} mac (drive_part mac) (drive_owes mac)
     (λ deployment texts bytes realize. drives_with mac tag deployment texts bytes realize) told
 
-pub says_not_two : {tells to_tell : Bool} {m0 m1 : CommandAt} {status : ℕ} (mac : Mac) → DrivePromise mac tells to_tell m0 m1 status → status ≡ 2 → ⊥
+pub says_not_two : {tells to_tell : Bool} {m0 m1 : CommandAt} {status : Status} (mac : Mac) → DrivePromise mac tells to_tell m0 m1 status → status ≡ Misused → ⊥
 says_not_two mac says two = deploy_not_two mac (drive_part mac) (drive_owes mac) says two

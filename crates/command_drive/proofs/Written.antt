@@ -3,6 +3,7 @@ use Rattle.std.proofs.Common.{◌≡◌, ◌∙◌, ℕ, ◌+◌, Bool, true, fa
 use Rattle.std.specs.Prelude.{if◌then◌else◌}
 use Rattle.sx_io.specs.Reading.{Answer}
 use Rattle.sx_io.specs.Reading as answer
+use Rattle.command_promise.specs.declared.status.Status.TheVariants.{Done}
 use Rattle.command_promise.specs.Told.{Output, behind, unread_output}
 use Rattle.sx_trace.specs.Names.{NameLists}
 use Rattle.sx_deploy.specs.Deployment.{Deployed}
@@ -77,7 +78,7 @@ module _ (d : Deployed) (set : Setting) (h : Honest) (number : ℕ) (text : List
 -- ---- the last answer
 
 module _ (d : Deployed) (set : Setting) (h : Honest) (number : ℕ) (short : h.long ≡ false) where
-  pub drive_ended : drive_from d set h number (answer.End ∷ []) ≡ record { text = steps_text h.world.steps; status = 0 }
+  pub drive_ended : drive_from d set h number (answer.End ∷ []) ≡ record { text = steps_text h.world.steps; status = Done }
   unfolding drive_from
   drive_ended = ended_short h AtEnd short
 

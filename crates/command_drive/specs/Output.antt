@@ -2,6 +2,7 @@
 -- of the texts of the modules' images, and of the answers that the lines of its input give.
 use Rattle.std.specs.Prelude.{ℕ, if◌then◌else◌, List, ◌++◌, flat_map, codes, decimal}
 use Rattle.sx_io.specs.Reading.{Answer}
+use Rattle.command_promise.specs.declared.status.Status.TheVariants.{Done, Broken, TooLong}
 use Rattle.command_promise.specs.Told.{Output, behind, unread_output}
 use Rattle.sx_tag.specs.Mac.{Mac}
 use Rattle.sx_trace.specs.Items.{item_text}
@@ -36,15 +37,15 @@ long_line = line (codes "fault drive long")
 
 -- status 9: a line was due for which a schedule has no room
 abbrev pub long_output : Output
-long_output = record { text = long_line; status = 9 }
+long_output = record { text = long_line; status = TooLong }
 
 -- status 3: this line is the first that breaks a rule, and this is the first rule that it breaks
 abbrev pub reading_fault : ℕ → ℕ → Output
-reading_fault rule number = fault_output (codes "fault reading Q") rule number 3
+reading_fault rule number = fault_output (codes "fault reading Q") rule number Broken
 
 -- what is written at the end of the readings, after so many steps of nodes
 abbrev pub stop_output : ℕ → Stop → Output
-stop_output steps AtEnd = record { text = steps_text steps; status = 0 }
+stop_output steps AtEnd = record { text = steps_text steps; status = Done }
 stop_output steps Unread = unread_output
 stop_output steps (Breaks rule number) = reading_fault rule number
 

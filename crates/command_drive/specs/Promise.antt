@@ -3,6 +3,8 @@ use Rattle.std.specs.Prelude.{ℕ, ◌+◌, ◌≡◌, ◌≤◌, ◌⊎◌, Boo
 use Rattle.std.specs.Prelude.{◌++◌, length, map, Option}
 use Rattle.sx_io.specs.Reading.{Answer, End}
 use Rattle.sx_io.specs.Reading as answer
+use Rattle.command_promise.specs.declared.status.Status.{Status}
+use Rattle.command_promise.specs.declared.status.Status.TheVariants.{TooLong}
 use Rattle.command_promise.specs.Told.{CommandAt, out_of_memory}
 use Rattle.sx_tag.specs.Mac.{Mac}
 use Rattle.sx_asm.specs.Assembled.{assembled}
@@ -33,10 +35,6 @@ abbrev pub lines_in : List Said → List Line
 lines_in [] = []
 lines_in (SaidLine line ∷ said) = line ∷ lines_in said
 lines_in (SaidItem i ∷ said) = lines_in said
-
--- a line was left out, for which a schedule has no room
-abbrev pub left_out : ℕ
-left_out = 9
 
 -- The run of the lines that were said, from power-on, shows the items that were said, those of each
 -- line after it (`told`); and in it each thing that happens leaves each private section alone.
@@ -84,7 +82,7 @@ pub record DrivesWith (mac : Mac) (deployment : Option (List ℕ)) (texts : List
       → (driven_of mac d texts readings).honest.long ≡ false
   pub status : (d : Deployed) → ReadsAs deployment d → (readings : List Answer)
       → (drive_deployed mac d texts readings).status
-      ≡ (if (driven_of mac d texts readings).honest.long then left_out else drive_status d readings)
+      ≡ (if (driven_of mac d texts readings).honest.long then TooLong else drive_status d readings)
 
 -- the items that are said with these images
 abbrev pub items_said : Mac → Deployed → List (List ℕ) → List Answer → List Item
@@ -100,11 +98,11 @@ abbrev pub drive_part : Mac → OwnPart
 drive_part mac = record {
   output = drive_deployed mac;
   status = drive_status;
-  Cut = λ status. (status ≡ out_of_memory) ⊎ (status ≡ left_out);
+  Cut = λ status. (status ≡ out_of_memory) ⊎ (status ≡ TooLong);
   MayWant = drive_may;
   With = DrivesWith mac;
 }
 
 -- the command `drive`
-abbrev pub DrivePromise : Mac → Bool → Bool → CommandAt → CommandAt → ℕ → Type 0
+abbrev pub DrivePromise : Mac → Bool → Bool → CommandAt → CommandAt → Status → Type 0
 DrivePromise mac = DeployPromise mac (drive_part mac)

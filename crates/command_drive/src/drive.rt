@@ -17,7 +17,7 @@ ghost use Rattle.command_drive.specs.Promise.{DrivePromise, drive_may};
 
 use crate::lines::drive_run;
 use command_deploy::{Deploys, deploy_over};
-use command_promise::{OUT_OF_MEMORY, Turned};
+use command_promise::{Status, Turned};
 use command_world::images::put_images;
 use command_world::nodes::nodes_of;
 use std::alloc::{AllocError, Global};
@@ -57,7 +57,7 @@ fn drive_built<S: Source, K: Sink, B: Copied, T: Tag>(
     deployment: &Deployment,
     images: &[Image],
     honest: &mut Honest<B, T>,
-) -> u8
+) -> Status
     requires names { IsTrue (are_valid (deployed_as deployment.now).names) }
     requires going { GoesOn T.mac deployment.now honest.old }
     requires memory { honest.old.ran_out ≡ false }
@@ -98,7 +98,7 @@ impl Deploys for DriveCommand {
         output: &mut K,
         deployment: &Deployment,
         images: &[Image],
-    ) -> u8 {
+    ) -> Status {
         match new_honest(alloc, tag, deployment, images) {
             Ok(mut honest) => drive_built(
                 alloc,
@@ -109,7 +109,7 @@ impl Deploys for DriveCommand {
                 images,
                 &mut honest,
             ),
-            Err(_) => OUT_OF_MEMORY,
+            Err(_) => Status::OutOfMemory,
         }
     }
 }
@@ -123,7 +123,7 @@ pub fn drive_over<S: Source, K: Sink, T: Tag + Copy>(
     tag: T,
     input: &mut S,
     output: &mut K,
-) -> u8
+) -> Status
     ensures { DrivePromise T.mac S.tells K.tells (command_at (S.at input.old) (K.at output.old))
         (command_at (S.at input.new) (K.at output.new)) result }
 {

@@ -2,6 +2,7 @@
 //! read.
 
 ghost use Rattle.std.specs.Prelude.{◌≡◌, ◌≢◌, ◌+◌, ◌≤◌, [], false, IsTrue};
+ghost use Rattle.command_promise.specs.declared.status.Status.TheVariants.{Done};
 ghost use Rattle.command_promise.specs.Told.{CommandEnds, command_at, out_of_memory};
 ghost use Rattle.command_promise.specs.Parts.{Rest};
 ghost use Rattle.command_promise.specs.Head.{head_lines};
@@ -18,7 +19,7 @@ ghost use Rattle.command_drive.specs.Input.{MayRunOut, judged_reading, rule_numb
 
 use crate::parts::{read, set_up};
 use crate::readings::{MOST_LINES, ReadingLine, ReadingRule, judge_reading};
-use command_promise::{READ_FAILED, Turned, finish};
+use command_promise::{Status, Turned, finish};
 use command_text::fault::finish_fault;
 use command_text::text::{Text, put};
 use itoa::Buffer;
@@ -30,16 +31,19 @@ use sx_drive::said::Said;
 use sx_io::{LineRead, Lines, Sink, Source};
 use sx_tag::Tag;
 
-/// The exit status for a line of readings that breaks a rule.
-const BROKEN: u8 = 3;
-
 /// Writes which rule the line of this number breaks. It takes no memory.
-fn break_reading<K: Sink>(output: &mut K, rule: ReadingRule, number: u32) -> u8
+fn break_reading<K: Sink>(output: &mut K, rule: ReadingRule, number: u32) -> Status
     ensures ends { CommandEnds K.tells (K.at output.old) (K.at output.new) result
         (reading_fault (rule_number rule) number) }
     ensures memory { result ≢ out_of_memory }
 {
-    finish_fault(output, b"fault reading Q", rule.number(), number, BROKEN)
+    finish_fault(
+        output,
+        b"fault reading Q",
+        rule.number(),
+        number,
+        Status::Broken,
+    )
 }
 
 /// The last two lines: how many steps of nodes there were, and `end`.
@@ -56,12 +60,12 @@ fn steps_text(steps: u64) -> Text
 }
 
 /// Ends the command after all readings.
-fn end_run<K: Sink>(output: &mut K, steps: u64) -> u8
+fn end_run<K: Sink>(output: &mut K, steps: u64) -> Status
     ensures ends { CommandEnds K.tells (K.at output.old) (K.at output.new) result
-        (record { text = steps_text steps; status = 0 }) }
+        (record { text = steps_text steps; status = Done }) }
     ensures memory { result ≢ out_of_memory }
 {
-    finish(output, steps_text(steps).as_slice(), 0)
+    finish(output, steps_text(steps).as_slice(), Status::Done)
 }
 
 /// Does what a line says, and writes what it shows.
@@ -106,7 +110,7 @@ fn read_lines<S: Source, K: Sink, B: Copied, T: Tag>(
     deployment: &Deployment,
     honest: &mut Honest<B, T>,
     said: &mut Vec<Said>,
-) -> u8
+) -> Status
     requires names { IsTrue (are_valid (deployed_as deployment.now).names) }
     requires going { GoesOn T.mac deployment.now honest.old }
     requires memory { honest.old.ran_out ≡ false }
@@ -125,7 +129,7 @@ fn read_lines<S: Source, K: Sink, B: Copied, T: Tag>(
         match lines.next(input, &mut into) {
             LineRead::End => return end_run(output, honest.steps()),
             LineRead::TooLong => return break_reading(output, ReadingRule::TooLong, number),
-            LineRead::Failed => return finish(output, b"fault read\n", READ_FAILED),
+            LineRead::Failed => return finish(output, b"fault read\n", Status::ReadFailed),
             LineRead::Text(n) => {
                 match turn(output, deployment, honest, said, &into[..n], number) {
                     Turned::On => number += 1,
@@ -144,7 +148,7 @@ pub(crate) fn drive_run<S: Source, K: Sink, B: Copied, T: Tag>(
     output: &mut K,
     deployment: &Deployment,
     honest: &mut Honest<B, T>,
-) -> u8
+) -> Status
     requires names { IsTrue (are_valid (deployed_as deployment.now).names) }
     requires going { GoesOn T.mac deployment.now honest.old }
     requires memory { honest.old.ran_out ≡ false }

@@ -10,7 +10,7 @@ ghost use Rattle.command_drive.specs.Parts.{AreNamed, EndsPart, PlaysPart, SaysA
 ghost use Rattle.command_drive.specs.Parts.{TellsSaid};
 
 use crate::saying::put_said;
-use command_promise::{OUT_OF_MEMORY, Turned, finish};
+use command_promise::{Status, Turned, finish};
 use std::alloc::AllocError;
 use sx_bus::Copied;
 use sx_deploy::deployment::Deployment;
@@ -19,9 +19,6 @@ use sx_drive::said::{Drove, Said};
 use sx_io::Sink;
 use sx_tag::Tag;
 use sx_trace::names::Names;
-
-/// The exit status for a run of which a line was left out.
-const LEFT_OUT: u8 = 9;
 
 /// Goes on after a part of the run that was written; stops if a line of it was left out, or
 /// memory ran out.
@@ -32,8 +29,8 @@ fn end_part<K: Sink>(output: &mut K, drove: Result<Drove, AllocError>) -> Turned
 {
     match drove {
         Ok(Drove::Done) => Turned::On,
-        Ok(Drove::Long) => Turned::Stop(finish(output, b"fault drive long\n", LEFT_OUT)),
-        Err(_) => Turned::Stop(OUT_OF_MEMORY),
+        Ok(Drove::Long) => Turned::Stop(finish(output, b"fault drive long\n", Status::TooLong)),
+        Err(_) => Turned::Stop(Status::OutOfMemory),
     }
 }
 

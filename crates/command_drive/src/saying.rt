@@ -13,7 +13,7 @@ ghost use Rattle.command_text.specs.Batch.{Writes};
 ghost use Rattle.command_drive.specs.Output.{said_line, said_text};
 ghost use Rattle.command_drive.specs.Parts.{AreNamed, IsNamed};
 
-use command_promise::{Turned, WRITE_FAILED};
+use command_promise::{Status, Turned};
 use command_text::batch::{Batch, make_room};
 use command_text::text::put;
 use command_world::items::add_items;
@@ -117,7 +117,7 @@ fn put_lines<K: Sink>(output: &mut K, names: &Names, said: &[Said]) -> Result<()
     put_all(output, batch.as_slice())
 }
 
-/// Writes all that was said, or stops with `WRITE_FAILED`. It takes no memory.
+/// Writes all that was said, or stops with `WriteFailed`. It takes no memory.
 pub(crate) fn put_said<K: Sink>(output: &mut K, names: &Names, said: &[Said]) -> Turned
     requires names { IsTrue (are_valid names.now) }
     requires named { AreNamed names.now (all_said said.now) }
@@ -130,6 +130,6 @@ pub(crate) fn put_said<K: Sink>(output: &mut K, names: &Names, said: &[Said]) ->
 {
     match put_lines(output, names, said) {
         Ok(()) => Turned::On,
-        Err(_) => Turned::Stop(WRITE_FAILED),
+        Err(_) => Turned::Stop(Status::WriteFailed),
     }
 }

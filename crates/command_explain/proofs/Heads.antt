@@ -8,6 +8,7 @@ use Rattle.sx_io.specs.Reading.{Answer, Ending, Ended, Broken, Line, End, Long, 
 use Rattle.sx_io.specs.Next.{Ahead}
 use Rattle.sx_io.specs.declared.lines.ReaderState.{ReaderState}
 use Rattle.sx_io.specs.declared.lines.ReaderState.TheVariants as reader
+use Rattle.command_promise.specs.declared.status.Status.{Status}
 use Rattle.command_promise.specs.Reads.{AtEnd, AtFault, Decides, Enough, Left, Reads, anything}
 use Rattle.command_promise.specs.Got.{Follows, Got, HoldsBehind}
 use Rattle.command_promise.specs.Told.{CommandAt, CommandEnds, Output, Told, command_at, out_of_memory, unread_output}
@@ -234,7 +235,7 @@ has_head TooLong e = absurd (cc e)
 has_head NoMark e = absurd (cc e)
 has_head Unread e = absurd (cc e)
 
-pub told_also : {tells to_tell : Bool} {limit : Limit} {m0 m1 : CommandAt} {status : ℕ} {F : List Answer → Output} {also : List Answer → Type 0} (next : List Answer → Type 0)
+pub told_also : {tells to_tell : Bool} {limit : Limit} {m0 m1 : CommandAt} {status : Status} {F : List Answer → Output} {also : List Answer → Type 0} (next : List Answer → Type 0)
     → ((answers : List Answer) → also answers → next answers) → Told tells to_tell limit m0 m1 status F also → Told tells to_tell limit m0 m1 status F next
 told_also {tells} {to_tell} {limit} {m0} {m1} {status} {F} {also} next h told =
     let r = told.reads in record {
@@ -252,7 +253,7 @@ told_also {tells} {to_tell} {limit} {m0} {m1} {status} {F} {also} next h told =
     }
 
 -- a head was read, and the rest was done
-pub told_found : {tells to_tell : Bool} {s0 s1 : SourceAt} {k0 : SinkAt} {now : Ahead} {m2 : CommandAt} {status : ℕ} (means : Meanings) (text other : List ℕ) → other ≡ text
+pub told_found : {tells to_tell : Bool} {s0 s1 : SourceAt} {k0 : SinkAt} {now : Ahead} {m2 : CommandAt} {status : Status} (means : Meanings) (text other : List ℕ) → other ≡ text
     → Got tells head_lines head_lines s0 s1 now head (λ more. Found text more) Unread anything
     → Rest tells to_tell image_lines now (command_at s1 k0) m2 status (explain_found means (means.deployment other))
     → Told tells to_tell explain_lines (command_at s0 k0) m2 status (explain_all means) (RunsOutBehindHead status)
@@ -264,7 +265,7 @@ told_found {tells} {to_tell} {s0} {s1} {k0} {now} {m2} {status} means text other
     (begun-got (explain_head means) refl (got-also (Notes marked_in (1 ∷ [])) (λ answers more q. ap marked q) (got_longer text got))))
 
 -- there is none
-told_none : {tells to_tell : Bool} {s0 s1 : SourceAt} {k0 k1 : SinkAt} {status : ℕ} (means : Meanings) (h : Head) (o : Output) → IsNone h → explain_head means h ≡ o
+told_none : {tells to_tell : Bool} {s0 s1 : SourceAt} {k0 k1 : SinkAt} {status : Status} (means : Meanings) (h : Head) (o : Output) → IsNone h → explain_head means h ≡ o
     → Reads tells head_lines s0 s1 head Unread (λ answers. head answers ≡ h) → CommandEnds to_tell k0 k1 status o → (status ≡ out_of_memory → ⊥)
     → Told tells to_tell explain_lines (command_at s0 k0) (command_at s1 k1) status (explain_all means) (RunsOutBehindHead status)
 told_none means h o n e r w never = told-reads (explain_head means) o refl (reads_longer h n r) (λ answers q. (ap (explain_head means) q ∙ e, λ six. absurd (never six))) w
@@ -278,7 +279,7 @@ told_starved {tells} {to_tell} {s0} {s1} {k} {now} means (text, got) =
     (λ more. ends-out-of-memory to_tell k k (explain_found means (means.deployment text) more) (λ t. prefix-none k.written k.written _ refl) refl))
 
 -- there is none, or no memory for one
-pub told_headless : {tells to_tell : Bool} {s0 s1 : SourceAt} {k0 k1 : SinkAt} {status : ℕ} (now : Ahead) (means : Meanings) (why : HeadFault) → HeadRead tells s0 s1 now (Err why)
+pub told_headless : {tells to_tell : Bool} {s0 s1 : SourceAt} {k0 k1 : SinkAt} {status : Status} (now : Ahead) (means : Meanings) (why : HeadFault) → HeadRead tells s0 s1 now (Err why)
     → EndsHeadless to_tell k0 k1 status why → Told tells to_tell explain_lines (command_at s0 k0) (command_at s1 k1) status (explain_all means) (RunsOutBehindHead status)
 told_headless {tells} {to_tell} {s0} {s1} {k0} {k1} {status} now means none.TooLong r w = told_none means TooLong (fault_output (fault 1 Nowhere)) tt refl r w.0 w.1
 told_headless {tells} {to_tell} {s0} {s1} {k0} {k1} {status} now means none.NoMark r w = told_none means NoMark (fault_output (fault 2 Nowhere)) tt refl r w.0 w.1

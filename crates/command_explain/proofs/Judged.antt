@@ -2,6 +2,7 @@
 use Rattle.std.proofs.Common.{◌≡◌, ℕ, ◌+◌, Bool, true, false, List, [], ◌∷◌, ◌++◌, length, refl, subst, Result, Ok, Err}
 use Rattle.std.specs.Prelude.{◌≢◌}
 use Rattle.sx_io.specs.Streams.{SinkAt}
+use Rattle.command_promise.specs.declared.status.Status.{Status}
 use Rattle.command_promise.specs.Told.{CommandEnds, Output, behind}
 use Rattle.command_promise.specs.declared.turned.Turned.{Turned}
 use Rattle.command_promise.specs.declared.turned.Turned.TheVariants.{On, Stop}
@@ -32,7 +33,7 @@ judges {to_tell} {k0} {k1} {kept} {left} {new} {turned} app items item number j 
   follows = λ goes. (let P : List Item → Type 0 = λ xs. Follows app xs new in subst P (taken_on items item j (on goes)) follows);
 }
 
-pub judges_none : {to_tell : Bool} {k0 k1 : SinkAt} {kept left : List ℕ} {new : Seen} {status : ℕ} (app : AppTree) (items : List Item) (item : Item)
+pub judges_none : {to_tell : Bool} {k0 k1 : SinkAt} {kept left : List ℕ} {new : Seen} {status : Status} (app : AppTree) (items : List Item) (item : Item)
     → ((o : Output) → CommandEnds to_tell k0 k1 status (behind kept o)) → JudgesItem to_tell k0 k1 kept left app items item new (Stop status)
 judges_none {to_tell} {k0} {k1} {kept} {left} {new} {status} app items item ends = record {
   does = λ o. ends (told_item (length items + 1) (judged app items item) o);

@@ -1,6 +1,7 @@
 -- What is due of some lines of an input of `explain` is due of more of them too.
-use Rattle.std.proofs.Common.{◌≡◌, ℕ, ◌+◌, List, [], ◌∷◌, ◌++◌, length, nat_lt, refl, ap, arith, Option, Result, Ok, Err, inl, inr, Bool, true, false}
+use Rattle.std.proofs.Common.{◌≡◌, ℕ, ◌+◌, List, [], ◌∷◌, ◌++◌, length, nat_lt, refl, ap, Option, Result, Ok, Err, inl, inr, Bool, true, false}
 use Rattle.sx_io.specs.Reading.{Answer, Line, Long, newline}
+use Rattle.command_promise.specs.declared.status.Status.TheVariants.{ReadFailed}
 use Rattle.command_promise.specs.Told.{Output}
 use Rattle.command_promise.proofs.Due.{lines_then, EndsUnread, Due, due-behind, behind-ends}
 use Rattle.sx_entries.specs.declared.fault.Place.TheVariants.{Nowhere}
@@ -29,13 +30,13 @@ use Rattle.command_explain.proofs.Written.{said_broken, said_item, said_last, sa
 -- ---- where a read failed, its line is the last
 
 stop_ends : (items : List Item) (stop : Stop) → EndsUnread (stop_output items stop)
-stop_ends items Whole e = absurd (omega (arith, e))
+stop_ends items Whole e = absurd (cc e)
 stop_ends items Unread e = ([], refl)
-stop_ends items (Breaks rule number) e = absurd (omega (arith, e))
+stop_ends items (Breaks rule number) e = absurd (cc e)
 
 item_ends : (number : ℕ) (j : Judged) (rest : Output) → EndsUnread rest → EndsUnread (told_item number j rest)
 item_ends number (verdict.Because n) rest h e = behind-ends (because_line number n) rest h e
-item_ends number verdict.Illegal rest h e = absurd (omega (arith, e))
+item_ends number verdict.Illegal rest h e = absurd (cc e)
 item_ends number verdict.Fine rest h e = h e
 item_ends number verdict.Forged rest h e = h e
 item_ends number verdict.Unjudged rest h e = h e
@@ -57,12 +58,12 @@ start_ends app item (Missing stop) e = stop_ends [] stop e
 
 found_ends : (means : Meanings) (r : Result Deployed DeployFault) (more : List Answer) → EndsUnread (explain_found means r more)
 found_ends means (Ok d) more e = start_ends d.app (means.item d.names) (start 1 more) e
-found_ends means (Err f) more e = absurd (omega (arith, e))
+found_ends means (Err f) more e = absurd (cc e)
 
 head_ends : (means : Meanings) (h : Head) → EndsUnread (explain_head means h)
 head_ends means (Found text more) e = found_ends means (means.deployment text) more e
-head_ends means TooLong e = absurd (omega (arith, e))
-head_ends means NoMark e = absurd (omega (arith, e))
+head_ends means TooLong e = absurd (cc e)
+head_ends means NoMark e = absurd (cc e)
 head_ends means heads.Unread e = ([], refl)
 
 -- ---- after `trace`
@@ -74,14 +75,14 @@ due_end item items number [] =
       λ more. stop_output items (stop_behind item number more),
       λ more. refl,
       refl,
-      λ e. omega (arith, e),
+      λ e. cc e,
       λ more. stop_ends items (stop_behind item number more),
     )
-due_end item items number (l ∷ ls) = inl (broken_output (rule_behind (line_of item l)) number, λ e. omega (arith, e), λ more. refl)
+due_end item items number (l ∷ ls) = inl (broken_output (rule_behind (line_of item l)) number, λ e. cc e, λ more. refl)
 
 due_told : (number : ℕ) (j : Judged) (G H : List Answer → Output) → ((more : List Answer) → G more ≡ told_item number j (H more)) → Due H → Due G
 due_told number (verdict.Because n) G H e d = due-behind G H (because_line number n) e d
-due_told number verdict.Illegal G H e d = inl (illegal_output number, λ x. omega (arith, x), e)
+due_told number verdict.Illegal G H e d = inl (illegal_output number, λ x. cc x, e)
 due_told number verdict.Fine G H e d = due-behind G H [] e d
 due_told number verdict.Forged G H e d = due-behind G H [] e d
 due_told number verdict.Unjudged G H e d = due-behind G H [] e d
@@ -90,7 +91,7 @@ module _ (app : AppTree) (item : List ℕ → Option Item) where
   due_line : (front : List Item) (l : List ℕ) (ls : List (List ℕ)) (r : Result TraceLine TraceRule) → judged_line (length front + 1) (line_of item l) ≡ r
       → ((i : Item) → Due (λ more. explain_from app item (front ++ i ∷ []) (lines_then ls more))) → Due (λ more. explain_from app item front (Line l ∷ lines_then ls more))
   due_line front l ls (Err rule) e f =
-      inl (broken_output rule (length front + 1), λ x. omega (arith, x), λ more. said_broken app item front l rule (lines_then ls more) e)
+      inl (broken_output rule (length front + 1), λ x. cc x, λ more. said_broken app item front l rule (lines_then ls more) e)
   due_line front l ls (Ok kind.Last) e f =
       due-behind (λ more. explain_from app item front (Line l ∷ lines_then ls more)) (λ more. stop_output front (stop_behind item (length front + 1 + 1) (lines_then ls more))) []
       (λ more. said_last app item front l (lines_then ls more) e) (due_end item front (length front + 1 + 1) ls)
@@ -98,9 +99,9 @@ module _ (app : AppTree) (item : List ℕ → Option Item) where
       due_told (length front + 1) (judged app front i) (λ more. explain_from app item front (Line l ∷ lines_then ls more)) (λ more. explain_from app item (front ++ i ∷ []) (lines_then ls more))
       (λ more. said_item app item front l i (lines_then ls more) e) (f i)
 
-  from_long : (front : List Item) → (explain_from app item front (Long ∷ [])).status ≡ 4 → ⊥
+  from_long : (front : List Item) → (explain_from app item front (Long ∷ [])).status ≡ ReadFailed → ⊥
   unfolding explain_from
-  from_long front e = omega (arith, e)
+  from_long front e = cc e
 
   due_from : (ls : List (List ℕ)) (front : List Item) → Due (λ more. explain_from app item front (lines_then ls more))
   due_from [] front =
@@ -120,7 +121,7 @@ module _ (app : AppTree) (item : List ℕ → Option Item) where
   due_image number l ls image.Other e d =
       inl (
         broken_output NoTrace number,
-        λ x. omega (arith, x),
+        λ x. cc x,
         λ more. ap (λ k. explain_start app item (on_image number k (lines_then ls more) (start (number + 1) (lines_then ls more)))) e,
       )
 
@@ -131,7 +132,7 @@ module _ (app : AppTree) (item : List ℕ → Option Item) where
         λ more. explain_start app item (start number more),
         λ more. refl,
         refl,
-        λ e. omega (arith, e),
+        λ e. cc e,
         λ more. start_ends app item (start number more),
       )
   due_start (l ∷ ls) number = due_image number l ls (image_line number l) refl (due_start ls (number + 1))
@@ -139,7 +140,7 @@ module _ (app : AppTree) (item : List ℕ → Option Item) where
 -- ---- the head
 
 due_found : (means : Meanings) (r : Result Deployed DeployFault) (ls : List (List ℕ)) → Due (λ more. explain_found means r (lines_then ls more))
-due_found means (Err f) ls = inl (fault_output f, λ x. omega (arith, x), λ more. refl)
+due_found means (Err f) ls = inl (fault_output f, λ x. cc x, λ more. refl)
 due_found means (Ok d) ls = due_start d.app (means.item d.names) ls 1
 
 due_head_line : (means : Meanings) (text l : List ℕ) (ls : List (List ℕ)) (p q : Bool) → is_mark l ≡ p → nat_lt most_bytes (length text + length l + 1) ≡ q
@@ -147,7 +148,7 @@ due_head_line : (means : Meanings) (text l : List ℕ) (ls : List (List ℕ)) (p
 due_head_line means text l ls true q x y d =
     due-behind (λ more. explain_head means (head_behind text (Line l ∷ lines_then ls more))) (λ more. explain_found means (means.deployment text) (lines_then ls more)) []
     (λ more. rw x refl) (due_found means (means.deployment text) ls)
-due_head_line means text l ls false true x y d = inl (fault_output (fault 1 Nowhere), λ e. omega (arith, e), λ more. rw (x, y) refl)
+due_head_line means text l ls false true x y d = inl (fault_output (fault 1 Nowhere), λ e. cc e, λ more. rw (x, y) refl)
 due_head_line means text l ls false false x y d =
     due-behind (λ more. explain_head means (head_behind text (Line l ∷ lines_then ls more)))
     (λ more. explain_head means (head_behind (text ++ l ++ newline ∷ []) (lines_then ls more))) [] (λ more. rw (x, y) refl) d
@@ -159,7 +160,7 @@ due_head means [] text =
       λ more. explain_head means (head_behind text more),
       λ more. refl,
       refl,
-      λ e. omega (arith, e),
+      λ e. cc e,
       λ more. head_ends means (head_behind text more),
     )
 due_head means (l ∷ ls) text =

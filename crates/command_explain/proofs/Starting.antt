@@ -6,6 +6,7 @@ use Rattle.sx_io.specs.Reading.{Answer, Limit}
 use Rattle.sx_io.specs.Next.{Ahead, Next}
 use Rattle.sx_io.specs.Passed.{longest_passed}
 use Rattle.sx_io.specs.declared.lines.LineRead.TheVariants as read
+use Rattle.command_promise.specs.declared.status.Status.{Status}
 use Rattle.command_promise.specs.Told.{CommandAt, Output, command_at, unread_output}
 use Rattle.command_promise.specs.Parts.{Begun, Rest}
 use Rattle.command_promise.proofs.Laws.{begun-line, begun-same, ends-out-of-memory, ends-same, prefix-none, told-stop}
@@ -74,7 +75,7 @@ module _ {tells to_tell : Bool} {limit : Limit} {m0 : CommandAt} {s1 s2 : Source
 
 -- ---- after a head
 
-pub explain_behind : {tells to_tell : Bool} {now : Ahead} {s0 s1 : SourceAt} {k0 k1 : SinkAt} {status : ℕ} (text : List ℕ) (r : Result Deployment DeployError) → GivesOne deployed_as r (IsRead text)
+pub explain_behind : {tells to_tell : Bool} {now : Ahead} {s0 s1 : SourceAt} {k0 k1 : SinkAt} {status : Status} (text : List ℕ) (r : Result Deployment DeployError) → GivesOne deployed_as r (IsRead text)
     → IfOk r (λ d. (means : Meanings) → AreMeanings means → Rest tells to_tell image_lines now (command_at s0 k0) (command_at s1 k1) status (explain_deployed means (deployed_as d)))
     → IfErr r (λ e. EndsRefused to_tell k0 k1 status e) → OnErr r (s1 ≡ s0) → (means : Meanings) → AreMeanings means
     → Rest tells to_tell image_lines now (command_at s0 k0) (command_at s1 k1) status (explain_found means (means.deployment text))

@@ -1,7 +1,9 @@
 -- The statuses of `explain`.
-use Rattle.std.proofs.Common.{◌≡◌, ◌∙◌, ℕ, ◌+◌, ◌⊎◌, inl, inr, List, [], ◌∷◌, ◌++◌, length, nat_lt, refl, sym, ap, arith, append_assoc, Result, Ok, Err, Option}
+use Rattle.std.proofs.Common.{◌≡◌, ◌∙◌, ℕ, ◌+◌, ◌⊎◌, inl, inr, List, [], ◌∷◌, ◌++◌, length, nat_lt, refl, sym, ap, append_assoc, Result, Ok, Err, Option}
 use Rattle.std.proofs.lemmas.List.{append-nil}
 use Rattle.sx_io.specs.Reading.{Answer, Line, End, Long, Fault, newline}
+use Rattle.command_promise.specs.declared.status.Status.{Status}
+use Rattle.command_promise.specs.declared.status.Status.TheVariants.{Done, Refused, Misused, ReadFailed, Illegal}
 use Rattle.command_promise.specs.Told.{Output}
 use Rattle.command_promise.proofs.Endings.{Faultless, Unfinished, pick}
 use Rattle.sx_entries.specs.declared.fault.DeployFault.{DeployFault}
@@ -29,10 +31,10 @@ use Rattle.command_explain.proofs.Stops.{start_whole, trace_kept}
 -- ---- from stops to statuses
 
 -- a status is that of how it stopped, or says that an item is illegal
-abbrev Is : ℕ → ℕ → Type 0
-Is s last = (s ≡ 8) ⊎ (s ≡ last)
+abbrev Is : Status → Status → Type 0
+Is s last = (s ≡ Illegal) ⊎ (s ≡ last)
 
-status_item : (number : ℕ) (j : Judged) (rest : Output) (last : ℕ) → Is rest.status last → Is (told_item number j rest).status last
+status_item : (number : ℕ) (j : Judged) (rest : Output) (last : Status) → Is rest.status last → Is (told_item number j rest).status last
 status_item number (verdict.Because n) rest last h = h
 status_item number verdict.Illegal rest last h = inl refl
 status_item number verdict.Fine rest last h = h
@@ -49,36 +51,36 @@ status_from : (app : AppTree) (item : List ℕ → Option Item) (more : List Ans
 unfolding explain_from
 status_from app item more = let t = trace item 1 more in status_items app [] t.items (stop_output t.items t.stop)
 
-not_two : (items : List Item) (stop : Stop) → (stop_output items stop).status ≡ 2 → ⊥
-not_two items Whole e = omega (arith, e)
-not_two items Unread e = omega (arith, e)
-not_two items (Breaks rule number) e = omega (arith, e)
+not_two : (items : List Item) (stop : Stop) → (stop_output items stop).status ≡ Misused → ⊥
+not_two items Whole e = cc e
+not_two items Unread e = cc e
+not_two items (Breaks rule number) e = cc e
 
-start_not_two : (app : AppTree) (item : List ℕ → Option Item) (s : Start) → (explain_start app item s).status ≡ 2 → ⊥
+start_not_two : (app : AppTree) (item : List ℕ → Option Item) (s : Start) → (explain_start app item s).status ≡ Misused → ⊥
 start_not_two app item (Behind more) e =
     elim (status_from app item more) [
-      | inl eight ↦ omega (arith, eight, e)
+      | inl eight ↦ cc (eight, e)
       | inr same ↦ not_two (trace item 1 more).items (trace item 1 more).stop (sym same ∙ e)
     ]
 start_not_two app item (Missing stop) e = not_two [] stop e
 
-found_not_two : (means : Meanings) (r : Result Deployed DeployFault) (more : List Answer) → (explain_found means r more).status ≡ 2 → ⊥
+found_not_two : (means : Meanings) (r : Result Deployed DeployFault) (more : List Answer) → (explain_found means r more).status ≡ Misused → ⊥
 found_not_two means (Ok d) more e = start_not_two d.app (means.item d.names) (start 1 more) e
-found_not_two means (Err f) more e = omega (arith, e)
+found_not_two means (Err f) more e = cc e
 
-pub head_not_two : (means : Meanings) (h : Head) → (explain_head means h).status ≡ 2 → ⊥
+pub head_not_two : (means : Meanings) (h : Head) → (explain_head means h).status ≡ Misused → ⊥
 head_not_two means (Found text more) e = found_not_two means (means.deployment text) more e
-head_not_two means TooLong e = omega (arith, e)
-head_not_two means NoMark e = omega (arith, e)
-head_not_two means heads.Unread e = omega (arith, e)
+head_not_two means TooLong e = cc e
+head_not_two means NoMark e = cc e
+head_not_two means heads.Unread e = cc e
 
 -- ---- a stop that doesn't come
 
 -- A stop, and its status, that no broken rule gives; and what answers keep so that it doesn't come.
-module _ (bad : Stop) (s : ℕ) (Kept : List Answer → Type 0) (is_bad : (items : List Item) (stop : Stop) → (stop_output items stop).status ≡ s → stop ≡ bad)
-    (breaks : (rule : TraceRule) (number : ℕ) → Breaks rule number ≡ bad → ⊥) (one : 1 ≡ s → ⊥) (eight : 8 ≡ s → ⊥)
+module _ (bad : Stop) (s : Status) (Kept : List Answer → Type 0) (is_bad : (items : List Item) (stop : Stop) → (stop_output items stop).status ≡ s → stop ≡ bad)
+    (breaks : (rule : TraceRule) (number : ℕ) → Breaks rule number ≡ bad → ⊥) (one : Refused ≡ s → ⊥) (eight : Illegal ≡ s → ⊥)
     (none : Kept [] → Whole ≡ bad → ⊥) (ended : (more : List Answer) → Kept (End ∷ more) → Whole ≡ bad → ⊥)
-    (failed : (more : List Answer) → Kept (Fault ∷ more) → Unread ≡ bad → ⊥) (unread : (more : List Answer) → Kept (Fault ∷ more) → 4 ≡ s → ⊥)
+    (failed : (more : List Answer) → Kept (Fault ∷ more) → Unread ≡ bad → ⊥) (unread : (more : List Answer) → Kept (Fault ∷ more) → ReadFailed ≡ s → ⊥)
     (behind : (text : List ℕ) (more : List Answer) → Kept (Line text ∷ more) → Kept more) where
   from_kept : (app : AppTree) (item : List ℕ → Option Item) (answers : List Answer) → Kept answers → (explain_from app item [] answers).status ≡ s → ⊥
   from_kept app item answers k e =
@@ -115,26 +117,26 @@ module _ (bad : Stop) (s : ℕ) (Kept : List Answer → Type 0) (is_bad : (items
       (pick (nat_lt most_bytes (length text + length line + 1)) TooLong _ (λ h. (explain_head means h).status ≡ s → ⊥) one
       (head_kept means (text ++ line ++ newline ∷ []) more (behind line more k))) e
 
-is_unread : (items : List Item) (stop : Stop) → (stop_output items stop).status ≡ 4 → stop ≡ Unread
-is_unread items Whole e = absurd (omega (arith, e))
+is_unread : (items : List Item) (stop : Stop) → (stop_output items stop).status ≡ ReadFailed → stop ≡ Unread
+is_unread items Whole e = absurd (cc e)
 is_unread items Unread e = refl
-is_unread items (Breaks rule number) e = absurd (omega (arith, e))
+is_unread items (Breaks rule number) e = absurd (cc e)
 
-is_whole : (items : List Item) (stop : Stop) → (stop_output items stop).status ≡ 0 → stop ≡ Whole
+is_whole : (items : List Item) (stop : Stop) → (stop_output items stop).status ≡ Done → stop ≡ Whole
 is_whole items Whole e = refl
-is_whole items Unread e = absurd (omega (arith, e))
-is_whole items (Breaks rule number) e = absurd (omega (arith, e))
+is_whole items Unread e = absurd (cc e)
+is_whole items (Breaks rule number) e = absurd (cc e)
 
 -- status 4 says that a read failed
-pub not_four : (means : Meanings) (answers : List Answer) → Faultless answers → (explain_all means answers).status ≡ 4 → ⊥
+pub not_four : (means : Meanings) (answers : List Answer) → Faultless answers → (explain_all means answers).status ≡ ReadFailed → ⊥
 not_four means answers kept =
-    head_kept Unread 4 Faultless is_unread (λ rule number e. cc e) (λ e. omega (arith, e)) (λ e. omega (arith, e)) (λ k e. cc e) (λ more k e. cc e) (λ more k e. k) (λ more k e. k)
+    head_kept Unread ReadFailed Faultless is_unread (λ rule number e. cc e) (λ e. cc e) (λ e. cc e) (λ k e. cc e) (λ more k e. cc e) (λ more k e. k) (λ more k e. k)
     (λ text more k. k) means [] answers kept
 
 -- status 0 says that the input ended
-pub not_zero : (means : Meanings) (answers : List Answer) → Unfinished answers → (explain_all means answers).status ≡ 0 → ⊥
+pub not_zero : (means : Meanings) (answers : List Answer) → Unfinished answers → (explain_all means answers).status ≡ Done → ⊥
 not_zero means answers kept =
-    head_kept Whole 0 Unfinished is_whole (λ rule number e. cc e) (λ e. omega (arith, e)) (λ e. omega (arith, e)) (λ k e. k) (λ more k e. k) (λ more k e. cc e) (λ more k e. omega (arith, e))
+    head_kept Whole Done Unfinished is_whole (λ rule number e. cc e) (λ e. cc e) (λ e. cc e) (λ k e. k) (λ more k e. k) (λ more k e. cc e) (λ more k e. cc e)
     (λ text more k. k) means [] answers kept
 
 -- ---- status 0 comes exactly for legal traces
@@ -142,9 +144,9 @@ not_zero means answers kept =
 abbrev NoneFrom : AppTree → List Item → List Item → Type 0
 NoneFrom app seen items = (front behind : List Item) (item : Item) → items ≡ front ++ item ∷ behind → judged app (seen ++ front) item ≡ verdict.Illegal → ⊥
 
-item_zero : (number : ℕ) (j : Judged) (rest : Output) → (told_item number j rest).status ≡ 0 → (j ≡ verdict.Illegal → ⊥) × (rest.status ≡ 0)
+item_zero : (number : ℕ) (j : Judged) (rest : Output) → (told_item number j rest).status ≡ Done → (j ≡ verdict.Illegal → ⊥) × (rest.status ≡ Done)
 item_zero number (verdict.Because n) rest e = (λ h. cc h, e)
-item_zero number verdict.Illegal rest e = absurd (omega (arith, e))
+item_zero number verdict.Illegal rest e = absurd (cc e)
 item_zero number verdict.Fine rest e = (λ h. cc h, e)
 item_zero number verdict.Forged rest e = (λ h. cc h, e)
 item_zero number verdict.Unjudged rest e = (λ h. cc h, e)
@@ -162,14 +164,14 @@ nothing_in : (front behind : List Item) (item : Item) → [] ≡ front ++ item �
 nothing_in [] behind item e = cc e
 nothing_in (f ∷ fs) behind item e = cc e
 
-items_zero : (app : AppTree) (seen items : List Item) (last : Output) → (told_items app seen items last).status ≡ 0 → NoneFrom app seen items × (last.status ≡ 0)
+items_zero : (app : AppTree) (seen items : List Item) (last : Output) → (told_items app seen items last).status ≡ Done → NoneFrom app seen items × (last.status ≡ Done)
 items_zero app seen [] last e = (λ front behind item p h. nothing_in front behind item p, e)
 items_zero app seen (i ∷ is) last e =
     let w = item_zero (length seen + 1) (judged app seen i) (told_items app (seen ++ i ∷ []) is last) e in
     let rest = items_zero app (seen ++ i ∷ []) is last w.1 in
     (none_more app seen i is w.0 rest.0, rest.1)
 
-from_zero : (app : AppTree) (item : List ℕ → Option Item) (more : List Answer) → (explain_from app item [] more).status ≡ 0 → IsLegalTrace app item (Behind more)
+from_zero : (app : AppTree) (item : List ℕ → Option Item) (more : List Answer) → (explain_from app item [] more).status ≡ Done → IsLegalTrace app item (Behind more)
 unfolding explain_from
 from_zero app item more e =
     let t = trace item 1 more in
@@ -177,30 +179,30 @@ from_zero app item more e =
     let none : NoneIllegal app t.items = w.0 in
     (is_whole t.items t.stop w.1, (judges_legal app t.items).1 none)
 
-start_zero : (app : AppTree) (item : List ℕ → Option Item) (s : Start) → (explain_start app item s).status ≡ 0 → (s ≡ Missing Whole → ⊥) → IsLegalTrace app item s
+start_zero : (app : AppTree) (item : List ℕ → Option Item) (s : Start) → (explain_start app item s).status ≡ Done → (s ≡ Missing Whole → ⊥) → IsLegalTrace app item s
 start_zero app item (Behind more) e n = from_zero app item more e
 start_zero app item (Missing stop) e n = absurd (n (ap Missing (is_whole [] stop e)))
 
-found_zero : (means : Meanings) (r : Result Deployed DeployFault) (more : List Answer) → (explain_found means r more).status ≡ 0 → IsLegalOf means r more
+found_zero : (means : Meanings) (r : Result Deployed DeployFault) (more : List Answer) → (explain_found means r more).status ≡ Done → IsLegalOf means r more
 found_zero means (Ok d) more e = start_zero d.app (means.item d.names) (start 1 more) e (start_whole 1 more)
-found_zero means (Err f) more e = absurd (omega (arith, e))
+found_zero means (Err f) more e = absurd (cc e)
 
-pub head_zero : (means : Meanings) (h : Head) → (explain_head means h).status ≡ 0 → IsLegalInput means h
+pub head_zero : (means : Meanings) (h : Head) → (explain_head means h).status ≡ Done → IsLegalInput means h
 head_zero means (Found text more) e = found_zero means (means.deployment text) more e
-head_zero means TooLong e = absurd (omega (arith, e))
-head_zero means NoMark e = absurd (omega (arith, e))
-head_zero means heads.Unread e = absurd (omega (arith, e))
+head_zero means TooLong e = absurd (cc e)
+head_zero means NoMark e = absurd (cc e)
+head_zero means heads.Unread e = absurd (cc e)
 
-start_legal : (app : AppTree) (item : List ℕ → Option Item) (s : Start) → IsLegalTrace app item s → (explain_start app item s).status ≡ 0
+start_legal : (app : AppTree) (item : List ℕ → Option Item) (s : Start) → IsLegalTrace app item s → (explain_start app item s).status ≡ Done
 start_legal app item (Behind more) h =
     ap (λ (o : Output). o.status) ((traces_explained app item more).legal h.1) ∙ ap (λ stop. (stop_output (trace item 1 more).items stop).status) h.0
 start_legal app item (Missing stop) h = absurd h
 
-found_legal : (means : Meanings) (r : Result Deployed DeployFault) (more : List Answer) → IsLegalOf means r more → (explain_found means r more).status ≡ 0
+found_legal : (means : Meanings) (r : Result Deployed DeployFault) (more : List Answer) → IsLegalOf means r more → (explain_found means r more).status ≡ Done
 found_legal means (Ok d) more h = start_legal d.app (means.item d.names) (start 1 more) h
 found_legal means (Err f) more h = absurd h
 
-pub head_legal : (means : Meanings) (h : Head) → IsLegalInput means h → (explain_head means h).status ≡ 0
+pub head_legal : (means : Meanings) (h : Head) → IsLegalInput means h → (explain_head means h).status ≡ Done
 head_legal means (Found text more) h = found_legal means (means.deployment text) more h
 head_legal means TooLong h = absurd h
 head_legal means NoMark h = absurd h

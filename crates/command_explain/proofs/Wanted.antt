@@ -9,6 +9,7 @@ use Rattle.sx_io.specs.Passed.{longest_passed}
 use Rattle.sx_io.specs.declared.lines.LineRead.{LineRead}
 use Rattle.sx_io.specs.declared.lines.LineRead.TheVariants as read
 use Rattle.sx_io.specs.declared.outside.Failed.{Failed}
+use Rattle.command_promise.specs.declared.status.Status.{Status}
 use Rattle.command_promise.specs.Reads.{anything}
 use Rattle.command_promise.specs.Got.{Got}
 use Rattle.command_promise.specs.Told.{CommandAt, command_at, out_of_memory}
@@ -169,7 +170,7 @@ module _ {tells : Bool} {s1 s2 s3 : SourceAt} {old now next : Ahead} {number : �
 
 -- ---- after a head
 
-pub read_wants : {tells : Bool} {s1 s2 : SourceAt} {old new : Ahead} {status : ℕ} (text : List ℕ) (r : Result Deployment DeployError) → GivesOne deployed_as r (IsRead text)
+pub read_wants : {tells : Bool} {s1 s2 : SourceAt} {old new : Ahead} {status : Status} (text : List ℕ) (r : Result Deployment DeployError) → GivesOne deployed_as r (IsRead text)
     → IfOk r (λ d. (means : Meanings) → AreMeanings means → status ≡ out_of_memory → RanOutSince image_lines trace_lines (explain_may means (deployed_as d)) tells s1 s2 old new)
     → OnErr r (s2 ≡ s1) → (means : Meanings) → AreMeanings means → status ≡ out_of_memory → ReadWants means text tells s1 s2 old new
 read_wants {tells} {s1} {s2} {old} {new} {status} text (Ok d) read good same means is six = inr (deployed_as d, read, good means is six)
@@ -185,7 +186,7 @@ told_wants {tells} {s0} {s1} {k0} {m2} {now} {new} means text got w =
       | inr late ↦ ran_out_at {m0 = command_at s0 k0} {m1 = m2} {begun = s1} {old = now} {new = new} (explain_may means) text late.0 late.1 (got_longer text got) late.2
     ]
 
-pub headless_wants : {tells : Bool} {s0 s1 : SourceAt} (to_tell : Bool) (k0 k1 : SinkAt) (status : ℕ) (now : Ahead) (means : Meanings) (why : HeadFault) → HeadRead tells s0 s1 now (Err why)
+pub headless_wants : {tells : Bool} {s0 s1 : SourceAt} (to_tell : Bool) (k0 k1 : SinkAt) (status : Status) (now : Ahead) (means : Meanings) (why : HeadFault) → HeadRead tells s0 s1 now (Err why)
     → EndsHeadless to_tell k0 k1 status why → status ≡ out_of_memory → RanOutAt explain_lines (explain_may means) tells (command_at s0 k0) (command_at s1 k1)
 headless_wants {tells} {s0} {s1} to_tell k0 k1 status now means none.TooLong r w six = absurd (w.1 six)
 headless_wants {tells} {s0} {s1} to_tell k0 k1 status now means none.NoMark r w six = absurd (w.1 six)

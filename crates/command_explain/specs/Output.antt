@@ -3,6 +3,7 @@
 use Rattle.std.specs.Prelude.{ℕ, ◌+◌, List, [], ◌∷◌, ◌++◌, codes, decimal, length, Option, Some}
 use Rattle.std.specs.Prelude.{None, Result, Ok, Err}
 use Rattle.sx_io.specs.Reading.{Answer}
+use Rattle.command_promise.specs.declared.status.Status.TheVariants as exit
 use Rattle.command_promise.specs.Told.{Output, behind, unread_output}
 use Rattle.sx_entries.specs.declared.fault.Place.TheVariants.{Nowhere}
 use Rattle.sx_entries.specs.declared.fault.DeployFault.{DeployFault}
@@ -32,7 +33,8 @@ because_line number cause =
 
 -- status 8: the source doesn't allow the item with this number
 abbrev pub illegal_output : ℕ → Output
-illegal_output number = record { text = line (codes "illegal " ++ decimal number); status = 8 }
+illegal_output number =
+    record { text = line (codes "illegal " ++ decimal number); status = exit.Illegal }
 
 -- the line of the first item that is forged, if one is
 abbrev pub forged_line : Option ℕ → List ℕ
@@ -47,11 +49,11 @@ legal_text items = line (codes "legal " ++ decimal (length (before items)))
 -- status 3: this line is the first that breaks a rule, and this is the first rule that it breaks
 abbrev pub broken_output : TraceRule → ℕ → Output
 broken_output rule number =
-    refusals.fault_output (codes "fault trace E") (rule_number rule) number 3
+    refusals.fault_output (codes "fault trace E") (rule_number rule) number exit.Broken
 
 -- the last lines, and the status
 abbrev pub stop_output : List Item → Stop → Output
-stop_output items Whole = record { text = legal_text items; status = 0 }
+stop_output items Whole = record { text = legal_text items; status = exit.Done }
 stop_output items Unread = unread_output
 stop_output items (Breaks rule number) = broken_output rule number
 

@@ -1,6 +1,8 @@
 -- What the command `explain` promises, of its streams at its start (m0) and at its end (m1).
 use Rattle.std.specs.Prelude.{◌≡◌, ◌⊎◌, ℕ, ◌++◌, Bool, List, [], Option, Result, Ok, Err, IsTrue}
 use Rattle.sx_io.specs.Reading.{Answer, Ended, scan}
+use Rattle.command_promise.specs.declared.status.Status.{Status}
+use Rattle.command_promise.specs.declared.status.Status.TheVariants.{Done}
 use Rattle.command_promise.specs.Told.{CommandAt, Output, Told, out_of_memory}
 use Rattle.command_promise.specs.Further.{Streams}
 use Rattle.sx_entries.specs.declared.fault.DeployFault.{DeployFault}
@@ -42,7 +44,7 @@ abbrev pub input_of : CommandAt → List Answer
 input_of m0 = scan explain_lines Ended [] m0.source.rest
 
 -- the status is the one that is defined, and all that is defined was written, or memory ran out
-abbrev pub EndsAs : Bool → CommandAt → CommandAt → ℕ → Output → Type 0
+abbrev pub EndsAs : Bool → CommandAt → CommandAt → Status → Output → Type 0
 EndsAs to_tell m0 m1 status o = (status ≡ out_of_memory)
     ⊎ ((status ≡ o.status) × (IsTrue to_tell → m1.sink.written ≡ m0.sink.written ++ o.text))
 
@@ -54,16 +56,17 @@ EndsAs to_tell m0 m1 status o = (status ≡ out_of_memory)
 -- first item that is forged (`legal`); and it comes for each such input (`complete`). What a legal
 -- trace of a deployment rests on follows (`causes`). If memory ran out, no line after the head
 -- was given, or the last that was given is one at which it may (`memory`).
-pub record ExplainPromise (tells to_tell : Bool) (m0 m1 : CommandAt) (status : ℕ) : Type 0 where
+pub record ExplainPromise (tells to_tell : Bool) (m0 m1 : CommandAt)
+    (status : Status) : Type 0 where
   pub told : (means : Meanings) → AreMeanings means
       → Told tells to_tell explain_lines m0 m1 status (explain_all means) (RunsOutBehindHead status)
   pub streams : (means : Meanings) → AreMeanings means
       → Streams tells to_tell explain_lines m0 m1 (explain_all means)
   pub faults : TellsFaults m0 m1 status
-  pub read_all : status ≡ 0 → IsTrue tells → m1.source.rest ≡ []
+  pub read_all : status ≡ Done → IsTrue tells → m1.source.rest ≡ []
   pub exact : (means : Meanings) → AreMeanings means → IsTrue tells → IsFaultless m0 m1
       → EndsAs to_tell m0 m1 status (explain_all means (input_of m0))
-  pub legal : (means : Meanings) → AreMeanings means → IsTrue tells → status ≡ 0
+  pub legal : (means : Meanings) → AreMeanings means → IsTrue tells → status ≡ Done
       → IsLegalInput means (head (input_of m0))
   pub complete : (means : Meanings) → AreMeanings means → IsTrue tells
       → IsLegalInput means (head (input_of m0)) → IsFaultless m0 m1

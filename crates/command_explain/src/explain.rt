@@ -21,7 +21,7 @@ ghost use Rattle.command_explain.specs.Wants.{explain_may};
 
 use crate::images::explain_images;
 use command_head::refusing::{refuse, refuse_head};
-use command_promise::read_head;
+use command_promise::{Status, read_head};
 use std::alloc::Global;
 use sx_deploy::DeployError;
 use sx_deploy::deployment::{Deployment, read_deployment};
@@ -35,7 +35,7 @@ fn explain_read<S: Source, K: Sink>(
     lines: &mut Lines,
     input: &mut S,
     output: &mut K,
-) -> u8
+) -> Status
     requires app { IfOk read (λ deployment. IsTrue (is_valid (app_as deployment.app))) }
     requires names { IfOk read (λ deployment. IsTrue (are_valid deployment.names)) }
     ensures explains { IfOk read (λ deployment. (means : Meanings) → AreMeanings means
@@ -64,7 +64,7 @@ fn explain_text<S: Source, K: Sink>(
     lines: &mut Lines,
     input: &mut S,
     output: &mut K,
-) -> u8
+) -> Status
     ensures rest { (means : Meanings) → AreMeanings means
         → Rest S.tells K.tells image_lines lines.old
         (command_at (S.at input.old) (K.at output.old))
@@ -79,7 +79,7 @@ fn explain_text<S: Source, K: Sink>(
 
 /// What `explain` writes is what is defined for what it took. To say that there is no head takes no
 /// memory.
-fn explain_told<S: Source, K: Sink>(alloc: Global, input: &mut S, output: &mut K) -> u8
+fn explain_told<S: Source, K: Sink>(alloc: Global, input: &mut S, output: &mut K) -> Status
     ensures told { (means : Meanings) → AreMeanings means
         → Told S.tells K.tells explain_lines (command_at (S.at input.old) (K.at output.old))
         (command_at (S.at input.new) (K.at output.new)) result (explain_all means)
@@ -99,7 +99,7 @@ fn explain_told<S: Source, K: Sink>(alloc: Global, input: &mut S, output: &mut K
 /// The command `explain`: a deployment, the line `%%`, and the output of a run of it, whose items
 /// are judged by the deployment's sources alone while they are read. Gives the exit status, as
 /// `top` does for this command. Nothing is read once the line of an illegal item was whole.
-pub fn explain_over<S: Source, K: Sink>(alloc: Global, input: &mut S, output: &mut K) -> u8
+pub fn explain_over<S: Source, K: Sink>(alloc: Global, input: &mut S, output: &mut K) -> Status
     ensures { ExplainPromise S.tells K.tells (command_at (S.at input.old) (K.at output.old))
         (command_at (S.at input.new) (K.at output.new)) result }
 {

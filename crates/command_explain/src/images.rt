@@ -17,7 +17,7 @@ ghost use Rattle.command_explain.specs.Wants.{explain_may};
 use crate::lines::TraceRule;
 use crate::text::break_off;
 use crate::trace::explain_trace;
-use command_promise::{READ_FAILED, finish};
+use command_promise::{Status, finish};
 use std::alloc::Global;
 use sx_deploy::deployment::Deployment;
 use sx_io::{Lines, PassRead, Sink, Source};
@@ -58,7 +58,7 @@ pub(crate) fn explain_images<S: Source, K: Sink>(
     input: &mut S,
     output: &mut K,
     deployment: &Deployment,
-) -> u8
+) -> Status
     requires valid { is_valid (app_as deployment.now.app) ≡ true }
     requires names { IsTrue (are_valid deployment.now.names) }
     ensures rest { (means : Meanings) → AreMeanings means
@@ -76,7 +76,7 @@ pub(crate) fn explain_images<S: Source, K: Sink>(
         match lines.pass(input, &mut front) {
             PassRead::End => return break_off(output, TraceRule::NoTrace, number),
             PassRead::TooLong => return break_off(output, TraceRule::NoTrace, number),
-            PassRead::Failed => return finish(output, b"fault read\n", READ_FAILED),
+            PassRead::Failed => return finish(output, b"fault read\n", Status::ReadFailed),
             PassRead::Text(count) => match front_line(number, &front, count) {
                 ImageLine::Image => number += 1,
                 ImageLine::Trace => return explain_trace(alloc, lines, input, output, deployment),

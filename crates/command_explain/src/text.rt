@@ -2,6 +2,7 @@
 //! this takes memory.
 
 ghost use Rattle.std.specs.Prelude.{◌≡◌, ◌≢◌, ◌+◌, ◌≤◌, ◌++◌, decimal, length, List, Some, true};
+ghost use Rattle.command_promise.specs.declared.status.Status.TheVariants.{Done};
 ghost use Rattle.command_promise.specs.Told.{CommandEnds, Output, behind, out_of_memory, write_failed};
 ghost use Rattle.sx_trace.specs.declared.items.Item.{Item as Listed};
 ghost use Rattle.sx_mean.specs.Application.{AppTree};
@@ -12,19 +13,13 @@ ghost use Rattle.command_explain.specs.Turns.{TellsItem};
 
 use crate::lines::TraceRule;
 use arrayvec::ArrayVec;
-use command_promise::{Turned, WRITE_FAILED, finish};
+use command_promise::{Status, Turned, finish};
 use command_text::batch::{Batch, MOST, put_kept};
 use command_text::fault::finish_fault;
 use command_text::text::{Text, put};
 use itoa::Buffer;
 use sx_explain::judge::{Judge, Judged};
 use sx_io::Sink;
-
-/// The exit status for a line that breaks a rule.
-const BROKEN: u8 = 3;
-
-/// The exit status for an item that the source doesn't allow.
-const ILLEGAL: u8 = 8;
 
 /// The most bytes that are said of an item.
 pub(crate) const LONGEST_LINE: usize = 96;
@@ -98,7 +93,7 @@ fn keep_because(kept: &mut Batch, number: u32, cause: u64)
 }
 
 /// Writes all that is kept, and ends the command with this text and status, as `finish` does.
-fn finish_kept<K: Sink>(output: &mut K, kept: &Batch, text: &[u8], status: u8) -> u8
+fn finish_kept<K: Sink>(output: &mut K, kept: &Batch, text: &[u8], status: Status) -> Status
     requires { status ≡ write_failed → ⊥ }
     ensures ends { CommandEnds K.tells (K.at output.old) (K.at output.new) result
         (behind kept.now.items (record { text = text.now; status = status })) }
@@ -106,7 +101,7 @@ fn finish_kept<K: Sink>(output: &mut K, kept: &Batch, text: &[u8], status: u8) -
 {
     match put_kept(output, kept) {
         Ok(()) => finish(output, text, status),
-        Err(_) => WRITE_FAILED,
+        Err(_) => Status::WriteFailed,
     }
 }
 
@@ -130,7 +125,7 @@ pub(crate) fn keep_said<K: Sink>(
         }
         Judged::Illegal => {
             let text = illegal_text(number);
-            Turned::Stop(finish_kept(output, kept, text.as_slice(), ILLEGAL))
+            Turned::Stop(finish_kept(output, kept, text.as_slice(), Status::Illegal))
         }
         Judged::Fine => Turned::On,
         Judged::Forged => Turned::On,
@@ -139,32 +134,43 @@ pub(crate) fn keep_said<K: Sink>(
 }
 
 /// Writes the last lines of a trace that is whole, and legal up to the first item that is forged.
-pub(crate) fn finish_legal<K: Sink>(output: &mut K, judge: &Judge) -> u8
+pub(crate) fn finish_legal<K: Sink>(output: &mut K, judge: &Judge) -> Status
     ensures ends { (app : AppTree) (items : List Listed) → Follows app items judge.now
         → CommandEnds K.tells (K.at output.old) (K.at output.new) result
-        (record { text = legal_text items; status = 0 }) }
+        (record { text = legal_text items; status = Done }) }
     ensures memory { result ≢ out_of_memory }
 {
-    finish(output, last_text(judge).as_slice(), 0)
+    finish(output, last_text(judge).as_slice(), Status::Done)
 }
 
 /// Writes which rule the line of this number breaks.
-pub fn break_off<K: Sink>(output: &mut K, rule: TraceRule, number: u32) -> u8
+pub fn break_off<K: Sink>(output: &mut K, rule: TraceRule, number: u32) -> Status
     ensures ends { CommandEnds K.tells (K.at output.old) (K.at output.new) result
         (broken_output rule number) }
     ensures memory { result ≢ out_of_memory }
 {
-    finish_fault(output, b"fault trace E", rule.number(), number, BROKEN)
+    finish_fault(
+        output,
+        b"fault trace E",
+        rule.number(),
+        number,
+        Status::Broken,
+    )
 }
 
 /// Writes all that is kept, and which rule the line of this number breaks.
-pub(crate) fn break_kept<K: Sink>(output: &mut K, kept: &Batch, rule: TraceRule, number: u32) -> u8
+pub(crate) fn break_kept<K: Sink>(
+    output: &mut K,
+    kept: &Batch,
+    rule: TraceRule,
+    number: u32,
+) -> Status
     ensures ends { CommandEnds K.tells (K.at output.old) (K.at output.new) result
         (behind kept.now.items (broken_output rule number)) }
     ensures memory { result ≢ out_of_memory }
 {
     match put_kept(output, kept) {
         Ok(()) => break_off(output, rule, number),
-        Err(_) => WRITE_FAILED,
+        Err(_) => Status::WriteFailed,
     }
 }

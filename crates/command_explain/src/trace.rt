@@ -20,7 +20,7 @@ ghost use Rattle.command_explain.specs.Turns.{JudgesFrom, TraceWants};
 
 use crate::lines::{MOST_LINES, TraceLine, TraceRule, judge_line, rule_behind};
 use crate::text::{LONGEST_LINE, break_kept, break_off, finish_legal, has_room, keep_said};
-use command_promise::{OUT_OF_MEMORY, READ_FAILED, Turned, WRITE_FAILED, finish};
+use command_promise::{Status, Turned, finish};
 use command_text::batch::{Batch, MOST, finish_wanted, put_kept};
 use std::alloc::Global;
 use sx_deploy::deployment::Deployment;
@@ -101,7 +101,7 @@ fn explain_end<S: Source, K: Sink>(
     deployment: &Deployment,
     judge: &Judge,
     number: u32,
-) -> u8
+) -> Status
     requires names { IsTrue (are_valid deployment.now.names) }
     ensures rest { (means : Meanings) (items : List Listed) → AreMeanings means
         → Follows (app_as deployment.now.app) items judge.now
@@ -115,7 +115,7 @@ fn explain_end<S: Source, K: Sink>(
     match lines.next(input, &mut into) {
         LineRead::End => finish_legal(output, judge),
         LineRead::TooLong => break_off(output, TraceRule::NoItem, number),
-        LineRead::Failed => finish(output, b"fault read\n", READ_FAILED),
+        LineRead::Failed => finish(output, b"fault read\n", Status::ReadFailed),
         LineRead::Text(n) => break_off(output, rule_behind(&deployment.names, &into[..n]), number),
     }
 }
@@ -127,7 +127,7 @@ fn explain_lines<S: Source, K: Sink>(
     output: &mut K,
     deployment: &Deployment,
     judge: &mut Judge,
-) -> u8
+) -> Status
     requires valid { is_valid (app_as deployment.now.app) ≡ true }
     requires names { IsTrue (are_valid deployment.now.names) }
     requires follows { Follows (app_as deployment.now.app) [] judge.old }
@@ -145,14 +145,14 @@ fn explain_lines<S: Source, K: Sink>(
     let mut number: u32 = 1;
     'lines: loop {
         match next_line(lines, input, output, &mut kept, &mut into) {
-            Err(_) => return WRITE_FAILED,
+            Err(_) => return Status::WriteFailed,
             Ok(LineRead::End) => return break_off(output, TraceRule::NoEnd, number),
             Ok(LineRead::TooLong) => return break_off(output, TraceRule::NoItem, number),
-            Ok(LineRead::Failed) => return finish(output, b"fault read\n", READ_FAILED),
+            Ok(LineRead::Failed) => return finish(output, b"fault read\n", Status::ReadFailed),
             Ok(LineRead::Text(n)) => match judge_line(&deployment.names, &into[..n], number) {
                 Err(rule) => return break_kept(output, &kept, rule, number),
                 Ok(TraceLine::Last) => match put_kept(output, &kept) {
-                    Err(_) => return WRITE_FAILED,
+                    Err(_) => return Status::WriteFailed,
                     Ok(()) => return explain_end(
                         lines,
                         input,
@@ -180,7 +180,7 @@ pub(crate) fn explain_trace<S: Source, K: Sink>(
     input: &mut S,
     output: &mut K,
     deployment: &Deployment,
-) -> u8
+) -> Status
     requires valid { is_valid (app_as deployment.now.app) ≡ true }
     requires names { IsTrue (are_valid deployment.now.names) }
     ensures rest { (means : Meanings) → AreMeanings means
@@ -194,6 +194,6 @@ pub(crate) fn explain_trace<S: Source, K: Sink>(
 {
     match Judge::new(alloc, &deployment.app) {
         Ok(mut judge) => explain_lines(lines, input, output, deployment, &mut judge),
-        Err(_) => OUT_OF_MEMORY,
+        Err(_) => Status::OutOfMemory,
     }
 }

@@ -1,11 +1,12 @@
 -- What follows for `gen` from what it wrote.
 use Rattle.std.proofs.Common.{◌≡◌, inl, inr, ℕ, ◌∙◌, Bool, List, [], refl, sym, ap, arith, Result, Ok, Err, ◌≤◌, ◌⊎◌, subst}
-use Rattle.std.proofs.lemmas.Bool.{cases_eq}
 use Rattle.sx_asm.specs.Assembled.{assembled}
 use Rattle.sx_io.specs.Streams.{SinkAt}
+use Rattle.command_promise.specs.declared.status.Status.{Status}
+use Rattle.command_promise.specs.declared.status.Status.TheVariants.{Done, Misused}
 use Rattle.command_promise.specs.Told.{CommandEnds, out_of_memory, Output, behind}
 use Rattle.command_promise.specs.Parts.{WroteSome}
-use Rattle.command_promise.proofs.Laws.{ends-same, ends-behind}
+use Rattle.command_promise.proofs.Laws.{ends-same, ends-behind, ran-out}
 use Rattle.sx_tag.specs.Mac.{Mac}
 use Rattle.sx_entries.specs.Gives.{GivesOne}
 use Rattle.sx_entries.specs.declared.fault.DeployError.{DeployError}
@@ -34,7 +35,7 @@ use Rattle.command_deploy.proofs.Good.{found_not_two}
 use Rattle.command_gen.proofs.Stated.{status_zero}
 
 -- what `gen` writes where its deployment isn't read
-pub gen_refused : {to_tell : Bool} {k0 k1 : SinkAt} {status : ℕ} (mac : Mac) (n : ℕ) (e : DeployError) → GivesOne {T = Deployment} deployed_as (Err e) (IsRead bulk.head)
+pub gen_refused : {to_tell : Bool} {k0 k1 : SinkAt} {status : Status} (mac : Mac) (n : ℕ) (e : DeployError) → GivesOne {T = Deployment} deployed_as (Err e) (IsRead bulk.head)
     → EndsRefused to_tell k0 k1 status e → GenWrote mac n to_tell k0 k1 status
 gen_refused {to_tell} {k0} {k1} {status} mac n (Fault f) read bad =
     inr (record {
@@ -46,13 +47,13 @@ gen_refused {to_tell} {k0} {k1} {status} mac n (Fault f) read bad =
 gen_refused {to_tell} {k0} {k1} {status} mac n OutOfMemory read bad = inl (record { six = bad.0; same = bad.1 })
 
 -- a part was written, and after it the command ends
-pub ends_put : (to_tell : Bool) (k0 k1 k2 : SinkAt) (status : ℕ) (text : List ℕ) (o : Output) → WroteSome to_tell k0 k1 (λ (more : List Answer). behind text o) (λ more. o)
+pub ends_put : (to_tell : Bool) (k0 k1 k2 : SinkAt) (status : Status) (text : List ℕ) (o : Output) → WroteSome to_tell k0 k1 (λ (more : List Answer). behind text o) (λ more. o)
     → CommandEnds to_tell k1 k2 status o → CommandEnds to_tell k0 k2 status (behind text o)
 ends_put to_tell k0 k1 k2 status text o w e =
     ends-same to_tell k0 k2 status (behind text o) (behind w.text o) (w.same []) (ends-behind to_tell k0 k1 k2 w.text status o w.wrote w.no_fault e)
 
 -- a line that breaks a rule, by equal numbers
-pub ends_broken : {to_tell : Bool} {k0 k1 : SinkAt} {status rule rule' number number' : ℕ} → rule ≡ rule' → number ≡ number'
+pub ends_broken : {to_tell : Bool} {k0 k1 : SinkAt} {status : Status} {rule rule' number number' : ℕ} → rule ≡ rule' → number ≡ number'
     → CommandEnds to_tell k0 k1 status (broken_output rule number) → CommandEnds to_tell k0 k1 status (broken_output rule' number')
 ends_broken {to_tell} {k0} {k1} {status} {rule} {rule'} {number} {number'} e f ends =
     let P : ℕ → Type 0 = λ n. CommandEnds to_tell k0 k1 status (broken_output rule' n) in
@@ -70,30 +71,30 @@ gen_status mac texts n (Ok d) =
     let x = schedule assembled d.names 1 (workload n) in told_status n (run set (switched_on set) x.lines) x.stop
 gen_status mac texts n (Err f) = refl
 
-exactly : {mac : Mac} {n : ℕ} {to_tell : Bool} {k0 k1 : SinkAt} {status : ℕ} (w : GenWith mac n to_tell k0 k1 status) (meaning : Meaning) → IsMeaning meaning
+exactly : {mac : Mac} {n : ℕ} {to_tell : Bool} {k0 k1 : SinkAt} {status : Status} (w : GenWith mac n to_tell k0 k1 status) (meaning : Meaning) → IsMeaning meaning
     → (count.Rose k0.faults k1.faults → ⊥) → (status ≡ out_of_memory) ⊎ (status ≡ found_status (schedule_status assembled) (meaning bulk.head) (workload n))
 exactly {mac} {n} {to_tell} {k0} {k1} {status} w meaning is quiet =
     let e = w.ends meaning is in
-    elim (cases_eq status out_of_memory) [
+    elim (ran-out status) [
       | inl six ↦ inl six
       | inr six ↦ inr ((e.whole (λ five. quiet (omega (arith, e.fault five))) six).0 ∙ gen_status mac w.texts n (meaning bulk.head))
     ]
 
 -- the workload is a good input
-ends_good : {mac : Mac} {n : ℕ} {to_tell : Bool} {k0 k1 : SinkAt} {status : ℕ} → GenWith mac n to_tell k0 k1 status → n ≤ 8000
-    → (count.Rose k0.faults k1.faults → ⊥) → (status ≡ out_of_memory) ⊎ (status ≡ 0)
+ends_good : {mac : Mac} {n : ℕ} {to_tell : Bool} {k0 k1 : SinkAt} {status : Status} → GenWith mac n to_tell k0 k1 status → n ≤ 8000
+    → (count.Rose k0.faults k1.faults → ⊥) → (status ≡ out_of_memory) ⊎ (status ≡ Done)
 ends_good {n = n} w few quiet =
     elim (exactly w known is_known quiet) [
       | inl six ↦ inl six
       | inr same ↦ inr (same ∙ status_zero known is_known n few)
     ]
 
-pub wrote_told : {mac : Mac} {n : ℕ} {to_tell : Bool} {k0 k1 : SinkAt} {status : ℕ} → n ≤ 8000 → GenWrote mac n to_tell k0 k1 status → GenPromise mac n to_tell k0 k1 status
+pub wrote_told : {mac : Mac} {n : ℕ} {to_tell : Bool} {k0 k1 : SinkAt} {status : Status} → n ≤ 8000 → GenWrote mac n to_tell k0 k1 status → GenPromise mac n to_tell k0 k1 status
 wrote_told {mac} {n} {to_tell} {k0} {k1} {status} few (inl s) = record {
   says = inl s;
   exact = λ meaning is quiet. inl s.six;
   good = λ quiet. inl s.six;
-  write = λ five. absurd (omega (arith, s.six, five));
+  write = λ five. absurd (cc (s.six, five));
   no_write = λ other. ap (λ (k : SinkAt). k.faults) s.same;
 }
 wrote_told {mac} {n} {to_tell} {k0} {k1} {status} few (inr w) = record {
@@ -104,14 +105,14 @@ wrote_told {mac} {n} {to_tell} {k0} {k1} {status} few (inr w) = record {
   no_write = λ other. (w.ends known is_known).no_fault other;
 }
 
-with_not_two : {mac : Mac} {n : ℕ} {to_tell : Bool} {k0 k1 : SinkAt} {status : ℕ} → GenWith mac n to_tell k0 k1 status → status ≡ 2 → ⊥
+with_not_two : {mac : Mac} {n : ℕ} {to_tell : Bool} {k0 k1 : SinkAt} {status : Status} → GenWith mac n to_tell k0 k1 status → status ≡ Misused → ⊥
 with_not_two {mac} {n} w two =
     found_not_two (known bulk.head) (workload n)
-    (sym (gen_status mac w.texts n (known bulk.head)) ∙ sym ((w.ends known is_known).whole (λ five. omega (arith, two, five)) (λ six. omega (arith, two, six))).0 ∙ two)
+    (sym (gen_status mac w.texts n (known bulk.head)) ∙ sym ((w.ends known is_known).whole (λ five. cc (two, five)) (λ six. cc (two, six))).0 ∙ two)
 
-pub gen_not_two : {mac : Mac} {n : ℕ} {to_tell : Bool} {k0 k1 : SinkAt} {status : ℕ} → GenPromise mac n to_tell k0 k1 status → status ≡ 2 → ⊥
+pub gen_not_two : {mac : Mac} {n : ℕ} {to_tell : Bool} {k0 k1 : SinkAt} {status : Status} → GenPromise mac n to_tell k0 k1 status → status ≡ Misused → ⊥
 gen_not_two g two =
     elim g.says [
-      | inl starved ↦ omega (arith, starved.six, two)
+      | inl starved ↦ cc (starved.six, two)
       | inr w ↦ with_not_two w two
     ]

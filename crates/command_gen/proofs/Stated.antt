@@ -2,6 +2,7 @@
 use Rattle.std.proofs.Common.{◌≡◌, ℕ, zero, suc, ◌+◌, ◌≤◌, false, nat_lt, List, refl, sym, subst, arith}
 use Rattle.std.specs.Prelude.{Result, Ok, Err, IsOk}
 use Rattle.std.proofs.lemmas.Bool.Decides.{nat_tests}
+use Rattle.command_promise.specs.declared.status.Status.TheVariants.{Done}
 use Rattle.sx_asm.specs.Assembled.{assembled}
 use Rattle.sx_trace.specs.Names.{NameLists}
 use Rattle.sx_entries.specs.declared.fault.DeployFault.{DeployFault}
@@ -50,5 +51,5 @@ is_good meaning is n h =
     subst (λ (r : Result Deployed DeployFault). IsGoodRun assembled r (workload n)) same run
 
 -- so its status is 0
-pub status_zero : (meaning : Meaning) → IsMeaning meaning → (n : ℕ) → n ≤ 8000 → found_status (schedule_status assembled) (meaning bulk.head) (workload n) ≡ 0
+pub status_zero : (meaning : Meaning) → IsMeaning meaning → (n : ℕ) → n ≤ 8000 → found_status (schedule_status assembled) (meaning bulk.head) (workload n) ≡ Done
 status_zero meaning is n h = found_zero assembled (meaning bulk.head) (workload n) (is_good meaning is n h)

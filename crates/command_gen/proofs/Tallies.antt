@@ -8,6 +8,7 @@ use Rattle.std.proofs.lemmas.List.Sums.{sum_by-append}
 use Rattle.sx_asm.specs.Assembled.{assembled}
 use Rattle.sx_io.specs.Reading.{Answer, End}
 use Rattle.sx_io.specs.Reading as answer
+use Rattle.command_promise.specs.declared.status.Status.TheVariants.{Done}
 use Rattle.command_promise.specs.Told.{Output}
 use Rattle.sx_trace.specs.declared.items.Item.{Item}
 use Rattle.sx_trace.specs.Names.{NameLists}
@@ -69,7 +70,7 @@ left_breaks n names set before w number rule text more e =
     ap (λ (r : Result Line ℕ). left_by n set before w (on_line number r (schedule assembled names (number + 1) more))) e
 
 left_ended : (n : ℕ) (names : NameLists) (set : Setting) (before : List Item) (w : World) (number : ℕ)
-    → left_of n names set before w number (End ∷ []) ≡ record { text = summary (bulk.lines n) (counts before) w.steps; status = 0 }
+    → left_of n names set before w number (End ∷ []) ≡ record { text = summary (bulk.lines n) (counts before) w.steps; status = Done }
 left_ended n names set before w number = ap (λ (items : List Item). told_at n (record { world = w; items = items }) AtEnd) (append-nil before)
 
 left_begun : (n : ℕ) (names : NameLists) (set : Setting) → left_of n names set [] (switched_on set) 1 (answers_from (bulk.lines n) 0) ≡ gen_run n names set
@@ -140,12 +141,12 @@ tally_breaks n names set held i c rule s h e =
     sym s.left ∙ next_is n names set s.before s.world i h ∙ left_breaks n names set s.before s.world (i + 1) rule (bulk.line i) (answers_from (bulk.lines n - (i + 1)) (i + 1)) e
 
 pub tally_ends : (n : ℕ) (names : NameLists) (set : Setting) (held : Held) (i : ℕ) (c : Counts) → Tallied n names set held i c → i ≡ bulk.lines n
-    → gen_run n names set ≡ record { text = summary (bulk.lines n) c held.running.steps; status = 0 }
+    → gen_run n names set ≡ record { text = summary (bulk.lines n) c held.running.steps; status = Done }
 tally_ends n names set held i c s h =
     let e : bulk.lines n - i ≡ 0 = omega arith in
     sym s.left ∙ ap (λ (k : ℕ). left_of n names set s.before s.world (i + 1) (answers_from k i)) e ∙ left_ended n names set s.before s.world (i + 1)
-    ∙ ap (λ (x : Counts). record { text = summary (bulk.lines n) x s.world.steps; status = 0 }) (sym s.counted)
-    ∙ ap (λ (k : ℕ). record { text = summary (bulk.lines n) c k; status = 0 }) (sym s.stands.shows.steps)
+    ∙ ap (λ (x : Counts). record { text = summary (bulk.lines n) x s.world.steps; status = Done }) (sym s.counted)
+    ∙ ap (λ (k : ℕ). record { text = summary (bulk.lines n) c k; status = Done }) (sym s.stands.shows.steps)
 
 pub tally_stops : (n : ℕ) (names : NameLists) (set : Setting) (held : Held) (i : ℕ) (c : Counts) (steps : ℕ) (e : Stopped) → Tallied n names set held i c → i < bulk.lines n
     → LineStopsAt names (i + 1) (bulk.line i) e → EndsAs n names set steps (Err e)

@@ -1,5 +1,6 @@
 -- What the parts of the command `gen` do.
 use Rattle.std.specs.Prelude.{ℕ, ◌≡◌, List, Result, Ok, Err, ◌+◌}
+use Rattle.command_promise.specs.declared.status.Status.TheVariants.{Done}
 use Rattle.sx_asm.specs.Assembled.{assembled}
 use Rattle.sx_trace.specs.declared.items.Item.{Item}
 use Rattle.sx_trace.specs.Names.{NameLists}
@@ -46,7 +47,7 @@ LineStopsAt names number text OutOfMemory = Unit {0}
 -- the end of a run of the workload, after this many steps, is reported; or memory ran out
 abbrev pub EndsAs : ℕ → NameLists → Setting → ℕ → Result Counts Stopped → Type 0
 EndsAs n names set steps (Ok c) =
-    gen_run n names set ≡ record { text = summary (bulk.lines n) c steps; status = 0 }
+    gen_run n names set ≡ record { text = summary (bulk.lines n) c steps; status = Done }
 EndsAs n names set steps (Err (Broken rule number)) =
     gen_run n names set ≡ broken_output rule number
 EndsAs n names set steps (Err OutOfMemory) = Unit {0}

@@ -4,6 +4,8 @@ use Rattle.sx_asm.specs.Assembled.{assembled}
 use Rattle.sx_io.specs.Counts as count
 use Rattle.sx_io.specs.Reading.{Answer, Line, End}
 use Rattle.sx_io.specs.Streams.{SinkAt}
+use Rattle.command_promise.specs.declared.status.Status.{Status}
+use Rattle.command_promise.specs.declared.status.Status.TheVariants.{Done}
 use Rattle.command_promise.specs.Told.{Output, CommandEnds, behind, out_of_memory, unread_output}
 use Rattle.command_promise.specs.Told.{write_failed}
 use Rattle.sx_tag.specs.Mac.{Mac}
@@ -38,7 +40,7 @@ workload n = answers_from (bulk.lines n) 0
 -- what is written of a run that came to the end of its lines, or stopped at one that breaks a rule
 abbrev pub told_at : ℕ → Acted → Stop → Output
 told_at n a AtEnd =
-    record { text = summary (bulk.lines n) (counts a.items) a.world.steps; status = 0 }
+    record { text = summary (bulk.lines n) (counts a.items) a.world.steps; status = Done }
 told_at n a sched.Unread = unread_output
 told_at n a (Breaks rule number) = broken_output rule number
 
@@ -63,13 +65,14 @@ abbrev pub gen_all : Mac → Meaning → List (List ℕ) → ℕ → Output
 gen_all mac meaning texts n = gen_found mac texts n (meaning bulk.head)
 
 -- memory ran out before the images were made, and nothing was written
-pub record GenStarved (k0 k1 : SinkAt) (status : ℕ) : Type 0 where
+pub record GenStarved (k0 k1 : SinkAt) (status : Status) : Type 0 where
   pub six : status ≡ out_of_memory
   pub same : k1 ≡ k0
 
 -- there are images that realize the modules and follow from the deployment alone, and with them
 -- what is defined was written
-pub record GenWith (mac : Mac) (n : ℕ) (to_tell : Bool) (k0 k1 : SinkAt) (status : ℕ) : Type 0 where
+pub record GenWith (mac : Mac) (n : ℕ) (to_tell : Bool) (k0 k1 : SinkAt)
+    (status : Status) : Type 0 where
   pub texts : List (List ℕ)
   pub realize : (d : Deployed) → IsRead bulk.head (Ok d) → AreImages mac d texts
   pub made : (d : Deployed) → IsRead bulk.head (Ok d) → texts ≡ compiled_texts d
@@ -77,18 +80,19 @@ pub record GenWith (mac : Mac) (n : ℕ) (to_tell : Bool) (k0 k1 : SinkAt) (stat
       → CommandEnds to_tell k0 k1 status (gen_all mac meaning texts n)
 
 -- the command `gen` wrote what is defined, or memory ran out before the images were made
-abbrev pub GenWrote : Mac → ℕ → Bool → SinkAt → SinkAt → ℕ → Type 0
+abbrev pub GenWrote : Mac → ℕ → Bool → SinkAt → SinkAt → Status → Type 0
 GenWrote mac n to_tell k0 k1 status =
     GenStarved k0 k1 status ⊎ GenWith mac n to_tell k0 k1 status
 
 -- The command `gen` for n samples, of its sink at the start (k0) and at the end (k1). Whatever the
 -- images are, its status is that of the workload if no write failed and memory sufficed, and
 -- that is 0. Status 5 comes exactly of one write that failed.
-pub record GenPromise (mac : Mac) (n : ℕ) (to_tell : Bool) (k0 k1 : SinkAt) (status : ℕ) : Type 0 where
+pub record GenPromise (mac : Mac) (n : ℕ) (to_tell : Bool) (k0 k1 : SinkAt)
+    (status : Status) : Type 0 where
   pub says : GenWrote mac n to_tell k0 k1 status
   pub exact : (meaning : Meaning) → IsMeaning meaning → (count.Rose k0.faults k1.faults → ⊥)
       → (status ≡ out_of_memory)
       ⊎ (status ≡ found_status (schedule_status assembled) (meaning bulk.head) (workload n))
-  pub good : (count.Rose k0.faults k1.faults → ⊥) → (status ≡ out_of_memory) ⊎ (status ≡ 0)
+  pub good : (count.Rose k0.faults k1.faults → ⊥) → (status ≡ out_of_memory) ⊎ (status ≡ Done)
   pub write : status ≡ write_failed → k1.faults ≡ count.next_count k0.faults
   pub no_write : (status ≡ write_failed → ⊥) → k1.faults ≡ k0.faults

@@ -5,6 +5,7 @@
 //! is dropped there, and the drop of a deployment or a world costs a second of proof or two.
 
 ghost use Rattle.std.specs.Prelude.{◌≡◌, ◌≤◌, IsTrue, Ok, length};
+ghost use Rattle.command_promise.specs.declared.status.Status.TheVariants.{Done};
 ghost use Rattle.command_promise.specs.Told.{CommandEnds};
 ghost use Rattle.sx_trace.specs.ValidNames.{are_valid};
 ghost use Rattle.sx_deploy.specs.Deployment.{IsRead};
@@ -23,7 +24,7 @@ ghost use Rattle.command_gen.specs.Promise.{GenPromise, GenWrote, gen_deployed, 
 use crate::counting::{Stopped, run_workload};
 use crate::counts::{Counts, summary};
 use command_head::refusing::refuse;
-use command_promise::{OUT_OF_MEMORY, Turned, finish};
+use command_promise::{Status, Turned, finish};
 use command_world::compiling::compile_all;
 use command_world::images::put_images;
 use command_world::judging::break_off;
@@ -38,14 +39,14 @@ use sx_tag::Tag;
 use sx_world::world::World;
 
 /// Ends the command with what was counted.
-fn tell<K: Sink>(alloc: Global, samples: u32, counts: &Counts, steps: u64, output: &mut K) -> u8
+fn tell<K: Sink>(alloc: Global, samples: u32, counts: &Counts, steps: u64, output: &mut K) -> Status
     requires { samples ≤ MOST_SAMPLES }
     ensures { CommandEnds K.tells (K.at output.old) (K.at output.new) result
-        (record { text = summary (bulk.lines samples) counts.now steps; status = 0 }) }
+        (record { text = summary (bulk.lines samples) counts.now steps; status = Done }) }
 {
     match summary(alloc, lines(samples), counts, steps) {
-        Ok(text) => finish(output, &text, 0),
-        Err(_) => OUT_OF_MEMORY,
+        Ok(text) => finish(output, &text, Status::Done),
+        Err(_) => Status::OutOfMemory,
     }
 }
 
@@ -56,7 +57,7 @@ fn tell_run<K: Sink, B: Copied, T: Tag>(
     deployment: &Deployment,
     world: &mut World<B, T>,
     output: &mut K,
-) -> u8
+) -> Status
     requires few { samples ≤ MOST_SAMPLES }
     requires sound { IsSoundDeployment (deployed_as deployment.now) }
     requires images { IsSoundSetting (world_setting T.mac deployment.now world.old) }
@@ -71,7 +72,7 @@ fn tell_run<K: Sink, B: Copied, T: Tag>(
     match run_workload(alloc, samples, deployment, world) {
         Ok(counts) => tell(alloc, samples, &counts, world.steps(), output),
         Err(Stopped::Broken { rule, number }) => break_off(output, rule, number),
-        Err(Stopped::OutOfMemory) => OUT_OF_MEMORY,
+        Err(Stopped::OutOfMemory) => Status::OutOfMemory,
     }
 }
 
@@ -83,7 +84,7 @@ fn gen_images<K: Sink, T: Tag + Copy>(
     deployment: &Deployment,
     images: &[Image],
     output: &mut K,
-) -> u8
+) -> Status
     requires few { samples ≤ MOST_SAMPLES }
     requires sound { IsSoundDeployment (deployed_as deployment.now) }
     requires names { IsTrue (are_valid (deployed_as deployment.now).names) }
@@ -97,7 +98,7 @@ fn gen_images<K: Sink, T: Tag + Copy>(
             Turned::On => tell_run(alloc, samples, deployment, &mut world, output),
             Turned::Stop(status) => status,
         },
-        Err(_) => OUT_OF_MEMORY,
+        Err(_) => Status::OutOfMemory,
     }
 }
 
@@ -108,7 +109,7 @@ fn gen_deployment<K: Sink, T: Tag + Copy>(
     samples: u32,
     deployment: &Deployment,
     output: &mut K,
-) -> u8
+) -> Status
     requires few { samples ≤ MOST_SAMPLES }
     requires sound { IsSoundDeployment (deployed_as deployment.now) }
     requires names { IsTrue (are_valid (deployed_as deployment.now).names) }
@@ -117,7 +118,7 @@ fn gen_deployment<K: Sink, T: Tag + Copy>(
 {
     match compile_all(alloc, &tag, deployment) {
         Ok(images) => gen_images(alloc, tag, samples, deployment, &images, output),
-        Err(_) => OUT_OF_MEMORY,
+        Err(_) => Status::OutOfMemory,
     }
 }
 
@@ -125,7 +126,12 @@ fn gen_deployment<K: Sink, T: Tag + Copy>(
 /// runs as many of its lines as carry this many samples, and writes how many lines, items, outputs,
 /// outputs of the value 1 and node steps there were. No line is kept. Gives the exit status, as
 /// `top` does for this command.
-pub fn gen_over<K: Sink, T: Tag + Copy>(alloc: Global, tag: T, samples: u32, output: &mut K) -> u8
+pub fn gen_over<K: Sink, T: Tag + Copy>(
+    alloc: Global,
+    tag: T,
+    samples: u32,
+    output: &mut K,
+) -> Status
     requires { samples ≤ MOST_SAMPLES }
     ensures { GenPromise T.mac samples K.tells (K.at output.old) (K.at output.new) result }
 {

@@ -1,6 +1,7 @@
 -- Whether an input has a head.
-use Rattle.std.specs.Prelude.{ℕ, ◌≡◌, List}
+use Rattle.std.specs.Prelude.{◌≡◌, List}
 use Rattle.sx_io.specs.Reading.{Answer}
+use Rattle.command_promise.specs.declared.status.Status.{Status}
 use Rattle.command_promise.specs.Told.{out_of_memory}
 use Rattle.command_promise.specs.Head.{Head, Found, head}
 
@@ -10,5 +11,5 @@ IsFound (Found text more) = Unit {0}
 IsFound _ = ⊥
 
 -- memory runs out only if there is a head: that there is none is reported without memory
-abbrev pub RunsOutBehindHead : ℕ → List Answer → Type 0
+abbrev pub RunsOutBehindHead : Status → List Answer → Type 0
 RunsOutBehindHead status answers = status ≡ out_of_memory → IsFound (head answers)

@@ -1,6 +1,7 @@
 -- How a command ends whose input has no head.
-use Rattle.std.specs.Prelude.{ℕ, ◌≡◌, Bool}
+use Rattle.std.specs.Prelude.{◌≡◌, Bool}
 use Rattle.sx_io.specs.Streams.{SinkAt}
+use Rattle.command_promise.specs.declared.status.Status.{Status}
 use Rattle.command_promise.specs.Told.{CommandEnds, out_of_memory, unread_output}
 use Rattle.sx_entries.specs.declared.fault.Place.TheVariants.{Nowhere}
 use Rattle.sx_entries.specs.Fault.{fault}
@@ -10,7 +11,7 @@ use Rattle.command_head.specs.Refused.{fault_output}
 
 -- That there is no head is reported without memory; if there was none for a head, nothing was
 -- written.
-abbrev pub EndsHeadless : Bool → SinkAt → SinkAt → ℕ → HeadFault → Type 0
+abbrev pub EndsHeadless : Bool → SinkAt → SinkAt → Status → HeadFault → Type 0
 EndsHeadless to_tell k0 k1 status TooLong =
     CommandEnds to_tell k0 k1 status (fault_output (fault 1 Nowhere)) × (status ≡ out_of_memory → ⊥)
 EndsHeadless to_tell k0 k1 status NoMark =

@@ -1,5 +1,6 @@
 -- How a command ends whose text gives no deployment.
 use Rattle.std.specs.Prelude.{ℕ, List, ◌++◌, codes}
+use Rattle.command_promise.specs.declared.status.Status.TheVariants.{Refused}
 use Rattle.command_promise.specs.Told.{Output}
 use Rattle.sx_entries.specs.declared.fault.DeployFault.{DeployFault}
 use Rattle.sx_entries.specs.Text.{fault_text}
@@ -11,4 +12,4 @@ fault_line f = line (codes "fault deployment " ++ fault_text f)
 
 -- status 1: a rule is broken
 abbrev pub fault_output : DeployFault → Output
-fault_output f = record { text = fault_line f; status = 1 }
+fault_output f = record { text = fault_line f; status = Refused }

@@ -7,14 +7,11 @@ ghost use Rattle.command_head.specs.Refused.{fault_line};
 ghost use Rattle.command_head.specs.Headless.{EndsHeadless};
 ghost use Rattle.command_head.specs.Ends.{EndsRefused};
 
-use command_promise::{HeadFault, OUT_OF_MEMORY, READ_FAILED, finish};
+use command_promise::{HeadFault, Status, finish};
 use command_text::text::{Text, put};
 use itoa::Buffer;
 use sx_deploy::{DeployError, DeployFault, Place, Sort};
 use sx_io::Sink;
-
-/// The exit status for a deployment that breaks a rule.
-const REFUSED: u8 = 1;
 
 /// The word of a sort of entry.
 fn sort_word(sort: Sort) -> &'static [u8]
@@ -85,23 +82,23 @@ fn fault_line(fault: DeployFault) -> Text
 
 /// Writes why a text gives no deployment: which rule is broken, and where. Nothing is written if
 /// memory ran out for a deployment.
-pub fn refuse<K: Sink>(error: DeployError, output: &mut K) -> u8
+pub fn refuse<K: Sink>(error: DeployError, output: &mut K) -> Status
     ensures { EndsRefused K.tells (K.at output.old) (K.at output.new) result error }
 {
     match error {
-        DeployError::Fault(fault) => finish(output, fault_line(fault).as_slice(), REFUSED),
-        DeployError::OutOfMemory => OUT_OF_MEMORY,
+        DeployError::Fault(fault) => finish(output, fault_line(fault).as_slice(), Status::Refused),
+        DeployError::OutOfMemory => Status::OutOfMemory,
     }
 }
 
 /// Writes why an input has no head. Nothing is written if memory ran out for a head.
-pub fn refuse_head<K: Sink>(fault: HeadFault, output: &mut K) -> u8
+pub fn refuse_head<K: Sink>(fault: HeadFault, output: &mut K) -> Status
     ensures { EndsHeadless K.tells (K.at output.old) (K.at output.new) result fault }
 {
     match fault {
-        HeadFault::TooLong => finish(output, b"fault deployment D1 -\n", REFUSED),
-        HeadFault::NoMark => finish(output, b"fault deployment D2 -\n", REFUSED),
-        HeadFault::Failed => finish(output, b"fault read\n", READ_FAILED),
-        HeadFault::OutOfMemory => OUT_OF_MEMORY,
+        HeadFault::TooLong => finish(output, b"fault deployment D1 -\n", Status::Refused),
+        HeadFault::NoMark => finish(output, b"fault deployment D2 -\n", Status::Refused),
+        HeadFault::Failed => finish(output, b"fault read\n", Status::ReadFailed),
+        HeadFault::OutOfMemory => Status::OutOfMemory,
     }
 }

@@ -3,6 +3,7 @@ use Rattle.std.proofs.Common.{ℕ, ◌≡◌, ◌∙◌, ◌⊎◌, inl, inr, Bo
 use Rattle.std.specs.Prelude.{◌==◌, if◌then◌else◌}
 use Rattle.std.proofs.lemmas.List.{append-nil, append_cancel_right}
 use Rattle.sx_io.specs.Reading.{Ending, Broken, Answer, Line, Long, Fault, Limit, always, behind_line, scan, newline, without_return}
+use Rattle.command_promise.specs.declared.status.Status.{Status}
 use Rattle.command_promise.specs.Told.{Output, CommandAt, Told, behind, unread_output, read_line, read_failed}
 use Rattle.command_promise.specs.Further.{HasEnd, Streams}
 use Rattle.command_promise.proofs.Further.{no-further}
@@ -109,7 +110,7 @@ due-whole limit F bytes y said next due (inr w) a b =
     (ap F (sym (w.1 Broken [])) ∙ ap (λ (t : List ℕ). F (scan limit Broken [] t)) (append-nil bytes) ∙ a))
 
 -- a command of which more is due of more lines reads no further than it must
-pub streams-within : {tells to_tell : Bool} {m0 m1 : CommandAt} {status : ℕ} {also : List Answer → Type 0} (limit : Limit) (F : List Answer → Output)
+pub streams-within : {tells to_tell : Bool} {m0 m1 : CommandAt} {status : Status} {also : List Answer → Type 0} (limit : Limit) (F : List Answer → Output)
     → ((ls : List (List ℕ)) → Due (λ more. F (lines_then ls more))) → Told tells to_tell limit m0 m1 status F also → Streams tells to_tell limit m0 m1 F
 streams-within {tells} {to_tell} {m0} {m1} {status} {also} limit F due told bytes rest said t k e h d none =
     no-further bytes rest told.reads t e h
@@ -119,7 +120,7 @@ streams-within {tells} {to_tell} {m0} {m1} {status} {also} limit F due told byte
     (told.wrote k ∙ ap (λ (v : List ℕ). m0.sink.written ++ v) (ap (λ (v : List ℕ). v ++ told.part) w.1 ∙ append_assoc said w.0 told.part)))
 
 -- the same where all lines have one limit
-pub streams-by : {tells to_tell : Bool} {m0 m1 : CommandAt} {status : ℕ} {also : List Answer → Type 0} (n : ℕ) (F : List Answer → Output)
+pub streams-by : {tells to_tell : Bool} {m0 m1 : CommandAt} {status : Status} {also : List Answer → Type 0} (n : ℕ) (F : List Answer → Output)
     → ((ls : List (List ℕ)) → Due (λ more. F (lines_then ls more)))
     → Told tells to_tell (always n) m0 m1 status F also → Streams tells to_tell (always n) m0 m1 F
 streams-by n F due told = streams-within (always n) F due told

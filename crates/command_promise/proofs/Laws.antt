@@ -2,13 +2,14 @@
 use Rattle.std.proofs.Common.{ℕ, ◌≡◌, ◌∙◌, ◌⊎◌, inl, inr, Bool, true, false, List, [], ◌∷◌, ◌++◌, take, refl, ap, sym, subst, arith, append_assoc}
 use Rattle.std.specs.Prelude.{IsTrue}
 use Rattle.std.proofs.lemmas.List.{append-nil}
-use Rattle.std.proofs.lemmas.Bool.{cases_eq}
 use Rattle.sx_io.specs.Counts.{next_count, Rose}
 use Rattle.sx_io.specs.Prefixes.{AppendsPrefix}
 use Rattle.sx_io.specs.Streams.{SourceAt, SinkAt, OneReadFault}
 use Rattle.sx_io.specs.Reading.{Ended, Broken, Answer, Line, End, Long, Fault, Limit, behind_line, scan}
 use Rattle.sx_io.specs.Next.{Ahead, Next}
 use Rattle.sx_io.specs.declared.lines.LineRead.TheVariants as read
+use Rattle.command_promise.specs.declared.status.Status.{Status}
+use Rattle.command_promise.specs.declared.status.Status.TheVariants as status
 use Rattle.command_promise.specs.Reads.{Left, AtEnd, AtFault, Enough, Decides, Reads}
 use Rattle.command_promise.specs.Got.{Got}
 use Rattle.command_promise.specs.Told.{Output, behind, CommandAt, command_at, CommandEnds, Told, unread_output, write_failed, out_of_memory}
@@ -39,11 +40,11 @@ prefix-none old new text w = ([], text, w ∙ sym (append-nil old), refl)
 
 -- ---- the end of a command
 
-pub ends-same : (to_tell : Bool) (k0 k1 : SinkAt) (status : ℕ) (a b : Output) → a ≡ b → CommandEnds to_tell k0 k1 status b → CommandEnds to_tell k0 k1 status a
+pub ends-same : (to_tell : Bool) (k0 k1 : SinkAt) (status : Status) (a b : Output) → a ≡ b → CommandEnds to_tell k0 k1 status b → CommandEnds to_tell k0 k1 status a
 ends-same to_tell k0 k1 status a b e w = let P : Output → Type 0 = λ o. CommandEnds to_tell k0 k1 status o in subst P (sym e) w
 
 -- a text was written, and after it the command ends
-pub ends-behind : (to_tell : Bool) (k0 k1 k2 : SinkAt) (x : List ℕ) (status : ℕ) (o : Output) → (IsTrue to_tell → k1.written ≡ k0.written ++ x)
+pub ends-behind : (to_tell : Bool) (k0 k1 k2 : SinkAt) (x : List ℕ) (status : Status) (o : Output) → (IsTrue to_tell → k1.written ≡ k0.written ++ x)
     → k1.faults ≡ k0.faults → CommandEnds to_tell k1 k2 status o → CommandEnds to_tell k0 k2 status (behind x o)
 ends-behind to_tell k0 k1 k2 x status o p h w = record {
   whole = λ five six. ((w.whole five six).0, λ t. (w.whole five six).1 t ∙ ap (λ (v : List ℕ). v ++ o.text) (p t) ∙ append_assoc k0.written x o.text);
@@ -60,7 +61,7 @@ ends-write-failed to_tell k0 k1 o f r = record { whole = λ five six. absurd (fi
 -- memory ran out
 pub ends-out-of-memory : (to_tell : Bool) (k0 k1 : SinkAt) (o : Output) → (IsTrue to_tell → AppendsPrefix k0.written k1.written o.text)
     → k1.faults ≡ k0.faults → CommandEnds to_tell k0 k1 out_of_memory o
-ends-out-of-memory to_tell k0 k1 o f h = record { whole = λ five six. absurd (six refl); prefix = f; no_fault = λ _. h; fault = λ e. absurd (omega arith) }
+ends-out-of-memory to_tell k0 k1 o f h = record { whole = λ five six. absurd (six refl); prefix = f; no_fault = λ _. h; fault = λ e. absurd (cc e) }
 
 -- ---- a part of a command
 
@@ -125,7 +126,7 @@ record Part (to_tell : Bool) (k0 k2 : SinkAt) (said : List ℕ) : Type 0 where
   pub more : List ℕ
   pub wrote : IsTrue to_tell → k2.written ≡ k0.written ++ (said ++ more)
 
-ends-part : (to_tell : Bool) (k0 k1 k2 : SinkAt) (said part : List ℕ) (status : ℕ) (o : Output) → (IsTrue to_tell → k1.written ≡ k0.written ++ (said ++ part))
+ends-part : (to_tell : Bool) (k0 k1 k2 : SinkAt) (said part : List ℕ) (status : Status) (o : Output) → (IsTrue to_tell → k1.written ≡ k0.written ++ (said ++ part))
     → CommandEnds to_tell k1 k2 status o → Part to_tell k0 k2 said
 ends-part true k0 k1 k2 said part status o p w =
     let f = w.prefix refl in record {
@@ -136,7 +137,7 @@ ends-part false k0 k1 k2 said part status o p w = record { more = []; wrote = λ
 
 -- After what was written it ends so; the bytes that were taken decide.
 told-by : {tells to_tell : Bool} {limit limit' : Limit} {m0 m1 : CommandAt} {s2 : SourceAt} {k2 : SinkAt} {now : Ahead} {F f : List Answer → Output}
-    {also : List Answer → Type 0} {status : ℕ} (o : Output)
+    {also : List Answer → Type 0} {status : Status} (o : Output)
     → (b : Begun tells to_tell limit limit' m0 m1 now F f also) → CommandEnds to_tell m1.sink k2 status o
     → Reads tells limit m0.source s2 F (behind b.said unread_output) (λ answers. CommandEnds to_tell m0.sink k2 status (F answers) × also answers)
     → Told tells to_tell limit m0 (command_at s2 k2) status F also
@@ -145,7 +146,7 @@ told-by {tells} {to_tell} {limit} {limit'} {m0} {m1} {s2} {k2} {now} {F} {f} {al
     record { said = b.said; part = p.more; wrote = p.wrote; reads = r }
 
 -- it ends between two lines, whatever is to come
-pub told-stop : {tells to_tell : Bool} {limit limit' : Limit} {m0 : CommandAt} {s1 : SourceAt} {k1 k2 : SinkAt} {now : Ahead} {F f : List Answer → Output} {also : List Answer → Type 0} {status : ℕ}
+pub told-stop : {tells to_tell : Bool} {limit limit' : Limit} {m0 : CommandAt} {s1 : SourceAt} {k1 k2 : SinkAt} {now : Ahead} {F f : List Answer → Output} {also : List Answer → Type 0} {status : Status}
     → Begun tells to_tell limit limit' m0 (command_at s1 k1) now F f also → ((more : List Answer) → CommandEnds to_tell k1 k2 status (f more))
     → Told tells to_tell limit m0 (command_at s1 k2) status F also
 told-stop {tells} {to_tell} {limit} {limit'} {m0} {s1} {k1} {k2} {now} {F} {f} {also} {status} b w =
@@ -155,7 +156,7 @@ told-stop {tells} {to_tell} {limit} {limit'} {m0} {s1} {k1} {k2} {now} {F} {f} {
 
 -- what is due of all the lines that were given was written
 settled : {tells to_tell : Bool} {limit limit' : Limit} {m0 m1 : CommandAt} {k2 : SinkAt} {s2 : SourceAt} {now : Ahead} {F f : List Answer → Output}
-    {also : List Answer → Type 0} {status : ℕ} (o : Output)
+    {also : List Answer → Type 0} {status : Status} (o : Output)
     → f (Fault ∷ []) ≡ unread_output → (b : Begun tells to_tell limit limit' m0 m1 now F f also) → CommandEnds to_tell m1.sink k2 status o
     → Reads tells limit m0.source s2 F (behind (b.said ++ b.part) (f (Fault ∷ []))) (λ answers. CommandEnds to_tell m0.sink k2 status (F answers) × also answers)
     → Told tells to_tell limit m0 (command_at s2 k2) status F also
@@ -165,7 +166,7 @@ settled {tells} {to_tell} {limit} {limit'} {m0} {m1} {k2} {s2} {now} {F} {f} {al
 
 -- it ends at the end of the input
 pub told-end : {tells to_tell : Bool} {limit limit' : Limit} {m0 : CommandAt} {s1 s2 : SourceAt} {k1 k2 : SinkAt} {old new : Ahead} {F f : List Answer → Output}
-    {also : List Answer → Type 0} {into : List ℕ} {status : ℕ}
+    {also : List Answer → Type 0} {into : List ℕ} {status : Status}
     → f (Fault ∷ []) ≡ unread_output → Begun tells to_tell limit limit' m0 (command_at s1 k1) old F f also → Next (limit' []) tells s1 s2 old new into read.End
     → CommandEnds to_tell k1 k2 status (f (End ∷ []))
     → Told tells to_tell limit m0 (command_at s2 k2) status F also
@@ -179,7 +180,7 @@ told-end {tells} {to_tell} {limit} {limit'} {m0} {s1} {s2} {k1} {k2} {old} {new}
 
 -- it ends at a line that is too long
 pub told-too-long : {tells to_tell : Bool} {limit limit' : Limit} {m0 : CommandAt} {s1 s2 : SourceAt} {k1 k2 : SinkAt} {old new : Ahead}
-    {F f : List Answer → Output} {also : List Answer → Type 0} {into : List ℕ} {status : ℕ}
+    {F f : List Answer → Output} {also : List Answer → Type 0} {into : List ℕ} {status : Status}
     → f (Fault ∷ []) ≡ unread_output → Begun tells to_tell limit limit' m0 (command_at s1 k1) old F f also
     → Next (limit' []) tells s1 s2 old new into read.TooLong → CommandEnds to_tell k1 k2 status (f (Long ∷ []))
     → Told tells to_tell limit m0 (command_at s2 k2) status F also
@@ -189,7 +190,7 @@ told-too-long {tells} {to_tell} {limit} {limit'} {m0} {s1} {s2} {k1} {k2} {old} 
 
 -- it ends at a read that failed
 pub told-failed : {tells to_tell : Bool} {limit limit' : Limit} {m0 : CommandAt} {s1 s2 : SourceAt} {k1 k2 : SinkAt} {old new : Ahead}
-    {F f : List Answer → Output} {also : List Answer → Type 0} {into : List ℕ} {status : ℕ}
+    {F f : List Answer → Output} {also : List Answer → Type 0} {into : List ℕ} {status : Status}
     → f (Fault ∷ []) ≡ unread_output → Begun tells to_tell limit limit' m0 (command_at s1 k1) old F f also
     → Next (limit' []) tells s1 s2 old new into read.Failed → CommandEnds to_tell k1 k2 status (f (Fault ∷ []))
     → Told tells to_tell limit m0 (command_at s2 k2) status F also
@@ -214,7 +215,7 @@ begun-got {A} {tells} {to_tell} {limit} {limit'} {s0} {s1} {k} {now} {F} {f} {du
 
 -- none was found, and the command ends with what is written for that
 pub told-reads : {A : Type 0} {tells to_tell : Bool} {limit : Limit} {s0 s1 : SourceAt} {k0 k1 : SinkAt} {F : List Answer → A} {due : A}
-    {P also : List Answer → Type 0} {status : ℕ} (g : A → Output) (o : Output)
+    {P also : List Answer → Type 0} {status : Status} (g : A → Output) (o : Output)
     → g due ≡ unread_output → Reads tells limit s0 s1 F due P → ((answers : List Answer) → P answers → (g (F answers) ≡ o) × also answers)
     → CommandEnds to_tell k0 k1 status o → Told tells to_tell limit (command_at s0 k0) (command_at s1 k1) status (λ answers. g (F answers)) also
 told-reads {A} {tells} {to_tell} {limit} {s0} {s1} {k0} {k1} {F} {due} {P} {also} {status} g o u r h w =
@@ -265,21 +266,38 @@ read-fault AtEnd tells limit s0 s1 taken P d never = absurd (never taken d.2)
 read-fault AtFault tells limit s0 s1 taken P d never = d.0
 read-fault Enough tells limit s0 s1 taken P d never = absurd (never (taken ++ []) (d.2 Ended []))
 
+-- memory ran out, or it didn't
+pub ran-out : (s : Status) → (s ≡ out_of_memory) ⊎ (s ≡ out_of_memory → ⊥)
+ran-out status.OutOfMemory = inl refl
+ran-out status.Done = inr (λ e. cc e)
+ran-out status.Refused = inr (λ e. cc e)
+ran-out status.Misused = inr (λ e. cc e)
+ran-out status.Broken = inr (λ e. cc e)
+ran-out status.ReadFailed = inr (λ e. cc e)
+ran-out status.WriteFailed = inr (λ e. cc e)
+ran-out status.NoProperty = inr (λ e. cc e)
+ran-out status.Illegal = inr (λ e. cc e)
+ran-out status.TooLong = inr (λ e. cc e)
+ran-out status.NoCode = inr (λ e. cc e)
+ran-out status.NoQuery = inr (λ e. cc e)
+ran-out status.PropertyBroken = inr (λ e. cc e)
+ran-out status.Unknown = inr (λ e. cc e)
+
 -- where no read and no write failed, all that is defined for the whole input was written, or memory ran out
-pub told-quiet : {tells to_tell : Bool} {limit : Limit} {m0 m1 : CommandAt} {status : ℕ} {F : List Answer → Output} {also : List Answer → Type 0}
+pub told-quiet : {tells to_tell : Bool} {limit : Limit} {m0 m1 : CommandAt} {status : Status} {F : List Answer → Output} {also : List Answer → Type 0}
     → Told tells to_tell limit m0 m1 status F also → IsTrue tells → (Rose m0.source.faults m1.source.faults → ⊥) → (Rose m0.sink.faults m1.sink.faults → ⊥)
     → (status ≡ out_of_memory) ⊎ ((status ≡ (F (scan limit Ended [] m0.source.rest)).status)
     × (IsTrue to_tell → m1.sink.written ≡ m0.sink.written ++ (F (scan limit Ended [] m0.source.rest)).text))
 told-quiet {tells} {to_tell} {limit} {m0} {m1} {status} {F} {also} told t quiet still =
     let r = told.reads in
     let w = (decides-quiet r.left tells limit m0.source m1.source r.taken (λ answers. CommandEnds to_tell m0.sink m1.sink status (F answers) × also answers) t quiet (r.from_source t) r.decides).0 in
-    elim (cases_eq status out_of_memory) [
+    elim (ran-out status) [
       | inl six ↦ inl six
       | inr six ↦ inr (w.whole (λ five. still (omega (arith, w.fault five))) six)
     ]
 
 -- a status that no failed read gives comes only where the input was read to its end
-pub told-all : {tells to_tell : Bool} {limit : Limit} {m0 m1 : CommandAt} {status : ℕ} {F : List Answer → Output} {also : List Answer → Type 0}
+pub told-all : {tells to_tell : Bool} {limit : Limit} {m0 m1 : CommandAt} {status : Status} {F : List Answer → Output} {also : List Answer → Type 0}
     → Told tells to_tell limit m0 m1 status F also → (status ≡ write_failed → ⊥) → (status ≡ out_of_memory → ⊥)
     → ((bytes : List ℕ) → status ≡ (F (scan limit Broken [] bytes)).status → ⊥) → IsTrue tells → m1.source.rest ≡ []
 told-all {tells} {to_tell} {limit} {m0} {m1} {status} {F} {also} told five six never t =
@@ -287,7 +305,7 @@ told-all {tells} {to_tell} {limit} {m0} {m1} {status} {F} {also} told five six n
     (λ bytes w. never bytes (w.0.whole five six).0) t
 
 -- a status that no end of the input gives comes only where a read failed
-pub told-fault : {tells to_tell : Bool} {limit : Limit} {m0 m1 : CommandAt} {status : ℕ} {F : List Answer → Output} {also : List Answer → Type 0}
+pub told-fault : {tells to_tell : Bool} {limit : Limit} {m0 m1 : CommandAt} {status : Status} {F : List Answer → Output} {also : List Answer → Type 0}
     → Told tells to_tell limit m0 m1 status F also → (status ≡ write_failed → ⊥) → (status ≡ out_of_memory → ⊥)
     → ((bytes : List ℕ) → status ≡ (F (scan limit Ended [] bytes)).status → ⊥) → OneReadFault m0.source m1.source
 told-fault {tells} {to_tell} {limit} {m0} {m1} {status} {F} {also} told five six never =
@@ -301,16 +319,16 @@ decides-some AtEnd tells limit s0 s1 taken P d = (scan limit Ended [] taken, d.2
 decides-some AtFault tells limit s0 s1 taken P d = (scan limit Broken [] taken, d.2)
 decides-some Enough tells limit s0 s1 taken P d = (scan limit Ended [] (taken ++ []), d.2 Ended [])
 
-pub told-some : {tells to_tell : Bool} {limit : Limit} {m0 m1 : CommandAt} {status : ℕ} {F : List Answer → Output} {also : List Answer → Type 0}
+pub told-some : {tells to_tell : Bool} {limit : Limit} {m0 m1 : CommandAt} {status : Status} {F : List Answer → Output} {also : List Answer → Type 0}
     → Told tells to_tell limit m0 m1 status F also → (answers : List Answer) × (CommandEnds to_tell m0.sink m1.sink status (F answers) × also answers)
 told-some {tells} {to_tell} {limit} {m0} {m1} {status} {F} {also} told =
     let r = told.reads in decides-some r.left tells limit m0.source m1.source r.taken (λ answers. CommandEnds to_tell m0.sink m1.sink status (F answers) × also answers) r.decides
 
 -- one write failed exactly where the status says so
-pub told-write-fault : {tells to_tell : Bool} {limit : Limit} {m0 m1 : CommandAt} {status : ℕ} {F : List Answer → Output} {also : List Answer → Type 0}
+pub told-write-fault : {tells to_tell : Bool} {limit : Limit} {m0 m1 : CommandAt} {status : Status} {F : List Answer → Output} {also : List Answer → Type 0}
     → Told tells to_tell limit m0 m1 status F also → status ≡ write_failed → m1.sink.faults ≡ next_count m0.sink.faults
 told-write-fault told five = (told-some told).1.0.fault five
 
-pub told-no-write-fault : {tells to_tell : Bool} {limit : Limit} {m0 m1 : CommandAt} {status : ℕ} {F : List Answer → Output} {also : List Answer → Type 0}
+pub told-no-write-fault : {tells to_tell : Bool} {limit : Limit} {m0 m1 : CommandAt} {status : Status} {F : List Answer → Output} {also : List Answer → Type 0}
     → Told tells to_tell limit m0 m1 status F also → (status ≡ write_failed → ⊥) → m1.sink.faults ≡ m0.sink.faults
 told-no-write-fault told five = (told-some told).1.0.no_fault five

@@ -6,6 +6,7 @@ use Rattle.sx_io.specs.Streams.{SinkAt}
 use Rattle.sx_io.specs.Reading.{Answer, Limit}
 use Rattle.sx_io.specs.Next.{Ahead}
 use Rattle.command_promise.specs.Got.{Got}
+use Rattle.command_promise.specs.declared.status.Status.{Status}
 use Rattle.command_promise.specs.declared.turned.Turned.{Turned}
 use Rattle.command_promise.specs.declared.turned.Turned.TheVariants.{On, Stop}
 use Rattle.command_promise.specs.Told.{Output, behind, CommandAt, unread_output, CommandEnds, Told}
@@ -26,8 +27,8 @@ abbrev pub Notes : (List Answer → List ℕ) → List ℕ → List Answer → T
 Notes aside noted answers = aside answers ≡ noted
 
 -- a part that does the rest of a command, whatever came before
-abbrev pub Rest : Bool → Bool → Limit → Ahead → CommandAt → CommandAt → ℕ → (List Answer → Output)
-    → Type 0
+abbrev pub Rest : Bool → Bool → Limit → Ahead → CommandAt → CommandAt → Status
+    → (List Answer → Output) → Type 0
 Rest tells to_tell limit' now m1 m2 status left =
     (limit : Limit) (m0 : CommandAt) (defined : List Answer → Output) (aside : List Answer
     → List ℕ) (noted : List ℕ)

@@ -6,12 +6,15 @@ use Rattle.sx_io.specs.Counts.{next_count}
 use Rattle.sx_io.specs.Prefixes.{AppendsPrefix}
 use Rattle.sx_io.specs.Streams.{SourceAt, SinkAt}
 use Rattle.sx_io.specs.Reading.{Answer, Limit}
+use Rattle.command_promise.specs.declared.status.Status.{Status}
+use Rattle.command_promise.specs.declared.status.Status.TheVariants.{ReadFailed, WriteFailed}
+use Rattle.command_promise.specs.declared.status.Status.TheVariants.{OutOfMemory}
 use Rattle.command_promise.specs.Reads.{Reads}
 
 -- what is written, and the exit status
 pub record Output : Type 0 where
   pub text : List ℕ
-  pub status : ℕ
+  pub status : Status
 
 -- the same after a text
 abbrev pub behind : List ℕ → Output → Output
@@ -27,16 +30,16 @@ abbrev pub command_at : SourceAt → SinkAt → CommandAt
 command_at source sink = record { source = source; sink = sink }
 
 -- the exit status if a read failed
-abbrev pub read_failed : ℕ
-read_failed = 4
+abbrev pub read_failed : Status
+read_failed = ReadFailed
 
 -- the exit status if a write failed
-abbrev pub write_failed : ℕ
-write_failed = 5
+abbrev pub write_failed : Status
+write_failed = WriteFailed
 
 -- the exit status if memory ran out
-abbrev pub out_of_memory : ℕ
-out_of_memory = 6
+abbrev pub out_of_memory : Status
+out_of_memory = OutOfMemory
 
 -- the line that says that a read failed
 unfoldable pub read_line : List ℕ
@@ -49,7 +52,8 @@ unread_output = record { text = read_line; status = read_failed }
 -- All that is defined was written, and the status is the defined one; but if a write failed or
 -- memory ran out, only a prefix of it was. One write failed if the status says so, and else none
 -- did.
-pub record CommandEnds (to_tell : Bool) (k0 k1 : SinkAt) (status : ℕ) (o : Output) : Type 0 where
+pub record CommandEnds (to_tell : Bool) (k0 k1 : SinkAt) (status : Status)
+    (o : Output) : Type 0 where
   pub whole : (status ≡ write_failed → ⊥) → (status ≡ out_of_memory → ⊥) → (status ≡ o.status)
       × (IsTrue to_tell → k1.written ≡ k0.written ++ o.text)
   pub prefix : IsTrue to_tell → AppendsPrefix k0.written k1.written o.text
@@ -59,7 +63,7 @@ pub record CommandEnds (to_tell : Bool) (k0 k1 : SinkAt) (status : ℕ) (o : Out
 -- What a command says: the bytes that it took decide what was written, and the status; and it took
 -- at most 4,096 bytes past the end of the line whose text it was writing. `said` is what was due
 -- before that line, and it was written whole. And `also` holds of the answers.
-pub record Told (tells to_tell : Bool) (limit : Limit) (m0 m1 : CommandAt) (status : ℕ)
+pub record Told (tells to_tell : Bool) (limit : Limit) (m0 m1 : CommandAt) (status : Status)
     (defined : List Answer → Output) (also : List Answer → Type 0) : Type 0 where
   pub said : List ℕ
   pub part : List ℕ

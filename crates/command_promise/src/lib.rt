@@ -12,7 +12,9 @@
 #![tactic(auto)]
 
 mod head;
+mod status;
 pub mod turned;
 
 pub use head::{HeadFault, is_mark, read_head, read_text};
-pub use turned::{OUT_OF_MEMORY, READ_FAILED, Turned, WRITE_FAILED, finish, put_text};
+pub use status::Status;
+pub use turned::{Turned, finish, put_text};

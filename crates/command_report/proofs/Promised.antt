@@ -1,7 +1,9 @@
 -- What follows for a command that reports from what it wrote and read.
-use Rattle.std.proofs.Common.{◌≡◌, ◌≤◌, ◌+◌, ◌∙◌, ℕ, Bool, List, [], ◌++◌, length, sym, ap, arith}
+use Rattle.std.proofs.Common.{◌≡◌, ◌≤◌, ◌+◌, ◌∙◌, ℕ, Bool, List, [], ◌++◌, length, sym, ap}
 use Rattle.std.specs.Prelude.{IsTrue}
 use Rattle.sx_io.specs.Reading.{Broken, Ended, longest, scan}
+use Rattle.command_promise.specs.declared.status.Status.{Status}
+use Rattle.command_promise.specs.declared.status.Status.TheVariants.{Misused, ReadFailed}
 use Rattle.command_promise.specs.Told.{Output, CommandAt, Told}
 use Rattle.command_promise.proofs.Laws.{told-quiet, told-some}
 use Rattle.command_promise.proofs.Endings.{faultless}
@@ -15,18 +17,18 @@ use Rattle.command_head.proofs.Known.{known, is_known}
 use Rattle.command_text.proofs.Ends.{came, faults_of}
 use Rattle.command_report.proofs.Statuses.{head_zero, head_not_two, report_not_four, said_not}
 
-pub report_not_two : {report : Report} {tells to_tell : Bool} {m0 m1 : CommandAt} {status : ℕ} → ReportPromise report tells to_tell m0 m1 status → status ≡ 2 → ⊥
+pub report_not_two : {report : Report} {tells to_tell : Bool} {m0 m1 : CommandAt} {status : Status} → ReportPromise report tells to_tell m0 m1 status → status ≡ Misused → ⊥
 report_not_two {report} said two =
     let w = told-some (said.told known is_known) in
-    head_not_two report known (head w.0) (sym (w.1.0.whole (λ five. omega (arith, two, five)) (λ six. omega (arith, two, six))).0 ∙ two)
+    head_not_two report known (head w.0) (sym (w.1.0.whole (λ five. cc (sym two ∙ five)) (λ six. cc (sym two ∙ six))).0 ∙ two)
 
-report_no_further : {tells to_tell : Bool} {m0 m1 : CommandAt} {status : ℕ} (report : Report) (bytes rest text : List ℕ) → Told tells to_tell head_lines m0 m1 status (report_all report known) (RunsOutBehindHead status)
+report_no_further : {tells to_tell : Bool} {m0 m1 : CommandAt} {status : Status} (report : Report) (bytes rest text : List ℕ) → Told tells to_tell head_lines m0 m1 status (report_all report known) (RunsOutBehindHead status)
     → IsTrue tells → m0.source.rest ≡ bytes ++ rest → IsHead bytes text → length rest ≤ longest + length m1.source.rest
 report_no_further report bytes rest text told t e h =
     no-further bytes rest told.reads t e h.0
-    (λ y d. said_not report 4 (known text) (λ x. omega (arith, x)) (λ x. omega (arith, x)) (ap (λ (x : Head). (report_head report known x).status) (sym (h.1 Broken y)) ∙ ap (λ (o : Output). o.status) d))
+    (λ y d. said_not report ReadFailed (known text) (λ x. cc x) (λ x. cc x) (ap (λ (x : Head). (report_head report known x).status) (sym (h.1 Broken y)) ∙ ap (λ (o : Output). o.status) d))
 
-pub report_promise : {tells to_tell : Bool} {m0 m1 : CommandAt} {status : ℕ} (report : Report)
+pub report_promise : {tells to_tell : Bool} {m0 m1 : CommandAt} {status : Status} (report : Report)
     → ((meaning : Meaning) → IsMeaning meaning → Told tells to_tell head_lines m0 m1 status (report_all report meaning) (RunsOutBehindHead status)) → ReportPromise report tells to_tell m0 m1 status
 report_promise {tells} {to_tell} {m0} {m1} {status} report told = record {
   told = told;

@@ -1,6 +1,7 @@
 -- What a command that reports on a deployment writes: a function of the head of the input, of what
 -- a deployment's text means, and of what the command says of a deployment.
 use Rattle.std.specs.Prelude.{ℕ, List, ◌++◌, Result, Ok, Err}
+use Rattle.command_promise.specs.declared.status.Status.TheVariants.{Done}
 use Rattle.command_promise.specs.Told.{Output, unread_output}
 use Rattle.sx_entries.specs.declared.fault.Place.TheVariants.{Nowhere}
 use Rattle.sx_entries.specs.declared.fault.DeployFault.{DeployFault}
@@ -18,7 +19,7 @@ Report = Deployed → List ℕ
 
 -- what it writes of a deployment, or of its fault
 abbrev pub report_output : Report → Result Deployed DeployFault → Output
-report_output report (Ok d) = record { text = report d ++ end_line; status = 0 }
+report_output report (Ok d) = record { text = report d ++ end_line; status = Done }
 report_output report (Err f) = fault_output f
 
 -- what it writes of an input's head

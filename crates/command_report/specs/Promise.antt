@@ -3,6 +3,7 @@
 use Rattle.std.specs.Prelude.{ℕ, ◌≤◌, List, [], Result, Ok, Err, ◌+◌, ◌≡◌, Bool, ◌++◌, IsTrue}
 use Rattle.std.specs.Prelude.{length}
 use Rattle.sx_entries.specs.declared.fault.DeployFault.{DeployFault}
+use Rattle.command_promise.specs.declared.status.Status.{Status}
 use Rattle.command_promise.specs.Head.{Head, Found, TooLong, NoMark, Unread, head, head_lines}
 use Rattle.sx_deploy.specs.Deployment.{Deployed}
 use Rattle.command_head.specs.Found.{RunsOutBehindHead}
@@ -36,7 +37,7 @@ IsHead bytes text =
 -- The command, whatever a deployment's text is said to mean. At most 4,096 bytes after the line `%%`
 -- are taken.
 pub record ReportPromise (report : Report) (tells to_tell : Bool) (m0 m1 : CommandAt)
-    (status : ℕ) : Type 0 where
+    (status : Status) : Type 0 where
   pub told : (meaning : Meaning) → IsMeaning meaning
       → Told tells to_tell head_lines m0 m1 status (report_all report meaning)
       (RunsOutBehindHead status)

@@ -15,7 +15,7 @@ ghost use Rattle.command_report.specs.Output.{report_all, report_output};
 
 use crate::reports::Reports;
 use command_head::refusing::{refuse, refuse_head};
-use command_promise::{OUT_OF_MEMORY, finish, read_head};
+use command_promise::{Status, finish, read_head};
 use std::alloc::{AllocError, Global};
 use sx_deploy::DeployError;
 use sx_deploy::deployment::{Deployment, read_deployment};
@@ -34,14 +34,14 @@ fn accepted<C: Reports>(alloc: Global, deployment: &Deployment) -> Result<Vec<u8
 }
 
 /// Writes what is said of a deployment that keeps the rules.
-fn accept<C: Reports, K: Sink>(alloc: Global, deployment: &Deployment, output: &mut K) -> u8
+fn accept<C: Reports, K: Sink>(alloc: Global, deployment: &Deployment, output: &mut K) -> Status
     requires { IsSoundDeployment (deployed_as deployment.now) }
     ensures { CommandEnds K.tells (K.at output.old) (K.at output.new) result
         (report_output C.report (Ok (deployed_as deployment.now))) }
 {
     match accepted::<C>(alloc, deployment) {
-        Ok(text) => finish(output, &text, 0),
-        Err(_) => OUT_OF_MEMORY,
+        Ok(text) => finish(output, &text, Status::Done),
+        Err(_) => Status::OutOfMemory,
     }
 }
 
@@ -51,7 +51,7 @@ fn report_read<C: Reports, K: Sink>(
     alloc: Global,
     read: Result<Deployment, DeployError>,
     output: &mut K,
-) -> u8
+) -> Status
     requires { IfOk read (λ deployment. IsSoundDeployment (deployed_as deployment)) }
     ensures accepted { IfOk read (λ deployment.
         CommandEnds K.tells (K.at output.old) (K.at output.new) result
@@ -66,7 +66,7 @@ fn report_read<C: Reports, K: Sink>(
 }
 
 /// Writes what is said of a deployment's text.
-fn report_text<C: Reports, K: Sink>(alloc: Global, text: &[u8], output: &mut K) -> u8
+fn report_text<C: Reports, K: Sink>(alloc: Global, text: &[u8], output: &mut K) -> Status
     ensures { (meaning : Meaning) → IsMeaning meaning
         → CommandEnds K.tells (K.at output.old) (K.at output.new) result
         (report_output C.report (meaning text.now)) }
@@ -76,7 +76,11 @@ fn report_text<C: Reports, K: Sink>(alloc: Global, text: &[u8], output: &mut K) 
 
 /// What is written is that of the head that was taken. To say that there is no head takes no
 /// memory.
-fn report_told<C: Reports, S: Source, K: Sink>(alloc: Global, input: &mut S, output: &mut K) -> u8
+fn report_told<C: Reports, S: Source, K: Sink>(
+    alloc: Global,
+    input: &mut S,
+    output: &mut K,
+) -> Status
     ensures { (meaning : Meaning) → IsMeaning meaning
         → Told S.tells K.tells head_lines (command_at (S.at input.old) (K.at output.old))
         (command_at (S.at input.new) (K.at output.new)) result (report_all C.report meaning)
@@ -97,7 +101,7 @@ pub fn report_over<C: Reports, S: Source, K: Sink>(
     alloc: Global,
     input: &mut S,
     output: &mut K,
-) -> u8
+) -> Status
     ensures { ReportPromise C.report S.tells K.tells (command_at (S.at input.old) (K.at output.old))
         (command_at (S.at input.new) (K.at output.new)) result }
 {

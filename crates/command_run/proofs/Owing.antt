@@ -1,5 +1,5 @@
 -- What `run` and `lines` owe after the head of a deployment.
-use Rattle.std.proofs.Common.{◌≡◌, ℕ, ◌+◌, List, [], ◌∷◌, refl, sym, ap, arith, Result, Ok, Err, inl, inr, ◌++◌}
+use Rattle.std.proofs.Common.{◌≡◌, ℕ, ◌+◌, List, [], ◌∷◌, refl, sym, ap, Result, Ok, Err, inl, inr, ◌++◌}
 use Rattle.std.specs.Prelude.{flat_map}
 use Rattle.sx_asm.specs.Assembled.{assembled}
 use Rattle.sx_io.specs.Reading.{Answer, Line, Long}
@@ -14,13 +14,14 @@ use Rattle.command_run.specs.Output.{stop_output, run_from, run_deployed, run_at
 use Rattle.command_run.specs.Promise.{run_part}
 use Rattle.command_world.specs.Status.{schedule_status, stop_status}
 use Rattle.command_world.proofs.Stops.{not_zero, not_four, not_two}
+use Rattle.command_promise.specs.declared.status.Status.TheVariants.{ReadFailed}
 use Rattle.command_promise.proofs.Due.{lines_then, EndsUnread, Due, due-behind, behind-ends}
 use Rattle.spec_run.specs.Setting.{Setting}
 use Rattle.spec_run.specs.State.{World, switched_on}
 use Rattle.spec_run.specs.Accepted.{setting_of}
 use Rattle.spec_run.specs.Run.{run}
 use Rattle.command_text.specs.Output.{trace_line}
-use Rattle.command_deploy.proofs.Owing.{Owes}
+use Rattle.command_deploy.proofs.Owing.{Owes, memory_above}
 use Rattle.command_world.specs.Images.{images_text}
 use Rattle.command_world.specs.Turning.{after_next}
 use Rattle.command_world.specs.Broken.{broken_output}
@@ -39,9 +40,9 @@ stop_same sched.Unread = refl
 stop_same (Breaks rule number) = refl
 
 stop_ends : (x : Stop) → EndsUnread (stop_output x)
-stop_ends AtEnd e = absurd (omega (arith, e))
+stop_ends AtEnd e = absurd (cc e)
 stop_ends sched.Unread e = ([], refl)
-stop_ends (Breaks rule number) e = absurd (omega (arith, e))
+stop_ends (Breaks rule number) e = absurd (cc e)
 
 -- ---- what is shown of a schedule
 
@@ -52,15 +53,15 @@ module _ (shown : Shown) (names : NameLists) (set : Setting) where
       let x = schedule assembled names number more in
       behind-ends (flat_map (shown_text shown names) (performed set w (texts_in more) x.lines)) (stop_output x.stop) (stop_ends x.stop) e
 
-  shown_long : (w : World) (number : ℕ) → (shown_from shown names set w number (Long ∷ [])).status ≡ 4 → ⊥
+  shown_long : (w : World) (number : ℕ) → (shown_from shown names set w number (Long ∷ [])).status ≡ ReadFailed → ⊥
   unfolding shown_from
-  shown_long w number e = omega (arith, e)
+  shown_long w number e = cc e
 
   due_line : (w : World) (number : ℕ) (l : List ℕ) (ls : List (List ℕ)) (r : Result lines.Line ℕ) → judged_line assembled names number l ≡ r
       → ((line : lines.Line) → Due (λ more. shown_from shown names set (after_next set w line).world (number + 1) (lines_then ls more)))
       → Due (λ more. shown_from shown names set w number (Line l ∷ lines_then ls more))
   due_line w number l ls (Err rule) e f =
-      inl (broken_output rule number, λ x. omega (arith, x), λ more. line_breaks shown names set w number l rule (lines_then ls more) e)
+      inl (broken_output rule number, λ x. cc x, λ more. line_breaks shown names set w number l rule (lines_then ls more) e)
   due_line w number l ls (Ok line) e f =
       due-behind (λ more. shown_from shown names set w number (Line l ∷ lines_then ls more)) (λ more. shown_from shown names set (after_next set w line).world (number + 1) (lines_then ls more))
       (shown_text shown names (part l (after_next set w line).items)) (λ more. next_line shown names set w number l line (lines_then ls more) e) (f line)
@@ -117,7 +118,7 @@ run_owes mac = record {
   ends = λ d texts more. run_deployed_ends mac d texts more;
   status = λ d texts more. inr (run_same mac d texts more);
   starved = refl;
-  cut = λ n few six. let e : n ≡ 6 = six in omega (arith, few, e);
+  cut = λ n few six. memory_above n few six;
   not_zero = λ d answers u. not_zero d answers u;
   not_four = λ d answers u. not_four d answers u;
   not_two = λ d answers. not_two d answers;
@@ -129,7 +130,7 @@ lines_owe mac = record {
   ends = λ d texts more. lines_ends mac d texts more;
   status = λ d texts more. inr (lines_same mac d texts more);
   starved = refl;
-  cut = λ n few six. let e : n ≡ 6 = six in omega (arith, few, e);
+  cut = λ n few six. memory_above n few six;
   not_zero = λ d answers u. not_zero d answers u;
   not_four = λ d answers u. not_four d answers u;
   not_two = λ d answers. not_two d answers;

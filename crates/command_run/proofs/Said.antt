@@ -2,6 +2,8 @@
 use Rattle.std.proofs.Common.{◌≡◌, ℕ, Bool, List, Option, Some, None}
 use Rattle.sx_asm.specs.Assembled.{assembled}
 use Rattle.sx_io.specs.Reading.{Answer}
+use Rattle.command_promise.specs.declared.status.Status.{Status}
+use Rattle.command_promise.specs.declared.status.Status.TheVariants.{Misused}
 use Rattle.command_promise.specs.Told.{CommandAt}
 use Rattle.sx_tag.specs.Mac.{Mac, IsTag}
 use Rattle.std.specs.Prelude.{All}
@@ -60,20 +62,20 @@ runs_with mac tag deployment texts realize = record {
   guarded = λ d lines. runs_guarded (setting_of mac d texts) lines;
 }
 
-pub run_says : {tells to_tell : Bool} {m0 m1 : CommandAt} {status : ℕ} (mac : Mac) → IsTag mac → DeployTold mac (run_deployed assembled mac) (run_may assembled) tells to_tell m0 m1 status
+pub run_says : {tells to_tell : Bool} {m0 m1 : CommandAt} {status : Status} (mac : Mac) → IsTag mac → DeployTold mac (run_deployed assembled mac) (run_may assembled) tells to_tell m0 m1 status
     → RunDeployPromise assembled mac tells to_tell m0 m1 status
 run_says {tells} {to_tell} {m0} {m1} {status} mac tag told =
     deploy_says {tells = tells} {to_tell = to_tell} {m0 = m0} {m1 = m1} {status = status} mac (run_part assembled mac) (run_owes mac)
     (λ deployment texts bytes realize. runs_with mac tag deployment texts realize) told
 
-pub says_not_two : {tells to_tell : Bool} {m0 m1 : CommandAt} {status : ℕ} (mac : Mac) → RunDeployPromise assembled mac tells to_tell m0 m1 status → status ≡ 2 → ⊥
+pub says_not_two : {tells to_tell : Bool} {m0 m1 : CommandAt} {status : Status} (mac : Mac) → RunDeployPromise assembled mac tells to_tell m0 m1 status → status ≡ Misused → ⊥
 says_not_two mac run two = deploy_not_two mac (run_part assembled mac) (run_owes mac) run two
 
-pub lines_say : {tells to_tell : Bool} {m0 m1 : CommandAt} {status : ℕ} (mac : Mac) → IsTag mac → DeployTold mac (lines_deployed assembled mac) (run_may assembled) tells to_tell m0 m1 status
+pub lines_say : {tells to_tell : Bool} {m0 m1 : CommandAt} {status : Status} (mac : Mac) → IsTag mac → DeployTold mac (lines_deployed assembled mac) (run_may assembled) tells to_tell m0 m1 status
     → LinesSay assembled mac tells to_tell m0 m1 status
 lines_say {tells} {to_tell} {m0} {m1} {status} mac tag told =
     deploy_says {tells = tells} {to_tell = to_tell} {m0 = m0} {m1 = m1} {status = status} mac (lines_part assembled mac) (lines_owe mac)
     (λ deployment texts bytes realize. runs_with mac tag deployment texts realize) told
 
-pub lines_not_two : {tells to_tell : Bool} {m0 m1 : CommandAt} {status : ℕ} (mac : Mac) → LinesSay assembled mac tells to_tell m0 m1 status → status ≡ 2 → ⊥
+pub lines_not_two : {tells to_tell : Bool} {m0 m1 : CommandAt} {status : Status} (mac : Mac) → LinesSay assembled mac tells to_tell m0 m1 status → status ≡ Misused → ⊥
 lines_not_two mac says two = deploy_not_two mac (lines_part assembled mac) (lines_owe mac) says two

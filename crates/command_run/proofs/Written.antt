@@ -6,6 +6,8 @@ use Rattle.sx_io.specs.Prefixes.{AppendsPrefix}
 use Rattle.sx_io.specs.Reading.{Answer}
 use Rattle.sx_io.specs.Reading as answer
 use Rattle.sx_io.specs.Streams.{SinkAt}
+use Rattle.command_promise.specs.declared.status.Status.{Status}
+use Rattle.command_promise.specs.declared.status.Status.TheVariants.{Done}
 use Rattle.command_promise.specs.Told.{CommandEnds, Output, behind, unread_output}
 use Rattle.command_promise.specs.declared.turned.Turned.{Turned}
 use Rattle.command_promise.proofs.Laws.{ends-same, prefix-more}
@@ -94,7 +96,7 @@ module _ (shown : Shown) (names : NameLists) where
           (λ more. next_line line more judged ∙ ap (λ (items : List Item). behind (shown_text shown names (part text items)) (after more)) (sym same)) (does after)
 
       -- memory ran out at a line, and the command ended after what is shown of it with the items that were made before
-      pub line_cut : {to_tell : Bool} {k0 k1 : SinkAt} {status : ℕ} (kept : List ℕ) (line : Line) (made : List Item)
+      pub line_cut : {to_tell : Bool} {k0 k1 : SinkAt} {status : Status} (kept : List ℕ) (line : Line) (made : List Item)
           → judged_line assembled names number text ≡ Ok line → IsFront made (after_next set w line).items
           → ((o : Output) → CommandEnds to_tell k0 k1 status (behind kept (behind (shown_text shown names (part text made)) o)))
           → (more : List Answer) → CommandEnds to_tell k0 k1 status (behind kept (shown_from shown names set w number (answer.Line text ∷ more)))
@@ -112,7 +114,7 @@ module _ (shown : Shown) (names : NameLists) where
 
     -- ---- the last answer
 
-    pub shown_ended : (number : ℕ) → shown_from shown names set w number (answer.End ∷ []) ≡ record { text = end_line; status = 0 }
+    pub shown_ended : (number : ℕ) → shown_from shown names set w number (answer.End ∷ []) ≡ record { text = end_line; status = Done }
     unfolding shown_from
     shown_ended number = refl
 

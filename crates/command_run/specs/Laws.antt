@@ -1,5 +1,6 @@
 -- Runs of the same input are the same, and what `lines` shows is the run of `run`.
 use Rattle.std.specs.Prelude.{◌≡◌, ℕ, true, List, flat_map, slice_get, take, Some}
+use Rattle.command_promise.specs.declared.status.Status.{Status}
 use Rattle.command_promise.specs.Told.{CommandAt}
 use Rattle.sx_io.specs.Reading.{Answer}
 use Rattle.sx_tag.specs.Mac.{Mac}
@@ -17,7 +18,7 @@ use Rattle.command_run.specs.Promise.{RunDeployPromise}
 
 -- Two calls of `run` over the same input, neither of which is hindered, write the same trace.
 abbrev pub RunsAreSame : Type 0
-RunsAreSame = (assemble : Assembler) (mac : Mac) (m0 m1 k0 k1 : CommandAt) (s t : ℕ)
+RunsAreSame = (assemble : Assembler) (mac : Mac) (m0 m1 k0 k1 : CommandAt) (s t : Status)
     → RunDeployPromise assemble mac true true m0 m1 s → RunDeployPromise assemble mac true true k0 k1 t
     → m0.source.rest ≡ k0.source.rest → IsUnhindered m0 m1 s → IsUnhindered k0 k1 t
     → WriteTheSame m0 m1 s k0 k1 t

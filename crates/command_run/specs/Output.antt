@@ -3,6 +3,7 @@
 -- input give.
 use Rattle.std.specs.Prelude.{ℕ, List, ◌++◌}
 use Rattle.sx_io.specs.Reading.{Answer}
+use Rattle.command_promise.specs.declared.status.Status.TheVariants.{Done}
 use Rattle.command_promise.specs.Told.{Output, behind, unread_output}
 use Rattle.sx_tag.specs.Mac.{Mac}
 use Rattle.sx_trace.specs.declared.items.Item.{Item}
@@ -22,7 +23,7 @@ use Rattle.command_world.specs.Broken.{broken_output}
 
 -- the last line, and the status
 abbrev pub stop_output : Stop → Output
-stop_output AtEnd = record { text = end_line; status = 0 }
+stop_output AtEnd = record { text = end_line; status = Done }
 stop_output sched.Unread = unread_output
 stop_output (Breaks rule number) = broken_output rule number
 

@@ -2,6 +2,7 @@
 -- assembler nothing is said here but that the code of an `asm` line is what it gives.
 use Rattle.std.specs.Prelude.{ℕ, ◌+◌, ◌≡◌, Bool, List, length, Option, Ok, All}
 use Rattle.sx_io.specs.Reading.{Answer}
+use Rattle.command_promise.specs.declared.status.Status.{Status}
 use Rattle.command_promise.specs.Told.{CommandAt, out_of_memory}
 use Rattle.sx_tag.specs.Mac.{Mac}
 use Rattle.sx_trace.specs.declared.items.Item.{Item}
@@ -74,7 +75,8 @@ run_part assemble mac = record {
 }
 
 -- the command `run`
-abbrev pub RunDeployPromise : Assembler → Mac → Bool → Bool → CommandAt → CommandAt → ℕ → Type 0
+abbrev pub RunDeployPromise : Assembler → Mac → Bool → Bool → CommandAt → CommandAt
+    → Status → Type 0
 RunDeployPromise assemble mac = DeployPromise mac (run_part assemble mac)
 
 -- What `run` promises, and beside it what a reader may take from each legal trace: that follows
@@ -86,7 +88,7 @@ RunDeployPromise assemble mac = DeployPromise mac (run_part assemble mac)
 -- the keys of nodes and modules a run shows nothing but tags (`keys`), so names in place of them do
 -- as well (`named`). Unless a key is found by code of no deployed module, none is guessed (`found`).
 pub record RunPromise (assemble : Assembler) (mac : Mac) (tells to_tell : Bool) (m0 m1 : CommandAt)
-    (status : ℕ) : Type 0 where
+    (status : Status) : Type 0 where
   pub says : RunDeployPromise assemble mac tells to_tell m0 m1 status
   pub reader : (d : Deployed) (items : List Item) → Legal d.app items → TellsReader d.app items
   pub causes : (text : List ℕ) (d : Deployed) → IsRead text (Ok d) → (items : List Item)

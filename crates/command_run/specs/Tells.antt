@@ -1,5 +1,6 @@
 -- What the command `lines` promises, of its streams at its start (m0) and at its end (m1).
 use Rattle.std.specs.Prelude.{ℕ, ◌≡◌, Bool, List, Ok}
+use Rattle.command_promise.specs.declared.status.Status.{Status}
 use Rattle.command_promise.specs.Told.{CommandAt, out_of_memory}
 use Rattle.sx_tag.specs.Mac.{Mac}
 use Rattle.sx_trace.specs.declared.items.Item.{Item}
@@ -31,13 +32,13 @@ lines_part assemble mac = record {
 }
 
 -- the command `lines`
-abbrev pub LinesSay : Assembler → Mac → Bool → Bool → CommandAt → CommandAt → ℕ → Type 0
+abbrev pub LinesSay : Assembler → Mac → Bool → Bool → CommandAt → CommandAt → Status → Type 0
 LinesSay assemble mac = DeployPromise mac (lines_part assemble mac)
 
 -- What `lines` promises, and beside it what a reader may take from its items, as `RunPromise` says it
 -- of those of `run`.
 pub record LinesPromise (assemble : Assembler) (mac : Mac) (tells to_tell : Bool) (m0 m1 : CommandAt)
-    (status : ℕ) : Type 0 where
+    (status : Status) : Type 0 where
   pub says : LinesSay assemble mac tells to_tell m0 m1 status
   pub reader : (d : Deployed) (items : List Item) → Legal d.app items → TellsReader d.app items
   pub causes : (text : List ℕ) (d : Deployed) → IsRead text (Ok d) → (items : List Item)

@@ -5,6 +5,7 @@
 ghost use Rattle.std.specs.Prelude.{◌≡◌, List};
 ghost use Rattle.sx_io.specs.Reading.{Answer};
 ghost use Rattle.sx_sched.specs.Reading.{Assembler};
+ghost use Rattle.command_promise.specs.declared.status.Status.TheVariants.{Done};
 ghost use Rattle.command_promise.specs.Head.{head};
 ghost use Rattle.command_head.specs.Meanings.{Meaning};
 ghost use Rattle.command_world.specs.WellFormed.{IsGoodInput};
@@ -17,7 +18,7 @@ ghost use Rattle.command_run.specs.Laws.{EachGivesItsItems, LinesGiveItems, Runs
 pub fn good_input_has_status_0()
     ensures { (assemble : Assembler) (meaning : Meaning) (answers : List Answer)
         → IsGoodInput assemble meaning (head answers)
-        → deploy_status (schedule_status assemble) meaning answers ≡ 0 }
+        → deploy_status (schedule_status assemble) meaning answers ≡ Done }
 {}
 
 /// Two calls over the same input, in which no read and no write failed and memory sufficed, write

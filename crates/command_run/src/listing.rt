@@ -8,7 +8,7 @@ ghost use Rattle.command_run.specs.Tells.{LinesPromise};
 use crate::schedule::run_lines;
 use crate::trace::Shown;
 use command_deploy::{Deploys, deploy_over};
-use command_promise::OUT_OF_MEMORY;
+use command_promise::Status;
 use command_world::worlds::new_world;
 use std::alloc::Global;
 use sx_deploy::deployment::Deployment;
@@ -37,7 +37,7 @@ impl Deploys for LinesCommand {
         output: &mut K,
         deployment: &Deployment,
         images: &[Image],
-    ) -> u8 {
+    ) -> Status {
         match new_world(alloc, tag, deployment, images) {
             Ok(mut world) => run_lines(
                 alloc,
@@ -48,7 +48,7 @@ impl Deploys for LinesCommand {
                 deployment,
                 &mut world,
             ),
-            Err(_) => OUT_OF_MEMORY,
+            Err(_) => Status::OutOfMemory,
         }
     }
 }
@@ -61,7 +61,7 @@ pub fn lines_over<S: Source, K: Sink, T: Tag + Copy>(
     tag: T,
     input: &mut S,
     output: &mut K,
-) -> u8
+) -> Status
     ensures { LinesPromise assembled T.mac S.tells K.tells
         (command_at (S.at input.old) (K.at output.old))
         (command_at (S.at input.new) (K.at output.new)) result }

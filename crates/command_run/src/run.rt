@@ -7,7 +7,7 @@ ghost use Rattle.command_run.specs.Promise.{RunPromise};
 use crate::schedule::run_lines;
 use crate::trace::Shown;
 use command_deploy::{Deploys, deploy_over};
-use command_promise::{OUT_OF_MEMORY, Turned};
+use command_promise::{Status, Turned};
 use command_world::images::begin_trace;
 use command_world::worlds::new_world;
 use std::alloc::Global;
@@ -39,7 +39,7 @@ impl Deploys for RunCommand {
         output: &mut K,
         deployment: &Deployment,
         images: &[Image],
-    ) -> u8 {
+    ) -> Status {
         match new_world(alloc, tag, deployment, images) {
             Ok(mut world) => match begin_trace(alloc, &deployment.names, images, output) {
                 Turned::On => run_lines(
@@ -53,7 +53,7 @@ impl Deploys for RunCommand {
                 ),
                 Turned::Stop(status) => status,
             },
-            Err(_) => OUT_OF_MEMORY,
+            Err(_) => Status::OutOfMemory,
         }
     }
 }
@@ -66,7 +66,7 @@ pub fn run_over<S: Source, K: Sink, T: Tag + Copy>(
     tag: T,
     input: &mut S,
     output: &mut K,
-) -> u8
+) -> Status
     ensures { RunPromise assembled T.mac S.tells K.tells
         (command_at (S.at input.old) (K.at output.old))
         (command_at (S.at input.new) (K.at output.new)) result }

@@ -22,7 +22,7 @@ ghost use Rattle.command_run.specs.Turns.{TellsMade, TurnsFrom, shown_from};
 ghost use Rattle.command_world.specs.Turning.{MayRunOut};
 
 use crate::trace::{Shown, finish_line, keep_line};
-use command_promise::{READ_FAILED, Turned, WRITE_FAILED, finish};
+use command_promise::{Status, Turned, finish};
 use command_text::batch::{Batch, finish_wanted, put_kept};
 use command_world::judging::{TOO_LONG, break_off, judge_line};
 use std::alloc::Global;
@@ -58,14 +58,14 @@ fn next_line<S: Source, K: Sink>(
 }
 
 /// Writes all that is kept, and which rule the line of this number breaks.
-fn break_kept<K: Sink>(output: &mut K, kept: &Batch, rule: u8, number: u32) -> u8
+fn break_kept<K: Sink>(output: &mut K, kept: &Batch, rule: u8, number: u32) -> Status
     ensures ends { CommandEnds K.tells (K.at output.old) (K.at output.new) result
         (behind kept.now.items (broken_output rule number)) }
     ensures memory { result ≢ out_of_memory }
 {
     match put_kept(output, kept) {
         Ok(()) => break_off(output, rule, number),
-        Err(_) => WRITE_FAILED,
+        Err(_) => Status::WriteFailed,
     }
 }
 
@@ -121,7 +121,7 @@ pub(crate) fn run_lines<S: Source, K: Sink, B: Copied, T: Tag>(
     output: &mut K,
     deployment: &Deployment,
     world: &mut World<B, T>,
-) -> u8
+) -> Status
     requires sound { IsSoundDeployment (deployed_as deployment.now) }
     requires images { IsSoundSetting (world_setting T.mac deployment.now world.old) }
     requires names { IsTrue (are_valid (deployed_as deployment.now).names) }
@@ -144,10 +144,10 @@ pub(crate) fn run_lines<S: Source, K: Sink, B: Copied, T: Tag>(
     let mut number: u32 = 1;
     'lines: loop {
         match next_line(lines, input, output, &mut kept, &mut into) {
-            Err(_) => return WRITE_FAILED,
-            Ok(LineRead::End) => return finish(output, b"end\n", 0),
+            Err(_) => return Status::WriteFailed,
+            Ok(LineRead::End) => return finish(output, b"end\n", Status::Done),
             Ok(LineRead::TooLong) => return break_off(output, TOO_LONG, number),
-            Ok(LineRead::Failed) => return finish(output, b"fault read\n", READ_FAILED),
+            Ok(LineRead::Failed) => return finish(output, b"fault read\n", Status::ReadFailed),
             Ok(LineRead::Text(n)) => match turn(
                 alloc,
                 shown,

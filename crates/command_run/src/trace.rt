@@ -8,7 +8,7 @@ ghost use Rattle.command_text.specs.Batch.{Writes};
 ghost use Rattle.command_text.specs.Keeping.{DoesKept};
 ghost use Rattle.command_run.specs.Turns.{front, shown_text};
 
-use command_promise::{Turned, WRITE_FAILED};
+use command_promise::{Status, Turned};
 use command_text::batch::{Batch, finish_wanted};
 use command_world::items::add_items;
 use sx_io::{Failed, Sink, put_all};
@@ -77,7 +77,7 @@ fn add_line<K: Sink>(
     add_items(output, batch, names, items)
 }
 
-/// Keeps what is shown of a line with this text and these items, or stops with `WRITE_FAILED`. It
+/// Keeps what is shown of a line with this text and these items, or stops with `WriteFailed`. It
 /// takes no memory.
 pub(crate) fn keep_line<K: Sink>(
     output: &mut K,
@@ -94,7 +94,7 @@ pub(crate) fn keep_line<K: Sink>(
 {
     match add_line(output, kept, names, shown, said, items) {
         Ok(()) => Turned::On,
-        Err(_) => Turned::Stop(WRITE_FAILED),
+        Err(_) => Turned::Stop(Status::WriteFailed),
     }
 }
 
@@ -106,7 +106,7 @@ pub(crate) fn finish_line<K: Sink>(
     shown: Shown,
     said: &[u8],
     items: &[Item],
-) -> u8
+) -> Status
     ensures ends { (o : Output) → CommandEnds K.tells (K.at output.old) (K.at output.new) result
         (behind kept.old.items (behind (shown_text shown names.now
         (record { text = said.now; items = items.now })) o)) }
@@ -116,7 +116,7 @@ pub(crate) fn finish_line<K: Sink>(
 {
     match add_line(output, kept, names, shown, said, items) {
         Ok(()) => finish_wanted(output, kept),
-        Err(_) => WRITE_FAILED,
+        Err(_) => Status::WriteFailed,
     }
 }
 
@@ -137,7 +137,7 @@ fn put_batch<K: Sink>(
     put_all(output, batch.as_slice())
 }
 
-/// Writes what is shown of a line with this text and these items, or stops with `WRITE_FAILED`. It
+/// Writes what is shown of a line with this text and these items, or stops with `WriteFailed`. It
 /// takes no memory.
 pub fn put_line<K: Sink>(
     output: &mut K,
@@ -156,6 +156,6 @@ pub fn put_line<K: Sink>(
 {
     match put_batch(output, names, shown, said, items) {
         Ok(()) => Turned::On,
-        Err(_) => Turned::Stop(WRITE_FAILED),
+        Err(_) => Turned::Stop(Status::WriteFailed),
     }
 }

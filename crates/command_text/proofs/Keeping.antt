@@ -13,6 +13,7 @@ use Rattle.sx_io.specs.declared.lines.ReaderState.{ReaderState}
 use Rattle.sx_io.specs.declared.lines.ReaderState.TheVariants as reader
 use Rattle.sx_io.specs.declared.outside.Failed.{Failed}
 use Rattle.sx_io.proofs.Scans.{scan-ended}
+use Rattle.command_promise.specs.declared.status.Status.{Status}
 use Rattle.command_promise.specs.Reads.{Asked, Enough}
 use Rattle.command_promise.specs.Got.{Follows, HoldsBehind}
 use Rattle.command_promise.specs.Told.{CommandAt, CommandEnds, Output, Told, behind, command_at, unread_output, write_failed}
@@ -35,7 +36,7 @@ puts_all to_tell k0 k1 kept bytes (Err e) same ok failed faultless fault =
     record { prefix = λ t. subst (λ (v : List ℕ). AppendsPrefix k0.written k1.written v) same (failed t); fault = fault }
 
 -- the command ends after what is kept
-pub ends_kept : {to_tell : Bool} {k0 k1 k2 : SinkAt} {kept : List ℕ} {status : ℕ} (o : Output) → Wrote to_tell k0 k1 kept → CommandEnds to_tell k1 k2 status o
+pub ends_kept : {to_tell : Bool} {k0 k1 k2 : SinkAt} {kept : List ℕ} {status : Status} (o : Output) → Wrote to_tell k0 k1 kept → CommandEnds to_tell k1 k2 status o
     → CommandEnds to_tell k0 k2 status (behind kept o)
 ends_kept {to_tell} {k0} {k1} {k2} {kept} {status} o put ends = ends-behind to_tell k0 k1 k2 kept status o put.wrote put.no_fault ends
 
@@ -158,7 +159,7 @@ record PartOf (to_tell : Bool) (k0 k2 : SinkAt) (said : List ℕ) : Type 0 where
   pub part : List ℕ
   pub wrote : IsTrue to_tell → k2.written ≡ k0.written ++ (said ++ part)
 
-part_of : (to_tell : Bool) (k0 k1 k2 : SinkAt) (said part : List ℕ) (status : ℕ) (o : Output) → (IsTrue to_tell → k1.written ≡ k0.written ++ (said ++ part))
+part_of : (to_tell : Bool) (k0 k1 k2 : SinkAt) (said part : List ℕ) (status : Status) (o : Output) → (IsTrue to_tell → k1.written ≡ k0.written ++ (said ++ part))
     → CommandEnds to_tell k1 k2 status o → PartOf to_tell k0 k2 said
 part_of true k0 k1 k2 said part status o p w =
     let f = w.prefix refl in record {
@@ -169,7 +170,7 @@ part_of false k0 k1 k2 said part status o p w = record { part = []; wrote = λ t
 
 -- the command ends after what is kept, or in writing it
 pub waits_stop : {tells to_tell : Bool} {limit : Limit} {m0 : CommandAt} {s : SourceAt} {k1 k2 : SinkAt} {now : Ahead} {defined : List Answer → Output} {kept : List ℕ}
-    {also : List Answer → Type 0} {status : ℕ} (f : List Answer → Output)
+    {also : List Answer → Type 0} {status : Status} (f : List Answer → Output)
     → Waits tells to_tell limit m0 (command_at s k1) now defined kept f also → ((answers : List Answer) → CommandEnds to_tell k1 k2 status (behind kept (f answers)))
     → Told tells to_tell limit m0 (command_at s k2) status defined also
 waits_stop {tells} {to_tell} {limit} {m0} {s} {k1} {k2} {now} {defined} {kept} {also} {status} f w ends =
@@ -380,7 +381,7 @@ module _ {tells to_tell : Bool} {limit : Limit} {m0 : CommandAt} {defined : List
       ]
 
   -- the command ends after what is kept, or in writing it
-  pub keeps_stop : {s : SourceAt} {k1 k2 : SinkAt} {now : Ahead} {kept : List ℕ} {status : ℕ} (f : List Answer → Output)
+  pub keeps_stop : {s : SourceAt} {k1 k2 : SinkAt} {now : Ahead} {kept : List ℕ} {status : Status} (f : List Answer → Output)
       → Keeps tells to_tell limit m0 (command_at s k1) now defined kept f also → ((answers : List Answer) → CommandEnds to_tell k1 k2 status (behind kept (f answers)))
       → Told tells to_tell limit m0 (command_at s k2) status defined also
   keeps_stop {s} {k1} {k2} {now} {kept} {status} f w ends =
@@ -409,7 +410,7 @@ module _ {tells to_tell : Bool} {limit : Limit} {m0 : CommandAt} {defined : List
       }
 
 -- the command ends after what is kept and one more text, of which some was written
-pub up_to_ends : {to_tell : Bool} {k0 k1 k2 : SinkAt} {status : ℕ} (kept text left : List ℕ) (o : Output) → WritesUpTo to_tell k0 k1 (kept ++ text) left
+pub up_to_ends : {to_tell : Bool} {k0 k1 k2 : SinkAt} {status : Status} (kept text left : List ℕ) (o : Output) → WritesUpTo to_tell k0 k1 (kept ++ text) left
     → CommandEnds to_tell k1 k2 status (behind left o) → CommandEnds to_tell k0 k2 status (behind kept (behind text o))
 up_to_ends {to_tell} {k0} {k1} {k2} {status} kept text left o u ends =
     ends-same to_tell k0 k2 status (behind kept (behind text o)) (behind u.text (behind left o)) (joined kept text o ∙ ap (λ (v : List ℕ). behind v o) (sym u.parts) ∙ sym (joined u.text left o))

@@ -1,5 +1,7 @@
 -- What is written of words that are no command, and of a rule that is broken.
 use Rattle.std.specs.Prelude.{ℕ, List, ◌++◌, codes, decimal}
+use Rattle.command_promise.specs.declared.status.Status.{Status}
+use Rattle.command_promise.specs.declared.status.Status.TheVariants.{Misused}
 use Rattle.command_promise.specs.Told.{Output}
 use Rattle.command_text.specs.Output.{line}
 
@@ -7,12 +9,12 @@ use Rattle.command_text.specs.Output.{line}
 unfoldable pub usage_line : List ℕ
 usage_line = line (codes "fault usage")
 
--- status 2: the words are no command
+-- the words are no command
 abbrev pub misuse_output : Output
-misuse_output = record { text = usage_line; status = 2 }
+misuse_output = record { text = usage_line; status = Misused }
 
 -- a fault: its words, the number of the rule that is broken, and the number of the first line that
 -- breaks it
-abbrev pub fault_output : List ℕ → ℕ → ℕ → ℕ → Output
+abbrev pub fault_output : List ℕ → ℕ → ℕ → Status → Output
 fault_output words rule number status =
     record { text = line (words ++ decimal rule ++ codes " " ++ decimal number); status = status }

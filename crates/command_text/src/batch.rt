@@ -6,7 +6,7 @@ ghost use Rattle.command_text.specs.Batch.{Writes};
 ghost use Rattle.command_text.specs.Keeping.{Puts};
 
 use arrayvec::ArrayVec;
-use command_promise::{OUT_OF_MEMORY, WRITE_FAILED};
+use command_promise::Status;
 use sx_io::{Failed, Sink, put_all};
 
 /// The most bytes that are written together.
@@ -40,14 +40,14 @@ pub fn put_kept<K: Sink>(output: &mut K, kept: &Batch) -> Result<(), Failed>
 }
 
 /// Writes all that is kept, where memory ran out.
-pub fn finish_wanted<K: Sink>(output: &mut K, kept: &Batch) -> u8
+pub fn finish_wanted<K: Sink>(output: &mut K, kept: &Batch) -> Status
     ensures ends { (o : Output) → CommandEnds K.tells (K.at output.old) (K.at output.new) result
         (behind kept.now.items o) }
     ensures made { result ≡ out_of_memory → IsTrue K.tells
         → (K.at output.new).written ≡ (K.at output.old).written ++ kept.now.items }
 {
     match put_kept(output, kept) {
-        Ok(()) => OUT_OF_MEMORY,
-        Err(_) => WRITE_FAILED,
+        Ok(()) => Status::OutOfMemory,
+        Err(_) => Status::WriteFailed,
     }
 }

@@ -5,7 +5,7 @@ ghost use Rattle.command_promise.specs.Told.{CommandEnds, write_failed};
 ghost use Rattle.command_text.specs.Refusals.{fault_output};
 
 use crate::text::{Text, put};
-use command_promise::{WRITE_FAILED, finish};
+use command_promise::{Status, finish};
 use itoa::Buffer;
 use sx_io::{Sink, put_all};
 
@@ -24,7 +24,13 @@ fn places(rule: u8, number: u32) -> Text
 
 /// Ends a command with the line of a fault: these words, a rule's number, a space and a line's
 /// number.
-pub fn finish_fault<K: Sink>(output: &mut K, words: &[u8], rule: u8, number: u32, status: u8) -> u8
+pub fn finish_fault<K: Sink>(
+    output: &mut K,
+    words: &[u8],
+    rule: u8,
+    number: u32,
+    status: Status,
+) -> Status
     requires { status ≡ write_failed → ⊥ }
     ensures ends { CommandEnds K.tells (K.at output.old) (K.at output.new) result
         (fault_output words.now rule number status) }
@@ -32,6 +38,6 @@ pub fn finish_fault<K: Sink>(output: &mut K, words: &[u8], rule: u8, number: u32
 {
     match put_all(output, words) {
         Ok(()) => finish(output, places(rule, number).as_slice(), status),
-        Err(_) => WRITE_FAILED,
+        Err(_) => Status::WriteFailed,
     }
 }

@@ -1,6 +1,8 @@
 -- The exit status of a schedule, whatever the images are.
-use Rattle.std.specs.Prelude.{ℕ, List}
+use Rattle.std.specs.Prelude.{List}
 use Rattle.sx_io.specs.Reading.{Answer}
+use Rattle.command_promise.specs.declared.status.Status.{Status}
+use Rattle.command_promise.specs.declared.status.Status.TheVariants.{Done, Broken}
 use Rattle.command_promise.specs.Told.{read_failed}
 use Rattle.sx_sched.specs.Reading.{Assembler}
 use Rattle.sx_deploy.specs.Deployment.{Deployed}
@@ -8,11 +10,11 @@ use Rattle.command_world.specs.Schedule.{Stop, AtEnd, Breaks, schedule}
 use Rattle.command_world.specs.Schedule as sched
 
 -- the exit status by where a schedule stops
-abbrev pub stop_status : Stop → ℕ
-stop_status AtEnd = 0
+abbrev pub stop_status : Stop → Status
+stop_status AtEnd = Done
 stop_status sched.Unread = read_failed
-stop_status (Breaks rule number) = 3
+stop_status (Breaks rule number) = Broken
 
 -- the exit status after the head of a deployment
-abbrev pub schedule_status : Assembler → Deployed → List Answer → ℕ
+abbrev pub schedule_status : Assembler → Deployed → List Answer → Status
 schedule_status assemble d more = stop_status (schedule assemble d.names 1 more).stop

@@ -9,7 +9,7 @@ ghost use Rattle.command_text.specs.Output.{trace_line};
 ghost use Rattle.command_world.specs.Images.{image_line, images_text};
 
 use crate::digits::push_digits;
-use command_promise::{OUT_OF_MEMORY, Turned, put_text};
+use command_promise::{Status, Turned, put_text};
 use std::alloc::{AllocError, Global};
 use sx_image::Image;
 use sx_io::Sink;
@@ -61,7 +61,7 @@ pub fn put_images<K: Sink>(alloc: Global, names: &Names, images: &[Image], outpu
 {
     match image_lines(alloc, &names.modules, images) {
         Ok(text) => put_text(output, &text),
-        Err(_) => Turned::Stop(OUT_OF_MEMORY),
+        Err(_) => Turned::Stop(Status::OutOfMemory),
     }
 }
 
@@ -78,6 +78,6 @@ pub fn begin_trace<K: Sink>(
 {
     match images_text(alloc, names, images) {
         Ok(text) => put_text(output, &text),
-        Err(_) => Turned::Stop(OUT_OF_MEMORY),
+        Err(_) => Turned::Stop(Status::OutOfMemory),
     }
 }

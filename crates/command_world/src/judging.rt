@@ -10,15 +10,13 @@ ghost use Rattle.command_world.specs.Broken.{broken_output};
 ghost use Rattle.command_world.specs.Schedule.{judged_line};
 ghost use Rattle.command_world.specs.Turning.{MayRunOut};
 
+use command_promise::Status;
 use command_text::fault::finish_fault;
 use std::alloc::Global;
 use sx_io::Sink;
 use sx_sched::lines::{Line, LineError};
 use sx_sched::parse_line;
 use sx_trace::names::Names;
-
-/// The exit status for a schedule's line that breaks a rule.
-const BROKEN: u8 = 3;
 
 /// A schedule has at most this many lines, blank ones counted.
 const MOST_LINES: u32 = 65_536;
@@ -50,10 +48,10 @@ pub fn judge_line(alloc: Global, names: &Names, text: &[u8], number: u32) -> Res
 
 /// Writes which rule the line of this number breaks. It takes no memory.
 #[tactic(auto, unfolding(crate::specs::Broken::broken_line))]
-pub fn break_off<K: Sink>(output: &mut K, rule: u8, number: u32) -> u8
+pub fn break_off<K: Sink>(output: &mut K, rule: u8, number: u32) -> Status
     ensures ends { CommandEnds K.tells (K.at output.old) (K.at output.new) result
         (broken_output rule number) }
     ensures memory { result ≢ out_of_memory }
 {
-    finish_fault(output, b"fault schedule S", rule, number, BROKEN)
+    finish_fault(output, b"fault schedule S", rule, number, Status::Broken)
 }

@@ -1,6 +1,7 @@
 -- What the commands that deploy have in common, and what `run` makes of the lines of `drive`.
 use Rattle.std.specs.Prelude.{ℕ, ◌≡◌, List, ◌++◌, Option}
 use Rattle.sx_io.specs.Reading.{Answer}
+use Rattle.command_promise.specs.declared.status.Status.TheVariants.{Done}
 use Rattle.command_promise.specs.Told.{behind}
 use Rattle.sx_asm.specs.Assembled.{assembled}
 use Rattle.sx_tag.specs.Mac.{Mac}
@@ -38,4 +39,7 @@ LinesRunAgain = (mac : Mac) (deployment : Option (List ℕ)) (texts : List (List
     → let said = (driven_of mac d texts readings).said in
     run_deployed assembled mac d texts (written d.names (lines_in said))
     ≡ behind (images_text d.names.modules texts ++ trace_line)
-    (record { text = items_text d.names (items_said mac d texts readings) ++ end_line; status = 0 })
+    (record {
+      text = items_text d.names (items_said mac d texts readings) ++ end_line;
+      status = Done;
+    })

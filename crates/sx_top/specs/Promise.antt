@@ -1,6 +1,8 @@
 -- What the program promises: what its command does, of its streams at its start (m0) and at its end
 -- (m1).
 use Rattle.std.specs.Prelude.{ℕ, ◌≡◌, Bool, List, Option, Some, None}
+use Rattle.command_promise.specs.declared.status.Status.{Status}
+use Rattle.command_promise.specs.declared.status.Status.TheVariants.{Misused}
 use Rattle.command_promise.specs.Told.{CommandEnds, CommandAt, out_of_memory}
 use Rattle.sx_asm.specs.Assembled.{assembled}
 use Rattle.sx_tag.specs.Mac.{Mac}
@@ -25,19 +27,20 @@ use Rattle.command_watch.specs.Promise.{WatchPromise}
 use Rattle.command_holds.specs.Promise.{HoldsPromise}
 
 -- Words that are no command: one line says so, without memory, and nothing is read.
-pub record MisusePromise (to_tell : Bool) (m0 m1 : CommandAt) (status : ℕ) : Type 0 where
+pub record MisusePromise (to_tell : Bool) (m0 m1 : CommandAt) (status : Status) : Type 0 where
   pub ends : CommandEnds to_tell m0.sink m1.sink status misuse_output
   pub unread : m1.source ≡ m0.source
   pub memory : status ≡ out_of_memory → ⊥
 
 -- The command `gen` for n samples. Nothing is read.
-pub record GenReadsNothing (mac : Mac) (n : ℕ) (to_tell : Bool) (m0 m1 : CommandAt) (status : ℕ) : Type
-    0 where
+pub record GenReadsNothing (mac : Mac) (n : ℕ) (to_tell : Bool) (m0 m1 : CommandAt)
+    (status : Status) : Type 0 where
   pub told : GenPromise mac n to_tell m0.sink m1.sink status
   pub unread : m1.source ≡ m0.source
 
 -- what a command promises
-abbrev pub CommandPromise : Mac → Option Command → Bool → Bool → CommandAt → CommandAt → ℕ → Type 0
+abbrev pub CommandPromise : Mac → Option Command → Bool → Bool → CommandAt → CommandAt
+    → Status → Type 0
 CommandPromise mac None tells to_tell m0 m1 status = MisusePromise to_tell m0 m1 status
 CommandPromise mac (Some Run) tells to_tell m0 m1 status =
     RunPromise assembled mac tells to_tell m0 m1 status
@@ -59,6 +62,6 @@ CommandPromise mac (Some Batch) tells to_tell m0 m1 status =
 -- The program: it does the command that the words name. Status 2 comes for other words alone.
 pub record ProgramPromise (mac : Mac) (words : List (List ℕ)) (tells to_tell : Bool)
     (m0 m1 : CommandAt)
-    (status : ℕ) : Type 0 where
+    (status : Status) : Type 0 where
   pub told : CommandPromise mac (command_of words) tells to_tell m0 m1 status
-  pub usage : status ≡ 2 → command_of words ≡ None
+  pub usage : status ≡ Misused → command_of words ≡ None

@@ -16,16 +16,13 @@ use command_drive::drive_over;
 use command_explain::explain_over;
 use command_gen::gen_over;
 use command_holds::holds_over;
-use command_promise::finish;
+use command_promise::{Status, finish};
 use command_run::{lines_over, run_over};
 use command_snap::snap_over;
 use command_watch::watch_over;
 use std::alloc::Global;
 use sx_io::{Sink, Source};
 use sx_tag::Hmac;
-
-/// The exit status for words that are no command.
-const MISUSED: u8 = 2;
 
 /// Does all that the program does, and gives its exit status. `words` are those of the command line
 /// after the program's name.
@@ -75,7 +72,12 @@ const MISUSED: u8 = 2;
 ///
 /// Every line, a fault's too, goes to `output` and ends with a newline.
 #[tactic(auto, unfolding(command_text::specs::Refusals::usage_line))]
-pub fn top<S: Source, K: Sink>(alloc: Global, words: &[String], input: &mut S, output: &mut K) -> u8
+pub fn top<S: Source, K: Sink>(
+    alloc: Global,
+    words: &[String],
+    input: &mut S,
+    output: &mut K,
+) -> Status
     // What is written, and the status, are what is defined for the words and for the bytes that
     // were taken, and no more was taken than must be.
     ensures told { ProgramPromise hmac_sha256 (map string_bytes words.now) S.tells K.tells
@@ -99,6 +101,6 @@ pub fn top<S: Source, K: Sink>(alloc: Global, words: &[String], input: &mut S, o
         Some(Command::Lines) => lines_over(alloc, Hmac, input, output),
         Some(Command::Describe) => describe_over(alloc, input, output),
         Some(Command::Batch) => batch_over(alloc, Hmac, input, output),
-        None => finish(output, b"fault usage\n", MISUSED),
+        None => finish(output, b"fault usage\n", Status::Misused),
     }
 }

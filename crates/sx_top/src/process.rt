@@ -1,23 +1,23 @@
 //! The program, in the process that runs it: it hands the command line's words, standard input and
-//! standard output to `top`, and ends with its status.
+//! standard output to `top`, and ends with the number of its status.
 //!
 //! No clause says that the words are those of the command line, nor that the two streams are those
 //! of the process.
 
-ghost use Rattle.std.specs.Prelude.{map, string_bytes};
+ghost use Rattle.std.specs.Prelude.{◌≡◌, map, string_bytes};
 ghost use Rattle.std.specs.Process.{exit_status};
+ghost use Rattle.command_promise.specs.declared.status.Status.{Status};
+ghost use Rattle.command_promise.specs.Status.{status_number};
 ghost use Rattle.command_promise.specs.Told.{command_at};
 ghost use Rattle.sx_tag.specs.Mac.{hmac_sha256};
 ghost use Rattle.sx_top.specs.Promise.{ProgramPromise};
 
 use crate::command::top;
+use command_promise::Status;
 use std::alloc::Global;
 use std::process::ExitCode;
 use std::{env, io};
 use sx_io::{Sink, Source, StdSink, StdSource};
-
-/// The exit status where there is no memory for the words.
-const OUT_OF_MEMORY: u8 = 6;
 
 /// The words of the command line after the program's name.
 fn words(rt: &HostRuntime) -> io::Result<Vec<String>> {
@@ -36,11 +36,12 @@ pub fn run_over_streams<S: Source, K: Sink>(
     input: &mut S,
     output: &mut K,
 ) -> ExitCode
-    ensures told { ProgramPromise hmac_sha256 (map string_bytes words.now) S.tells K.tells
+    ensures told { (status : Status) × (exit_status result ≡ status_number status)
+        × ProgramPromise hmac_sha256 (map string_bytes words.now) S.tells K.tells
         (command_at (S.at input.old) (K.at output.old))
-        (command_at (S.at input.new) (K.at output.new)) (exit_status result) }
+        (command_at (S.at input.new) (K.at output.new)) status }
 {
-    ExitCode::from(top(alloc, words, input, output))
+    ExitCode::from(top(alloc, words, input, output).number())
 }
 
 /// Runs the command that the words name, over the standard streams, and gives the exit status.
@@ -48,7 +49,7 @@ pub fn run_process(rt: HostRuntime) -> ExitCode {
     let words = match words(&rt) {
         Ok(words) => words,
         Err(error) if error.kind() == io::ErrorKind::OutOfMemory => {
-            return ExitCode::from(OUT_OF_MEMORY);
+            return ExitCode::from(Status::OutOfMemory.number());
         }
         // A word that isn't text is no command's.
         Err(_) => Vec::new(rt.alloc()),

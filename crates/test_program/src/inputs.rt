@@ -39,10 +39,10 @@ pub(crate) fn sink(alloc: Global, capacity: usize, failing: u64) -> Result<MemSi
     MemSink::new(alloc, capacity, calls)
 }
 
-/// Does a command, and gives its status. No other function calls `top`, since what that call says
-/// is long, and is proved anew of each place that calls it.
+/// Does a command, and gives its exit status. No other function calls `top`, since what that call
+/// says is long, and is proved anew of each place that calls it.
 fn done(alloc: Global, words: &[String], input: &mut MemSource, output: &mut MemSink) -> u8 {
-    top(alloc, words, input, output)
+    top(alloc, words, input, output).number()
 }
 
 /// How streams behave: how many bytes a read gives, which read fails, how many bytes can be written,

@@ -1,4 +1,4 @@
-use Rattle.std.proofs.Common.{arith}
+use Rattle.command_promise.specs.declared.status.Status.TheVariants.{ReadFailed, NoCode}
 use Rattle.command_promise.specs.Told.{read_line}
 use Rattle.command_asm.specs.Disassembling.{Bytes, BadLine, Unread}
 use Rattle.command_asm.proofs.Listed.{dis_promise, told_given}
@@ -17,7 +17,7 @@ returns-in-BadLine g c =
     let at = c.args.at in
     dis_promise at
     (told_given at (BadLine c.in-BadLine.number) c.in-BadLine.ensures c.finish_fault.ensures.ends)
-    (never_six _ 10 c.finish_fault.ensures.status (λ e. omega (arith, e)))
+    (never_six _ NoCode c.finish_fault.ensures.status (λ e. cc e))
 
 pub returns-in-Failed : goal.returns-in-Failed
 unfolding read_line
@@ -25,4 +25,4 @@ returns-in-Failed g c =
     let at = c.args.at in
     dis_promise at
     (told_given at Unread c.in-Failed.ensures c.finish.ensures.ends)
-    (never_six _ 4 c.finish.ensures.status (λ e. omega (arith, e)))
+    (never_six _ ReadFailed c.finish.ensures.status (λ e. cc e))

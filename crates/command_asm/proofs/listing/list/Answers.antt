@@ -1,4 +1,5 @@
 use Rattle.std.proofs.Common.{◌≡◌, ◌∙◌, ◌<◌, ap, arith, length, drop, ℕ}
+use Rattle.command_promise.specs.declared.status.Status.TheVariants.{Done}
 use Rattle.sx_asm.specs.Meaning.{further}
 use Rattle.sx_asm.specs.Shown.{listed}
 use Rattle.command_text.specs.Output.{end_line}
@@ -60,4 +61,4 @@ returns-clause-ends g c =
     left_end c.lines.address rest (no_word rest c.is_empty.result c.is_empty.ensures c.lines-test.false) c.lines.invariant.lines c.finish.ensures.ends
 
 pub returns-clause-memory : goal.returns-clause-memory
-returns-clause-memory g c = never_six _ 0 c.finish.ensures.status (λ e. omega (arith, e))
+returns-clause-memory g c = never_six _ Done c.finish.ensures.status (λ e. cc e)

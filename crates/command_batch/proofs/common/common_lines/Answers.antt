@@ -123,13 +123,13 @@ returns-in-Stop-clause-wanted g c = λ six.
     (may_line d c.lines.number text (c.in-Stop.ensures.memory (ap Stop six))))
 
 pub returns-in-End-clause-wanted : goal.returns-in-End-clause-wanted
-returns-in-End-clause-wanted g c = λ six. absurd (omega (arith, six, c.finish.ensures.status (λ five. omega (arith, six, five))))
+returns-in-End-clause-wanted g c = λ six. absurd (cc (six, c.finish.ensures.status (λ five. cc (six, five))))
 
 pub returns-in-TooLong-clause-wanted : goal.returns-in-TooLong-clause-wanted
 returns-in-TooLong-clause-wanted g c = λ six. absurd (c.break_off.ensures.memory six)
 
 pub returns-in-Failed-clause-wanted : goal.returns-in-Failed-clause-wanted
-returns-in-Failed-clause-wanted g c = λ six. absurd (omega (arith, six, c.finish-in-Failed.ensures.status (λ five. omega (arith, six, five))))
+returns-in-Failed-clause-wanted g c = λ six. absurd (cc (six, c.finish-in-Failed.ensures.status (λ five. cc (six, five))))
 
 pub lines-preserved : goal.lines-preserved
 lines-preserved g c =

@@ -1,6 +1,7 @@
 use Rattle.std.proofs.Common.{◌≡◌, ◌∙◌, ◌+◌, ◌∷◌, ℕ, List, take, arith, ap, refl, subst, sym}
 use Rattle.sx_asm.specs.Assembled.{assembled}
 use Rattle.sx_io.specs.Reading.{Line}
+use Rattle.command_promise.specs.declared.status.Status.TheVariants.{OutOfMemory}
 use Rattle.command_promise.specs.Told.{command_at, read_line}
 use Rattle.command_promise.proofs.Laws.{begun-line, begun-put, begun-same, ends-same, told-stop, told-end, told-too-long, told-failed}
 use Rattle.sx_deploy.specs.SeenDeployment.{deployed_as}
@@ -119,7 +120,7 @@ returns-in-Stop-clause-memory g c = λ six s1 old w.
     let d = deployed_as c.args.deployment.now in
     let text = take c.in-Text.n c.next.new.into in
     wants_line d c.next.new.into c.in-Text.n (since_then w c.lines.invariant.since) c.in-Text.ensures.next
-    (may_line d c.lines.number text (c.in-Stop.ensures.memory (let same : c.in-Stop.status ≡ 6 = cc six in ap Stop same)))
+    (may_line d c.lines.number text (c.in-Stop.ensures.memory (let same : c.in-Stop.status ≡ OutOfMemory = cc six in ap Stop same)))
 
 -- ---- one that breaks a rule
 

@@ -1,5 +1,6 @@
 use Rattle.std.proofs.Common.{◌≡◌, ℕ, inl, inr, List, refl, subst, sym, Result, Ok}
 use Rattle.std.specs.Prelude.{IfOk}
+use Rattle.command_promise.specs.declared.status.Status.TheVariants.{OutOfMemory}
 use Rattle.command_promise.specs.Told.{command_at}
 use Rattle.command_promise.specs.Parts.{Rest}
 use Rattle.command_promise.specs.Head.{head_lines}
@@ -69,5 +70,5 @@ returns-in-Ok-clause-deploys g c =
     let m = command_at (g.S.Source.at c.args.input.now) (g.K.Sink.at c.args.output.now) in
     let D : Result Deployment DeployError → Type 0 = λ r.
     IfOk r (λ (p : Deployment). (text : List ℕ) → IsRead text (Ok (deployed_as p))
-    → DeploysOrRanOut mac (g.C.Deploys.behind mac) g.C.Deploys.may g.S.Source.tells g.K.Sink.tells c.args.lines.now m m 6 text) in
+    → DeploysOrRanOut mac (g.C.Deploys.behind mac) g.C.Deploys.may g.S.Source.tells g.K.Sink.tells c.args.lines.now m m OutOfMemory text) in
     subst D (sym c.in-Ok.is) (λ text read. inl (record { six = refl; same = refl }))

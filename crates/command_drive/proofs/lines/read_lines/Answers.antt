@@ -1,5 +1,6 @@
 use Rattle.std.proofs.Common.{◌∙◌, ◌+◌, ◌∷◌, ℕ, take, arith, ap, refl, subst, sym}
 use Rattle.sx_io.specs.Reading.{Line}
+use Rattle.command_promise.specs.declared.status.Status.TheVariants.{Done}
 use Rattle.command_promise.specs.Told.{read_line}
 use Rattle.command_promise.specs.declared.turned.Turned.TheVariants.{Stop}
 use Rattle.command_promise.proofs.Laws.{begun-line, begun-put, ends-same, told-stop, told-end, told-too-long, told-failed}
@@ -28,7 +29,7 @@ returns-in-End-clause-rest g c = λ set h f s limit m0 defined aside noted b.
     told-end {f = drive_from d set st.honest c.lines.number} (drive_unread d set st.honest c.lines.number st.short) (st.begun limit m0 defined aside noted b) c.in-End.ensures.next
     (ends-same _ _ _ _ _ _
     (drive_ended d set st.honest c.lines.number st.short
-    ∙ ap (λ (n : ℕ). record { text = steps_text n; status = 0 }) (sym (c.steps.ensures ∙ st.follows.world.shows.steps))) c.end_run.ensures.ends)
+    ∙ ap (λ (n : ℕ). record { text = steps_text n; status = Done }) (sym (c.steps.ensures ∙ st.follows.world.shows.steps))) c.end_run.ensures.ends)
 
 pub returns-in-TooLong-clause-rest : goal.returns-in-TooLong-clause-rest
 returns-in-TooLong-clause-rest g c = λ set h f s limit m0 defined aside noted b.
@@ -60,7 +61,7 @@ pub returns-in-TooLong-clause-wanted : goal.returns-in-TooLong-clause-wanted
 returns-in-TooLong-clause-wanted g c = λ six. absurd (c.break_reading.ensures.memory six)
 
 pub returns-in-Failed-clause-wanted : goal.returns-in-Failed-clause-wanted
-returns-in-Failed-clause-wanted g c = λ six. absurd (omega (arith, six, c.finish.ensures.status (λ five. omega (arith, six, five))))
+returns-in-Failed-clause-wanted g c = λ six. absurd (cc (six, c.finish.ensures.status (λ five. cc (six, five))))
 
 pub returns-in-Stop-clause-wanted : goal.returns-in-Stop-clause-wanted
 returns-in-Stop-clause-wanted g c = λ six.

@@ -54,7 +54,7 @@ pub returns-in-TooLong-clause-wanted : goal.returns-in-TooLong-clause-wanted
 returns-in-TooLong-clause-wanted g c = λ means is six. absurd (c.break_off-in-TooLong.ensures.memory six)
 
 pub returns-in-Failed-clause-wanted : goal.returns-in-Failed-clause-wanted
-returns-in-Failed-clause-wanted g c = λ means is six. absurd (omega (arith, six, c.finish.ensures.status (λ five. omega (arith, six, five))))
+returns-in-Failed-clause-wanted g c = λ means is six. absurd (cc (six, c.finish.ensures.status (λ five. cc (six, five))))
 
 pub returns-in-Trace-clause-wanted : goal.returns-in-Trace-clause-wanted
 returns-in-Trace-clause-wanted g c = λ means is six.

@@ -1,4 +1,5 @@
 use Rattle.std.proofs.Common.{◌≡◌, ◌∙◌, ℕ, List, refl, ap, sym}
+use Rattle.command_promise.specs.declared.status.Status.TheVariants.{Illegal}
 use Rattle.command_promise.specs.Told.{behind}
 use Rattle.command_promise.proofs.Laws.{ends-same}
 use Rattle.command_explain.specs.Output.{because_line, illegal_output, told_item}
@@ -20,4 +21,4 @@ returns-in-Illegal-clause-does g c = λ o.
     let kept : List ℕ = c.args.kept.now.items in
     let text : c.as_slice.result.now ≡ (illegal_output c.args.number).text = c.as_slice.ensures.value ∙ c.illegal_text-text.ensures in
     ends-same _ _ _ _ _ _ (ap (λ j. behind kept (told_item c.args.number j o)) c.in-Illegal.is
-    ∙ ap (λ (t : List ℕ). behind kept (record { text = t; status = 8 })) (sym text)) c.finish_kept.ensures.ends
+    ∙ ap (λ (t : List ℕ). behind kept (record { text = t; status = Illegal })) (sym text)) c.finish_kept.ensures.ends

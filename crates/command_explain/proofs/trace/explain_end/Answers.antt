@@ -1,4 +1,4 @@
-use Rattle.std.proofs.Common.{List, ap, arith, refl, sym}
+use Rattle.std.proofs.Common.{List, ap, refl, sym}
 use Rattle.sx_io.specs.Reading.{Answer}
 use Rattle.command_promise.specs.Told.{Output, read_line}
 use Rattle.command_promise.proofs.Laws.{begun-line, ends-same, told-stop, told-end, told-too-long, told-failed}
@@ -36,7 +36,7 @@ pub returns-in-TooLong-clause-memory : goal.returns-in-TooLong-clause-memory
 returns-in-TooLong-clause-memory g c = c.break_off.ensures.memory
 
 pub returns-in-Failed-clause-memory : goal.returns-in-Failed-clause-memory
-returns-in-Failed-clause-memory g c = λ six. omega (arith, six, c.finish.ensures.status (λ five. omega (arith, six, five)))
+returns-in-Failed-clause-memory g c = λ six. cc (six, c.finish.ensures.status (λ five. cc (six, five)))
 
 pub returns-in-Text-clause-memory : goal.returns-in-Text-clause-memory
 returns-in-Text-clause-memory g c = c.break_off-in-Text.ensures.memory

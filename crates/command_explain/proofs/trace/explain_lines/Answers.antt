@@ -149,7 +149,7 @@ returns-in-Stop-clause-rest g c = λ means is limit m0 defined aside noted b.
     (j.does (explain_from app item (st.items ++ i ∷ []) more)))
 
 pub returns-in-Err-clause-wanted : goal.returns-in-Err-clause-wanted
-returns-in-Err-clause-wanted g c = λ means is six. absurd (omega (arith, six))
+returns-in-Err-clause-wanted g c = λ means is six. absurd (cc six)
 
 pub returns-in-Ok-End-clause-wanted : goal.returns-in-Ok-End-clause-wanted
 returns-in-Ok-End-clause-wanted g c = λ means is six. absurd (c.break_off.ensures.memory six)
@@ -158,13 +158,13 @@ pub returns-in-Ok-TooLong-clause-wanted : goal.returns-in-Ok-TooLong-clause-want
 returns-in-Ok-TooLong-clause-wanted g c = λ means is six. absurd (c.break_off-in-Ok-TooLong.ensures.memory six)
 
 pub returns-in-Ok-Failed-clause-wanted : goal.returns-in-Ok-Failed-clause-wanted
-returns-in-Ok-Failed-clause-wanted g c = λ means is six. absurd (omega (arith, six, c.finish.ensures.status (λ five. omega (arith, six, five))))
+returns-in-Ok-Failed-clause-wanted g c = λ means is six. absurd (cc (six, c.finish.ensures.status (λ five. cc (six, five))))
 
 pub returns-in-Err-judge_line-clause-wanted : goal.returns-in-Err-judge_line-clause-wanted
 returns-in-Err-judge_line-clause-wanted g c = λ means is six. absurd (c.break_kept.ensures.memory six)
 
 pub returns-in-Err-put_kept-clause-wanted : goal.returns-in-Err-put_kept-clause-wanted
-returns-in-Err-put_kept-clause-wanted g c = λ means is six. absurd (omega (arith, six))
+returns-in-Err-put_kept-clause-wanted g c = λ means is six. absurd (cc six)
 
 pub returns-in-Ok-clause-wanted : goal.returns-in-Ok-clause-wanted
 returns-in-Ok-clause-wanted g c = λ means is six. absurd (c.explain_end.ensures.memory six)

@@ -1,4 +1,5 @@
 use Rattle.std.proofs.Common.{◌∙◌, ℕ, ap, refl, subst, sym, Err}
+use Rattle.command_promise.specs.declared.status.Status.TheVariants.{Done}
 use Rattle.command_promise.proofs.Laws.{ends-same, ends-out-of-memory, prefix-none}
 use Rattle.sx_deploy.specs.SeenDeployment.{deployed_as}
 use Rattle.spec_run.specs.Accepted.{setting}
@@ -13,7 +14,7 @@ use Rattle.command_gen.proofs.workload.tell_run.Goals as goal
 pub returns-in-Ok : goal.returns-in-Ok
 returns-in-Ok g c =
     ends-same _ _ _ _ _ _
-    (c.in-Ok.ensures ∙ ap (λ (k : ℕ). record { text = summary (bulk.lines c.args.samples) c.in-Ok.counts k; status = 0 }) (sym c.steps.ensures)) c.tell.ensures
+    (c.in-Ok.ensures ∙ ap (λ (k : ℕ). record { text = summary (bulk.lines c.args.samples) c.in-Ok.counts k; status = Done }) (sym c.steps.ensures)) c.tell.ensures
 
 pub returns-in-Err-Broken : goal.returns-in-Err-Broken
 returns-in-Err-Broken g c =

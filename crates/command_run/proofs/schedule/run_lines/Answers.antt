@@ -113,16 +113,16 @@ returns-in-Stop-clause-rest g c = λ limit m0 defined aside noted b.
     keeps_stop (λ more. f (Line text ∷ more)) now (subst P c.lines.invariant.sites c.in-Stop.ensures.turns st.world st.stands).does
 
 pub returns-in-Err-clause-wanted : goal.returns-in-Err-clause-wanted
-returns-in-Err-clause-wanted g c = λ six. absurd (omega (arith, six))
+returns-in-Err-clause-wanted g c = λ six. absurd (cc six)
 
 pub returns-in-Ok-End-clause-wanted : goal.returns-in-Ok-End-clause-wanted
-returns-in-Ok-End-clause-wanted g c = λ six. absurd (omega (arith, six, c.finish.ensures.status (λ five. omega (arith, six, five))))
+returns-in-Ok-End-clause-wanted g c = λ six. absurd (cc (six, c.finish.ensures.status (λ five. cc (six, five))))
 
 pub returns-in-Ok-TooLong-clause-wanted : goal.returns-in-Ok-TooLong-clause-wanted
 returns-in-Ok-TooLong-clause-wanted g c = λ six. absurd (c.break_off.ensures.memory six)
 
 pub returns-in-Ok-Failed-clause-wanted : goal.returns-in-Ok-Failed-clause-wanted
-returns-in-Ok-Failed-clause-wanted g c = λ six. absurd (omega (arith, six, c.finish-in-Ok-Failed.ensures.status (λ five. omega (arith, six, five))))
+returns-in-Ok-Failed-clause-wanted g c = λ six. absurd (cc (six, c.finish-in-Ok-Failed.ensures.status (λ five. cc (six, five))))
 
 pub returns-in-Stop-clause-wanted : goal.returns-in-Stop-clause-wanted
 returns-in-Stop-clause-wanted g c = λ six.

@@ -1,4 +1,4 @@
-use Rattle.std.proofs.Common.{◌∙◌, arith, map, refl, sym, subst, ap, Option, Some, None}
+use Rattle.std.proofs.Common.{◌∙◌, map, refl, sym, subst, ap, Option, Some, None}
 use Rattle.std.specs.Prelude.{string_bytes}
 use Rattle.sx_tag.specs.Mac.{hmac_sha256}
 use Rattle.sx_top.specs.declared.words.Command.{Command}
@@ -109,6 +109,6 @@ returns-in-None-clause-told g c =
     (record {
       ends = c.finish.ensures.ends;
       unread = refl;
-      memory = λ six. omega (arith, six, c.finish.ensures.status (λ five. omega (arith, five, six)));
+      memory = λ six. cc (six, c.finish.ensures.status (λ five. cc (five, six)));
     })
     (λ two. refl)
