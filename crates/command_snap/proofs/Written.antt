@@ -5,6 +5,7 @@ use Rattle.sx_asm.specs.Assembled.{assembled}
 use Rattle.sx_io.specs.Reading.{Answer}
 use Rattle.sx_io.specs.Reading as answer
 use Rattle.sx_io.specs.Streams.{SinkAt}
+use Rattle.command_promise.specs.declared.status.Status.{Status}
 use Rattle.command_promise.specs.Told.{CommandEnds, Output, behind, unread_output}
 use Rattle.command_promise.specs.Parts.{WroteSome}
 use Rattle.command_promise.proofs.Laws.{ends-behind, ends-same}
@@ -72,7 +73,7 @@ pub query_line : (names : NameLists) (set : Setting) (lines : List Line) (number
 query_line names set lines number text r more e = ap (λ (r : Result Query QueryRule). on_query names set lines number r (answers_from names set lines (number + 1) more)) e
 
 -- a text was written, and after it the command ends
-pub put_and_end : (to_tell : Bool) (k0 k1 k2 : SinkAt) (text : List ℕ) (status : ℕ) (o : Output) → WroteSome to_tell k0 k1 (λ more. behind text o) (λ more. o)
+pub put_and_end : (to_tell : Bool) (k0 k1 k2 : SinkAt) (text : List ℕ) (status : Status) (o : Output) → WroteSome to_tell k0 k1 (λ more. behind text o) (λ more. o)
     → CommandEnds to_tell k1 k2 status o → CommandEnds to_tell k0 k2 status (behind text o)
 put_and_end to_tell k0 k1 k2 text status o w e =
     ends-same to_tell k0 k2 status (behind text o) (behind w.text o) (w.same []) (ends-behind to_tell k0 k1 k2 w.text status o w.wrote w.no_fault e)

@@ -3,6 +3,7 @@
 use Rattle.std.specs.Prelude.{ℕ, ◌+◌, List, [], ◌∷◌, length, codes, Result, Ok, Err}
 use Rattle.sx_io.specs.Reading.{Answer, End, Long, Fault}
 use Rattle.sx_io.specs.Reading as answer
+use Rattle.command_promise.specs.declared.status.Status.TheVariants.{Done, NoQuery}
 use Rattle.command_promise.specs.Told.{Output, behind, unread_output}
 use Rattle.sx_tag.specs.Mac.{Mac}
 use Rattle.sx_trace.specs.Names.{NameLists}
@@ -23,12 +24,12 @@ use Rattle.command_snap.specs.Reading.{Asking, Asks, Breaks, Unread, asking}
 
 -- status 0: all queries were answered
 abbrev pub ended_output : Output
-ended_output = record { text = end_line; status = 0 }
+ended_output = record { text = end_line; status = Done }
 
 -- status 11: this line is the first after the mark that breaks a rule, and this is the first rule
 -- that it breaks
 abbrev pub query_fault : QueryRule → ℕ → Output
-query_fault rule number = fault_output (codes "fault query Y") (rule_number rule) number 11
+query_fault rule number = fault_output (codes "fault query Y") (rule_number rule) number NoQuery
 
 -- the answer to a query before what follows, or the rule that its line breaks
 abbrev pub on_query : NameLists → Setting → List Line → ℕ → Result Query QueryRule → Output → Output

@@ -1,5 +1,6 @@
 -- What the command `snap` promises, of its streams at its start (m0) and at its end (m1).
-use Rattle.std.specs.Prelude.{ℕ, ◌≡◌, Bool}
+use Rattle.std.specs.Prelude.{◌≡◌, Bool}
+use Rattle.command_promise.specs.declared.status.Status.{Status}
 use Rattle.command_promise.specs.Told.{CommandAt, out_of_memory}
 use Rattle.sx_tag.specs.Mac.{Mac}
 use Rattle.command_deploy.specs.Promise.{DeployPromise, OwnPart}
@@ -18,5 +19,5 @@ snap_part mac = record {
 }
 
 -- the command `snap`
-abbrev pub SnapPromise : Mac → Bool → Bool → CommandAt → CommandAt → ℕ → Type 0
+abbrev pub SnapPromise : Mac → Bool → Bool → CommandAt → CommandAt → Status → Type 0
 SnapPromise mac = DeployPromise mac (snap_part mac)

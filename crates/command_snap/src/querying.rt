@@ -19,7 +19,7 @@ ghost use Rattle.command_snap.specs.Output.{answers_from, query_fault};
 
 use crate::answers::{Range, bytes_line, items_text, registers_line};
 use crate::queries::{MOST_LINES, Query, QueryRule, judge_query};
-use command_promise::{OUT_OF_MEMORY, READ_FAILED, Turned, finish, put_text};
+use command_promise::{Status, Turned, finish, put_text};
 use command_text::fault::finish_fault;
 use std::alloc::{AllocError, Global};
 use sx_bus::Copied;
@@ -28,16 +28,19 @@ use sx_io::{LineRead, Lines, Sink, Source};
 use sx_snap::Timeline;
 use sx_tag::Tag;
 
-/// The exit status for a query that breaks a rule.
-const BROKEN: u8 = 11;
-
 /// Writes which rule the query of this number breaks. It takes no memory.
-fn break_query<K: Sink>(output: &mut K, rule: QueryRule, number: u32) -> u8
+fn break_query<K: Sink>(output: &mut K, rule: QueryRule, number: u32) -> Status
     ensures ends { CommandEnds K.tells (K.at output.old) (K.at output.new) result
         (query_fault rule number) }
     ensures memory { result ≢ out_of_memory }
 {
-    finish_fault(output, b"fault query Y", rule.number(), number, BROKEN)
+    finish_fault(
+        output,
+        b"fault query Y",
+        rule.number(),
+        number,
+        Status::NoQuery,
+    )
 }
 
 /// The registers of a node after so many lines.
@@ -156,7 +159,7 @@ fn tell<K: Sink, B: Copied, T: Tag + Copy>(
 {
     match answer(alloc, deployment, timeline, query) {
         Ok(text) => put_text(output, &text),
-        Err(_) => Turned::Stop(OUT_OF_MEMORY),
+        Err(_) => Turned::Stop(Status::OutOfMemory),
     }
 }
 
@@ -193,7 +196,7 @@ pub(crate) fn answer_queries<S: Source, K: Sink, B: Copied, T: Tag + Copy>(
     output: &mut K,
     deployment: &Deployment,
     timeline: &Timeline<B, T>,
-) -> u8
+) -> Status
     requires names { IsTrue (are_valid (deployed_as deployment.now).names) }
     requires timeline { IsTimeline T.mac (deployed_as deployment.now) timeline.now }
     ensures rest { Rest S.tells K.tells head_lines lines.old
@@ -209,9 +212,9 @@ pub(crate) fn answer_queries<S: Source, K: Sink, B: Copied, T: Tag + Copy>(
     let mut number: u32 = 1;
     'queries: loop {
         match lines.next(input, &mut into) {
-            LineRead::End => return finish(output, b"end\n", 0),
+            LineRead::End => return finish(output, b"end\n", Status::Done),
             LineRead::TooLong => return break_query(output, QueryRule::TooLong, number),
-            LineRead::Failed => return finish(output, b"fault read\n", READ_FAILED),
+            LineRead::Failed => return finish(output, b"fault read\n", Status::ReadFailed),
             LineRead::Text(n) => match turn(
                 alloc,
                 output,

@@ -20,7 +20,7 @@ ghost use Rattle.command_snap.specs.Output.{answers_from, ended_output, snap_fro
 ghost use Rattle.command_snap.specs.Wants.{snap_may};
 
 use crate::querying::answer_queries;
-use command_promise::{OUT_OF_MEMORY, READ_FAILED, Turned, finish, is_mark, put_text};
+use command_promise::{Status, Turned, finish, is_mark, put_text};
 use command_world::images::image_lines;
 use command_world::judging::{TOO_LONG, break_off, judge_line};
 use std::alloc::Global;
@@ -62,14 +62,14 @@ fn keep<B: Copied, T: Tag + Copy>(
 }
 
 /// The images and `end`, if no queries came. It takes no memory.
-fn answer_none<K: Sink>(output: &mut K, images: &[u8]) -> u8
+fn answer_none<K: Sink>(output: &mut K, images: &[u8]) -> Status
     ensures ends { CommandEnds K.tells (K.at output.old) (K.at output.new) result
         (behind images.now ended_output) }
     ensures memory { result ≢ out_of_memory }
 {
     match put_text(output, images) {
         Turned::Stop(status) => status,
-        Turned::On => finish(output, b"end\n", 0),
+        Turned::On => finish(output, b"end\n", Status::Done),
     }
 }
 
@@ -82,7 +82,7 @@ fn answer_all<S: Source, K: Sink, B: Copied, T: Tag + Copy>(
     deployment: &Deployment,
     images: &[u8],
     timeline: &Timeline<B, T>,
-) -> u8
+) -> Status
     requires names { IsTrue (are_valid (deployed_as deployment.now).names) }
     requires timeline { IsTimeline T.mac (deployed_as deployment.now) timeline.now }
     ensures rest { Rest S.tells K.tells head_lines lines.old
@@ -111,7 +111,7 @@ fn snap_lines<S: Source, K: Sink, B: Copied, T: Tag + Copy>(
     deployment: &Deployment,
     images: &[u8],
     timeline: &mut Timeline<B, T>,
-) -> u8
+) -> Status
     requires names { IsTrue (are_valid (deployed_as deployment.now).names) }
     requires timeline { IsTimeline T.mac (deployed_as deployment.now) timeline.old }
     requires none { timeline.old.lines ≡ [] }
@@ -130,7 +130,7 @@ fn snap_lines<S: Source, K: Sink, B: Copied, T: Tag + Copy>(
         match lines.next(input, &mut into) {
             LineRead::End => return answer_none(output, images),
             LineRead::TooLong => return break_off(output, TOO_LONG, number),
-            LineRead::Failed => return finish(output, b"fault read\n", READ_FAILED),
+            LineRead::Failed => return finish(output, b"fault read\n", Status::ReadFailed),
             LineRead::Text(n) => {
                 let said = &into[..n];
                 if is_mark(said) {
@@ -139,7 +139,7 @@ fn snap_lines<S: Source, K: Sink, B: Copied, T: Tag + Copy>(
                 match keep(alloc, deployment, timeline, said, number) {
                     Ok(()) => number += 1,
                     Err(LineError::Fault(rule)) => return break_off(output, rule, number),
-                    Err(LineError::OutOfMemory) => return OUT_OF_MEMORY,
+                    Err(LineError::OutOfMemory) => return Status::OutOfMemory,
                 }
             }
         }
@@ -156,7 +156,7 @@ pub(crate) fn snap_built<S: Source, K: Sink, B: Copied, T: Tag + Copy>(
     deployment: &Deployment,
     images: &[Image],
     timeline: &mut Timeline<B, T>,
-) -> u8
+) -> Status
     requires names { IsTrue (are_valid (deployed_as deployment.now).names) }
     requires timeline { IsTimeline T.mac (deployed_as deployment.now) timeline.old }
     requires none { timeline.old.lines ≡ [] }
@@ -172,6 +172,6 @@ pub(crate) fn snap_built<S: Source, K: Sink, B: Copied, T: Tag + Copy>(
 {
     match image_lines(alloc, &deployment.names.modules, images) {
         Ok(text) => snap_lines(alloc, lines, input, output, deployment, &text, timeline),
-        Err(_) => OUT_OF_MEMORY,
+        Err(_) => Status::OutOfMemory,
     }
 }

@@ -13,7 +13,7 @@ ghost use Rattle.command_snap.specs.Promise.{SnapPromise};
 
 use crate::schedule::snap_built;
 use command_deploy::{Deploys, deploy_over};
-use command_promise::OUT_OF_MEMORY;
+use command_promise::Status;
 use command_world::nodes::nodes_of;
 use std::alloc::{AllocError, Global};
 use sx_deploy::deployment::Deployment;
@@ -67,7 +67,7 @@ impl Deploys for SnapCommand {
         output: &mut K,
         deployment: &Deployment,
         images: &[Image],
-    ) -> u8 {
+    ) -> Status {
         match new_timeline(alloc, tag, deployment, images) {
             Ok(mut timeline) => {
                 snap_built(
@@ -80,7 +80,7 @@ impl Deploys for SnapCommand {
                     &mut timeline,
                 )
             }
-            Err(_) => OUT_OF_MEMORY,
+            Err(_) => Status::OutOfMemory,
         }
     }
 }
@@ -94,7 +94,7 @@ pub fn snap_over<S: Source, K: Sink, T: Tag + Copy>(
     tag: T,
     input: &mut S,
     output: &mut K,
-) -> u8
+) -> Status
     ensures { SnapPromise T.mac S.tells K.tells (command_at (S.at input.old) (K.at output.old))
         (command_at (S.at input.new) (K.at output.new)) result }
 {

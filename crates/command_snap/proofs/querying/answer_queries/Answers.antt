@@ -46,13 +46,13 @@ returns-in-Stop-clause-rest g c = λ limit m0 defined aside noted b.
     c.in-Stop.ensures.does
 
 pub returns-in-End-clause-wanted : goal.returns-in-End-clause-wanted
-returns-in-End-clause-wanted g c = λ six. absurd (omega (arith, six, c.finish.ensures.status (λ five. omega (arith, six, five))))
+returns-in-End-clause-wanted g c = λ six. absurd (cc (six, c.finish.ensures.status (λ five. cc (six, five))))
 
 pub returns-in-TooLong-clause-wanted : goal.returns-in-TooLong-clause-wanted
 returns-in-TooLong-clause-wanted g c = λ six. absurd (c.break_query.ensures.memory six)
 
 pub returns-in-Failed-clause-wanted : goal.returns-in-Failed-clause-wanted
-returns-in-Failed-clause-wanted g c = λ six. absurd (omega (arith, six, c.finish-in-Failed.ensures.status (λ five. omega (arith, six, five))))
+returns-in-Failed-clause-wanted g c = λ six. absurd (cc (six, c.finish-in-Failed.ensures.status (λ five. cc (six, five))))
 
 pub returns-in-Stop-clause-wanted : goal.returns-in-Stop-clause-wanted
 returns-in-Stop-clause-wanted g c = λ six.

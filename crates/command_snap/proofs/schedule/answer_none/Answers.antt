@@ -1,4 +1,4 @@
-use Rattle.std.proofs.Common.{[], ap, arith}
+use Rattle.std.proofs.Common.{[], ap}
 use Rattle.command_promise.specs.declared.turned.Turned.TheVariants.{Stop}
 use Rattle.command_text.specs.Output.{end_line}
 use Rattle.command_snap.specs.Output.{ended_output}
@@ -16,4 +16,4 @@ unfolding end_line
 returns-in-On-clause-ends g c = put_and_end _ _ _ _ _ _ ended_output (c.in-On.ensures.does (λ more. ended_output)) c.finish.ensures.ends
 
 pub returns-in-On-clause-memory : goal.returns-in-On-clause-memory
-returns-in-On-clause-memory g c = λ six. omega (arith, six, c.finish.ensures.status (λ five. omega (arith, six, five)))
+returns-in-On-clause-memory g c = λ six. cc (six, c.finish.ensures.status (λ five. cc (six, five)))

@@ -108,7 +108,7 @@ pub returns-in-TooLong-clause-wanted : goal.returns-in-TooLong-clause-wanted
 returns-in-TooLong-clause-wanted g c = λ six. absurd (c.break_off.ensures.memory six)
 
 pub returns-in-Failed-clause-wanted : goal.returns-in-Failed-clause-wanted
-returns-in-Failed-clause-wanted g c = λ six. absurd (omega (arith, six, c.finish.ensures.status (λ five. omega (arith, six, five))))
+returns-in-Failed-clause-wanted g c = λ six. absurd (cc (six, c.finish.ensures.status (λ five. cc (six, five))))
 
 pub returns-then-is_mark-clause-wanted : goal.returns-then-is_mark-clause-wanted
 returns-then-is_mark-clause-wanted g c = λ six.
