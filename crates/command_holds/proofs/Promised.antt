@@ -1,6 +1,8 @@
 -- What follows for `holds` from what it wrote and read.
-use Rattle.std.proofs.Common.{◌≡◌, ◌∙◌, ℕ, Bool, [], sym, arith}
+use Rattle.std.proofs.Common.{◌≡◌, ◌∙◌, Bool, [], sym}
 use Rattle.sx_io.specs.Reading.{Ended, scan}
+use Rattle.command_promise.specs.declared.status.Status.{Status}
+use Rattle.command_promise.specs.declared.status.Status.TheVariants.{Misused}
 use Rattle.command_promise.specs.Told.{CommandAt, CommandEnds}
 use Rattle.command_promise.proofs.Endings.{faultless}
 use Rattle.command_promise.specs.Head.{head, head_lines}
@@ -20,7 +22,7 @@ known = record { deployment = deployments.known; property = properties.known }
 are_known : AreMeanings known
 are_known = record { deployment = deployments.is_known; property = properties.is_known }
 
-pub promised : {tells to_tell : Bool} {m0 m1 : CommandAt} {status : ℕ} → ToldOf tells to_tell m0 m1 status → HoldsPromise tells to_tell m0 m1 status
+pub promised : {tells to_tell : Bool} {m0 m1 : CommandAt} {status : Status} → ToldOf tells to_tell m0 m1 status → HoldsPromise tells to_tell m0 m1 status
 promised {tells} {to_tell} {m0} {m1} {status} (decision, told) = record {
   decision = decision;
   told = told;
@@ -32,7 +34,7 @@ promised {tells} {to_tell} {m0} {m1} {status} (decision, told) = record {
   faults = faults_of (λ bytes e. all_not_four known decision (scan head_lines Ended [] bytes) (faultless head_lines [] bytes) e) (told known are_known);
 }
 
-pub holds_not_two : {tells to_tell : Bool} {m0 m1 : CommandAt} {status : ℕ} → HoldsPromise tells to_tell m0 m1 status → status ≡ 2 → ⊥
+pub holds_not_two : {tells to_tell : Bool} {m0 m1 : CommandAt} {status : Status} → HoldsPromise tells to_tell m0 m1 status → status ≡ Misused → ⊥
 holds_not_two holds two =
     let w = told-some (holds.told known are_known) in
-    head_not_two known holds.decision (head w.0) (sym (w.1.0.whole (λ five. omega (arith, two, five)) (λ six. omega (arith, two, six))).0 ∙ two)
+    head_not_two known holds.decision (head w.0) (sym (w.1.0.whole (λ five. cc (two, five)) (λ six. cc (two, six))).0 ∙ two)

@@ -2,6 +2,7 @@
 -- deployments and properties mean, and of what was decided.
 use Rattle.std.specs.Prelude.{ℕ, List, ◌++◌, codes}
 use Rattle.sx_io.specs.Reading.{Answer}
+use Rattle.command_promise.specs.declared.status.Status.TheVariants as exit
 use Rattle.command_promise.specs.Told.{Output}
 use Rattle.command_text.specs.Output.{line, end_line}
 use Rattle.command_head.specs.Meanings.{Meaning, IsMeaning}
@@ -32,8 +33,8 @@ holds_line = line (codes "holds")
 
 -- what is written of it
 abbrev pub decided_output : Decision → Output
-decided_output Holds = record { text = holds_line ++ end_line; status = 0 }
-decided_output (Unknown words) = record { text = unknown_line words; status = 13 }
+decided_output Holds = record { text = holds_line ++ end_line; status = exit.Done }
+decided_output (Unknown words) = record { text = unknown_line words; status = exit.Unknown }
 
 -- the command `holds`
 abbrev pub holds_all : Meanings → Decision → List Answer → Output

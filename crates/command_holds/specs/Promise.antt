@@ -1,6 +1,8 @@
 -- What the command `holds` promises, of its streams at its start (m0) and at its end (m1).
-use Rattle.std.specs.Prelude.{◌≡◌, ℕ, Bool, List, Result, Ok, Err, IsTrue}
+use Rattle.std.specs.Prelude.{◌≡◌, Bool, List, Result, Ok, Err, IsTrue}
 use Rattle.sx_io.specs.Reading.{Answer}
+use Rattle.command_promise.specs.declared.status.Status.{Status}
+use Rattle.command_promise.specs.declared.status.Status.TheVariants.{Done}
 use Rattle.command_promise.specs.Told.{CommandAt, Told, out_of_memory}
 use Rattle.sx_entries.specs.declared.fault.DeployFault.{DeployFault}
 use Rattle.command_promise.specs.Head.{Head, Found, head, head_lines}
@@ -34,18 +36,18 @@ NeverBehind means (Found text more) = NeverFound means (means.deployment text) m
 NeverBehind means _ = ⊥
 
 -- Memory runs out only if there is a head. Status 0 says that the property is never broken.
-pub record SaysOf (means : Meanings) (status : ℕ) (answers : List Answer) : Type 0 where
+pub record SaysOf (means : Meanings) (status : Status) (answers : List Answer) : Type 0 where
   pub memory : status ≡ out_of_memory → IsFound (head answers)
-  pub never : status ≡ 0 → NeverBehind means (head answers)
+  pub never : status ≡ Done → NeverBehind means (head answers)
 
 -- The command `holds`, whatever texts are said to mean. What was written is what is defined for the
 -- lines that were taken and for what was decided; and whatever comes after these lines, status 0
 -- says that the property that they hold is never broken (`told`). So it is of the whole input
 -- (`never`).
-pub record HoldsPromise (tells to_tell : Bool) (m0 m1 : CommandAt) (status : ℕ) : Type 0 where
+pub record HoldsPromise (tells to_tell : Bool) (m0 m1 : CommandAt) (status : Status) : Type 0 where
   pub decision : Decision
   pub told : (means : Meanings) → AreMeanings means
       → Told tells to_tell head_lines m0 m1 status (holds_all means decision) (SaysOf means status)
   pub never : (means : Meanings) → AreMeanings means → IsTrue tells → IsFaultless m0 m1
-      → status ≡ 0 → NeverBehind means (head (input_of m0))
+      → status ≡ Done → NeverBehind means (head (input_of m0))
   pub faults : TellsFaults m0 m1 status

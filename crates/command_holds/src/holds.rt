@@ -14,7 +14,7 @@ ghost use Rattle.command_holds.specs.Promise.{HoldsPromise};
 
 use crate::gap::gap_line;
 use command_head::refusing::{refuse, refuse_head};
-use command_promise::{HeadFault, OUT_OF_MEMORY, READ_FAILED, finish, read_head, read_text};
+use command_promise::{HeadFault, Status, finish, read_head, read_text};
 use command_property::{refuse_no_property, refuse_property};
 use std::alloc::Global;
 use sx_deploy::DeployError;
@@ -26,26 +26,23 @@ use sx_trace::names::Names;
 use sx_watch::property::Property;
 use sx_watch::reading::{PropertyError, read_property};
 
-/// The exit status where nothing was shown.
-const UNKNOWN: u8 = 13;
-
 /// Writes where the search gave up.
-fn give_up<K: Sink>(alloc: Global, names: &Names, gap: &Gap, output: &mut K) -> u8
+fn give_up<K: Sink>(alloc: Global, names: &Names, gap: &Gap, output: &mut K) -> Status
     ensures { GivesUp K.tells (K.at output.old) (K.at output.new) result }
 {
     match gap_line(alloc, names, gap) {
-        Ok(text) => finish(output, &text, UNKNOWN),
-        Err(_) => OUT_OF_MEMORY,
+        Ok(text) => finish(output, &text, Status::Unknown),
+        Err(_) => Status::OutOfMemory,
     }
 }
 
 /// Writes that a property holds.
 #[tactic(auto, unfolding(crate::specs::Output::holds_line, command_text::specs::Output::end_line))]
-fn affirm<K: Sink>(output: &mut K) -> u8
+fn affirm<K: Sink>(output: &mut K) -> Status
     ensures { CommandEnds K.tells (K.at output.old) (K.at output.new) result
         (decided_output Decision.Holds) }
 {
-    finish(output, b"holds\nend\n", 0)
+    finish(output, b"holds\nend\n", Status::Done)
 }
 
 /// Decides whether a property holds, and writes the answer.
@@ -54,19 +51,24 @@ fn answer<K: Sink>(
     deployment: &Deployment,
     property: &Property,
     output: &mut K,
-) -> u8
+) -> Status
     ensures { AnswersOf K.tells (K.at output.old) (K.at output.new) result
         (deployed_as deployment.now) (property_as property.now) }
 {
     match decide(alloc, &deployment.app, property) {
         Ok(Decided::Holds) => affirm(output),
         Ok(Decided::Unknown(gap)) => give_up(alloc, &deployment.names, &gap, output),
-        Err(_) => OUT_OF_MEMORY,
+        Err(_) => Status::OutOfMemory,
     }
 }
 
 /// Writes what is said of a property's text.
-fn judge_text<K: Sink>(alloc: Global, deployment: &Deployment, text: &[u8], output: &mut K) -> u8
+fn judge_text<K: Sink>(
+    alloc: Global,
+    deployment: &Deployment,
+    text: &[u8],
+    output: &mut K,
+) -> Status
     requires names { IsTrue (are_valid deployment.now.names) }
     ensures { EndsOf K.tells (K.at output.old) (K.at output.new) result
         (deployed_as deployment.now) text.now }
@@ -74,7 +76,7 @@ fn judge_text<K: Sink>(alloc: Global, deployment: &Deployment, text: &[u8], outp
     match read_property(alloc, &deployment.names, &deployment.app, text) {
         Ok(property) => answer(alloc, deployment, &property, output),
         Err(PropertyError::Fault(fault)) => refuse_property(fault, output),
-        Err(PropertyError::OutOfMemory) => OUT_OF_MEMORY,
+        Err(PropertyError::OutOfMemory) => Status::OutOfMemory,
     }
 }
 
@@ -85,7 +87,7 @@ fn judge_rest<S: Source, K: Sink>(
     lines: &mut Lines,
     input: &mut S,
     output: &mut K,
-) -> u8
+) -> Status
     requires names { IsTrue (are_valid deployment.now.names) }
     ensures { DeployedEnds S.tells K.tells (S.at input.old) (S.at input.new) lines.old
         (K.at output.old) (K.at output.new) result (deployed_as deployment.now) }
@@ -94,8 +96,8 @@ fn judge_rest<S: Source, K: Sink>(
         Ok(text) => judge_text(alloc, deployment, &text, output),
         Err(HeadFault::TooLong) => refuse_no_property(output),
         Err(HeadFault::NoMark) => refuse_no_property(output),
-        Err(HeadFault::Failed) => finish(output, b"fault read\n", READ_FAILED),
-        Err(HeadFault::OutOfMemory) => OUT_OF_MEMORY,
+        Err(HeadFault::Failed) => finish(output, b"fault read\n", Status::ReadFailed),
+        Err(HeadFault::OutOfMemory) => Status::OutOfMemory,
     }
 }
 
@@ -106,7 +108,7 @@ fn judge_read<S: Source, K: Sink>(
     lines: &mut Lines,
     input: &mut S,
     output: &mut K,
-) -> u8
+) -> Status
     requires names { IfOk read (λ deployment. IsTrue (are_valid deployment.names)) }
     ensures accepted { IfOk read (λ deployment.
         DeployedEnds S.tells K.tells (S.at input.old) (S.at input.new) lines.old
@@ -128,7 +130,7 @@ fn judge_head<S: Source, K: Sink>(
     lines: &mut Lines,
     input: &mut S,
     output: &mut K,
-) -> u8
+) -> Status
     ensures { TextEnds S.tells K.tells (S.at input.old) (S.at input.new) lines.old
         (K.at output.old) (K.at output.new) result text.now }
 {
@@ -136,7 +138,7 @@ fn judge_head<S: Source, K: Sink>(
 }
 
 /// What `holds` writes is that of the two heads that it took.
-fn holds_told<S: Source, K: Sink>(alloc: Global, input: &mut S, output: &mut K) -> u8
+fn holds_told<S: Source, K: Sink>(alloc: Global, input: &mut S, output: &mut K) -> Status
     ensures { ToldOf S.tells K.tells (command_at (S.at input.old) (K.at output.old))
         (command_at (S.at input.new) (K.at output.new)) result }
 {
@@ -150,7 +152,7 @@ fn holds_told<S: Source, K: Sink>(alloc: Global, input: &mut S, output: &mut K) 
 /// The command `holds`: a deployment, the line `%%`, a property, and the line `%%`. Gives the exit
 /// status, as `top` does for this command. What follows the second line `%%` isn't judged, and at
 /// most 4,096 bytes of it are read.
-pub fn holds_over<S: Source, K: Sink>(alloc: Global, input: &mut S, output: &mut K) -> u8
+pub fn holds_over<S: Source, K: Sink>(alloc: Global, input: &mut S, output: &mut K) -> Status
     ensures { HoldsPromise S.tells K.tells (command_at (S.at input.old) (K.at output.old))
         (command_at (S.at input.new) (K.at output.new)) result }
 {

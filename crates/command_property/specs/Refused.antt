@@ -1,6 +1,7 @@
 -- How a command ends whose property breaks a rule.
 use Rattle.std.specs.Prelude.{ℕ, List, ◌++◌, codes, decimal}
 use Rattle.sx_lex.specs.declared.tokens.Place.{Place}
+use Rattle.command_promise.specs.declared.status.Status.TheVariants.{NoProperty}
 use Rattle.command_promise.specs.Told.{Output}
 use Rattle.sx_deploy.specs.Checks.{number}
 use Rattle.sx_watch.specs.declared.reading.PropertyFault.{PropertyFault}
@@ -25,7 +26,7 @@ property_line words = line (codes "fault property P" ++ words)
 
 -- status 7: a rule is broken
 abbrev pub refused_output : List ℕ → Output
-refused_output words = record { text = property_line words; status = 7 }
+refused_output words = record { text = property_line words; status = NoProperty }
 
 -- the property has no line `%%` after it, or is too long
 abbrev pub no_property_output : Output

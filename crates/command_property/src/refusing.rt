@@ -6,16 +6,13 @@ ghost use Rattle.sx_deploy.specs.Checks.{number};
 ghost use Rattle.command_property.specs.Refused.{fault_words, no_property_output, place_words};
 ghost use Rattle.command_property.specs.Refused.{property_line, refused_output};
 
-use command_promise::finish;
+use command_promise::{Status, finish};
 use command_text::text::{Text, put};
 use itoa::Buffer;
 use sx_check::rules::Rule;
 use sx_io::Sink;
 use sx_lex::tokens::Place;
 use sx_watch::reading::PropertyFault;
-
-/// The exit status for a property that breaks a rule.
-const REFUSED: u8 = 7;
 
 /// The number under which a rule of the language is printed.
 fn number(rule: Rule) -> u8
@@ -87,19 +84,19 @@ fn fault_line(fault: PropertyFault) -> Text
 }
 
 /// Writes which rule a property breaks, and where.
-pub fn refuse_property<K: Sink>(fault: PropertyFault, output: &mut K) -> u8
+pub fn refuse_property<K: Sink>(fault: PropertyFault, output: &mut K) -> Status
     ensures ends { CommandEnds K.tells (K.at output.old) (K.at output.new) result
         (refused_output (fault_words fault)) }
     ensures memory { result ≡ out_of_memory → ⊥ }
 {
-    finish(output, fault_line(fault).as_slice(), REFUSED)
+    finish(output, fault_line(fault).as_slice(), Status::NoProperty)
 }
 
 /// Writes that no line `%%` ends the property, or that it is too long.
-pub fn refuse_no_property<K: Sink>(output: &mut K) -> u8
+pub fn refuse_no_property<K: Sink>(output: &mut K) -> Status
     ensures ends { CommandEnds K.tells (K.at output.old) (K.at output.new) result
         no_property_output }
     ensures memory { result ≡ out_of_memory → ⊥ }
 {
-    finish(output, b"fault property P1 -\n", REFUSED)
+    finish(output, b"fault property P1 -\n", Status::NoProperty)
 }

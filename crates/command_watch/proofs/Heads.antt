@@ -6,6 +6,7 @@ use Rattle.std.proofs.lemmas.Slice.Eq.{bytes_eq-Decides}
 use Rattle.sx_io.specs.Streams.{SourceAt, SinkAt}
 use Rattle.sx_io.specs.Reading.{Answer, Ending, Ended, Broken, End, Fault, Limit, scan}
 use Rattle.sx_io.specs.Next.{Ahead}
+use Rattle.command_promise.specs.declared.status.Status.{Status}
 use Rattle.command_promise.specs.Reads.{IsBound, Reads, anything}
 use Rattle.command_promise.specs.Got.{Got}
 use Rattle.command_promise.specs.Told.{CommandAt, CommandEnds, Output, Told, command_at, out_of_memory, unread_output}
@@ -196,7 +197,7 @@ module _ (w : List ℕ) where
         (λ lines h. none_second Unread tt Broken lines h) marked_longer two_bound long_enough got
 
     -- a second head was read, and the rest was done
-    pub told_found : {tells to_tell : Bool} {s0 s1 : SourceAt} {k : SinkAt} {now : Ahead} {m2 : CommandAt} {status : ℕ} (t other : List ℕ) → other ≡ t
+    pub told_found : {tells to_tell : Bool} {s0 s1 : SourceAt} {k : SinkAt} {now : Ahead} {m2 : CommandAt} {status : Status} (t other : List ℕ) → other ≡ t
         → Got tells head_lines head_lines s0 s1 now (λ answers. second (head answers)) (λ more. seen (Found t more)) (seen Unread) (Notes marked_in (1 ∷ []))
         → Rest tells to_tell image_lines now (command_at s1 k) m2 status (λ more. watch_property means d (Found other more))
         → Told tells to_tell watch_lines (command_at s0 k) m2 status (watch_all means) (RunsOutBehindHead status)
@@ -216,7 +217,7 @@ module _ (w : List ℕ) where
         (λ more. ends-out-of-memory to_tell k k (watch_property means d (Found t more)) (λ t. prefix-none k.written k.written _ refl) refl))
 
     -- there is none
-    pub told_none : {tells to_tell : Bool} {s0 s1 : SourceAt} {k0 k1 : SinkAt} {status : ℕ} (k : Head) → IsNone k
+    pub told_none : {tells to_tell : Bool} {s0 s1 : SourceAt} {k0 k1 : SinkAt} {status : Status} (k : Head) → IsNone k
         → Reads tells head_lines s0 s1 (λ answers. second (head answers)) (seen Unread) (λ answers. (second (head answers) ≡ seen k) × Notes marked_in (1 ∷ []) answers)
         → CommandEnds to_tell k0 k1 status (watch_property means d k)
         → Told tells to_tell watch_lines (command_at s0 k0) (command_at s1 k1) status (watch_all means) (RunsOutBehindHead status)
@@ -230,7 +231,7 @@ module _ (w : List ℕ) where
 
 -- ---- where there is no first head
 
-first_none : {tells to_tell : Bool} {s0 s1 : SourceAt} {k0 k1 : SinkAt} {status : ℕ} (means : Meanings) (k : Head) → IsNone k
+first_none : {tells to_tell : Bool} {s0 s1 : SourceAt} {k0 k1 : SinkAt} {status : Status} (means : Meanings) (k : Head) → IsNone k
     → Reads tells head_lines s0 s1 head Unread (λ answers. head answers ≡ k) → CommandEnds to_tell k0 k1 status (watch_head means k) → (status ≡ out_of_memory → ⊥)
     → Told tells to_tell watch_lines (command_at s0 k0) (command_at s1 k1) status (watch_all means) (RunsOutBehindHead status)
 first_none means k n r w never =
@@ -244,7 +245,7 @@ begun_first : {tells to_tell : Bool} {s0 s1 : SourceAt} {k : SinkAt} {now : Ahea
     → Begun tells to_tell watch_lines (behind_mark image_lines) (command_at s0 k) (command_at s1 k) now (watch_all means) (watch_found means (means.trace.deployment w)) (Notes marked_in (1 ∷ []))
 begun_first means w got = begun-got (watch_head means) refl (got-also (Notes marked_in (1 ∷ [])) (λ answers more q. ap marked q) (got_first w got))
 
-pub told_headless : {tells to_tell : Bool} {s0 s1 : SourceAt} {k0 k1 : SinkAt} {status : ℕ} (now : Ahead) (means : Meanings) (why : HeadFault) → HeadRead tells s0 s1 now (Err why)
+pub told_headless : {tells to_tell : Bool} {s0 s1 : SourceAt} {k0 k1 : SinkAt} {status : Status} (now : Ahead) (means : Meanings) (why : HeadFault) → HeadRead tells s0 s1 now (Err why)
     → EndsHeadless to_tell k0 k1 status why → Told tells to_tell watch_lines (command_at s0 k0) (command_at s1 k1) status (watch_all means) (RunsOutBehindHead status)
 told_headless {tells} {to_tell} {s0} {s1} {k0} {k1} {status} now means none.TooLong r w = first_none means TooLong tt r w.0 w.1
 told_headless {tells} {to_tell} {s0} {s1} {k0} {k1} {status} now means none.NoMark r w = first_none means NoMark tt r w.0 w.1
@@ -259,7 +260,7 @@ told_headless {tells} {to_tell} {s0} {s1} {k0} {k1} {status} now means none.OutO
 
 -- ---- after a property
 
-pub told_refused : {tells to_tell : Bool} {now : Ahead} {s : SourceAt} {k0 k1 : SinkAt} {status : ℕ} (names : NameLists) (app : AppTree) (text : List ℕ) (item : List ℕ → Option Item) (e : PropertyError)
+pub told_refused : {tells to_tell : Bool} {now : Ahead} {s : SourceAt} {k0 k1 : SinkAt} {status : Status} (names : NameLists) (app : AppTree) (text : List ℕ) (item : List ℕ → Option Item) (e : PropertyError)
     → GivesOne (Err e) (IsProperty names app text) → RefusesText to_tell k0 k1 status e → (r : Result PropertyTree PropertyFault) → IsProperty names app text r
     → Rest tells to_tell image_lines now (command_at s k0) (command_at s k1) status (watch_judged item r)
 told_refused names app text item (property.Fault f) gives w r is = λ limit m0 defined aside noted b.
@@ -269,7 +270,7 @@ told_refused {tells} {to_tell} {now} {s} {k0} {k1} {status} names app text item 
 
 -- ---- after a head
 
-pub watch_behind : {tells to_tell : Bool} {now : Ahead} {s1 s2 : SourceAt} {k0 k1 : SinkAt} {status : ℕ} (text : List ℕ) (r : Result Deployment DeployError) → GivesDeployed deployed_as r (IsRead text)
+pub watch_behind : {tells to_tell : Bool} {now : Ahead} {s1 s2 : SourceAt} {k0 k1 : SinkAt} {status : Status} (text : List ℕ) (r : Result Deployment DeployError) → GivesDeployed deployed_as r (IsRead text)
     → IfOk r (λ d. (means : Meanings) (text : List ℕ) → AreMeanings means → means.trace.deployment text ≡ Ok (deployed_as d) → ReadsOn means text tells to_tell s1 now k0 (command_at s2 k1) status)
     → IfErr r (λ e. EndsRefused to_tell k0 k1 status e) → OnErr r (s2 ≡ s1) → (means : Meanings) → AreMeanings means
     → ReadsOn means text tells to_tell s1 now k0 (command_at s2 k1) status
@@ -286,7 +287,7 @@ watch_behind {tells} {to_tell} {now} {s1} {s2} {k0} {k1} {status} text (Err erro
     (λ more. ends-out-of-memory to_tell k0 k0 (watch_found means (means.trace.deployment text) more) (λ t. prefix-none k0.written k0.written _ refl) refl)))
 
 -- a head was read, and the rest was done
-pub told_head : {tells to_tell : Bool} {s0 s1 : SourceAt} {k : SinkAt} {now : Ahead} {m2 : CommandAt} {status : ℕ} (means : Meanings) (text other : List ℕ) → other ≡ text
+pub told_head : {tells to_tell : Bool} {s0 s1 : SourceAt} {k : SinkAt} {now : Ahead} {m2 : CommandAt} {status : Status} (means : Meanings) (text other : List ℕ) → other ≡ text
     → Got tells head_lines head_lines s0 s1 now head (λ more. Found text more) Unread anything → ReadsOn means other tells to_tell s1 now k m2 status
     → Told tells to_tell watch_lines (command_at s0 k) m2 status (watch_all means) (RunsOutBehindHead status)
 told_head {tells} {to_tell} {s0} {s1} {k} {now} {m2} {status} means text other e got does =

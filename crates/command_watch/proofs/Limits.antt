@@ -3,6 +3,7 @@ use Rattle.std.proofs.Common.{◌≡◌, ◌∙◌, ◌≤◌, ℕ, ◌+◌, Boo
 use Rattle.std.specs.Prelude.{◌==◌}
 use Rattle.std.proofs.lemmas.List.{append-nil}
 use Rattle.sx_io.specs.Reading.{Answer, Ending, Ended, Broken, Line, End, Long, Fault, Limit, at_end, longest, newline, scan, without_return}
+use Rattle.command_promise.specs.declared.status.Status.TheVariants.{Done}
 use Rattle.command_promise.specs.Head.{Head, Found, TooLong, NoMark, Unread, head_behind, head_lines, is_mark, most_bytes}
 use Rattle.command_promise.specs.HeadRead.{Noted}
 use Rattle.command_watch.specs.Output.{behind_mark}
@@ -12,10 +13,15 @@ use Rattle.command_explain.proofs.Heads.{push_some}
 
 -- a text, and a number
 abbrev pub seen_as : List ℕ → ℕ → Noted
-seen_as text number = record { output = record { text = text; status = number }; notes = [] }
+seen_as text number = record { output = record { text = text; status = Done }; notes = (number ∷ []) ∷ [] }
+
+abbrev number_of : List (List ℕ) → ℕ
+number_of [] = 0
+number_of ([] ∷ more) = 0
+number_of ((number ∷ rest) ∷ more) = number
 
 abbrev pub number_in : Noted → ℕ
-number_in n = n.output.status
+number_in n = number_of n.notes
 
 abbrev pub text_in : Noted → List ℕ
 text_in n = n.output.text

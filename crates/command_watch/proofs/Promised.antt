@@ -1,14 +1,15 @@
 -- What follows for `watch` from what it wrote and read.
-use Rattle.std.proofs.Common.{◌≡◌, ◌∙◌, ◌⊎◌, ℕ, Bool, List, [], ◌++◌, inl, inr, sym, ap, subst, arith}
+use Rattle.std.proofs.Common.{◌≡◌, ◌∙◌, ◌⊎◌, ℕ, Bool, List, [], ◌++◌, inl, inr, sym, ap, subst}
 use Rattle.std.specs.Prelude.{◌≢◌, IsTrue}
 use Rattle.std.proofs.lemmas.List.{append-nil}
-use Rattle.std.proofs.lemmas.Bool.{cases_eq}
 use Rattle.sx_io.specs.Streams.{SinkAt, SourceAt}
 use Rattle.sx_io.specs.Reading.{Answer, Broken, Ended, scan}
+use Rattle.command_promise.specs.declared.status.Status.{Status}
+use Rattle.command_promise.specs.declared.status.Status.TheVariants.{Misused}
 use Rattle.command_promise.specs.Reads.{AtEnd, AtFault, Decides, Enough, Left}
 use Rattle.command_promise.specs.Told.{CommandAt, CommandEnds, Output, Told, out_of_memory, read_failed, write_failed}
 use Rattle.command_promise.proofs.Due.{streams-within}
-use Rattle.command_promise.proofs.Laws.{ends-same, told-all, told-fault, told-no-write-fault, told-some, told-write-fault}
+use Rattle.command_promise.proofs.Laws.{ends-same, told-all, told-fault, told-no-write-fault, told-some, told-write-fault, ran-out}
 use Rattle.command_promise.proofs.Endings.{faultless, unfinished}
 use Rattle.command_promise.specs.Head.{head}
 use Rattle.command_text.specs.Faults.{TellsFaults}
@@ -31,22 +32,22 @@ pub are_meant : AreMeanings meant
 unfolding meant
 are_meant = record { trace = are_read; property = is_known }
 
-faults_are : {tells to_tell : Bool} {m0 m1 : CommandAt} {status : ℕ} {also : List Answer → Type 0} (means : Meanings)
+faults_are : {tells to_tell : Bool} {m0 m1 : CommandAt} {status : Status} {also : List Answer → Type 0} (means : Meanings)
     → Told tells to_tell watch_lines m0 m1 status (watch_all means) also → TellsFaults m0 m1 status
 faults_are {tells} {to_tell} {m0} {m1} {status} means told = record {
   read = λ four.
-      told-fault told (λ five. omega (arith, four, five)) (λ six. omega (arith, four, six))
+      told-fault told (λ five. cc (four, five)) (λ six. cc (four, six))
       (λ bytes e. not_four means (scan watch_lines Ended [] bytes) (faultless watch_lines [] bytes) (sym e ∙ four));
   write = λ five. told-write-fault told five;
   no_write = λ other. told-no-write-fault told other;
 }
 
 -- What is written, and the status, are those of the whole input.
-module _ (to_tell : Bool) (k0 k1 : SinkAt) (status : ℕ) (means : Meanings) (four : status ≢ read_failed) (five : status ≢ write_failed) where
+module _ (to_tell : Bool) (k0 k1 : SinkAt) (status : Status) (means : Meanings) (four : status ≢ read_failed) (five : status ≢ write_failed) where
   -- what ends so, or memory ran out
   ends_as : (o : Output) → CommandEnds to_tell k0 k1 status o → (status ≡ out_of_memory) ⊎ ((status ≡ o.status) × (IsTrue to_tell → k1.written ≡ k0.written ++ o.text))
   ends_as o w =
-      elim (cases_eq status out_of_memory) [
+      elim (ran-out status) [
         | inl six ↦ inl six
         | inr six ↦ inr (w.whole five six)
       ]
@@ -64,7 +65,7 @@ module _ (to_tell : Bool) (k0 k1 : SinkAt) (status : ℕ) (means : Meanings) (fo
       inr (subst P (sym (e ∙ ap (λ (v : List ℕ). taken ++ v) (d.1 t).rest ∙ append-nil taken)) d.2.0)
   whole_input AtFault tells s0 s1 taken also t e d =
       let P : List ℕ → Type 0 = λ bytes. CommandEnds to_tell k0 k1 status (watch_all means (scan watch_lines Ended [] bytes)) in
-      elim (cases_eq status out_of_memory) [
+      elim (ran-out status) [
         | inl six ↦ inl six
         | inr six ↦ inr (subst P (sym e) (ends-same _ _ _ _ _ _ (sym (settled watch_lines (watch_all means) taken (due_all means) (not_unread taken six d.2.0) Ended s1.rest)) d.2.0))
       ]
@@ -72,7 +73,7 @@ module _ (to_tell : Bool) (k0 k1 : SinkAt) (status : ℕ) (means : Meanings) (fo
       let P : List ℕ → Type 0 = λ bytes. CommandEnds to_tell k0 k1 status (watch_all means (scan watch_lines Ended [] bytes)) in
       inr (subst P (sym e) (d.2 Ended s1.rest).0)
 
-exact_of : {tells to_tell : Bool} {m0 m1 : CommandAt} {status : ℕ} {also : List Answer → Type 0} (means : Meanings)
+exact_of : {tells to_tell : Bool} {m0 m1 : CommandAt} {status : Status} {also : List Answer → Type 0} (means : Meanings)
     → Told tells to_tell watch_lines m0 m1 status (watch_all means) also → IsTrue tells → status ≢ read_failed → status ≢ write_failed
     → EndsAs to_tell m0 m1 status (watch_all means (input_of m0))
 exact_of {tells} {to_tell} {m0} {m1} {status} {also} means told t four five =
@@ -82,7 +83,7 @@ exact_of {tells} {to_tell} {m0} {m1} {status} {also} means told t four five =
       | inr w ↦ ends_as to_tell m0.sink m1.sink status means four five (watch_all means (input_of m0)) w
     ]
 
-pub watch_promise : {tells to_tell : Bool} {m0 m1 : CommandAt} {status : ℕ}
+pub watch_promise : {tells to_tell : Bool} {m0 m1 : CommandAt} {status : Status}
     → ((means : Meanings) → AreMeanings means → Told tells to_tell watch_lines m0 m1 status (watch_all means) (RunsOutBehindHead status))
     → (status ≡ out_of_memory → m1.sink ≡ m0.sink) → WatchPromise tells to_tell m0 m1 status
 watch_promise {tells} {to_tell} {m0} {m1} {status} told starved = record {
@@ -90,14 +91,14 @@ watch_promise {tells} {to_tell} {m0} {m1} {status} told starved = record {
   streams = λ means is. streams-within watch_lines (watch_all means) (due_all means) (told means is);
   faults = faults_are meant (told meant are_meant);
   read_all = λ zero t.
-      told-all (told meant are_meant) (λ five. omega (arith, zero, five)) (λ six. omega (arith, zero, six))
+      told-all (told meant are_meant) (λ five. cc (zero, five)) (λ six. cc (zero, six))
       (λ bytes e. not_zero meant (scan watch_lines Broken [] bytes) (unfinished watch_lines [] bytes) (sym e ∙ zero)) t;
   exact = λ means is. exact_of means (told means is);
   memory = starved;
 }
 
 -- what was told doesn't end with the status for other words
-pub watch_not_two : {tells to_tell : Bool} {m0 m1 : CommandAt} {status : ℕ} → WatchPromise tells to_tell m0 m1 status → status ≡ 2 → ⊥
+pub watch_not_two : {tells to_tell : Bool} {m0 m1 : CommandAt} {status : Status} → WatchPromise tells to_tell m0 m1 status → status ≡ Misused → ⊥
 watch_not_two says two =
     let w = told-some (says.told meant are_meant) in
-    head_not_two meant (head w.0) (sym (w.1.0.whole (λ five. omega (arith, two, five)) (λ six. omega (arith, two, six))).0 ∙ two)
+    head_not_two meant (head w.0) (sym (w.1.0.whole (λ five. cc (two, five)) (λ six. cc (two, six))).0 ∙ two)

@@ -5,6 +5,7 @@ use Rattle.std.specs.Prelude.{Some, None}
 use Rattle.sx_io.specs.Streams.{SinkAt, SourceAt}
 use Rattle.sx_io.specs.Reading.{Answer}
 use Rattle.sx_io.specs.Next.{Ahead}
+use Rattle.command_promise.specs.declared.status.Status.{Status}
 use Rattle.command_promise.specs.Reads.{anything}
 use Rattle.command_promise.specs.Got.{Got}
 use Rattle.command_promise.specs.Told.{CommandAt, CommandEnds, Told, command_at, out_of_memory}
@@ -53,14 +54,14 @@ TurnsFrom to_tell k0 k1 old new number item turned = (p : PropertyTree) (items :
 
 -- That a property breaks a rule is reported without memory; if there was none for a property,
 -- nothing was written.
-abbrev pub RefusesText : Bool → SinkAt → SinkAt → ℕ → PropertyError → Type 0
+abbrev pub RefusesText : Bool → SinkAt → SinkAt → Status → PropertyError → Type 0
 RefusesText to_tell k0 k1 status (Fault f) =
     CommandEnds to_tell k0 k1 status (refused_output (fault_words f)) × (status ≢ out_of_memory)
 RefusesText to_tell k0 k1 status OutOfMemory = (status ≡ out_of_memory) × (k1 ≡ k0)
 
 -- after this head of the input, of which nothing was written, the command does the rest
-abbrev pub ReadsOn : Meanings → List ℕ → Bool → Bool → SourceAt → Ahead → SinkAt → CommandAt → ℕ
-    → Type 0
+abbrev pub ReadsOn : Meanings → List ℕ → Bool → Bool → SourceAt → Ahead → SinkAt → CommandAt
+    → Status → Type 0
 ReadsOn means text tells to_tell s1 now k1 m2 status = (s0 : SourceAt)
     → Got tells head_lines head_lines s0 s1 now head (λ more. Found text more) Unread anything
     → Told tells to_tell watch_lines (command_at s0 k1) m2 status (watch_all means)

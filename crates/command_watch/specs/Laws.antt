@@ -2,6 +2,7 @@
 use Rattle.std.specs.Prelude.{◌≡◌, ℕ, List, Some, None, Option, Result, Ok, Err}
 use Rattle.sx_io.specs.Reading.{Answer}
 use Rattle.sx_entries.specs.declared.fault.DeployFault.{DeployFault}
+use Rattle.command_promise.specs.declared.status.Status.TheVariants.{Done, PropertyBroken}
 use Rattle.command_promise.specs.Head.{Head, Found, head}
 use Rattle.sx_trace.specs.declared.items.Item.{Item}
 use Rattle.sx_model.specs.Legal.{before}
@@ -48,8 +49,8 @@ OfInput means Is _ = ⊥
 -- What is defined with status 0 is that of a whole trace, none of whose items before the first that
 -- is forged breaks the property; and with status 12 an item does.
 pub record StatusesSay (means : Meanings) (answers : List Answer) : Type 0 where
-  pub kept : (watch_all means answers).status ≡ 0 → OfInput means IsKeptTrace (head answers)
-  pub broken : (watch_all means answers).status ≡ 12
+  pub kept : (watch_all means answers).status ≡ Done → OfInput means IsKeptTrace (head answers)
+  pub broken : (watch_all means answers).status ≡ PropertyBroken
       → (n : ℕ) × OfInput means (IsBrokenTrace n) (head answers)
 
 abbrev pub StatusesSaySo : Type 0

@@ -3,6 +3,7 @@
 use Rattle.std.specs.Prelude.{ℕ, ◌+◌, List, [], ◌∷◌, ◌++◌, codes, decimal, length, Option, Some}
 use Rattle.std.specs.Prelude.{None, if◌then◌else◌}
 use Rattle.sx_io.specs.Reading.{Answer, Limit, longest}
+use Rattle.command_promise.specs.declared.status.Status.TheVariants.{Done, PropertyBroken}
 use Rattle.command_promise.specs.Told.{Output, unread_output}
 use Rattle.command_promise.specs.Head.{is_mark}
 use Rattle.sx_trace.specs.declared.items.Item.{Item}
@@ -18,7 +19,7 @@ use Rattle.command_watch.specs.Meant.{Meanings}
 
 -- status 12: the item with this number is the first that breaks the property
 abbrev pub broken_line : ℕ → Output
-broken_line n = record { text = line (codes "broken " ++ decimal n); status = 12 }
+broken_line n = record { text = line (codes "broken " ++ decimal n); status = PropertyBroken }
 
 -- none of these does: how many come before the first that is forged, and which that is
 abbrev pub kept_text : List Item → List ℕ
@@ -26,7 +27,7 @@ kept_text items = line (codes "kept " ++ decimal (length (before items)))
     ++ forged_line (first_forged items) ++ end_line
 
 abbrev pub kept_output : List Item → Output
-kept_output items = record { text = kept_text items; status = 0 }
+kept_output items = record { text = kept_text items; status = Done }
 
 -- if no item breaks it: the last lines, by where the trace ends
 abbrev pub stop_output : List Item → Stop → Output

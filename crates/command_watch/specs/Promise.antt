@@ -1,6 +1,8 @@
 -- What the command `watch` promises, of its streams at its start (m0) and at its end (m1).
-use Rattle.std.specs.Prelude.{◌≡◌, ◌≢◌, ℕ, Bool, List, [], IsTrue}
+use Rattle.std.specs.Prelude.{◌≡◌, ◌≢◌, Bool, List, [], IsTrue}
 use Rattle.sx_io.specs.Reading.{Answer, Ended, scan}
+use Rattle.command_promise.specs.declared.status.Status.{Status}
+use Rattle.command_promise.specs.declared.status.Status.TheVariants.{Done}
 use Rattle.command_promise.specs.Told.{CommandAt, Told, out_of_memory, read_failed, write_failed}
 use Rattle.command_promise.specs.Further.{Streams}
 use Rattle.command_text.specs.Faults.{TellsFaults}
@@ -20,13 +22,13 @@ input_of m0 = scan watch_lines Ended [] m0.source.rest
 -- item that is printed as the first that breaks the property is that of the whole input. Status 0
 -- says that the input was read to its end (`read_all`). Where memory ran out, nothing was written
 -- (`memory`).
-pub record WatchPromise (tells to_tell : Bool) (m0 m1 : CommandAt) (status : ℕ) : Type 0 where
+pub record WatchPromise (tells to_tell : Bool) (m0 m1 : CommandAt) (status : Status) : Type 0 where
   pub told : (means : Meanings) → AreMeanings means
       → Told tells to_tell watch_lines m0 m1 status (watch_all means) (RunsOutBehindHead status)
   pub streams : (means : Meanings) → AreMeanings means
       → Streams tells to_tell watch_lines m0 m1 (watch_all means)
   pub faults : TellsFaults m0 m1 status
-  pub read_all : status ≡ 0 → IsTrue tells → m1.source.rest ≡ []
+  pub read_all : status ≡ Done → IsTrue tells → m1.source.rest ≡ []
   pub exact : (means : Meanings) → AreMeanings means → IsTrue tells → status ≢ read_failed
       → status ≢ write_failed → EndsAs to_tell m0 m1 status (watch_all means (input_of m0))
   pub memory : status ≡ out_of_memory → m1.sink ≡ m0.sink

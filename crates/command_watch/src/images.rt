@@ -11,7 +11,7 @@ ghost use Rattle.command_watch.specs.Output.{watch_start};
 
 use crate::trace::watch_trace;
 use command_explain::{ImageLine, TraceRule, break_off, front_line};
-use command_promise::{READ_FAILED, finish};
+use command_promise::{Status, finish};
 use std::alloc::Global;
 use sx_io::{Lines, PassRead, Sink, Source};
 use sx_trace::names::Names;
@@ -25,7 +25,7 @@ pub(crate) fn watch_images<S: Source, K: Sink>(
     output: &mut K,
     names: &Names,
     property: Property,
-) -> u8
+) -> Status
     requires names { IsTrue (are_valid names.now) }
     ensures rest { (means : Meanings) → AreMeanings means
         → Rest S.tells K.tells image_lines lines.old
@@ -40,7 +40,7 @@ pub(crate) fn watch_images<S: Source, K: Sink>(
         match lines.pass(input, &mut front) {
             PassRead::End => return break_off(output, TraceRule::NoTrace, number),
             PassRead::TooLong => return break_off(output, TraceRule::NoTrace, number),
-            PassRead::Failed => return finish(output, b"fault read\n", READ_FAILED),
+            PassRead::Failed => return finish(output, b"fault read\n", Status::ReadFailed),
             PassRead::Text(count) => match front_line(number, &front, count) {
                 ImageLine::Image => number += 1,
                 ImageLine::Trace => {

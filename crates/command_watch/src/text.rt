@@ -10,12 +10,9 @@ ghost use Rattle.command_watch.specs.Output.{broken_line, kept_output, kept_text
 
 use crate::following::Following;
 use command_explain::{put_forged, put_number};
-use command_promise::finish;
+use command_promise::{Status, finish};
 use command_text::text::{Text, put};
 use sx_io::Sink;
-
-/// The exit status for an item that breaks the property.
-const BROKEN: u8 = 12;
 
 /// That an item breaks the property.
 fn broken_text(number: u32) -> Text
@@ -29,12 +26,16 @@ fn broken_text(number: u32) -> Text
 }
 
 /// Writes that the item of this number breaks the property.
-pub(crate) fn finish_broken<K: Sink>(output: &mut K, number: u32) -> u8
+pub(crate) fn finish_broken<K: Sink>(output: &mut K, number: u32) -> Status
     ensures ends { CommandEnds K.tells (K.at output.old) (K.at output.new) result
         (broken_line number) }
     ensures memory { result ≢ out_of_memory }
 {
-    finish(output, broken_text(number).as_slice(), BROKEN)
+    finish(
+        output,
+        broken_text(number).as_slice(),
+        Status::PropertyBroken,
+    )
 }
 
 /// How many of so many items come before the first that is forged.
@@ -64,11 +65,11 @@ fn kept_text(following: &Following, count: u32) -> Text
 }
 
 /// Writes that none of so many items breaks the property.
-pub(crate) fn finish_kept<K: Sink>(output: &mut K, following: &Following, count: u32) -> u8
+pub(crate) fn finish_kept<K: Sink>(output: &mut K, following: &Following, count: u32) -> Status
     ensures ends { (p : PropertyTree) (items : List Listed) → Stands p items following.now
         → count ≡ length items → CommandEnds K.tells (K.at output.old) (K.at output.new) result
         (kept_output items) }
     ensures memory { result ≢ out_of_memory }
 {
-    finish(output, kept_text(following, count).as_slice(), 0)
+    finish(output, kept_text(following, count).as_slice(), Status::Done)
 }

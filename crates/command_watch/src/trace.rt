@@ -16,7 +16,7 @@ ghost use Rattle.command_watch.specs.Output.{stop_output, watch_from};
 use crate::following::Following;
 use crate::text::{finish_broken, finish_kept};
 use command_explain::{MOST_LINES, TraceLine, TraceRule, break_off, judge_line, rule_behind};
-use command_promise::{OUT_OF_MEMORY, READ_FAILED, Turned, finish};
+use command_promise::{Status, Turned, finish};
 use std::alloc::Global;
 use sx_io::{LineRead, Lines, Sink, Source};
 use sx_trace::items::Item;
@@ -39,7 +39,7 @@ fn turn<K: Sink>(
     match following.item(alloc, item, number) {
         Ok(false) => Turned::On,
         Ok(true) => Turned::Stop(finish_broken(output, number)),
-        Err(_) => Turned::Stop(OUT_OF_MEMORY),
+        Err(_) => Turned::Stop(Status::OutOfMemory),
     }
 }
 
@@ -51,7 +51,7 @@ fn watch_end<S: Source, K: Sink>(
     names: &Names,
     following: &Following,
     count: u32,
-) -> u8
+) -> Status
     requires names { IsTrue (are_valid names.now) }
     requires few { count < MOST_LINES }
     ensures rest { (means : Meanings) (p : PropertyTree) (items : List Listed) → AreMeanings means
@@ -67,7 +67,7 @@ fn watch_end<S: Source, K: Sink>(
     match lines.next(input, &mut into) {
         LineRead::End => finish_kept(output, following, count),
         LineRead::TooLong => break_off(output, TraceRule::NoItem, number),
-        LineRead::Failed => finish(output, b"fault read\n", READ_FAILED),
+        LineRead::Failed => finish(output, b"fault read\n", Status::ReadFailed),
         LineRead::Text(n) => break_off(output, rule_behind(names, &into[..n]), number),
     }
 }
@@ -80,7 +80,7 @@ fn watch_lines<S: Source, K: Sink>(
     output: &mut K,
     names: &Names,
     following: &mut Following,
-) -> u8
+) -> Status
     requires names { IsTrue (are_valid names.now) }
     ensures rest { (means : Meanings) (p : PropertyTree) → AreMeanings means
         → Stands p [] following.old
@@ -96,7 +96,7 @@ fn watch_lines<S: Source, K: Sink>(
         match lines.next(input, &mut into) {
             LineRead::End => return break_off(output, TraceRule::NoEnd, number),
             LineRead::TooLong => return break_off(output, TraceRule::NoItem, number),
-            LineRead::Failed => return finish(output, b"fault read\n", READ_FAILED),
+            LineRead::Failed => return finish(output, b"fault read\n", Status::ReadFailed),
             LineRead::Text(n) => match judge_line(names, &into[..n], number) {
                 Err(rule) => return break_off(output, rule, number),
                 Ok(TraceLine::Last) => {
@@ -119,7 +119,7 @@ pub(crate) fn watch_trace<S: Source, K: Sink>(
     output: &mut K,
     names: &Names,
     property: Property,
-) -> u8
+) -> Status
     requires names { IsTrue (are_valid names.now) }
     ensures rest { (means : Meanings) → AreMeanings means
         → Rest S.tells K.tells trace_lines lines.old
@@ -130,6 +130,6 @@ pub(crate) fn watch_trace<S: Source, K: Sink>(
 {
     match Following::new(alloc, property) {
         Ok(mut following) => watch_lines(alloc, lines, input, output, names, &mut following),
-        Err(_) => OUT_OF_MEMORY,
+        Err(_) => Status::OutOfMemory,
     }
 }

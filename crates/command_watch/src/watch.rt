@@ -18,7 +18,7 @@ ghost use Rattle.command_watch.specs.Promise.{WatchPromise};
 
 use crate::images::watch_images;
 use command_head::refusing::{refuse, refuse_head};
-use command_promise::{HeadFault, OUT_OF_MEMORY, READ_FAILED, finish, read_head, read_text};
+use command_promise::{HeadFault, Status, finish, read_head, read_text};
 use command_property::{refuse_no_property, refuse_property};
 use std::alloc::Global;
 use sx_deploy::DeployError;
@@ -27,12 +27,12 @@ use sx_io::{Lines, Sink, Source};
 use sx_watch::reading::{PropertyError, read_property};
 
 /// Writes why a text gives no property. Nothing is written if memory ran out for one.
-fn refuse_text<K: Sink>(error: PropertyError, output: &mut K) -> u8
+fn refuse_text<K: Sink>(error: PropertyError, output: &mut K) -> Status
     ensures { RefusesText K.tells (K.at output.old) (K.at output.new) result error }
 {
     match error {
         PropertyError::Fault(fault) => refuse_property(fault, output),
-        PropertyError::OutOfMemory => OUT_OF_MEMORY,
+        PropertyError::OutOfMemory => Status::OutOfMemory,
     }
 }
 
@@ -44,7 +44,7 @@ fn watch_text<S: Source, K: Sink>(
     input: &mut S,
     output: &mut K,
     deployment: &Deployment,
-) -> u8
+) -> Status
     requires names { IsTrue (are_valid deployment.now.names) }
     ensures rest { (means : Meanings) → AreMeanings means
         → Rest S.tells K.tells image_lines lines.old
@@ -67,7 +67,7 @@ fn watch_deployed<S: Source, K: Sink>(
     input: &mut S,
     output: &mut K,
     deployment: &Deployment,
-) -> u8
+) -> Status
     requires names { IsTrue (are_valid deployment.now.names) }
     ensures reads { (means : Meanings) (text : List ℕ) → AreMeanings means
         → means.trace.deployment text ≡ Ok (deployed_as deployment.now)
@@ -79,8 +79,8 @@ fn watch_deployed<S: Source, K: Sink>(
         Ok(text) => watch_text(alloc, &text, lines, input, output, deployment),
         Err(HeadFault::TooLong) => refuse_no_property(output),
         Err(HeadFault::NoMark) => refuse_no_property(output),
-        Err(HeadFault::Failed) => finish(output, b"fault read\n", READ_FAILED),
-        Err(HeadFault::OutOfMemory) => OUT_OF_MEMORY,
+        Err(HeadFault::Failed) => finish(output, b"fault read\n", Status::ReadFailed),
+        Err(HeadFault::OutOfMemory) => Status::OutOfMemory,
     }
 }
 
@@ -92,7 +92,7 @@ fn watch_read<S: Source, K: Sink>(
     lines: &mut Lines,
     input: &mut S,
     output: &mut K,
-) -> u8
+) -> Status
     requires names { IfOk read (λ deployment. IsTrue (are_valid deployment.names)) }
     ensures accepted { IfOk read (λ deployment. (means : Meanings) (text : List ℕ)
         → AreMeanings means → means.trace.deployment text ≡ Ok (deployed_as deployment)
@@ -116,7 +116,7 @@ fn watch_head<S: Source, K: Sink>(
     lines: &mut Lines,
     input: &mut S,
     output: &mut K,
-) -> u8
+) -> Status
     ensures reads { (means : Meanings) → AreMeanings means
         → ReadsOn means text.now S.tells K.tells (S.at input.old) lines.old (K.at output.old)
         (command_at (S.at input.new) (K.at output.new)) result }
@@ -127,7 +127,7 @@ fn watch_head<S: Source, K: Sink>(
 
 /// What `watch` writes is what is defined for what it took. To say that there is no head takes no
 /// memory.
-fn watch_told<S: Source, K: Sink>(alloc: Global, input: &mut S, output: &mut K) -> u8
+fn watch_told<S: Source, K: Sink>(alloc: Global, input: &mut S, output: &mut K) -> Status
     ensures told { (means : Meanings) → AreMeanings means
         → Told S.tells K.tells watch_lines (command_at (S.at input.old) (K.at output.old))
         (command_at (S.at input.new) (K.at output.new)) result (watch_all means)
@@ -144,7 +144,7 @@ fn watch_told<S: Source, K: Sink>(alloc: Global, input: &mut S, output: &mut K) 
 /// The command `watch`: a deployment, the line `%%`, a property of it, a second line `%%`, and the
 /// output of a run. Gives the exit status, as `top` does for this command. Nothing is read once the
 /// line of the first item was whole that breaks the property.
-pub fn watch_over<S: Source, K: Sink>(alloc: Global, input: &mut S, output: &mut K) -> u8
+pub fn watch_over<S: Source, K: Sink>(alloc: Global, input: &mut S, output: &mut K) -> Status
     ensures { WatchPromise S.tells K.tells (command_at (S.at input.old) (K.at output.old))
         (command_at (S.at input.new) (K.at output.new)) result }
 {
