@@ -30,7 +30,7 @@ end
 "#;
 
 fn run_weak(alloc: Global, input: &mut MemSource, output: &mut MemSink) -> u8 {
-    run_over(alloc, Weak, input, output)
+    run_over(alloc, Weak, input, output).number()
 }
 
 #[test]
