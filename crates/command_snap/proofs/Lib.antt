@@ -3,6 +3,7 @@
 pub mod Between
 pub mod Owing
 pub mod Places
+pub mod Reached
 pub mod Registers
 pub mod Said
 pub mod Statuses

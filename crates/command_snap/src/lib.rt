@@ -10,6 +10,7 @@
 //! The schedule is judged to its end before anything is written.
 #![tactic(auto)]
 
+mod answering;
 mod answers;
 mod queries;
 mod querying;

@@ -4,7 +4,7 @@ ghost use Rattle.std.specs.Prelude.{◌≡◌, ◌+◌, ◌<◌, ◌≤◌, IfOk
 ghost use Rattle.sx_trace.specs.Names.{NameLists};
 ghost use Rattle.sx_trace.specs.ValidNames.{are_valid};
 ghost use Rattle.sx_sched.specs.Words.{words_of};
-ghost use Rattle.command_snap.specs.Asked.{IsAsked};
+ghost use Rattle.command_snap.specs.Asked.{IsAsked, lines_before};
 ghost use Rattle.command_snap.specs.Input.{bytes_query, items_query, judged_query, node_of};
 ghost use Rattle.command_snap.specs.Input.{number_in, query_of_kind, registers_query, rule_number};
 
@@ -42,7 +42,7 @@ impl QueryRule {
 pub(crate) const MOST_LINES: u32 = 64;
 
 /// What a line asks. `at` is how many lines of the schedule were performed.
-#[derive(Clone, Copy)]
+#[derive(Clone, Copy, PartialEq, Eq)]
 pub(crate) enum Query {
     /// Nothing: a line without a word, or a comment.
     Blank,
@@ -62,6 +62,19 @@ pub(crate) enum Query {
     Items {
         at: u32,
     },
+}
+
+impl Query {
+    /// How many lines come before what is asked.
+    pub(crate) fn lines_before(self) -> u32
+        ensures { result ≡ lines_before self }
+    {
+        match self {
+            Query::Blank => 0,
+            Query::Registers { at, .. } | Query::Bytes { at, .. } => at,
+            Query::Items { at } => at.saturating_sub(1),
+        }
+    }
 }
 
 /// The index of a node. The error is `NoName`.

@@ -1,4 +1,4 @@
-//! The queries after the mark. Each is judged and answered before the next is read.
+//! The queries after the mark. Each is judged and its answer written before the next is read.
 
 ghost use Rattle.std.specs.Prelude.{◌≡◌, ◌≢◌, ◌+◌, ◌<◌, ◌≤◌, ◌∷◌, IfOk, IsOk, IsTrue, List};
 ghost use Rattle.std.specs.Prelude.{length};
@@ -13,15 +13,16 @@ ghost use Rattle.spec_run.specs.Accepted.{setting};
 ghost use Rattle.sx_snap.specs.Checkpoints.{IsTimeline};
 ghost use Rattle.command_snap.specs.Input.{judged_query};
 ghost use Rattle.command_snap.specs.Asked.{IsAsked};
+ghost use Rattle.command_snap.specs.Foreseen.{AreAnswers};
 ghost use Rattle.command_snap.specs.Kept.{QueriesWant};
 ghost use Rattle.command_snap.specs.Answers.{answer_text};
 ghost use Rattle.command_snap.specs.Output.{answers_from, query_fault};
 
-use crate::answers::{Range, bytes_line, items_text, registers_line};
+use crate::answering::{Foreseen, answer};
 use crate::queries::{MOST_LINES, Query, QueryRule, judge_query};
 use command_promise::{Status, Turned, finish, put_text};
 use command_text::fault::finish_fault;
-use std::alloc::{AllocError, Global};
+use std::alloc::Global;
 use sx_bus::Copied;
 use sx_deploy::deployment::Deployment;
 use sx_io::{LineRead, Lines, Sink, Source};
@@ -43,120 +44,28 @@ fn break_query<K: Sink>(output: &mut K, rule: QueryRule, number: u32) -> Status
     )
 }
 
-/// The registers of a node after so many lines.
-#[tactic(auto, unfolding(crate::specs::Answers::answer_text))]
-fn answer_registers<B: Copied, T: Tag + Copy>(
-    alloc: Global,
-    deployment: &Deployment,
-    timeline: &Timeline<B, T>,
-    node: u8,
-    at: u32,
-) -> Result<Vec<u8>, AllocError>
-    requires timeline { IsTimeline T.mac (deployed_as deployment.now) timeline.now }
-    requires node { node < length (deployed_as deployment.now).names.nodes }
-    requires within { at ≤ length timeline.now.lines }
-    ensures { IfOk result (λ text. text.items ≡ answer_text (deployed_as deployment.now).names
-        (setting T.mac (deployed_as deployment.now) timeline.now.sites) timeline.now.lines
-        (Query.Registers node at)) }
-{
-    let world = timeline.seek(deployment, at)?;
-    registers_line(alloc, &deployment.names, node, at, world.node(node))
-}
-
-/// Bytes of a node's memory after so many lines.
-#[tactic(auto, unfolding(crate::specs::Answers::answer_text))]
-fn answer_bytes<B: Copied, T: Tag + Copy>(
-    alloc: Global,
-    deployment: &Deployment,
-    timeline: &Timeline<B, T>,
-    range: Range,
-    at: u32,
-) -> Result<Vec<u8>, AllocError>
-    requires timeline { IsTimeline T.mac (deployed_as deployment.now) timeline.now }
-    requires node { range.number < length (deployed_as deployment.now).names.nodes }
-    requires memory { range.from + range.len ≤ 65536 }
-    requires within { at ≤ length timeline.now.lines }
-    ensures { IfOk result (λ text. text.items ≡ answer_text (deployed_as deployment.now).names
-        (setting T.mac (deployed_as deployment.now) timeline.now.sites) timeline.now.lines
-        (Query.Bytes range.number range.from range.len at)) }
-{
-    let world = timeline.seek(deployment, at)?;
-    bytes_line(
-        alloc,
-        &deployment.names,
-        range,
-        at,
-        world.node(range.number),
-    )
-}
-
-/// The items of the last of so many lines.
-#[tactic(auto, unfolding(crate::specs::Answers::answer_text))]
-fn answer_items<B: Copied, T: Tag + Copy>(
-    alloc: Global,
-    deployment: &Deployment,
-    timeline: &Timeline<B, T>,
-    at: u32,
-) -> Result<Vec<u8>, AllocError>
-    requires timeline { IsTimeline T.mac (deployed_as deployment.now) timeline.now }
-    requires some { 1 ≤ at }
-    requires within { at ≤ length timeline.now.lines }
-    ensures { IfOk result (λ text. text.items ≡ answer_text (deployed_as deployment.now).names
-        (setting T.mac (deployed_as deployment.now) timeline.now.sites) timeline.now.lines
-        (Query.Items at)) }
-{
-    let items = timeline.items(deployment, at)?;
-    items_text(alloc, &deployment.names, at, &items)
-}
-
-/// The answer to a query.
-#[tactic(auto, unfolding(crate::specs::Answers::answer_text))]
-fn answer<B: Copied, T: Tag + Copy>(
-    alloc: Global,
-    deployment: &Deployment,
-    timeline: &Timeline<B, T>,
-    query: Query,
-) -> Result<Vec<u8>, AllocError>
-    requires timeline { IsTimeline T.mac (deployed_as deployment.now) timeline.now }
-    requires asked { IsAsked (deployed_as deployment.now).names (length timeline.now.lines) query }
-    ensures { IfOk result (λ text. text.items ≡ answer_text (deployed_as deployment.now).names
-        (setting T.mac (deployed_as deployment.now) timeline.now.sites) timeline.now.lines query) }
-{
-    match query {
-        Query::Blank => Ok(Vec::new(alloc)),
-        Query::Registers { node, at } => answer_registers(alloc, deployment, timeline, node, at),
-        Query::Bytes {
-            node,
-            from,
-            len,
-            at,
-        } => {
-            let range = Range {
-                number: node,
-                from,
-                len,
-            };
-            answer_bytes(alloc, deployment, timeline, range, at)
-        }
-        Query::Items { at } => answer_items(alloc, deployment, timeline, at),
-    }
-}
-
 /// Writes the answer to a query.
 fn tell<K: Sink, B: Copied, T: Tag + Copy>(
     alloc: Global,
     output: &mut K,
     deployment: &Deployment,
     timeline: &Timeline<B, T>,
+    foreseen: &Foreseen,
     query: Query,
 ) -> Turned
     requires timeline { IsTimeline T.mac (deployed_as deployment.now) timeline.now }
     requires asked { IsAsked (deployed_as deployment.now).names (length timeline.now.lines) query }
+    requires answers { AreAnswers (deployed_as deployment.now).names
+        (setting T.mac (deployed_as deployment.now) timeline.now.sites) timeline.now.lines
+        foreseen.now.answers.items }
     ensures { (left : List Answer → Output) → DoesPart K.tells (K.at output.old)
         (K.at output.new) (λ more. behind (answer_text (deployed_as deployment.now).names
         (setting T.mac (deployed_as deployment.now) timeline.now.sites) timeline.now.lines query)
         (left more)) result left }
 {
+    if let Some(text) = foreseen.text(query) {
+        return put_text(output, text);
+    }
     match answer(alloc, deployment, timeline, query) {
         Ok(text) => put_text(output, &text),
         Err(_) => Turned::Stop(Status::OutOfMemory),
@@ -169,21 +78,32 @@ fn turn<K: Sink, B: Copied, T: Tag + Copy>(
     output: &mut K,
     deployment: &Deployment,
     timeline: &Timeline<B, T>,
+    lines: &Lines,
+    foreseen: &mut Foreseen,
     said: &[u8],
     number: u32,
 ) -> Turned
     requires names { IsTrue (are_valid (deployed_as deployment.now).names) }
     requires timeline { IsTimeline T.mac (deployed_as deployment.now) timeline.now }
+    requires answers { AreAnswers (deployed_as deployment.now).names
+        (setting T.mac (deployed_as deployment.now) timeline.now.sites) timeline.now.lines
+        foreseen.old.answers.items }
     ensures does { let ask = answers_from (deployed_as deployment.now).names
         (setting T.mac (deployed_as deployment.now) timeline.now.sites) timeline.now.lines in
         DoesPart K.tells (K.at output.old) (K.at output.new)
         (λ more. ask number (Line said.now ∷ more)) result (ask (number + 1)) }
+    ensures answers { result ≡ Turned.On → AreAnswers (deployed_as deployment.now).names
+        (setting T.mac (deployed_as deployment.now) timeline.now.sites) timeline.now.lines
+        foreseen.new.answers.items }
     ensures few { result ≡ Turned.On → number ≤ MOST_LINES }
     ensures memory { result ≡ Turned.Stop out_of_memory → IsOk (judged_query
         (deployed_as deployment.now).names (length timeline.now.lines) number said.now) }
 {
     match judge_query(&deployment.names, timeline.count() as u32, number, said) {
-        Ok(query) => tell(alloc, output, deployment, timeline, query),
+        Ok(query) => match foreseen.prepare(deployment, timeline, lines, number, query) {
+            Ok(()) => tell(alloc, output, deployment, timeline, foreseen, query),
+            Err(_) => Turned::Stop(Status::OutOfMemory),
+        },
         Err(rule) => Turned::Stop(break_query(output, rule, number)),
     }
 }
@@ -210,6 +130,7 @@ pub(crate) fn answer_queries<S: Source, K: Sink, B: Copied, T: Tag + Copy>(
 {
     let mut into = [0; 4096];
     let mut number: u32 = 1;
+    let mut foreseen = Foreseen::new(alloc);
     'queries: loop {
         match lines.next(input, &mut into) {
             LineRead::End => return finish(output, b"end\n", Status::Done),
@@ -220,6 +141,8 @@ pub(crate) fn answer_queries<S: Source, K: Sink, B: Copied, T: Tag + Copy>(
                 output,
                 deployment,
                 timeline,
+                lines,
+                &mut foreseen,
                 &into[..n],
                 number,
             ) {

@@ -1,6 +1,6 @@
 //! Timelines: a run's lines, with checkpoints on the way.
 
-ghost use Rattle.std.specs.Prelude.{◌≡◌, ◌+◌, ◌∷◌, ◌++◌, ◌<◌, ◌≤◌, [], IfOk, OnErr, OnOk, length};
+ghost use Rattle.std.specs.Prelude.{◌≡◌, ◌+◌, ◌-◌, ◌∷◌, ◌++◌, ◌<◌, ◌≤◌, [], IfOk, OnErr, OnOk, length};
 ghost use Rattle.std.specs.Prelude.{map, take};
 ghost use Rattle.sx_deploy.specs.Law.{IsSoundDeployment};
 ghost use Rattle.sx_deploy.specs.SeenDeployment.{deployed_as};
@@ -217,6 +217,59 @@ impl<B: Copied, T: Tag + Copy> Timeline<B, T> {
         Ok(world)
     }
 
+    /// Takes a world that is after so many lines to where it is after this many. It performs the
+    /// lines between, unless it is past them or a checkpoint is nearer: that is copied then.
+    pub fn advance(
+        &self,
+        plan: &Deployment,
+        world: &mut World<B, T>,
+        from: u32,
+        to: u32,
+    ) -> Result<(), AllocError>
+        requires timeline { IsTimeline T.mac (deployed_as plan.now) self.now }
+        requires within { to ≤ length self.now.lines }
+        requires stands { StandsAfter (setting T.mac (deployed_as plan.now) self.now.sites)
+            (take from self.now.lines) world.old }
+        ensures world { OnOk result (StandsAfter
+            (setting T.mac (deployed_as plan.now) self.now.sites) (take to self.now.lines)
+            world.new) }
+    {
+        if to < from || from / self.every < to / self.every {
+            *world = self.world_at(plan, to as usize)?;
+            return Ok(());
+        }
+        replay(
+            self.alloc,
+            plan,
+            &self.lines,
+            from as usize,
+            to as usize,
+            world,
+        )
+    }
+
+    /// The items of the line with this number, counted from 1, in a world that is after those
+    /// before it.
+    pub fn items_in(
+        &self,
+        plan: &Deployment,
+        mut world: World<B, T>,
+        at: u32,
+    ) -> Result<Vec<Item>, AllocError>
+        requires timeline { IsTimeline T.mac (deployed_as plan.now) self.now }
+        requires some { 1 ≤ at }
+        requires within { at ≤ length self.now.lines }
+        requires stands { StandsAfter (setting T.mac (deployed_as plan.now) self.now.sites)
+            (take (at - 1) self.now.lines) world }
+        ensures { IfOk result (λ items. items.items
+            ≡ items_at (setting T.mac (deployed_as plan.now) self.now.sites) self.now.lines at) }
+    {
+        let mut items = Vec::new(self.alloc);
+        let line = &self.lines[at as usize - 1];
+        world.act(plan, line, &mut items)?;
+        Ok(items)
+    }
+
     /// The items of the line with this number, counted from 1.
     pub fn items(&self, plan: &Deployment, at: u32) -> Result<Vec<Item>, AllocError>
         requires timeline { IsTimeline T.mac (deployed_as plan.now) self.now }
@@ -225,11 +278,7 @@ impl<B: Copied, T: Tag + Copy> Timeline<B, T> {
         ensures { IfOk result (λ items. items.items
             ≡ items_at (setting T.mac (deployed_as plan.now) self.now.sites) self.now.lines at) }
     {
-        let before = at as usize - 1;
-        let mut items = Vec::new(self.alloc);
-        let mut world = self.world_at(plan, before)?;
-        let line = &self.lines[before];
-        world.act(plan, line, &mut items)?;
-        Ok(items)
+        let world = self.world_at(plan, at as usize - 1)?;
+        self.items_in(plan, world, at)
     }
 }

@@ -1,5 +1,6 @@
-use Rattle.std.proofs.Common.{◌+◌, ◌∷◌, ◌++◌, [], ℕ, ap, length, subst, take, arith, refl}
+use Rattle.std.proofs.Common.{◌+◌, ◌∷◌, ◌++◌, [], List, ℕ, ap, length, subst, sym, take, arith, refl}
 use Rattle.std.specs.Prelude.{IsOk}
+use Rattle.std.proofs.lemmas.List.Elements.{All-nil}
 use Rattle.sx_io.specs.Reading.{Line}
 use Rattle.command_promise.specs.Told.{read_line}
 use Rattle.command_promise.specs.declared.turned.Turned.TheVariants.{Stop}
@@ -9,13 +10,18 @@ use Rattle.spec_run.specs.Accepted.{setting}
 use Rattle.command_text.specs.Output.{end_line}
 use Rattle.command_head.proofs.Given.{given_line, wants_last}
 use Rattle.command_deploy.proofs.Given.{gave_line, gave_none}
+use Rattle.command_snap.specs.declared.answering.Answered.{Answered}
+use Rattle.command_snap.specs.Foreseen.{AreAnswers}
 use Rattle.command_snap.specs.Kept.{query_may}
 use Rattle.command_snap.specs.Input.{judged_query}
 use Rattle.command_snap.specs.Output.{answers_from}
 use Rattle.command_snap.proofs.querying.answer_queries.Goals as goal
 
 pub queries-init : goal.queries-init
-queries-init g c = record { few = omega arith; begun = λ limit m0 defined aside noted b. b; gave = gave_none _ _ _ }
+queries-init g c =
+    let d = deployed_as c.args.deployment.now in
+    let Q : List Answered → Type 0 = λ answers. AreAnswers d.names (setting g.T.Tag.mac d c.args.timeline.now.sites) c.args.timeline.now.lines answers in
+    record { few = omega arith; answers = subst Q (sym c.new-foreseen.ensures) (All-nil _); begun = λ limit m0 defined aside noted b. b; gave = gave_none _ _ _ }
 
 pub returns-in-End-clause-rest : goal.returns-in-End-clause-rest
 unfolding end_line
@@ -73,6 +79,7 @@ queries-preserved g c =
     let text = take c.in-Text.n c.next.new.into in
     record {
       few = omega (arith, c.in-On.ensures.few refl);
+      answers = c.in-On.ensures.answers refl;
       begun = λ limit m0 defined aside noted b.
           begun-put (λ more. left c.queries.number (Line text ∷ more)) (left (c.queries.number + 1))
           (begun-line (left c.queries.number) refl (c.queries.invariant.begun limit m0 defined aside noted b) c.in-Text.ensures.next)
