@@ -1,5 +1,5 @@
-"""How many lines of a schedule a query of `snap` performs again, and how long many queries take, of which no clause
-says anything. The count wants valgrind."""
+"""How many lines of a schedule queries of `snap` perform again, and how long many of them take, of which no clause says
+anything. The count wants valgrind."""
 
 import re
 import shutil
@@ -19,9 +19,9 @@ def asked(schedule, queries):
     return ("\n".join(["%%", *schedule, "%%", *queries]) + "\n").encode()
 
 
-def instructions(at):
-    """The processor's instructions of the whole program, where one query asks for this line of a schedule of three checkpoints."""
-    text = asked(FIRST + [STEPS] * (3 * EVERY - len(FIRST)), [f"regs n {at}"])
+def instructions(*places):
+    """The processor's instructions of the whole program, where queries ask for these lines of a schedule of three checkpoints."""
+    text = asked(FIRST + [STEPS] * (3 * EVERY - len(FIRST)), [f"regs n {at}" for at in places])
     call = ["valgrind", "--tool=callgrind", "--callgrind-out-file=/dev/null", PROGRAM, "snap"]
     ended = subprocess.run(call, input=text, capture_output=True, check=True)
     return int(re.search(rb"Collected : ([0-9]+)", ended.stderr).group(1))
@@ -38,6 +38,13 @@ class Snap(unittest.TestCase):
             if at >= EVERY:  # then the first lines, which take no steps, aren't among them
                 again -= len(FIRST)
             self.assertEqual(again, at % EVERY, f"line {at}")
+
+    @unittest.skipIf(shutil.which("valgrind") is None, "there is no valgrind")
+    def test_queries_of_one_piece_perform_a_line_once(self):
+        some = instructions(1000)
+        line = (instructions(3000) - some) / 2000
+        together = instructions(3000, 2000, 1000, 2 * EVERY + 500, 2 * EVERY + 400)
+        self.assertAlmostEqual((together - some) / line + 1000, 3000 + 500, delta=50)
 
     def test_many_queries_take_less_than_a_second(self):
         ran = taken("snap", text=asked(["reset n"] * 20000, ["items 20000"] * 64))
