@@ -45,6 +45,7 @@ pub fn load_at_hand<B: Bus>(executor: &Executor<B>, wide: bool, at: u16) -> Opti
 
 /// The same if the place is in the running module's own text. This code stays out of the way of
 /// what most loads do.
+#[cold]
 #[inline(never)]
 fn load_own_text<B: Bus>(executor: &Executor<B>, wide: bool, at: u16) -> Option<u16>
     ensures run { IfSome result (λ v. Loads wide at executor.now (Ok v) executor.now) }
@@ -70,6 +71,7 @@ fn store_last<B: Bus>(executor: &mut Executor<B>, wide: bool, at: u16, value: u1
 }
 
 /// The same where a section may refuse it, or a device be there.
+#[cold]
 #[inline(never)]
 fn store_near<B: Bus>(
     executor: &mut Executor<B>,
@@ -84,6 +86,7 @@ fn store_near<B: Bus>(
 }
 
 /// An instruction with two operands, one of which isn't at hand.
+#[cold]
 #[inline(never)]
 pub fn two_near<B: Bus>(
     executor: &mut Executor<B>,

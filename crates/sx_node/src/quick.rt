@@ -72,7 +72,9 @@ impl<B: Bus, T: Tag> Node<B, T> {
         }
     }
 
-    /// The same in each case. Its code stays out of the way of what most steps do.
+    /// The same in each case. Its code stays out of the way of what most steps do, and `cold` keeps
+    /// what only the end of a loop needs out of the registers of its steps.
+    #[cold]
     #[inline(never)]
     fn step_near(&mut self, seen: &mut Seen) -> bool
         requires { self.old.boot < u32.MAX }
