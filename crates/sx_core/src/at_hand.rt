@@ -166,6 +166,38 @@ pub fn move_immediate<B: Bus>(
     Stepped::Quiet
 }
 
+/// MOV of a word that isn't at hand onto a register.
+#[cold]
+#[inline(never)]
+fn load_word_near<B: Bus>(
+    executor: &mut Executor<B>,
+    at: u16,
+    dst: u8,
+    next: u16,
+) -> Result<(), Violation>
+    ensures { RunsPlan (two Mov true (Absolute at) (Reg dst) executor.old.regs next)
+        executor.old result executor.new }
+{
+    let (from, to) = (Operand::Absolute(at), Operand::Reg(dst));
+    two_near(executor, Op2::Mov, true, from, to, next)
+}
+
+/// The same of a word at a register, which goes on.
+#[cold]
+#[inline(never)]
+fn pop_near<B: Bus>(
+    executor: &mut Executor<B>,
+    src: u8,
+    dst: u8,
+    next: u16,
+) -> Result<(), Violation>
+    ensures { RunsPlan (two Mov true (Increment src) (Reg dst) executor.old.regs next)
+        executor.old result executor.new }
+{
+    let (from, to) = (Operand::Increment(src), Operand::Reg(dst));
+    two_near(executor, Op2::Mov, true, from, to, next)
+}
+
 /// MOV of the word at an address onto a register.
 #[inline(always)]
 fn load_word<B: Bus>(executor: &mut Executor<B>, at: u16, dst: u8, next: u16) -> Stepped
@@ -173,8 +205,7 @@ fn load_word<B: Bus>(executor: &mut Executor<B>, at: u16, dst: u8, next: u16) ->
         executor.old result executor.new }
 {
     let Some(value) = load_at_hand(executor, true, at) else {
-        let (from, to) = (Operand::Absolute(at), Operand::Reg(dst));
-        return Stepped::Answered(two_near(executor, Op2::Mov, true, from, to, next));
+        return Stepped::Answered(load_word_near(executor, at, dst, next));
     };
     executor.set_pc(next);
     moved_onto(executor, value, dst);
@@ -225,8 +256,7 @@ pub fn pop<B: Bus>(executor: &mut Executor<B>, src: u8, dst: u8, next: u16) -> S
     executor.set_pc(next);
     let at = executor.register(src);
     let Some(value) = load_at_hand(executor, true, at) else {
-        let (from, to) = (Operand::Increment(src), Operand::Reg(dst));
-        return Stepped::Answered(two_near(executor, Op2::Mov, true, from, to, next));
+        return Stepped::Answered(pop_near(executor, src, dst, next));
     };
     executor.increment(true, src);
     executor.set_pc(next);

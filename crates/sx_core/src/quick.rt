@@ -308,7 +308,8 @@ fn without_extension<B: Bus>(executor: &mut Executor<B>, form: Single, next: u16
             op: Op1::Push,
             value,
         } => push_constant(executor, value, next),
-        _ => Stepped::Answered(step_single(executor, form, next)),
+        // Bound in this arm, so that the others write no copy of it.
+        other => Stepped::Answered(step_single(executor, other, next)),
     }
 }
 
