@@ -138,7 +138,7 @@ fn moved_onto<B: Bus>(executor: &mut Executor<B>, value: u16, r: u8)
 
 /// MOV of a word, or in byte form of a byte, onto memory.
 #[inline(always)]
-fn moved_to<B: Bus>(executor: &mut Executor<B>, wide: bool, at: u16, value: u16) -> Stepped
+pub fn moved_to<B: Bus>(executor: &mut Executor<B>, wide: bool, at: u16, value: u16) -> Stepped
     ensures { EndsStep (on_memory Mov wide at value executor.old.regs) executor.old result
         executor.new }
 {

@@ -66,8 +66,9 @@ fn registers<B: Bus>(
     onto_register(executor, op, value, dst)
 }
 
-/// The same from a constant.
-#[inline(always)]
+/// The same from a constant. This code stays out of the way of what most steps do.
+#[cold]
+#[inline(never)]
 pub fn constant_onto_register<B: Bus>(
     executor: &mut Executor<B>,
     op: Op2,
@@ -375,8 +376,10 @@ pub fn constant_onto_indexed<B: Bus>(
     on_byte(executor, op, at, value)
 }
 
-/// An instruction without an extension word; `next` is the address after it.
-#[inline(always)]
+/// Another instruction without an extension word; `next` is the address after it. Its code stays
+/// out of the way of what most steps do, as does that of those with one.
+#[cold]
+#[inline(never)]
 pub fn byte_single<B: Bus>(
     executor: &mut Executor<B>,
     form: ByteSingle,
@@ -399,7 +402,8 @@ pub fn byte_single<B: Bus>(
 
 /// An instruction with the extension word `x`, which is at `after`; `next` is the address after
 /// it.
-#[inline(always)]
+#[cold]
+#[inline(never)]
 pub fn byte_double<B: Bus>(
     executor: &mut Executor<B>,
     form: ByteDouble,

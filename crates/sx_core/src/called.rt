@@ -1,18 +1,17 @@
-//! Instructions that have a shortcut and whose code is a call: those on bytes, and those from a
-//! constant onto PC, SP, SR or R3.
+//! Instructions from a constant that have a shortcut and whose code is a call: those onto a byte of
+//! memory, those onto PC, SP, SR or R3, and those onto a place that compiled code doesn't have.
 
-ghost use Rattle.std.specs.Prelude.{true};
-ghost use Rattle.sx_isa.specs.declared.instruction.Operand.TheVariants.{Reg, Const};
-ghost use Rattle.spec_machine.specs.Registers.{at_pc};
+ghost use Rattle.std.specs.Prelude.{◌≡◌, ◌+◌, true};
+ghost use Rattle.sx_isa.specs.declared.instruction.Operand.TheVariants.{Reg, Const, Symbolic};
+ghost use Rattle.spec_machine.specs.Registers.{at_pc, onward, reg};
 ghost use Rattle.spec_machine.specs.Rows.{program, two};
 ghost use Rattle.sx_executor.specs.Machine.{RunsPlan};
 
 use crate::at_hand::onto_any;
-use crate::bytes::{
-    byte_double, byte_single, constant_onto_absolute, constant_onto_indexed, constant_onto_register,
-};
+use crate::bytes::{constant_onto_absolute, constant_onto_indexed};
 use crate::quick::fetch_second;
 use crate::step::step_long;
+use crate::two_operands::on_memory;
 use sx_bus::Bus;
 use sx_executor::registers::{PC, cut};
 use sx_executor::{Executor, Form, Shortcut};
@@ -38,6 +37,36 @@ fn constant_onto_any<B: Bus>(
     Ok(())
 }
 
+/// The address of the extension word plus that word, `x`. PC is after it.
+#[inline(always)]
+fn symbolic_place<B: Bus>(executor: &Executor<B>, x: u16) -> u16
+    ensures { result ≡ onward (reg executor.now.regs 0) (65534 + x) }
+{
+    executor.register(PC).wrapping_sub(2).wrapping_add(x)
+}
+
+/// An operation on words from a constant onto memory at the extension word's address plus that
+/// word, `x`. PC goes to `after`, the address after the first word, before operands are read.
+#[inline(always)]
+fn constant_onto_symbolic<B: Bus>(
+    executor: &mut Executor<B>,
+    op: Op2,
+    value: u16,
+    x: u16,
+    after: u16,
+    next: u16,
+) -> Result<(), Violation>
+    ensures { RunsPlan
+        (two op true (Const value) (Symbolic x) (at_pc executor.old.regs after) next)
+        executor.old result executor.new }
+{
+    executor.set_pc(after);
+    let value = cut(true, value);
+    executor.set_pc(next);
+    let at = symbolic_place(executor, x);
+    on_memory(executor, op, true, at, value)
+}
+
 /// Executes the instruction at PC of this shortcut. Its code stays out of the way of what most
 /// steps do, and the compiler takes those for likely.
 #[cold]
@@ -54,8 +83,9 @@ pub fn step_called<B: Bus>(executor: &mut Executor<B>, shortcut: Shortcut) -> Re
         Form::ConstantOntoSpecial { op, value, dst } => {
             constant_onto_any(executor, op, value, dst, after)
         }
-        Form::ByteConstant { op, value, dst } => {
-            constant_onto_register(executor, op, value, dst, after)
+        Form::OntoSymbolic { op, value } => {
+            let x = fetch_second(executor, &shortcut, pc)?;
+            constant_onto_symbolic(executor, op, value, x, after, next)
         }
         Form::ByteOntoIndexed { op, value, base } => {
             let x = fetch_second(executor, &shortcut, pc)?;
@@ -64,11 +94,6 @@ pub fn step_called<B: Bus>(executor: &mut Executor<B>, shortcut: Shortcut) -> Re
         Form::ByteOntoAbsolute { op, value } => {
             let x = fetch_second(executor, &shortcut, pc)?;
             constant_onto_absolute(executor, op, value, x, after, next)
-        }
-        Form::ByteSingle(form) => byte_single(executor, form, after),
-        Form::ByteDouble(form) => {
-            let x = fetch_second(executor, &shortcut, pc)?;
-            byte_double(executor, form, x, after, next)
         }
         _ => step_long(executor, shortcut.first),
     }

@@ -11,6 +11,7 @@ pub use quick::{Stepped, step_quick};
 pub use step::{interrupt, step_long, step_plain};
 
 mod at_hand;
+mod byte_store;
 mod bytes;
 mod called;
 mod forms;

@@ -4,14 +4,14 @@
 //! word of memory that is at hand, where one test is all that is asked. The clauses name the same
 //! rows as those of the long way.
 
-ghost use Rattle.std.specs.Prelude.{◌≡◌, ◌<◌, ◌+◌, ℕ, true, false, None, List};
+ghost use Rattle.std.specs.Prelude.{◌≡◌, ◌<◌, ℕ, true, false, None, List};
 ghost use Rattle.sx_isa.specs.Reading.{length_of};
 ghost use Rattle.sx_isa.specs.Extending.{extended};
 ghost use Rattle.sx_isa.specs.declared.instruction.Operand.TheVariants.{Reg, Const, Indexed};
-ghost use Rattle.sx_isa.specs.declared.instruction.Operand.TheVariants.{Symbolic, Absolute};
+ghost use Rattle.sx_isa.specs.declared.instruction.Operand.TheVariants.{Absolute};
 ghost use Rattle.sx_alu.specs.Table.{limit};
 ghost use Rattle.sx_rules.specs.declared.access.Access.TheVariants.{Read, Write};
-ghost use Rattle.spec_machine.specs.Registers.{onward, at_pc, reg};
+ghost use Rattle.spec_machine.specs.Registers.{onward, at_pc};
 ghost use Rattle.spec_machine.specs.Rows.{row, with_words, program, jump, two, onto, on_memory};
 ghost use Rattle.spec_machine.specs.Rows.{into_register, writes};
 ghost use Rattle.spec_machine.specs.Run.{may_at, device_of};
@@ -19,6 +19,7 @@ ghost use Rattle.spec_machine.specs.Answers.{followed};
 ghost use Rattle.sx_executor.specs.Machine.{ran, RunsPlan};
 ghost use Rattle.sx_executor.specs.Shortcuts.{instruction_of, words_of, is_general};
 ghost use Rattle.sx_executor.specs.Shortcuts.{single_of, double_of};
+ghost use Rattle.sx_executor.specs.Shortcuts.{byte_single_of, byte_double_of};
 ghost use Rattle.sx_core.specs.Quickly.{RunsQuietly, EndsStep};
 
 use crate::at_hand::{
@@ -26,6 +27,8 @@ use crate::at_hand::{
     move_byte, move_immediate, on_register, pop, push_absolute, push_constant, push_immediate,
     store_absolute, store_indexed,
 };
+use crate::byte_store::{store_byte, store_of};
+use crate::bytes::{byte_double, byte_single, constant_onto_register};
 use crate::called::step_called;
 use crate::forms::{step_double, step_single};
 use crate::jump::jump_quietly;
@@ -35,7 +38,7 @@ use crate::two_operands::{computed_as, on_memory, reads, writes};
 use sx_alu::StatusBits;
 use sx_bus::Bus;
 use sx_executor::registers::{PC, cut};
-use sx_executor::{Double, Executor, Form, Shortcut, Single};
+use sx_executor::{ByteDouble, ByteSingle, Double, Executor, Form, Shortcut, Single};
 use sx_isa::{Op1, Op2};
 use sx_rules::Violation;
 
@@ -240,37 +243,6 @@ fn onto_absolute<B: Bus>(
     on_word(executor, op, at, value)
 }
 
-/// The address of the extension word plus that word, `x`. PC is after it.
-#[inline(always)]
-fn symbolic_place<B: Bus>(executor: &Executor<B>, x: u16) -> u16
-    ensures { result ≡ onward (reg executor.now.regs 0) (65534 + x) }
-{
-    executor.register(PC).wrapping_sub(2).wrapping_add(x)
-}
-
-/// The same at the extension word's address plus `x`. Compiled code has no such place, so the
-/// compiler needn't put this into each step.
-#[inline(never)]
-fn onto_symbolic<B: Bus>(
-    executor: &mut Executor<B>,
-    op: Op2,
-    value: u16,
-    x: u16,
-    pc: u16,
-) -> Result<(), Violation>
-    ensures { RunsPlan (two op true (Const value) (Symbolic x)
-        (at_pc executor.old.regs (onward pc 2)) (onward pc 4)) executor.old result executor.new }
-{
-    executor.set_pc(pc.wrapping_add(2));
-    let value = cut(true, value);
-    executor.set_pc(pc.wrapping_add(4));
-    let at = symbolic_place(executor, x);
-    match on_word(executor, op, at, value) {
-        Stepped::Quiet => Ok(()),
-        Stepped::Answered(answer) => answer,
-    }
-}
-
 /// The same at a register plus `x`.
 #[inline(always)]
 fn onto_indexed<B: Bus>(
@@ -362,6 +334,54 @@ fn with_extension<B: Bus, const CALLER: u8>(
     }
 }
 
+/// An operation on bytes from a constant onto a register, which is a call; `next` is the address
+/// after the instruction.
+#[inline(always)]
+fn from_byte_constant<B: Bus>(
+    executor: &mut Executor<B>,
+    op: Op2,
+    value: u16,
+    dst: u8,
+    next: u16,
+) -> Stepped
+    ensures { EndsStep (two op false (Const value) (Reg dst) (at_pc executor.old.regs next) next)
+        executor.old result executor.new }
+{
+    Stepped::Answered(constant_onto_register(executor, op, value, dst, next))
+}
+
+/// Another instruction on bytes without an extension word, which is a call.
+#[inline(always)]
+fn without_byte_extension<B: Bus>(
+    executor: &mut Executor<B>,
+    form: ByteSingle,
+    next: u16,
+) -> Stepped
+    ensures { EndsStep (row (byte_single_of form) (at_pc executor.old.regs next) next) executor.old
+        result executor.new }
+{
+    Stepped::Answered(byte_single(executor, form, next))
+}
+
+/// One with the extension word `x`, at `pc`: a store of a register's byte, or a call.
+#[inline(always)]
+fn with_byte_extension<B: Bus>(
+    executor: &mut Executor<B>,
+    form: ByteDouble,
+    x: u16,
+    pc: u16,
+) -> Stepped
+    ensures { EndsStep (row (extended (byte_double_of form) x 0)
+        (at_pc executor.old.regs (onward pc 2)) (onward pc 4)) executor.old result executor.new }
+{
+    let after = pc.wrapping_add(2);
+    let next = pc.wrapping_add(4);
+    match store_of(form) {
+        Some(store) => store_byte(executor, store, x, after, next),
+        None => Stepped::Answered(byte_double(executor, form, x, after, next)),
+    }
+}
+
 /// Executes the instruction at PC with this first word as `step_plain` does, and says where it
 /// knows that no device was touched. Each caller has a number, and so code of its own, which the
 /// compiler puts into it.
@@ -391,10 +411,6 @@ pub fn step_quick<B: Bus, const CALLER: u8>(executor: &mut Executor<B>, first: u
             Ok(x) => onto_indexed(executor, op, value, base, x, pc),
             Err(violation) => Stepped::Answered(Err(violation)),
         },
-        Form::OntoSymbolic { op, value } => match fetch_second(executor, shortcut, pc) {
-            Ok(x) => Stepped::Answered(onto_symbolic(executor, op, value, x, pc)),
-            Err(violation) => Stepped::Answered(Err(violation)),
-        },
         Form::OntoAbsolute { op, value } => match fetch_second(executor, shortcut, pc) {
             Ok(at) => onto_absolute(executor, op, value, at, pc),
             Err(violation) => Stepped::Answered(Err(violation)),
@@ -408,6 +424,14 @@ pub fn step_quick<B: Bus, const CALLER: u8>(executor: &mut Executor<B>, first: u
             let shortcut = *shortcut;
             Stepped::Answered(step_triple(executor, shortcut))
         }
+        Form::ByteConstant { op, value, dst } => {
+            from_byte_constant(executor, op, value, dst, next)
+        }
+        Form::ByteSingle(form) => without_byte_extension(executor, form, next),
+        Form::ByteDouble(form) => match fetch_second(executor, shortcut, pc) {
+            Ok(x) => with_byte_extension(executor, form, x, pc),
+            Err(violation) => Stepped::Answered(Err(violation)),
+        },
         _ => {
             let shortcut = *shortcut;
             Stepped::Answered(step_called(executor, shortcut))

@@ -1,10 +1,10 @@
-use Rattle.std.proofs.Common.{ℕ, true, false, refl, sym, subst}
+use Rattle.std.proofs.Common.{ℕ, true, refl, sym, subst}
 use Rattle.sx_isa.specs.declared.instruction.Operand.TheVariants.{Reg, Const}
 use Rattle.spec_machine.specs.Plan.{Plan}
 use Rattle.spec_machine.specs.Registers.{at_pc, onward}
 use Rattle.spec_machine.specs.Rows.{two}
 use Rattle.sx_executor.specs.Machine.{RunsPlan}
-use Rattle.sx_executor.specs.declared.shortcut.Form.TheVariants.{ConstantOntoSpecial, ByteConstant}
+use Rattle.sx_executor.specs.declared.shortcut.Form.TheVariants.{ConstantOntoSpecial}
 use Rattle.sx_core.proofs.OneWord.{of_form}
 use Rattle.sx_core.proofs.called.step_called.Goals as goal
 
@@ -16,12 +16,3 @@ returns-in-ConstantOntoSpecial g c =
     let At : ℕ → Type 0 = λ pc. Does (two op true (Const value) (Reg dst) (at_pc m.regs (onward pc 2)) (onward pc 2)) in
     subst Does (sym (of_form c.args.shortcut (ConstantOntoSpecial op value dst) c.in-ConstantOntoSpecial.is refl m.regs))
     (subst At c.register-pc.ensures c.constant_onto_any.ensures)
-
-pub returns-in-ByteConstant : goal.returns-in-ByteConstant
-returns-in-ByteConstant g c =
-    let m = c.args.executor.now in
-    let op = c.in-ByteConstant.op in let value = c.in-ByteConstant.value in let dst = c.in-ByteConstant.dst in
-    let Does : Plan → Type 0 = λ plan. RunsPlan plan m c.constant_onto_register.result c.constant_onto_register.new.executor in
-    let At : ℕ → Type 0 = λ pc. Does (two op false (Const value) (Reg dst) (at_pc m.regs (onward pc 2)) (onward pc 2)) in
-    subst Does (sym (of_form c.args.shortcut (ByteConstant op value dst) c.in-ByteConstant.is refl m.regs))
-    (subst At c.register-pc.ensures c.constant_onto_register.ensures)

@@ -1,9 +1,10 @@
-use Rattle.std.proofs.Common.{rules, ◌≡◌, ℕ, refl, sym, subst}
+use Rattle.std.proofs.Common.{rules, ◌≡◌, ℕ, false, refl, sym, subst}
+use Rattle.sx_isa.specs.declared.instruction.Operand.TheVariants.{Reg, Const}
 use Rattle.spec_machine.specs.Plan.{Plan}
 use Rattle.spec_machine.specs.Registers.{at_pc, onward}
-use Rattle.spec_machine.specs.Rows.{row, program}
+use Rattle.spec_machine.specs.Rows.{row, program, two}
 use Rattle.sx_executor.specs.declared.shortcut.Form.TheVariants as form
-use Rattle.sx_executor.specs.Shortcuts.{single_of}
+use Rattle.sx_executor.specs.Shortcuts.{single_of, byte_single_of}
 use Rattle.sx_core.specs.Quickly.{EndsStep}
 use Rattle.sx_core.proofs.OneWord.{of_form}
 use Rattle.sx_core.proofs.quick.step_quick.Goals as goal
@@ -17,4 +18,26 @@ returns-in-Single g c =
     let At : ℕ → Type 0 = λ pc. Does (row (single_of f) (at_pc m.regs (onward pc 2)) (onward pc 2)) in
     let same : s.first ≡ c.args.first = search rules in
     let plan = subst Does (sym (of_form s (form.Single f) c.in-Single.is refl m.regs)) (subst At c.register-pc.ensures c.without_extension.ensures) in
+    subst (λ (w : ℕ). Does (program w m.regs)) same plan
+
+pub returns-in-ByteSingle : goal.returns-in-ByteSingle
+returns-in-ByteSingle g c =
+    let m = c.args.executor.now in
+    let s = c.shortcut-shortcut.result.now in
+    let f = c.in-ByteSingle.form in
+    let Does : Plan → Type 0 = λ plan. EndsStep plan m c.without_byte_extension.result c.without_byte_extension.new.executor in
+    let At : ℕ → Type 0 = λ pc. Does (row (byte_single_of f) (at_pc m.regs (onward pc 2)) (onward pc 2)) in
+    let same : s.first ≡ c.args.first = search rules in
+    let plan = subst Does (sym (of_form s (form.ByteSingle f) c.in-ByteSingle.is refl m.regs)) (subst At c.register-pc.ensures c.without_byte_extension.ensures) in
+    subst (λ (w : ℕ). Does (program w m.regs)) same plan
+
+pub returns-in-ByteConstant : goal.returns-in-ByteConstant
+returns-in-ByteConstant g c =
+    let m = c.args.executor.now in
+    let s = c.shortcut-shortcut.result.now in
+    let op = c.in-ByteConstant.op in let value = c.in-ByteConstant.value in let dst = c.in-ByteConstant.dst in
+    let Does : Plan → Type 0 = λ plan. EndsStep plan m c.from_byte_constant.result c.from_byte_constant.new.executor in
+    let At : ℕ → Type 0 = λ pc. Does (two op false (Const value) (Reg dst) (at_pc m.regs (onward pc 2)) (onward pc 2)) in
+    let same : s.first ≡ c.args.first = search rules in
+    let plan = subst Does (sym (of_form s (form.ByteConstant op value dst) c.in-ByteConstant.is refl m.regs)) (subst At c.register-pc.ensures c.from_byte_constant.ensures) in
     subst (λ (w : ℕ). Does (program w m.regs)) same plan
