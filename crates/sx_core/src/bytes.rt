@@ -15,7 +15,8 @@ ghost use Rattle.spec_machine.specs.Registers.{at_pc};
 ghost use Rattle.spec_machine.specs.Rows.{row, two, one, onto, on_memory, writes};
 ghost use Rattle.spec_machine.specs.Run.{may_at, device_of};
 ghost use Rattle.sx_executor.specs.Machine.{RunsPlan};
-ghost use Rattle.sx_executor.specs.Shortcuts.{byte_single_of, byte_double_of};
+ghost use Rattle.sx_executor.specs.Shortcuts.{byte_single_of, byte_double_of, is_general};
+ghost use Rattle.sx_executor.specs.Shortcuts.{byte_single_is_fit, byte_double_is_fit};
 ghost use Rattle.sx_core.specs.Quickly.{RunsQuietly};
 
 use crate::at_hand::{load_at_hand, two_near};
@@ -27,7 +28,7 @@ use sx_executor::{ByteDouble, ByteSingle, Executor};
 use sx_isa::{Op1, Op2, Operand};
 use sx_rules::Violation;
 
-/// An operation onto a register.
+/// An operation onto a general register.
 #[inline(always)]
 fn onto_register<B: Bus>(
     executor: &mut Executor<B>,
@@ -35,7 +36,8 @@ fn onto_register<B: Bus>(
     src: u16,
     r: u8,
 ) -> Result<(), Violation>
-    requires { src < limit false }
+    requires src { src < limit false }
+    requires general { is_general r ≡ true }
     ensures { RunsPlan (onto op false (Reg r) src executor.old.regs) executor.old result
         executor.new }
 {
@@ -43,12 +45,13 @@ fn onto_register<B: Bus>(
     let value = computed_as::<false>(op, src, old, executor.flags());
     executor.set_flags(value.1);
     if writes(op) {
-        executor.set_register(r, value.0);
+        executor.set_general(r, value.0);
     }
     Ok(())
 }
 
-/// An operation from a register onto a register; `next` is the address after the instruction.
+/// An operation from a register onto a general register; `next` is the address after the
+/// instruction.
 #[inline(always)]
 fn registers<B: Bus>(
     executor: &mut Executor<B>,
@@ -57,6 +60,7 @@ fn registers<B: Bus>(
     dst: u8,
     next: u16,
 ) -> Result<(), Violation>
+    requires { is_general dst ≡ true }
     ensures { RunsPlan (two op false (Reg src) (Reg dst) (at_pc executor.old.regs next) next)
         executor.old result executor.new }
 {
@@ -76,6 +80,7 @@ pub fn constant_onto_register<B: Bus>(
     dst: u8,
     next: u16,
 ) -> Result<(), Violation>
+    requires { is_general dst ≡ true }
     ensures { RunsPlan (two op false (Const value) (Reg dst) (at_pc executor.old.regs next) next)
         executor.old result executor.new }
 {
@@ -96,6 +101,7 @@ fn immediate_onto_register<B: Bus>(
     after: u16,
     next: u16,
 ) -> Result<(), Violation>
+    requires { is_general dst ≡ true }
     ensures { RunsPlan (two op false (Immediate x) (Reg dst) (at_pc executor.old.regs after) next)
         executor.old result executor.new }
 {
@@ -114,6 +120,7 @@ fn byte_onto_register<B: Bus>(
     dst: u8,
     next: u16,
 ) -> Result<(), Violation>
+    requires { is_general dst ≡ true }
     ensures { RunsPlan (two op false (Absolute at) (Reg dst) executor.old.regs next) executor.old
         result executor.new }
 {
@@ -135,6 +142,7 @@ fn absolute_onto_register<B: Bus>(
     after: u16,
     next: u16,
 ) -> Result<(), Violation>
+    requires { is_general dst ≡ true }
     ensures { RunsPlan (two op false (Absolute at) (Reg dst) (at_pc executor.old.regs after) next)
         executor.old result executor.new }
 {
@@ -153,6 +161,7 @@ fn indexed_onto_register<B: Bus>(
     after: u16,
     next: u16,
 ) -> Result<(), Violation>
+    requires { is_general dst ≡ true }
     ensures { RunsPlan
         (two op false (Indexed base x) (Reg dst) (at_pc executor.old.regs after) next) executor.old
         result executor.new }
@@ -171,6 +180,7 @@ fn indirect_onto_register<B: Bus>(
     dst: u8,
     next: u16,
 ) -> Result<(), Violation>
+    requires { is_general dst ≡ true }
     ensures { RunsPlan (two op false (Indirect src) (Reg dst) (at_pc executor.old.regs next) next)
         executor.old result executor.new }
 {
@@ -188,6 +198,7 @@ fn increment_onto_register<B: Bus>(
     dst: u8,
     next: u16,
 ) -> Result<(), Violation>
+    requires { is_general dst ≡ true }
     ensures { RunsPlan (two op false (Increment src) (Reg dst) (at_pc executor.old.regs next) next)
         executor.old result executor.new }
 {
@@ -385,6 +396,7 @@ pub fn byte_single<B: Bus>(
     form: ByteSingle,
     next: u16,
 ) -> Result<(), Violation>
+    requires { byte_single_is_fit form ≡ true }
     ensures { RunsPlan (row (byte_single_of form) (at_pc executor.old.regs next) next) executor.old
         result executor.new }
 {
@@ -411,6 +423,7 @@ pub fn byte_double<B: Bus>(
     after: u16,
     next: u16,
 ) -> Result<(), Violation>
+    requires { byte_double_is_fit form ≡ true }
     ensures { RunsPlan
         (row (extended (byte_double_of form) x 0) (at_pc executor.old.regs after) next)
         executor.old result executor.new }

@@ -20,6 +20,7 @@ ghost use Rattle.sx_executor.specs.Machine.{ran, RunsPlan};
 ghost use Rattle.sx_executor.specs.Shortcuts.{instruction_of, words_of, is_general};
 ghost use Rattle.sx_executor.specs.Shortcuts.{single_of, double_of};
 ghost use Rattle.sx_executor.specs.Shortcuts.{byte_single_of, byte_double_of};
+ghost use Rattle.sx_executor.specs.Shortcuts.{byte_single_is_fit, byte_double_is_fit};
 ghost use Rattle.sx_core.specs.Quickly.{RunsQuietly, EndsStep};
 
 use crate::at_hand::{
@@ -334,8 +335,8 @@ fn with_extension<B: Bus, const CALLER: u8>(
     }
 }
 
-/// An operation on bytes from a constant onto a register, which is a call; `next` is the address
-/// after the instruction.
+/// An operation on bytes from a constant onto a general register, which is a call; `next` is the
+/// address after the instruction.
 #[inline(always)]
 fn from_byte_constant<B: Bus>(
     executor: &mut Executor<B>,
@@ -344,6 +345,7 @@ fn from_byte_constant<B: Bus>(
     dst: u8,
     next: u16,
 ) -> Stepped
+    requires { is_general dst ≡ true }
     ensures { EndsStep (two op false (Const value) (Reg dst) (at_pc executor.old.regs next) next)
         executor.old result executor.new }
 {
@@ -357,6 +359,7 @@ fn without_byte_extension<B: Bus>(
     form: ByteSingle,
     next: u16,
 ) -> Stepped
+    requires { byte_single_is_fit form ≡ true }
     ensures { EndsStep (row (byte_single_of form) (at_pc executor.old.regs next) next) executor.old
         result executor.new }
 {
@@ -371,6 +374,7 @@ fn with_byte_extension<B: Bus>(
     x: u16,
     pc: u16,
 ) -> Stepped
+    requires { byte_double_is_fit form ≡ true }
     ensures { EndsStep (row (extended (byte_double_of form) x 0)
         (at_pc executor.old.regs (onward pc 2)) (onward pc 4)) executor.old result executor.new }
 {

@@ -7,7 +7,10 @@
 --         one
 --     is_general      its register is no one of PC, SP, SR and R3
 --     is_fit      the register that a form writes is general
+--     byte_single_is_fit, byte_double_is_fit      the same of the forms on bytes with no extension
+--         word and with one
 --     IsForm      a form is that of an instruction of so many words
+--     IsByteDouble      a form on bytes with one extension word is that of an instruction
 use Rattle.std.specs.Prelude.{◌≡◌, ℕ, Bool, true, false, ◌&&◌, nat_le, nat_lt}
 use Rattle.sx_isa.specs.declared.instruction.Instr.{Instr}
 use Rattle.sx_isa.specs.declared.instruction.Instr.TheVariants as instr
@@ -164,6 +167,21 @@ words_of (form.ByteDouble f) = 2
 abbrev pub is_general : ℕ → Bool
 is_general r = nat_le 4 r && nat_lt r 16
 
+-- a register that an operation on bytes writes is a general one
+abbrev pub byte_single_is_fit : ByteSingle → Bool
+byte_single_is_fit (byte_single.Registers op src dst) = is_general dst
+byte_single_is_fit (byte_single.FromIncrement op src dst) = is_general dst
+byte_single_is_fit (byte_single.FromIndirect op src dst) = is_general dst
+byte_single_is_fit (byte_single.OnRegister op arg) = true
+
+-- the same of an operation with one extension word
+abbrev pub byte_double_is_fit : ByteDouble → Bool
+byte_double_is_fit (byte_double.FromImmediate op dst) = is_general dst
+byte_double_is_fit (byte_double.FromAbsolute op dst) = is_general dst
+byte_double_is_fit (byte_double.FromIndexed op base dst) = is_general dst
+byte_double_is_fit (byte_double.OntoAbsolute op src) = true
+byte_double_is_fit (byte_double.OntoIndexed op src base) = true
+
 -- a register that is written is a general one
 abbrev pub is_fit : Form → Bool
 is_fit (JumpNotEqual offset) = true
@@ -183,13 +201,18 @@ is_fit (form.Single f) = true
 is_fit (form.Double f) = true
 is_fit (form.Triple f) = true
 is_fit (ConstantOntoSpecial op value dst) = true
-is_fit (ByteConstant op value dst) = true
+is_fit (ByteConstant op value dst) = is_general dst
 is_fit (ByteOntoIndexed op value base) = true
 is_fit (ByteOntoAbsolute op value) = true
-is_fit (form.ByteSingle f) = true
-is_fit (form.ByteDouble f) = true
+is_fit (form.ByteSingle f) = byte_single_is_fit f
+is_fit (form.ByteDouble f) = byte_double_is_fit f
 
 -- a form is that of an instruction with extension words of 0, which has so many words
 abbrev pub IsForm : Form → Instr → ℕ → Type 0
 IsForm form instruction words =
     (instruction_of form ≡ instruction) × (words_of form ≡ words) × (is_fit form ≡ true)
+
+-- a form on bytes with one extension word is that of an instruction with extension words of 0
+abbrev pub IsByteDouble : ByteDouble → Instr → Type 0
+IsByteDouble form instruction =
+    (byte_double_of form ≡ instruction) × (byte_double_is_fit form ≡ true)

@@ -15,8 +15,8 @@ ghost use Rattle.sx_isa.specs.Reading.{instruction_at};
 ghost use Rattle.sx_isa.specs.Extending.{extended};
 ghost use Rattle.spec_machine.specs.Step.{is_module_word};
 ghost use Rattle.sx_executor.specs.Reads.{IsDecoded};
-ghost use Rattle.sx_executor.specs.Shortcuts.{instruction_of, words_of, is_fit, IsForm};
-ghost use Rattle.sx_executor.specs.Shortcuts.{double_of, triple_of, byte_double_of};
+ghost use Rattle.sx_executor.specs.Shortcuts.{instruction_of, words_of, is_general, is_fit};
+ghost use Rattle.sx_executor.specs.Shortcuts.{double_of, triple_of, IsForm, IsByteDouble};
 
 use sx_isa::{Instr, Op1, Op2, Operand};
 
@@ -50,7 +50,7 @@ pub enum Form {
     Triple(Triple),
     /// From a constant onto PC, SP, SR or R3.
     ConstantOntoSpecial { op: Op2, value: u16, dst: u8 },
-    /// From a constant onto a register, on bytes.
+    /// From a constant onto a general register, on bytes.
     ByteConstant { op: Op2, value: u16, dst: u8 },
     /// From a constant onto memory at a register plus the extension word, on bytes.
     ByteOntoIndexed { op: Op2, value: u16, base: u8 },
@@ -122,11 +122,11 @@ pub enum Triple {
 /// A form of instruction without an extension word, on bytes.
 #[derive(Clone, Copy)]
 pub enum ByteSingle {
-    /// From a register onto a register.
+    /// From a register onto a general register.
     Registers { op: Op2, src: u8, dst: u8 },
-    /// From memory at a register, which goes on, onto a register.
+    /// From memory at a register, which goes on, onto a general register.
     FromIncrement { op: Op2, src: u8, dst: u8 },
-    /// From memory at a register onto a register.
+    /// From memory at a register onto a general register.
     FromIndirect { op: Op2, src: u8, dst: u8 },
     /// One operand, which is a register.
     OnRegister { op: Op1, arg: u8 },
@@ -135,11 +135,11 @@ pub enum ByteSingle {
 /// A form of instruction with one extension word, `x`, on bytes.
 #[derive(Clone, Copy)]
 pub enum ByteDouble {
-    /// From the value `x` onto a register.
+    /// From the value `x` onto a general register.
     FromImmediate { op: Op2, dst: u8 },
-    /// From memory at `x` onto a register.
+    /// From memory at `x` onto a general register.
     FromAbsolute { op: Op2, dst: u8 },
-    /// From memory at a register plus `x` onto a register.
+    /// From memory at a register plus `x` onto a general register.
     FromIndexed { op: Op2, base: u8, dst: u8 },
     /// From a register onto memory at `x`.
     OntoAbsolute { op: Op2, src: u8 },
@@ -180,6 +180,13 @@ fn jump_form(cond: u8, offset: i16) -> Option<Form>
     }
 }
 
+/// Whether a register keeps all of what is written to it.
+fn is_general(r: u8) -> bool
+    ensures { result ≡ is_general r }
+{
+    r >= 4 && r < 16
+}
+
 /// The form of an operation from a register or a constant onto any register.
 fn special_form(op: Op2, src: Operand, dst: u8) -> Option<Form>
     ensures { IfSome result (λ form. IsForm form (Two op false src (Reg dst)) 1) }
@@ -195,7 +202,7 @@ fn special_form(op: Op2, src: Operand, dst: u8) -> Option<Form>
 fn general_form(op: Op2, src: Operand, dst: u8) -> Option<Form>
     ensures { IfSome result (λ form. IsForm form (Two op false src (Reg dst)) 1) }
 {
-    if dst < 4 || dst >= 16 {
+    if !is_general(dst) {
         return special_form(op, src, dst);
     }
     match src {
@@ -216,10 +223,14 @@ fn register_form(op: Op2, src: Operand, dst: u8) -> Option<Form>
     }
 }
 
-/// The form of an operation on bytes of one word: onto a register.
+/// The form of an operation on bytes of one word: onto a general register. Few are onto another
+/// one, and these have no form.
 fn byte_register_form(op: Op2, src: Operand, dst: u8) -> Option<Form>
     ensures { IfSome result (λ form. IsForm form (Two op true src (Reg dst)) 1) }
 {
+    if !is_general(dst) {
+        return None;
+    }
     match src {
         Operand::Reg(src) => Some(Form::ByteSingle(ByteSingle::Registers { op, src, dst })),
         Operand::Const(value) => Some(Form::ByteConstant { op, value, dst }),
@@ -323,8 +334,11 @@ fn double_form(op: Op2, src: Operand, dst: Operand) -> Option<Double>
 
 /// The form of an operation on bytes of two words whose source has the extension word.
 fn byte_source_form(op: Op2, src: Operand, dst: u8) -> Option<ByteDouble>
-    ensures { IfSome result (λ form. byte_double_of form ≡ Two op true src (Reg dst)) }
+    ensures { IfSome result (λ form. IsByteDouble form (Two op true src (Reg dst))) }
 {
+    if !is_general(dst) {
+        return None;
+    }
     match src {
         Operand::Immediate(0) => Some(ByteDouble::FromImmediate { op, dst }),
         Operand::Absolute(0) => Some(ByteDouble::FromAbsolute { op, dst }),
@@ -335,7 +349,7 @@ fn byte_source_form(op: Op2, src: Operand, dst: u8) -> Option<ByteDouble>
 
 /// The form of an operation on bytes from a register onto memory.
 fn byte_stored_form(op: Op2, src: u8, dst: Operand) -> Option<ByteDouble>
-    ensures { IfSome result (λ form. byte_double_of form ≡ Two op true (Reg src) dst) }
+    ensures { IfSome result (λ form. IsByteDouble form (Two op true (Reg src) dst)) }
 {
     match dst {
         Operand::Absolute(0) => Some(ByteDouble::OntoAbsolute { op, src }),
@@ -346,7 +360,7 @@ fn byte_stored_form(op: Op2, src: u8, dst: Operand) -> Option<ByteDouble>
 
 /// The form of an operation on bytes of two words, not from a constant.
 fn byte_double_form(op: Op2, src: Operand, dst: Operand) -> Option<ByteDouble>
-    ensures { IfSome result (λ form. byte_double_of form ≡ Two op true src dst) }
+    ensures { IfSome result (λ form. IsByteDouble form (Two op true src dst)) }
 {
     match (src, dst) {
         (Operand::Reg(src), dst) => byte_stored_form(op, src, dst),
