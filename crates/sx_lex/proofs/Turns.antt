@@ -1,28 +1,40 @@
 -- One turn of the reading.
-use Rattle.std.proofs.Common.{◌≡◌, ℕ, suc, ◌+◌, true, false, List, [], ◌∷◌, ◌++◌, length, drop, refl, sym, ap, subst, ◌∙◌, arith, append_assoc, append-nil, ◌==◌}
+use Rattle.std.proofs.Common.{◌≡◌, ℕ, zero, suc, ◌+◌, true, false, List, [], ◌∷◌, ◌++◌, length, drop, refl, sym, ap, subst, ◌∙◌, arith, append_assoc, append-nil, ◌==◌}
+use Rattle.std.proofs.lemmas.Bool.{eq-eqb, ne_eqb}
 use Rattle.std.proofs.lemmas.List.{nil_from_length}
+use Rattle.std.specs.Prelude.{◌<◌, Option, Some, None, unwrap_or}
+use Rattle.memchr.specs.Find.{IsFirstByte, Nowhere, Passes, is_byte}
 use Rattle.sx_lex.specs.declared.tokens.Kind.{Kind}
 use Rattle.sx_lex.specs.declared.tokens.Kind.TheVariants.{Bad}
 use Rattle.sx_lex.specs.declared.tokens.Place.{Place}
 use Rattle.sx_lex.specs.declared.tokens.Placed.{Placed}
 use Rattle.sx_lex.specs.Words.{IsLongest, NoToken, line_length}
-use Rattle.sx_lex.specs.Progress.{Passed, LexedSoFar}
+use Rattle.sx_lex.specs.Progress.{LexedSoFar}
 use Rattle.sx_lex.specs.Lexed.{along, below, start, is_space, begins_comment, Lexed, at_end, space, newline, comment, token, bad}
 
-pub line_begins : (text rest : List ℕ) → rest ≡ text → Passed text 0 rest
-line_begins text rest e = rw e (record { passed = omega arith; inside = omega arith })
+no_newline : (x : ℕ) (xs : List ℕ) (n : ℕ) → Nowhere (Passes (is_byte 10) (x ∷ xs)) 0 (suc n) → (x == 10) ≡ false
+no_newline x xs n h = ne_eqb x 10 (λ e. h 0 (omega arith) (omega arith) (eq-eqb x 10 e))
 
-pub line_goes_on : (text rest a : List ℕ) (n m b : ℕ) → Passed text n rest → rest ≡ b ∷ a → (b == 10) ≡ false → m ≡ n + 1 → Passed text m a
-line_goes_on text rest a n m b h e t q =
-    let f : line_length rest ≡ suc (line_length a) = rw (e, t) refl in
-    let i : length rest ≡ suc (length a) = ap length e in
-    record { passed = omega (arith, h.passed, f, q); inside = omega (arith, h.inside, i, q) }
+none_behind : (x : ℕ) (xs : List ℕ) (n : ℕ) → Nowhere (Passes (is_byte 10) (x ∷ xs)) 0 (suc n) → Nowhere (Passes (is_byte 10) xs) 0 n
+none_behind x xs n h k low below = h (suc k) (omega arith) (omega (arith, below))
 
-pub line_stops : (text rest a : List ℕ) (n b : ℕ) → Passed text n rest → rest ≡ b ∷ a → b ≡ 10 → n ≡ line_length text
-line_stops text rest a n b h e t = let f : line_length rest ≡ 0 = rw (e, t) refl in omega (arith, h.passed, f)
+line_to : (k : ℕ) (xs : List ℕ) → k < length xs → Nowhere (Passes (is_byte 10) xs) 0 k → Passes (is_byte 10) xs k → k ≡ line_length xs
+line_to k [] l h e = absurd (omega (arith, l))
+line_to zero (x ∷ xs) l h e = let t : (x == 10) ≡ true = e in rw t refl
+line_to (suc k) (x ∷ xs) l h e =
+    let f : (x == 10) ≡ false = no_newline x xs k h in
+    rw f (ap suc (line_to k xs (omega (arith, l)) (none_behind x xs k h) e))
 
-pub line_ends : (text rest : List ℕ) (n : ℕ) → Passed text n rest → length rest ≡ 0 → n ≡ line_length text
-line_ends text rest n h e = let f : line_length rest ≡ 0 = rw (nil_from_length rest e) refl in omega (arith, h.passed, f)
+whole_line : (xs : List ℕ) → Nowhere (Passes (is_byte 10) xs) 0 (length xs) → length xs ≡ line_length xs
+whole_line [] h = refl
+whole_line (x ∷ xs) h =
+    let f : (x == 10) ≡ false = no_newline x xs (length xs) h in
+    rw f (ap suc (whole_line xs (none_behind x xs (length xs) h)))
+
+-- a line's bytes end at the first newline, else with the text
+pub line_found : (xs : List ℕ) (first : Option ℕ) → IsFirstByte (is_byte 10) xs first → unwrap_or first (length xs) ≡ line_length xs
+line_found xs (Some k) h = line_to k xs h.0.high h.0.before h.1
+line_found xs None h = whole_line xs h
 
 pub begins : (text rest : List ℕ) (out : List Placed) (at : Place) → out ≡ [] → rest ≡ text → at ≡ start → LexedSoFar text out at rest
 begins text rest out at e f g = rw (e, f, g) (record { begun = λ ts end h. h })

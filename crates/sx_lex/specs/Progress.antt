@@ -6,7 +6,6 @@ use Rattle.sx_lex.specs.declared.tokens.Placed.{Placed}
 use Rattle.sx_lex.specs.Lexed.{start, Lexed}
 use Rattle.sx_lang.specs.Form.{is_name_byte}
 use Rattle.sx_lex.specs.Words.{signs, found_in, digit_value, is_digit, value, is_hexadecimal}
-use Rattle.sx_lex.specs.Words.{line_length}
 
 -- in any way that the rest is read, the whole is these tokens and then the rest's
 pub record LexedSoFar (text : List ℕ) (out : List Placed) (at : Place) (rest : List ℕ) : Type
@@ -44,9 +43,4 @@ pub record Counted (text : List ℕ) (base count v : ℕ) (rest : List ℕ) : Ty
   pub fronts : number_front base 0 text ≡ count + number_front base v rest
   pub values : value base 0 (take (number_front base 0 text) text)
       ≡ value base v (take (number_front base v rest) rest)
-  pub inside : count + length rest ≡ length text
-
--- this many bytes of a line were passed, and the rest is still to be read
-pub record Passed (text : List ℕ) (count : ℕ) (rest : List ℕ) : Type 0 where
-  pub passed : line_length text ≡ count + line_length rest
   pub inside : count + length rest ≡ length text

@@ -6,6 +6,7 @@ ghost use Rattle.sx_lex.specs.Words.{line_length};
 
 use crate::scan::word_at;
 use crate::tokens::{Kind, Place, Placed, Tokens};
+use memchr::memchr;
 use std::alloc::{AllocError, Global};
 
 fn is_gap(byte: u8) -> bool
@@ -55,21 +56,11 @@ fn is_comment(text: &[u8]) -> bool
 }
 
 /// How many bytes are before the first newline.
-#[tactic(auto, using(crate::proofs::Turns::line_begins, crate::proofs::Turns::line_goes_on, crate::proofs::Turns::line_stops, crate::proofs::Turns::line_ends))]
 fn line_end(text: &[u8]) -> usize
     ensures count { result ≡ line_length text.now }
     ensures inside { result ≤ length text.now }
 {
-    let mut count: usize = 0;
-    let mut rest = text;
-    while let Some((first, after)) = rest.split_first() {
-        if *first == b'\n' {
-            return count;
-        }
-        count += 1;
-        rest = after;
-    }
-    count
+    memchr(b'\n', text).unwrap_or(text.len())
 }
 
 /// The tokens of a text, each the longest possible, and the place where their reading ended.
