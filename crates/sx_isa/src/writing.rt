@@ -19,6 +19,7 @@ struct Place {
     word: Option<u16>,
 }
 
+#[inline(always)]
 fn place_of(operand: Operand) -> Place
     ensures { place_of operand ≡ at result.register result.mode (option_to_list result.word) }
 {
@@ -118,6 +119,7 @@ struct Parts {
     destination: Option<u16>,
 }
 
+#[inline(always)]
 fn parts_of(i: Instr) -> Parts
     requires { IsInstruction i }
     ensures { spelling i
@@ -152,6 +154,7 @@ fn parts_of(i: Instr) -> Parts
     }
 }
 
+#[inline(always)]
 fn in_order(parts: Parts) -> Words
     ensures words { take result.len result.w
         ≡ parts.first ∷ (option_to_list parts.source ++ option_to_list parts.destination) }
@@ -182,7 +185,9 @@ fn in_order(parts: Parts) -> Words
 
 /// The words of an instruction: its spelling, and zeros after it. `decode` gives the instruction
 /// back from them. The words are those of TI's MSP430x2xx Family User's Guide, "CPU"; those of the
-/// module instructions are our own.
+/// module instructions are our own. Inlined with what it calls: where an instruction is written out,
+/// nothing of it is left but its words.
+#[inline(always)]
 pub fn encode(i: &Instr) -> Words
     requires { IsInstruction i.now }
     ensures words { BeginsWith result.w i.now result.len }
