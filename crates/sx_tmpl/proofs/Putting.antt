@@ -1,5 +1,5 @@
 -- One turn of the loop that writes instructions.
-use Rattle.std.proofs.Common.{◌≡◌, ℕ, ◌+◌, ◌<◌, true, List, ◌++◌, drop, length, sym, ap, ◌∙◌, get_or}
+use Rattle.std.proofs.Common.{◌≡◌, ℕ, ◌+◌, ◌<◌, true, List, [], ◌∷◌, ◌++◌, drop, length, sym, ap, ◌∙◌, get_or}
 use Rattle.std.proofs.lemmas.Bool.{and_parts}
 use Rattle.std.proofs.lemmas.List.{append_assoc, drop_more}
 use Rattle.sx_isa.specs.declared.instruction.Instr.{Instr}
@@ -31,3 +31,7 @@ shaped_here is k d lt h = (shaped_parts is k d lt h).0
 
 pub shaped_behind : (is : List Instr) (k : ℕ) → k < length is → are_shaped (drop k is) ≡ true → are_shaped (drop (k + 1) is) ≡ true
 shaped_behind is k lt h = (shaped_parts is k Reti lt h).1
+
+-- an instruction alone
+pub shaped_alone : (i : Instr) → are_shaped (i ∷ []) ≡ true → is_shaped i ≡ true
+shaped_alone i h = (and_parts (is_shaped i) true h).0

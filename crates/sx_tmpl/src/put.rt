@@ -19,6 +19,7 @@ fn put_word(text: &mut Vec<u8>, word: u16) -> Result<(), OutOfMemory>
 }
 
 /// Appends words, one after the other. The error says that memory ran out.
+#[inline(always)]
 pub fn put_words(text: &mut Vec<u8>, words: &[u16]) -> Result<(), OutOfMemory>
     ensures { OnOk result (PutsWords words.now text.old.items text.new.items) }
 {
@@ -29,12 +30,24 @@ pub fn put_words(text: &mut Vec<u8>, words: &[u16]) -> Result<(), OutOfMemory>
 }
 
 /// Appends the words of an instruction.
+#[inline(always)]
 fn put_instruction(text: &mut Vec<u8>, instruction: Instr) -> Result<(), OutOfMemory>
     requires { is_shaped instruction ≡ true }
     ensures { OnOk result (PutsWords (spelling instruction) text.old.items text.new.items) }
 {
     let words = encode(&instruction);
     put_words(text, &words.w[..usize::from(words.len)])
+}
+
+/// Appends the words of one instruction. The error says that memory ran out. Inlined where the
+/// instruction is written, most of its words are known before the program runs.
+#[inline(always)]
+#[tactic(auto, using(crate::proofs::Putting::shaped_alone))]
+pub fn put_one(text: &mut Vec<u8>, instruction: Instr) -> Result<(), OutOfMemory>
+    requires { are_shaped (instruction ∷ []) ≡ true }
+    ensures { OnOk result (PutsWords (words_of (instruction ∷ [])) text.old.items text.new.items) }
+{
+    put_instruction(text, instruction)
 }
 
 /// Appends the words of instructions, one after the other. The error says that memory ran out.
@@ -49,8 +62,11 @@ pub fn put_instructions(text: &mut Vec<u8>, instructions: &[Instr]) -> Result<()
     Ok(())
 }
 
-/// Appends the words of these instructions, each ended by `;`.
+/// Appends the words of these instructions, each ended by `;`. One alone takes no array and no loop.
 macro_rules! put {
+    ($text:expr; $name:ident $($operand:expr),*;) => {
+        crate::put::put_one($text, sx_isa::instruction!($name $($operand),*))
+    };
     ($text:expr; $($name:ident $($operand:expr),*;)*) => {
         crate::put::put_instructions(
             $text,
