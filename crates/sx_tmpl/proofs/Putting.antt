@@ -1,7 +1,7 @@
 -- One turn of the loop that writes instructions.
 use Rattle.std.proofs.Common.{◌≡◌, ℕ, ◌+◌, ◌<◌, true, List, [], ◌∷◌, ◌++◌, drop, length, sym, ap, ◌∙◌, get_or}
 use Rattle.std.proofs.lemmas.Bool.{and_parts}
-use Rattle.std.proofs.lemmas.List.{append_assoc, drop_more}
+use Rattle.std.proofs.lemmas.List.{append_assoc, append-nil, drop_more}
 use Rattle.sx_isa.specs.declared.instruction.Instr.{Instr}
 use Rattle.sx_isa.specs.declared.instruction.Instr.TheVariants.{Reti}
 use Rattle.sx_isa.specs.Spelling.{spelling}
@@ -35,3 +35,13 @@ shaped_behind is k lt h = (shaped_parts is k Reti lt h).1
 -- an instruction alone
 pub shaped_alone : (i : Instr) → are_shaped (i ∷ []) ≡ true → is_shaped i ≡ true
 shaped_alone i h = (and_parts (is_shaped i) true h).0
+
+-- an instruction, and those after it
+pub then_more : (i : Instr) (is : List Instr) (text text2 text3 : List ℕ) → text2 ≡ text ++ bytes_of (words_of (i ∷ [])) → text3 ≡ text2 ++ bytes_of (words_of is)
+    → text3 ≡ text ++ bytes_of (words_of (i ∷ is))
+then_more i is text text2 text3 first rest =
+    let alone : words_of (i ∷ []) ≡ spelling i = append-nil (spelling i) in
+    rest
+    ∙ ap (λ (t : List ℕ). t ++ bytes_of (words_of is)) (first ∙ ap (λ (ws : List ℕ). text ++ bytes_of ws) alone)
+    ∙ append_assoc text (bytes_of (spelling i)) (bytes_of (words_of is))
+    ∙ ap (λ (l : List ℕ). text ++ l) (sym (bytes_append (spelling i) (words_of is)))

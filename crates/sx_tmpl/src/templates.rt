@@ -132,26 +132,25 @@ fn put_meets(
     }
 }
 
-/// The turns of a copy of `count` bytes: from R13 on to R12 on, as often as R15 says.
+/// The turns of a copy of `count` bytes: from R13 on to R12 on, as often as R15 says. Each of the
+/// instructions of a turn of eight bytes is known before the program runs, if it is put alone.
 fn put_turns(text: &mut Vec<u8>, count: u16) -> Result<(), OutOfMemory>
     ensures { OnOk result (PutsWords (words_of (turns (turn_size count))) text.old.items
         text.new.items) }
 {
     if count % 8 == 0 {
-        put! {
-            text;
-            mov_b Increment(13), Indexed(12, 0);
-            mov_b Increment(13), Indexed(12, 1);
-            mov_b Increment(13), Indexed(12, 2);
-            mov_b Increment(13), Indexed(12, 3);
-            mov_b Increment(13), Indexed(12, 4);
-            mov_b Increment(13), Indexed(12, 5);
-            mov_b Increment(13), Indexed(12, 6);
-            mov_b Increment(13), Indexed(12, 7);
-            add Const(8), R12;
-            dec R15;
-            jnz -19;
-        }
+        put! { text; mov_b Increment(13), Indexed(12, 0); }?;
+        put! { text; mov_b Increment(13), Indexed(12, 1); }?;
+        put! { text; mov_b Increment(13), Indexed(12, 2); }?;
+        put! { text; mov_b Increment(13), Indexed(12, 3); }?;
+        put! { text; mov_b Increment(13), Indexed(12, 4); }?;
+        put! { text; mov_b Increment(13), Indexed(12, 5); }?;
+        put! { text; mov_b Increment(13), Indexed(12, 6); }?;
+        put! { text; mov_b Increment(13), Indexed(12, 7); }?;
+        put! { text; add Const(8), R12; }?;
+        put! { text; dec R15; }?;
+        put! { text; jnz -19; }?;
+        Ok(())
     } else {
         put! {
             text;
