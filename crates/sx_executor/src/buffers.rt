@@ -2,10 +2,12 @@
 //! touched, unless the buffer as a whole is apart from all that it guards, or is known to be
 //! the running module's own data.
 
-ghost use Rattle.std.specs.Prelude.{◌≡◌, ◌+◌, ◌≤◌, true, false, length, IfErr, IsTrue, OnOk};
+ghost use Rattle.std.specs.Prelude.{◌≡◌, ◌+◌, ◌%◌, ◌≤◌, ◌∷◌, [], true, false, None, length};
+ghost use Rattle.std.specs.Prelude.{IfErr, IsTrue, OnOk};
 ghost use Rattle.sx_rules.specs.declared.access.Access.TheVariants.{Read, Write};
 ghost use Rattle.sx_rules.specs.declared.access.Violation.TheVariants as bad;
 ghost use Rattle.spec_machine.specs.Memory.{bytes_from};
+ghost use Rattle.spec_machine.specs.Run.{device_of};
 ghost use Rattle.sx_executor.specs.Machine.{reaches, with_bytes, IsClear};
 
 use crate::buffer::Buffer;
@@ -99,9 +101,36 @@ impl<B: Bus> Executor<B> {
         }
     }
 
-    /// Writes bytes from an address on. Their places may be written, and no device meets them.
+    /// Writes two bytes from an even address on, in one write of a word.
+    #[tactic(auto, using(crate::proofs::Words::right, crate::proofs::Words::put_pair))]
+    fn write_pair(&mut self, at: u16, low: u8, high: u8)
+        requires even { at % 2 ≡ 0 }
+        requires right { reaches self.old Write at 2 ≡ true }
+        requires memory { device_of self.old.devices at ≡ None }
+        ensures { self.new ≡ with_bytes self.old at (low ∷ high ∷ []) }
+    {
+        self.write(true, at, u16::from(low) + 256 * u16::from(high));
+    }
+
+    /// The same as `write_bytes`, from an even address on and of an even number of bytes.
+    #[tactic(auto, using(crate::proofs::Clear::each_clear))]
+    fn write_pairs(&mut self, at: u16, bytes: &[u8])
+        requires even { at % 2 ≡ 0 }
+        requires pairs { length bytes.now % 2 ≡ 0 }
+        requires within { at + length bytes.now ≤ 65536 }
+        requires right { reaches self.old Write at (length bytes.now) ≡ true }
+        requires memory { IsClear self.old.devices at (length bytes.now) }
+        ensures { self.new ≡ with_bytes self.old at bytes.now }
+    {
+        for i in 0..bytes.len() / 2 {
+            let place = (at as usize + 2 * i) as u16;
+            self.write_pair(place, bytes[2 * i], bytes[2 * i + 1]);
+        }
+    }
+
+    /// The same as `write_bytes`, byte by byte.
     #[tactic(auto, using(crate::proofs::Reach::each_open, crate::proofs::Clear::each_clear))]
-    pub fn write_bytes(&mut self, at: u16, bytes: &[u8])
+    fn write_each(&mut self, at: u16, bytes: &[u8])
         requires within { at + length bytes.now ≤ 65536 }
         requires right { reaches self.old Write at (length bytes.now) ≡ true }
         requires memory { IsClear self.old.devices at (length bytes.now) }
@@ -109,6 +138,20 @@ impl<B: Bus> Executor<B> {
     {
         for (i, byte) in bytes.iter().enumerate() {
             self.write(false, (at as usize + i) as u16, u16::from(*byte));
+        }
+    }
+
+    /// Writes bytes from an address on. Their places may be written, and no device meets them.
+    pub fn write_bytes(&mut self, at: u16, bytes: &[u8])
+        requires within { at + length bytes.now ≤ 65536 }
+        requires right { reaches self.old Write at (length bytes.now) ≡ true }
+        requires memory { IsClear self.old.devices at (length bytes.now) }
+        ensures { self.new ≡ with_bytes self.old at bytes.now }
+    {
+        if at % 2 == 0 && bytes.len() % 2 == 0 {
+            self.write_pairs(at, bytes);
+        } else {
+            self.write_each(at, bytes);
         }
     }
 }

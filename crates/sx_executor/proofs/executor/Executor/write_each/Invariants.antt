@@ -1,6 +1,6 @@
 use Rattle.std.proofs.Common.{◌≡◌, ◌+◌, drop}
 use Rattle.spec_machine.specs.Memory.{put_bytes}
-use Rattle.sx_executor.proofs.executor.Executor.write_bytes.Given as goal
+use Rattle.sx_executor.proofs.executor.Executor.write_each.Given as goal
 
 -- the bytes that are left, from the next address on, complete what was to be written
 abbrev pub invariant-loop-i : goal.invariant-loop-i

@@ -1,0 +1,9 @@
+use Rattle.std.proofs.Common.{◌≡◌, ◌+◌, ◌*◌, drop}
+use Rattle.spec_machine.specs.Memory.{put_bytes}
+use Rattle.sx_executor.proofs.executor.Executor.write_pairs.Given as goal
+
+-- as in `write_each`, by pairs
+abbrev pub invariant-loop-i : goal.invariant-loop-i
+invariant-loop-i g l =
+    (put_bytes l.self.mem (l.at + 2 * l.i) (drop (2 * l.i) l.bytes) ≡ put_bytes l.fn.self.mem l.at l.bytes)
+    × (l.self ≡ record l.fn.self { mem = l.self.mem })
