@@ -78,13 +78,17 @@ fn is_same(tag: &[u8; 16], expected: &[u8; 16]) -> bool
     tag.as_slice() == expected.as_slice()
 }
 
-// Encrypts or decrypts at the start of `into`, from a run that was begun with the key.
+// Encrypts or decrypts at the start of `into`, from a run that was begun with the key. An empty
+// body, as in an answer to an ask, takes no stream.
 fn crypt<T: Tag>(tag: &T, begun: T::Run, ad: &[u8], bytes: &[u8], into: &mut [u8; 32])
     requires ad { length ad.now ≤ 32 }
     requires bytes { length bytes.now ≤ 32 }
     ensures { (key : List ℕ) → T.has begun key [] → into.new
         ≡ spec.crypt T.mac key ad.now bytes.now ++ drop (length bytes.now) into.old }
 {
+    if bytes.is_empty() {
+        return;
+    }
     let mut run = begun;
     tag.feed(&mut run, &[STREAM_LABEL, ad.len() as u8]);
     tag.feed(&mut run, ad);
