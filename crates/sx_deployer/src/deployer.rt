@@ -1,12 +1,13 @@
 //! The deployer: its open asks, what it accepted, and the epochs of the connections.
 
-ghost use Rattle.std.specs.Prelude.{◌≡◌, ◌<◌, ◌≤◌, IfOk, IsSome, None, false, length};
-ghost use Rattle.std.specs.Prelude.{map, slice_index};
+ghost use Rattle.std.specs.Prelude.{◌≡◌, ◌<◌, ◌≤◌, IfOk, IfSome, IsSome, None, false};
+ghost use Rattle.std.specs.Prelude.{length, map, option_map, slice_index};
 ghost use Rattle.sx_wire.specs.Headers.{ask_packet};
+ghost use Rattle.sx_deployer.specs.Granting.{connection_key};
 ghost use Rattle.sx_deployer.specs.Keeping as spec;
 
 use crate::derived::DerivedKey;
-use crate::keys::{grant, is_answer, key_of};
+use crate::keys::{KeyPacket, grant, is_answer, key_of};
 use crate::renewal::{may_attest, renewed};
 use crate::target::Target;
 use std::alloc::{AllocError, Global};
@@ -148,7 +149,7 @@ impl<T: Tag> Deployer<T> {
         let end = target.ends[usize::from(end)];
         let boot = self.attested[usize::from(module)].unwrap_or(0);
         let key = self.key_of(tag, module, boot);
-        grant(tag, &self.secret, &key, end, self.epoch(end.link))
+        grant(tag, &self.secret, &key, end, self.epoch(end.link)).bytes
     }
 
     /// The epoch of a connection: 0 of one that no module has.
@@ -179,6 +180,25 @@ impl<T: Tag> Deployer<T> {
     /// connection; `None` exactly where there is no such module.
     pub fn packet(&self, tag: &T, holder: u8, boot: u32, end: End, epoch: u8) -> Option<[u8; 38]>
         ensures { result ≡ spec.packet_for T.mac self.now holder boot «end» epoch }
+    {
+        let packet = self.key_packet(tag, holder, boot, end, epoch)?;
+        Some(packet.bytes)
+    }
+
+    /// The same packet beside the connection's key that it carries, for whoever keeps both: the key
+    /// is derived once.
+    pub fn key_packet(
+        &self,
+        tag: &T,
+        holder: u8,
+        boot: u32,
+        end: End,
+        epoch: u8,
+    ) -> Option<KeyPacket>
+        ensures bytes { option_map (λ p. p.bytes) result
+            ≡ spec.packet_for T.mac self.now holder boot «end» epoch }
+        ensures key { IfSome result (λ p. p.key
+            ≡ connection_key T.mac self.now.secret «end».link epoch) }
     {
         match self.targets.get(usize::from(holder)) {
             Some(_) => {

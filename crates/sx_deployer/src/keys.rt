@@ -61,26 +61,33 @@ pub fn connection_key<T: Tag>(tag: &T, secret: &[u8; 16], link: u8, epoch: u8) -
     sx_tag::kdf(tag, secret, &field(link, epoch).to_le_bytes())
 }
 
+/// A set-key packet, and the connection's key that it carries.
+#[derive(Clone, Copy)]
+pub struct KeyPacket {
+    pub bytes: [u8; 38],
+    pub key: [u8; 16],
+}
+
 /// The set-key packet for an end of the module with this key, with the connection's key of an
 /// epoch.
-pub fn grant<T: Tag>(tag: &T, secret: &[u8; 16], key: &[u8; 16], end: End, epoch: u8) -> [u8; 38]
-    ensures { result ≡ grants.set_key T.mac secret.now key.now «end» epoch }
+pub fn grant<T: Tag>(tag: &T, secret: &[u8; 16], key: &[u8; 16], end: End, epoch: u8) -> KeyPacket
+    ensures bytes { result.bytes ≡ grants.set_key T.mac secret.now key.now «end» epoch }
+    ensures key { result.key ≡ grants.connection_key T.mac secret.now «end».link epoch }
 {
+    let connection = connection_key(tag, secret, end.link, epoch);
     let mut packet = SetKeyPacket {
         link: field(end.link, epoch),
         end: side_number(end.side),
         cipher: [0; 16],
         mac: [0; 16],
     };
-    let bytes = write_set_key(&packet);
+    let header = write_set_key(&packet);
     let mut cipher = [0; 32];
-    packet.mac = sx_tag::wrap(
-        tag,
-        key,
-        &bytes[..6],
-        &connection_key(tag, secret, end.link, epoch),
-        &mut cipher,
-    );
+    packet.mac = sx_tag::wrap(tag, key, &header[..6], &connection, &mut cipher);
     packet.cipher.copy_from_slice(&cipher[..16]);
-    write_set_key(&packet)
+    let bytes = write_set_key(&packet);
+    KeyPacket {
+        bytes,
+        key: connection,
+    }
 }

@@ -12,7 +12,7 @@
 #![tactic(auto)]
 
 pub use deployer::{Deployer, Verdict};
-pub use keys::connection_key;
+pub use keys::{KeyPacket, connection_key};
 pub use target::Target;
 
 mod deployer;

@@ -12,7 +12,6 @@ use crate::running::Running;
 use std::alloc::AllocError;
 use sx_bus::Copied;
 use sx_deploy::deployment::Deployment;
-use sx_deployer::connection_key;
 use sx_ledger::Maker;
 use sx_observe::recording::record;
 use sx_tag::Tag;
@@ -35,19 +34,18 @@ impl<B: Copied, T: Tag> Running<B, T> {
     {
         match self
             .deployer
-            .packet(&self.tag, g.holder, g.boot, g.end, g.epoch)
+            .key_packet(&self.tag, g.holder, g.boot, g.end, g.epoch)
         {
             Some(packet) => {
-                let key = connection_key(&self.tag, &deployment.secret, g.end.link, g.epoch);
                 record(
                     &mut self.ledger,
                     Maker::Deployer,
                     g.holder,
                     g.boot,
-                    &packet[..6],
-                    &key,
+                    &packet.bytes[..6],
+                    &packet.key,
                 )?;
-                add_packet(self.alloc, &mut self.packets, &packet, items)
+                add_packet(self.alloc, &mut self.packets, &packet.bytes, items)
             }
             None => Ok(()),
         }

@@ -40,7 +40,7 @@ same_answer set k d g (Some site) h e =
 -- a key was given
 pub given_some : {X E : Type 0} (set : Setting) (r : Result X E) (old : Running) (entries : List Entry) (packets : List (List ℕ)) (before after : List Item) (g : Grant)
     (count : ℕ) (packet key : List ℕ)
-    → Some packet ≡ packet_for set.mac old.deployer g.holder g.boot g.«end» g.epoch → key ≡ connection_key set g.«end».link g.epoch
+    → Some packet ≡ packet_for set.mac old.deployer g.holder g.boot g.«end» g.epoch → key ≡ granting.connection_key set.mac old.deployer.secret g.«end».link g.epoch
     → ((list : List Made) → Records old.ledger list → Records entries (list ++ made maker.Deployer g.holder g.boot (take 6 packet) key ∷ []))
     → count ≡ length old.packets
     → OnOk r (packets ≡ old.packets ++ packet ∷ []) → OnOk r (after ≡ before ++ Packet count (length packet) ∷ []) → OnErr r (after ≡ before)
@@ -56,9 +56,11 @@ given_some set (Ok x) old entries packets before after g count packet key made_b
         no_packet e = cc
     did w h (Some site) e =
         let same : packet ≡ set_key set site g = same_Some packet (set_key set site g) (made_by ∙ same_answer set old.deployer w.deployer g (Some site) h.deployer e) in
+        let own_key : key ≡ connection_key set g.«end».link g.epoch =
+        key_is ∙ ap (λ (s : List ℕ). granting.connection_key set.mac s g.«end».link g.epoch) h.deployer.secret in
         let entry : made maker.Deployer g.holder g.boot (take 6 packet) key ≡ set_key_entry set g =
         ap (λ (p : List ℕ). made maker.Deployer g.holder g.boot (take 6 p) key) same
-        ∙ ap (λ (p : List ℕ). made maker.Deployer g.holder g.boot (grant_header g) p) key_is in
+        ∙ ap (λ (p : List ℕ). made maker.Deployer g.holder g.boot (grant_header g) p) own_key in
         let ledger = w.ledger ++ set_key_entry set g ∷ [] in
         let kept : Records entries ledger = subst (λ (m : Made). Records entries (w.ledger ++ m ∷ [])) entry (records w.ledger h.ledger) in (
           packet_shown set (sent old old.packets old.deployer entries) (with_deployer w w.deployer ledger) packets packet (set_key set site g)

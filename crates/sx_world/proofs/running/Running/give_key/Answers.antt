@@ -1,10 +1,11 @@
-use Rattle.std.proofs.Common.{map, List, refl, sym, subst, ◌∙◌}
-use Rattle.std.specs.Prelude.{slice_get}
+use Rattle.std.proofs.Common.{◌≡◌, map, List, refl, sym, ap, subst, ◌∙◌}
+use Rattle.std.specs.Prelude.{Option, IfSome, option_map, slice_get}
 use Rattle.std.proofs.lemmas.List.{length-map}
 use Rattle.std.specs.Rc.{rc_slice_items}
 use Rattle.sx_deploy.specs.SeenDeployment.{deployed_as}
 use Rattle.spec_run.specs.Acts.{key_given}
-use Rattle.sx_deployer.specs.Granting.{Grant}
+use Rattle.sx_deployer.specs.Granting.{Grant, connection_key}
+use Rattle.sx_deployer.specs.declared.keys.KeyPacket.{KeyPacket}
 use Rattle.sx_world.specs.Held.{Running, DoesAct, Did}
 use Rattle.spec_run.specs.Accepted.{setting}
 use Rattle.spec_run.specs.Setting.{Site}
@@ -22,7 +23,9 @@ returns-in_ok-record-in-Some-clause-does g c =
     (subst (λ (o : Running). (sites : List Site) → DoesAct (setting g.T.Tag.mac (deployed_as c.args.deployment.now) sites) c.add_packet.result o new
     c.args.items.now.items c.add_packet.new.items.items (λ w. key_given (setting g.T.Tag.mac (deployed_as c.args.deployment.now) sites) w given (slice_get sites given.holder))) c.self.view_is
     (λ sites. given_some (setting g.T.Tag.mac (deployed_as c.args.deployment.now) sites) c.add_packet.result _ c.record.new.ledger packets c.args.items.now.items c.add_packet.new.items.items given
-    _ c.in-Some.packet c.connection_key-key.result (sym c.in-Some.is ∙ c.packet.ensures) c.connection_key-key.ensures c.in_ok-record-in-Some.ensures
+    _ c.in-Some.packet.bytes c.in-Some.packet.key (ap (option_map (λ (p : KeyPacket). p.bytes)) (sym c.in-Some.is) ∙ c.key_packet.ensures.bytes)
+    (subst (λ (o : Option KeyPacket). IfSome o (λ p. p.key ≡ connection_key g.T.Tag.mac c.self.inside.deployer.secret c.g.inside.«end».link c.g.inside.epoch)) c.in-Some.is c.key_packet.ensures.key)
+    c.in_ok-record-in-Some.ensures
     (sym (length-map c.self.inside.packets.items rc_slice_items)) c.add_packet.ensures.packet c.add_packet.ensures.ok c.add_packet.ensures.err))
 
 pub returns-in-None-clause-does : goal.returns-in-None-clause-does
@@ -32,7 +35,7 @@ returns-in-None-clause-does g c =
     c.args.items.now.items c.args.items.now.items (λ w. key_given (setting g.T.Tag.mac (deployed_as c.args.deployment.now) sites) w x (slice_get sites x.holder))) c.g.view_is
     (subst (λ (o : Running). (sites : List Site) → Did (setting g.T.Tag.mac (deployed_as c.args.deployment.now) sites) o o
     c.args.items.now.items c.args.items.now.items (λ w. key_given (setting g.T.Tag.mac (deployed_as c.args.deployment.now) sites) w given (slice_get sites given.holder))) c.self.view_is
-    (λ sites. given_none (setting g.T.Tag.mac (deployed_as c.args.deployment.now) sites) _ c.args.items.now.items given (sym c.in-None.is ∙ c.packet.ensures)))
+    (λ sites. given_none (setting g.T.Tag.mac (deployed_as c.args.deployment.now) sites) _ c.args.items.now.items given (ap (option_map (λ (p : KeyPacket). p.bytes)) (sym c.in-None.is) ∙ c.key_packet.ensures.bytes)))
 
 pub returns-in_err-record-in-Some-clause-does : goal.returns-in_err-record-in-Some-clause-does
 returns-in_err-record-in-Some-clause-does g c = λ sites.
