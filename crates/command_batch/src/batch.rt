@@ -27,7 +27,7 @@ impl Deploys for BatchCommand {
     ghost may = { batch_may assembled };
 
     /// The common lines in a world where all was just switched on, and then each schedule.
-    fn perform<S: Source, K: Sink, T: Tag + Copy>(
+    fn perform<S: Source, K: Sink, T: Tag>(
         alloc: Global,
         tag: T,
         lines: &mut Lines,
@@ -46,7 +46,7 @@ impl Deploys for BatchCommand {
 /// The command `batch` over any tag: a deployment, the line `%%`, common lines, and after each
 /// further line `%%` a schedule. What a schedule writes is written before the next is read. Gives
 /// the exit status, as `top` does for this command.
-pub fn batch_over<S: Source, K: Sink, T: Tag + Copy>(
+pub fn batch_over<S: Source, K: Sink, T: Tag>(
     alloc: Global,
     tag: T,
     input: &mut S,

@@ -71,7 +71,7 @@ fn turn<K: Sink, B: Copied, T: Tag>(
 }
 
 /// Performs the common lines in a world where all was just switched on, and then the schedules.
-pub(crate) fn common_lines<S: Source, K: Sink, B: Copied, T: Tag + Copy>(
+pub(crate) fn common_lines<S: Source, K: Sink, B: Copied, T: Tag>(
     alloc: Global,
     lines: &mut Lines,
     input: &mut S,

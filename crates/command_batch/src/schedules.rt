@@ -167,7 +167,7 @@ fn run_schedule<S: Source, K: Sink, B: Copied, T: Tag>(
 }
 
 /// Runs the next schedule in a copy of the world after the common lines.
-fn run_copy<S: Source, K: Sink, B: Copied, T: Tag + Copy>(
+fn run_copy<S: Source, K: Sink, B: Copied, T: Tag>(
     alloc: Global,
     lines: &mut Lines,
     input: &mut S,
@@ -206,7 +206,7 @@ fn run_copy<S: Source, K: Sink, B: Copied, T: Tag + Copy>(
 }
 
 /// Runs all schedules, whose own lines begin with this number.
-pub(crate) fn run_schedules<S: Source, K: Sink, B: Copied, T: Tag + Copy>(
+pub(crate) fn run_schedules<S: Source, K: Sink, B: Copied, T: Tag>(
     alloc: Global,
     lines: &mut Lines,
     input: &mut S,

@@ -26,7 +26,7 @@ use sx_tag::Tag;
 /// Does what follows the head of a text by what reading the text gave: it makes the images of the
 /// deployment's modules, and does the command's own part with them. To say which rule a text breaks
 /// takes no memory, and reads nothing.
-fn deploy_read<C: Deploys, S: Source, K: Sink, T: Tag + Copy>(
+fn deploy_read<C: Deploys, S: Source, K: Sink, T: Tag>(
     alloc: Global,
     tag: T,
     read: Result<Deployment, DeployError>,
@@ -58,7 +58,7 @@ fn deploy_read<C: Deploys, S: Source, K: Sink, T: Tag + Copy>(
 /// command's own part reads after it. Gives the exit status: 1 if the deployment breaks a rule
 /// or there is no head, 4 if a read failed, 5 if a write failed, 6 if memory ran out, and
 /// else that of the own part.
-pub fn deploy_over<C: Deploys, S: Source, K: Sink, T: Tag + Copy>(
+pub fn deploy_over<C: Deploys, S: Source, K: Sink, T: Tag>(
     alloc: Global,
     tag: T,
     input: &mut S,

@@ -30,7 +30,7 @@ pub trait Deploys {
 
     /// Does what follows the head, with these images of the deployment's modules. Gives the exit
     /// status.
-    fn perform<S: Source, K: Sink, T: Tag + Copy>(
+    fn perform<S: Source, K: Sink, T: Tag>(
         alloc: Global,
         tag: T,
         lines: &mut Lines,

@@ -31,7 +31,7 @@ use sx_tag::Tag;
 
 /// The honest run of a deployment with these images of its modules, where all nodes were just
 /// switched on.
-fn new_honest<T: Tag + Copy>(
+fn new_honest<T: Tag>(
     alloc: Global,
     tag: T,
     deployment: &Deployment,
@@ -44,7 +44,7 @@ fn new_honest<T: Tag + Copy>(
         (start (image_setting T.mac deployment.now images.now))) }
     ensures memory { IfOk result (λ honest. honest.ran_out ≡ false) }
 {
-    let nodes = nodes_of(alloc, tag, deployment)?;
+    let nodes = nodes_of(alloc, &tag, deployment)?;
     Honest::new(alloc, tag, deployment, images, nodes)
 }
 
@@ -90,7 +90,7 @@ impl Deploys for DriveCommand {
     ghost may = { drive_may };
 
     /// Drives a deployment with these images of its modules.
-    fn perform<S: Source, K: Sink, T: Tag + Copy>(
+    fn perform<S: Source, K: Sink, T: Tag>(
         alloc: Global,
         tag: T,
         lines: &mut Lines,
@@ -118,7 +118,7 @@ impl Deploys for DriveCommand {
 /// its value. It writes the images and the honest run: each line of its schedule after `> `, and
 /// the items that the line shows. What a reading shows is written before the next line is read.
 /// Gives the exit status, as `top` does for this command.
-pub fn drive_over<S: Source, K: Sink, T: Tag + Copy>(
+pub fn drive_over<S: Source, K: Sink, T: Tag>(
     alloc: Global,
     tag: T,
     input: &mut S,

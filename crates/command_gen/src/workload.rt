@@ -77,7 +77,7 @@ fn tell_run<K: Sink, B: Copied, T: Tag>(
 }
 
 /// The images' lines, and the run in a world where all was just switched on.
-fn gen_images<K: Sink, T: Tag + Copy>(
+fn gen_images<K: Sink, T: Tag>(
     alloc: Global,
     tag: T,
     samples: u32,
@@ -103,7 +103,7 @@ fn gen_images<K: Sink, T: Tag + Copy>(
 }
 
 /// Makes the images of the workload's modules, and runs it.
-fn gen_deployment<K: Sink, T: Tag + Copy>(
+fn gen_deployment<K: Sink, T: Tag>(
     alloc: Global,
     tag: T,
     samples: u32,
@@ -126,7 +126,7 @@ fn gen_deployment<K: Sink, T: Tag + Copy>(
 /// runs as many of its lines as carry this many samples, and writes how many lines, items, outputs,
 /// outputs of the value 1 and node steps there were. No line is kept. Gives the exit status, as
 /// `top` does for this command.
-pub fn gen_over<K: Sink, T: Tag + Copy>(
+pub fn gen_over<K: Sink, T: Tag>(
     alloc: Global,
     tag: T,
     samples: u32,

@@ -29,7 +29,7 @@ impl Deploys for LinesCommand {
     ghost may = { run_may assembled };
 
     /// The schedule's lines and items, in a world where all was just switched on.
-    fn perform<S: Source, K: Sink, T: Tag + Copy>(
+    fn perform<S: Source, K: Sink, T: Tag>(
         alloc: Global,
         tag: T,
         lines: &mut Lines,
@@ -56,7 +56,7 @@ impl Deploys for LinesCommand {
 /// The command `lines` over any tag: a deployment, the line `%%`, and a schedule. Each line that is
 /// performed is written after `> `, and its items after it, before more of the input is read. Gives
 /// the exit status, as `top` does for this command.
-pub fn lines_over<S: Source, K: Sink, T: Tag + Copy>(
+pub fn lines_over<S: Source, K: Sink, T: Tag>(
     alloc: Global,
     tag: T,
     input: &mut S,

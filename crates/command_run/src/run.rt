@@ -31,7 +31,7 @@ impl Deploys for RunCommand {
     /// The images' lines, `trace`, and the schedule, in a world where all was just switched on. Its
     /// nodes are made before the first line is written: if memory runs out there, nothing is
     /// written.
-    fn perform<S: Source, K: Sink, T: Tag + Copy>(
+    fn perform<S: Source, K: Sink, T: Tag>(
         alloc: Global,
         tag: T,
         lines: &mut Lines,
@@ -61,7 +61,7 @@ impl Deploys for RunCommand {
 /// The command `run` over any tag: a deployment, the line `%%`, and a schedule, whose lines are
 /// performed and their items written while they are read. Gives the exit status, as `top` does for
 /// this command.
-pub fn run_over<S: Source, K: Sink, T: Tag + Copy>(
+pub fn run_over<S: Source, K: Sink, T: Tag>(
     alloc: Global,
     tag: T,
     input: &mut S,

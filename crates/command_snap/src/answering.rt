@@ -27,7 +27,7 @@ use sx_world::world::World;
 
 /// The answer to a query, in the world after the lines that come before what it asks.
 #[tactic(auto, unfolding(crate::specs::Answers::answer_text))]
-fn answer_in<B: Copied, T: Tag + Copy>(
+fn answer_in<B: Copied, T: Tag>(
     alloc: Global,
     deployment: &Deployment,
     timeline: &Timeline<B, T>,
@@ -66,7 +66,7 @@ fn answer_in<B: Copied, T: Tag + Copy>(
 }
 
 /// The answer to a query, by a world of its own.
-pub(crate) fn answer<B: Copied, T: Tag + Copy>(
+pub(crate) fn answer<B: Copied, T: Tag>(
     alloc: Global,
     deployment: &Deployment,
     timeline: &Timeline<B, T>,
@@ -103,7 +103,7 @@ fn first_before(queries: &[Query]) -> u32
 }
 
 /// Answers to queries, the first of them if all would take too many bytes.
-fn answer_together<B: Copied, T: Tag + Copy>(
+fn answer_together<B: Copied, T: Tag>(
     alloc: Global,
     deployment: &Deployment,
     timeline: &Timeline<B, T>,
@@ -190,7 +190,7 @@ impl Foreseen {
 
     /// Prepares for the next query, which has this number: unless it was held with those before it,
     /// answers are made to it and to those that are held with it.
-    pub(crate) fn prepare<B: Copied, T: Tag + Copy>(
+    pub(crate) fn prepare<B: Copied, T: Tag>(
         &mut self,
         deployment: &Deployment,
         timeline: &Timeline<B, T>,

@@ -45,7 +45,7 @@ fn break_query<K: Sink>(output: &mut K, rule: QueryRule, number: u32) -> Status
 }
 
 /// Writes the answer to a query.
-fn tell<K: Sink, B: Copied, T: Tag + Copy>(
+fn tell<K: Sink, B: Copied, T: Tag>(
     alloc: Global,
     output: &mut K,
     deployment: &Deployment,
@@ -73,7 +73,7 @@ fn tell<K: Sink, B: Copied, T: Tag + Copy>(
 }
 
 /// Answers the query of this number, or writes which rule it breaks.
-fn turn<K: Sink, B: Copied, T: Tag + Copy>(
+fn turn<K: Sink, B: Copied, T: Tag>(
     alloc: Global,
     output: &mut K,
     deployment: &Deployment,
@@ -109,7 +109,7 @@ fn turn<K: Sink, B: Copied, T: Tag + Copy>(
 }
 
 /// Answers the queries to the end of the input, or to the first that breaks a rule.
-pub(crate) fn answer_queries<S: Source, K: Sink, B: Copied, T: Tag + Copy>(
+pub(crate) fn answer_queries<S: Source, K: Sink, B: Copied, T: Tag>(
     alloc: Global,
     lines: &mut Lines,
     input: &mut S,

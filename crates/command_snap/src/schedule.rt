@@ -34,7 +34,7 @@ use sx_tag::Tag;
 
 /// Keeps the line with this number of the schedule. The error is the rule that it breaks, or says
 /// that memory ran out.
-fn keep<B: Copied, T: Tag + Copy>(
+fn keep<B: Copied, T: Tag>(
     alloc: Global,
     deployment: &Deployment,
     timeline: &mut Timeline<B, T>,
@@ -74,7 +74,7 @@ fn answer_none<K: Sink>(output: &mut K, images: &[u8]) -> Status
 }
 
 /// The images, and the answers to the queries after the mark.
-fn answer_all<S: Source, K: Sink, B: Copied, T: Tag + Copy>(
+fn answer_all<S: Source, K: Sink, B: Copied, T: Tag>(
     alloc: Global,
     lines: &mut Lines,
     input: &mut S,
@@ -103,7 +103,7 @@ fn answer_all<S: Source, K: Sink, B: Copied, T: Tag + Copy>(
 
 /// Reads the schedule to its end, and answers the queries after its mark. These are the lines of
 /// the images.
-fn snap_lines<S: Source, K: Sink, B: Copied, T: Tag + Copy>(
+fn snap_lines<S: Source, K: Sink, B: Copied, T: Tag>(
     alloc: Global,
     lines: &mut Lines,
     input: &mut S,
@@ -148,7 +148,7 @@ fn snap_lines<S: Source, K: Sink, B: Copied, T: Tag + Copy>(
 
 /// Makes the lines of the images before it reads the schedule, so that no memory is wanted for them
 /// after it.
-pub(crate) fn snap_built<S: Source, K: Sink, B: Copied, T: Tag + Copy>(
+pub(crate) fn snap_built<S: Source, K: Sink, B: Copied, T: Tag>(
     alloc: Global,
     lines: &mut Lines,
     input: &mut S,

@@ -28,7 +28,7 @@ use sx_tag::Tag;
 const EVERY: u32 = 8192;
 
 /// The timeline of a deployment with these images of its modules, without a line.
-fn new_timeline<T: Tag + Copy>(
+fn new_timeline<T: Tag>(
     alloc: Global,
     tag: T,
     deployment: &Deployment,
@@ -43,7 +43,7 @@ fn new_timeline<T: Tag + Copy>(
     ensures lines { IfOk result (λ t. t.lines ≡ []) }
     ensures every { IfOk result (λ t. t.every ≡ EVERY) }
 {
-    let nodes = nodes_of(alloc, tag, deployment)?;
+    let nodes = nodes_of(alloc, &tag, deployment)?;
     Timeline::new(alloc, tag, deployment, images, nodes, EVERY)
 }
 
@@ -59,7 +59,7 @@ impl Deploys for SnapCommand {
     ghost may = { snap_may };
 
     /// Answers the queries about a deployment with these images of its modules.
-    fn perform<S: Source, K: Sink, T: Tag + Copy>(
+    fn perform<S: Source, K: Sink, T: Tag>(
         alloc: Global,
         tag: T,
         lines: &mut Lines,
@@ -89,7 +89,7 @@ impl Deploys for SnapCommand {
 /// queries. The schedule is read and judged to its end before anything is written; then come the
 /// images and the answers, each before the next query is read. Gives the exit status, as `top` does
 /// for this command.
-pub fn snap_over<S: Source, K: Sink, T: Tag + Copy>(
+pub fn snap_over<S: Source, K: Sink, T: Tag>(
     alloc: Global,
     tag: T,
     input: &mut S,

@@ -67,9 +67,9 @@ fn node_at<T: Tag>(
 
 /// All nodes of a deployment, just switched on: each has its key, and its devices in the
 /// deployment's order.
-pub fn nodes_of<T: Tag + Copy>(
+pub fn nodes_of<T: Tag>(
     alloc: Global,
-    tag: T,
+    tag: &T,
     deployment: &Deployment,
 ) -> Result<Vec<Node<PagedBus, T>>, AllocError>
     requires sound { IsSoundDeployment (deployed_as deployment.now) }
@@ -80,7 +80,7 @@ pub fn nodes_of<T: Tag + Copy>(
     let mut number: u8 = 0;
     'nodes: while usize::from(number) < deployment.keys.len() {
         let key = deployment.keys[usize::from(number)];
-        nodes.push(node_at(alloc, tag, deployment, number, key)?)?;
+        nodes.push(node_at(alloc, tag.another(), deployment, number, key)?)?;
         number += 1;
     }
     Ok(nodes)

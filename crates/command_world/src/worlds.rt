@@ -17,7 +17,7 @@ use sx_world::world::World;
 
 /// The world of a deployment with these images of its modules, where all nodes were just switched
 /// on.
-pub fn new_world<T: Tag + Copy>(
+pub fn new_world<T: Tag>(
     alloc: Global,
     tag: T,
     deployment: &Deployment,
@@ -32,6 +32,6 @@ pub fn new_world<T: Tag + Copy>(
         (switched_on (image_setting T.mac deployment.now images.now))) }
     ensures performed { IfOk result (λ world. world.performed ≡ 0) }
 {
-    let nodes = nodes_of(alloc, tag, deployment)?;
+    let nodes = nodes_of(alloc, &tag, deployment)?;
     World::new(alloc, tag, deployment, images, nodes)
 }

@@ -27,7 +27,7 @@ impl<B: Copied, T: Tag> Node<B, T> {
     }
 }
 
-impl<B: Copied, T: Tag + Copy> Node<B, T> {
+impl<B: Copied, T: Tag> Node<B, T> {
     /// A node of its own in an equal state, with the same tag. `OutOfMemory` where there is none
     /// for it.
     pub fn copy(&self, alloc: Global) -> Result<Node<B, T>, OutOfMemory>
@@ -42,7 +42,7 @@ impl<B: Copied, T: Tag + Copy> Node<B, T> {
             boot: self.boot,
             key: self.key,
             exchange: self.exchange,
-            tag: self.tag,
+            tag: self.tag.another(),
         })
     }
 }

@@ -148,7 +148,7 @@ impl<B: Bus, T: Tag> Node<B, T> {
             &mut self.executor,
             code,
             caller,
-            &self.tag,
+            &mut self.tag,
             &self.key,
             self.boot,
             &mut self.exchange,

@@ -22,7 +22,7 @@ fn run_plan<B: Bus, T: Tag>(
     executor: &mut Executor<B>,
     code: u8,
     caller: u16,
-    tag: &T,
+    tag: &mut T,
     exchange: &mut Exchange,
 ) -> Result<SancusEvent, Violation>
     ensures { (base : List ℕ)
@@ -57,7 +57,7 @@ pub fn step_sancus<B: Bus, T: Tag>(
     executor: &mut Executor<B>,
     code: u8,
     caller: u16,
-    tag: &T,
+    tag: &mut T,
     node_key: &[u8; 16],
     boot: u32,
     exchange: &mut Exchange,

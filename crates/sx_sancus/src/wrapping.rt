@@ -46,13 +46,14 @@ fn sealed<T: Tag>(tag: &T, key: &[u8; 16], header: &Text, body: &Text) -> (Text,
 pub fn wrap<B: Bus, T: Tag>(
     executor: &mut Executor<B>,
     own: &Section,
-    tag: &T,
+    tag: &mut T,
     exchange: &mut Exchange,
 ) -> Result<SancusEvent, Violation>
     ensures { RunsRow (λ g. wrap T.mac g own.now) executor.old exchange.old
         result executor.new exchange.new }
 {
     let inputs = read_inputs(executor, own)?;
+    tag.keep(&inputs.key);
     let (cipher, mac) = sealed(tag, &inputs.key, &inputs.header, &inputs.text);
     write(executor, inputs.output, cipher.as_slice())?;
     write(executor, inputs.tag, &mac)?;
@@ -67,7 +68,7 @@ pub fn wrap<B: Bus, T: Tag>(
 pub fn unwrap<B: Bus, T: Tag>(
     executor: &mut Executor<B>,
     own: &Section,
-    tag: &T,
+    tag: &mut T,
     exchange: &mut Exchange,
 ) -> Result<SancusEvent, Violation>
     ensures { RunsRow (λ g. unwrap T.mac g own.now) executor.old exchange.old result executor.new
@@ -76,6 +77,7 @@ pub fn unwrap<B: Bus, T: Tag>(
     let inputs = read_inputs(executor, own)?;
     let mac = read_block(executor, inputs.tag)?;
     executor.writable(inputs.output)?;
+    tag.keep(&inputs.key);
     let header = inputs.header.as_slice();
     let Some(body) = sx_tag::unwrap(tag, &inputs.key, header, inputs.text.as_slice(), &mac) else {
         executor.conclude(0);

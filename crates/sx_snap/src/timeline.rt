@@ -82,7 +82,7 @@ fn replay<B: Copied, T: Tag>(
     Ok(())
 }
 
-impl<B: Copied, T: Tag + Copy> Timeline<B, T> {
+impl<B: Copied, T: Tag> Timeline<B, T> {
     /// The timeline of a deployment with these images of its modules, without a line, where all
     /// nodes were just switched on. There will be a checkpoint after each `every` lines, of which
     /// there is at least one. It fails only where memory runs out.

@@ -13,6 +13,12 @@ pub trait Tag: Drop {
     // The run was begun with this key, and fed this message.
     ghost has: { Self.Run → List ℕ → List ℕ → Type 0 };
 
+    /// A tag of its own with the same function.
+    fn another(&self) -> Self;
+
+    /// Says that runs with this key are begun next, so that a tag may keep one to begin them from.
+    fn keep(&mut self, key: &[u8; 16]);
+
     /// A run with this key, of at most 64 bytes, and the empty message.
     fn begin(&self, key: &[u8]) -> Self::Run
         requires { length key.now ≤ 64 }

@@ -26,6 +26,12 @@ impl Tag for Weak {
 
     ghost has = { λ run key message. run.total ≡ (sum key + sum message) % 256 };
 
+    fn another(&self) -> Weak {
+        Weak
+    }
+
+    fn keep(&mut self, _key: &[u8; 16]) {}
+
     fn begin(&self, key: &[u8]) -> WeakRun {
         WeakRun {
             total: add_all(0, key),

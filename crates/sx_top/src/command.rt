@@ -88,19 +88,19 @@ pub fn top<S: Source, K: Sink>(
         → input.new ≡ input.old }
 {
     match command_of(words) {
-        Some(Command::Run) => run_over(alloc, Hmac, input, output),
+        Some(Command::Run) => run_over(alloc, Hmac::new(), input, output),
         Some(Command::Check) => check_over(alloc, input, output),
         Some(Command::Explain) => explain_over(alloc, input, output),
         Some(Command::Watch) => watch_over(alloc, input, output),
-        Some(Command::Drive) => drive_over(alloc, Hmac, input, output),
-        Some(Command::Snap) => snap_over(alloc, Hmac, input, output),
+        Some(Command::Drive) => drive_over(alloc, Hmac::new(), input, output),
+        Some(Command::Snap) => snap_over(alloc, Hmac::new(), input, output),
         Some(Command::Holds) => holds_over(alloc, input, output),
-        Some(Command::Gen(samples)) => gen_over(alloc, Hmac, samples, output),
+        Some(Command::Gen(samples)) => gen_over(alloc, Hmac::new(), samples, output),
         Some(Command::Asm(at)) => asm_over(alloc, at, input, output),
         Some(Command::Dis(at)) => dis_over(at, input, output),
-        Some(Command::Lines) => lines_over(alloc, Hmac, input, output),
+        Some(Command::Lines) => lines_over(alloc, Hmac::new(), input, output),
         Some(Command::Describe) => describe_over(alloc, input, output),
-        Some(Command::Batch) => batch_over(alloc, Hmac, input, output),
+        Some(Command::Batch) => batch_over(alloc, Hmac::new(), input, output),
         None => finish(output, b"fault usage\n", Status::Misused),
     }
 }

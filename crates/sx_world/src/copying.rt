@@ -33,7 +33,7 @@ fn copy_of_sites(alloc: Global, sites: &[Site]) -> Result<Vec<Site>, AllocError>
     Ok(copies)
 }
 
-fn copy_of_nodes<B: Copied, T: Tag + Copy>(
+fn copy_of_nodes<B: Copied, T: Tag>(
     alloc: Global,
     nodes: &[Node<B, T>],
 ) -> Result<Vec<Node<B, T>>, AllocError>
@@ -58,7 +58,7 @@ fn copy_of_packets(alloc: Global, packets: &[RcSlice<u8>]) -> Result<Vec<RcSlice
     Ok(copies)
 }
 
-impl<B: Copied, T: Tag + Copy> Running<B, T> {
+impl<B: Copied, T: Tag> Running<B, T> {
     /// An equal run, with nodes, a deployer and a ledger of its own.
     fn copy(&self, alloc: Global) -> Result<Running<B, T>, AllocError>
         ensures { IfOk result (λ copy. copy ≡ self.now) }
@@ -69,7 +69,7 @@ impl<B: Copied, T: Tag + Copy> Running<B, T> {
         let ledger = self.ledger.copy(alloc)?;
         Ok(Running {
             alloc,
-            tag: self.tag,
+            tag: self.tag.another(),
             nodes,
             packets,
             deployer,
@@ -79,7 +79,7 @@ impl<B: Copied, T: Tag + Copy> Running<B, T> {
     }
 }
 
-impl<B: Copied, T: Tag + Copy> World<B, T> {
+impl<B: Copied, T: Tag> World<B, T> {
     /// An equal world of its own: what is done in one of the two leaves the other as it was. The
     /// error says that memory ran out.
     pub fn copy(&self, alloc: Global) -> Result<World<B, T>, AllocError>

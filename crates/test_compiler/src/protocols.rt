@@ -26,7 +26,7 @@ fn protocol(alloc: Global, text: &str, ends: &[End]) -> Result<Code, Fail>
     requires { length ends.now ≤ 16 }
 {
     let m = checked(alloc, text)?;
-    Ok(stub(alloc, &Hmac, &m, ends, &LEAST)?)
+    Ok(stub(alloc, &Hmac::new(), &m, ends, &LEAST)?)
 }
 
 /// How many operations the protocol of the logic has, and some at their places: 21 before the

@@ -89,7 +89,7 @@ impl Parts {
             &mut self.executor,
             code,
             CALLER,
-            &Weak,
+            &mut Weak,
             &[0; 16],
             0,
             &mut self.exchange,

@@ -21,10 +21,10 @@ fn hmac_of_rfc_4231(rt: HostRuntime) {
     let counted: [u8; 25] = [
         1, 2, 3, 4, 5, 6, 7, 8, 9, 10, 11, 12, 13, 14, 15, 16, 17, 18, 19, 20, 21, 22, 23, 24, 25,
     ];
-    let first = tag_of(&Hmac, &[0x0B; 20], b"Hi ", b"There");
-    let second = tag_of(&Hmac, b"Jefe", b"what do ya want ", b"for nothing?");
-    let third = tag_of(&Hmac, &[0xAA; 20], &[0xDD; 50], &[]);
-    let fourth = tag_of(&Hmac, &counted, &[], &[0xCD; 50]);
+    let first = tag_of(&Hmac::new(), &[0x0B; 20], b"Hi ", b"There");
+    let second = tag_of(&Hmac::new(), b"Jefe", b"what do ya want ", b"for nothing?");
+    let third = tag_of(&Hmac::new(), &[0xAA; 20], &[0xDD; 50], &[]);
+    let fourth = tag_of(&Hmac::new(), &counted, &[], &[0xCD; 50]);
     for (tag, high, low) in [
         (
             first,
@@ -50,7 +50,7 @@ fn hmac_of_rfc_4231(rt: HostRuntime) {
         assert!(rt; &tag[..16] == high.to_be_bytes().as_slice());
         assert!(rt; &tag[16..] == low.to_be_bytes().as_slice());
     }
-    let fifth = tag_of(&Hmac, &[0x0C; 20], b"Test With ", b"Truncation");
+    let fifth = tag_of(&Hmac::new(), &[0x0C; 20], b"Test With ", b"Truncation");
     assert!(rt;
         &fifth[..16]
             == 0xa3b6167473100ee06e0c796c2955552b_u128
@@ -84,10 +84,10 @@ fn wraps_an_empty_body(rt: HostRuntime) {
 #[test]
 fn unwraps_what_was_wrapped(rt: HostRuntime) {
     let mut cipher = [0; 32];
-    let mut tag = wrap(&Hmac, &[7; 16], b"head", b"body", &mut cipher);
+    let mut tag = wrap(&Hmac::new(), &[7; 16], b"head", b"body", &mut cipher);
     assert!(rt; &cipher[..4] != b"body".as_slice());
-    let body = unwrap(&Hmac, &[7; 16], b"head", &cipher[..4], &tag);
+    let body = unwrap(&Hmac::new(), &[7; 16], b"head", &cipher[..4], &tag);
     assert!(rt; body.is_some_and(|body| &body[..5] == b"body\0".as_slice()));
     tag[15] ^= 1;
-    assert!(rt; unwrap(&Hmac, &[7; 16], b"head", &cipher[..4], &tag).is_none());
+    assert!(rt; unwrap(&Hmac::new(), &[7; 16], b"head", &cipher[..4], &tag).is_none());
 }
