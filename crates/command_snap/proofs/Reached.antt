@@ -1,5 +1,5 @@
 -- Queries that are asked, and the worlds that answer them.
-use Rattle.std.proofs.Common.{◌≡◌, ℕ, ◌<◌, ◌≤◌, length, take, sym, subst, arith}
+use Rattle.std.proofs.Common.{ℕ, ◌<◌, ◌≤◌, length, take, sym, subst, arith}
 use Rattle.sx_tag.specs.Mac.{Mac}
 use Rattle.sx_trace.specs.Names.{NameLists}
 use Rattle.sx_deploy.specs.Deployment.{Deployed}

@@ -1,6 +1,6 @@
 //! The queries after the mark. Each is judged and its answer written before the next is read.
 
-ghost use Rattle.std.specs.Prelude.{◌≡◌, ◌≢◌, ◌+◌, ◌<◌, ◌≤◌, ◌∷◌, IfOk, IsOk, IsTrue, List};
+ghost use Rattle.std.specs.Prelude.{◌≡◌, ◌≢◌, ◌+◌, ◌<◌, ◌≤◌, ◌∷◌, IsOk, IsTrue, List};
 ghost use Rattle.std.specs.Prelude.{length};
 ghost use Rattle.sx_io.specs.Reading.{Answer, Line};
 ghost use Rattle.command_promise.specs.Told.{CommandEnds, Output, behind, command_at};

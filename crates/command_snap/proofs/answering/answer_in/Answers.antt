@@ -1,4 +1,4 @@
-use Rattle.std.proofs.Common.{◌≡◌, ◌∙◌, ◌<◌, ◌-◌, List, ℕ, ap, length, subst, sym, take}
+use Rattle.std.proofs.Common.{◌≡◌, ◌∙◌, ◌-◌, List, ℕ, ap, length, subst, sym, take}
 use Rattle.std.specs.Prelude.{IfOk}
 use Rattle.sx_trace.specs.declared.items.Item.{Item}
 use Rattle.sx_deploy.specs.SeenDeployment.{deployed_as}

@@ -1,4 +1,4 @@
-use Rattle.std.proofs.Common.{◌∙◌, List, ℕ, ap, length, refl, sym}
+use Rattle.std.proofs.Common.{List, ℕ, ap, refl, sym}
 use Rattle.command_promise.specs.Told.{behind}
 use Rattle.command_promise.proofs.Laws.{does-same, ends-out-of-memory, prefix-none}
 use Rattle.sx_deploy.specs.SeenDeployment.{deployed_as}
