@@ -182,6 +182,10 @@ class Server(Room):
         found = self.change("on out lmp(v) { send; }")
         self.assertEqual([it.severity for it in found], [3, 1])
         self.assertIn("it has no `send`: `fail;` breaks it", found[1].words)
+        (found,) = self.change(PROPERTY.replace("fail; ", ""))
+        self.assertEqual((found.line, found.severity, found.words), (0, 2, "it has no `fail`, so nothing can break it"))
+        (found,) = self.change(PROPERTY.replace("if lit", "if v == 1 & !lit"))
+        self.assertEqual((found.line, found.begin, found.end, found.severity), (2, 22, 24, 2))
 
     def test_toml_of_others(self):
         self.assertEqual(self.open('[project]\nname = "x"\n', "pyproject.toml"), [])

@@ -15,7 +15,7 @@ from sancus.app import App
 from sancus.errors import Refused
 from sancus.lsp.documents import Document
 from sancus.lsp.text import Range
-from sancus.model import warnings
+from sancus.model import precedence, warnings
 from sancus.model.deployment import Tables
 from sancus.model.described import Deployment, described
 from sancus.model.faults import Teller
@@ -23,6 +23,7 @@ from sancus.model.inspection import are_readings
 from sancus.model.kinds import Kind
 from sancus.model.language import place_of
 from sancus.model.people import are_for_people
+from sancus.model.property import Property
 from sancus.model.shown import text_of
 from sancus.model.texts import MARK, Input, first_word, is_act
 from sancus.runner import Runner
@@ -119,6 +120,15 @@ def limited(schedule: Schedule, seconds: float) -> Iterator[None]:
         timer.cancel()
 
 
+def noted_of(it: Document) -> Iterator[Diagnostic]:
+    """What `sancus holds` notes of a property by its text alone."""
+    property = Property(it.name, text_of(it.text.data))
+    if not property.failing:
+        yield diagnostic(it.text.span(1), "it has no `fail`, so nothing can break it", WARNING)
+    for at, length, what in sorted(precedence.places(property.tree)):
+        yield diagnostic(it.text.span(*place_of(property.source, at), length), what, WARNING)
+
+
 @dataclass
 class Checker:
     """Has texts judged by the program."""
@@ -185,7 +195,8 @@ class Checker:
         fault = text_of(self.program.answer(["watch"], it.whole).output.partition(b"\n")[0])
         # (without a deployment, names are of nothing)
         is_of_names = fault.startswith(("fault property P3", "fault property P4"))
-        return [] if is_of_names and not it.deployment else self.of_fault(it, "watch", fault)
+        made = [] if is_of_names and not it.deployment else self.of_fault(it, "watch", fault)
+        return made or list(noted_of(it))
 
     def of_lines(self, it: Document) -> List[Diagnostic]:
         data = Input(it.whole)
