@@ -1,6 +1,5 @@
-use Rattle.std.proofs.Common.{◌≡◌, ℕ, inl, inr, List, refl, subst, sym, Result, Ok}
+use Rattle.std.proofs.Common.{◌≡◌, ℕ, inr, List, subst, sym, Result, Ok}
 use Rattle.std.specs.Prelude.{IfOk}
-use Rattle.command_promise.specs.declared.status.Status.TheVariants.{OutOfMemory}
 use Rattle.command_promise.specs.Told.{command_at}
 use Rattle.command_promise.specs.Parts.{Rest}
 use Rattle.command_promise.specs.Head.{head_lines}
@@ -63,12 +62,3 @@ returns-in-Ok-compile_all-clause-deploys g c =
           subst R (one_meaning text (Ok d) (meaning text) read (is text)) c.perform.ensures.rest;
       wanted = λ six. (d, read, c.perform.new.lines, c.perform.ensures.wanted six);
     }))
-
-pub returns-in-Ok-clause-deploys : goal.returns-in-Ok-clause-deploys
-returns-in-Ok-clause-deploys g c =
-    let mac = g.T.Tag.mac in
-    let m = command_at (g.S.Source.at c.args.input.now) (g.K.Sink.at c.args.output.now) in
-    let D : Result Deployment DeployError → Type 0 = λ r.
-    IfOk r (λ (p : Deployment). (text : List ℕ) → IsRead text (Ok (deployed_as p))
-    → DeploysOrRanOut mac (g.C.Deploys.behind mac) g.C.Deploys.may g.S.Source.tells g.K.Sink.tells c.args.lines.now m m OutOfMemory text) in
-    subst D (sym c.in-Ok.is) (λ text read. inl (record { six = refl; same = refl }))
