@@ -4,9 +4,9 @@ use Rattle.std.specs.Option.{option_or}
 use Rattle.std.specs.Prelude.{IsTrue, Result, Ok, Err}
 use Rattle.sx_io.specs.Reading.{Answer, Line, End, Long, Fault, Broken, Ended, scan}
 use Rattle.command_promise.specs.declared.status.Status.{Status}
-use Rattle.command_promise.specs.declared.status.Status.TheVariants.{Done, ReadFailed}
+use Rattle.command_promise.specs.declared.status.Status.TheVariants.{Done, ReadFailed, OutOfMemory}
 use Rattle.command_promise.specs.Reads.{anything}
-use Rattle.command_promise.specs.Told.{Output, CommandAt, Told, out_of_memory}
+use Rattle.command_promise.specs.Told.{Output, CommandAt, Told}
 use Rattle.command_promise.proofs.Laws.{told-all, told-quiet}
 use Rattle.command_promise.proofs.Endings.{pick, Faultless, Unfinished, faultless, unfinished}
 use Rattle.sx_asm.specs.declared.error.AsmError.{AsmError}
@@ -71,10 +71,10 @@ asm_not_zero at answers u e = gather_not_zero at 1 0 _ answers u e
 -- what was told of an input of which nothing failed
 abbrev Quiet : Bool → CommandAt → CommandAt → Status → Output → Type 0
 Quiet to_tell m0 m1 status o =
-    (status ≡ out_of_memory) ⊎ ((status ≡ o.status) × (IsTrue to_tell → m1.sink.written ≡ m0.sink.written ++ o.text))
+    (status ≡ OutOfMemory) ⊎ ((status ≡ o.status) × (IsTrue to_tell → m1.sink.written ≡ m0.sink.written ++ o.text))
 
 exactly : (to_tell : Bool) (m0 m1 : CommandAt) (status : Status) (o : Output) → Quiet to_tell m0 m1 status o
-    → (status ≡ out_of_memory) ⊎ (status ≡ o.status)
+    → (status ≡ OutOfMemory) ⊎ (status ≡ o.status)
 exactly to_tell m0 m1 status o (inl six) = inl six
 exactly to_tell m0 m1 status o (inr all) = inr all.0
 

@@ -4,9 +4,9 @@ use Rattle.sx_io.specs.Streams.{SourceAt, SinkAt}
 use Rattle.sx_io.specs.Reading.{Answer, Line, End, Long, Fault, Ended, Broken, scan}
 use Rattle.std.specs.Prelude.{IsTrue}
 use Rattle.command_promise.specs.declared.status.Status.{Status}
-use Rattle.command_promise.specs.declared.status.Status.TheVariants.{Done, ReadFailed}
+use Rattle.command_promise.specs.declared.status.Status.TheVariants.{Done, ReadFailed, OutOfMemory}
 use Rattle.command_promise.specs.Reads.{anything}
-use Rattle.command_promise.specs.Told.{CommandEnds, CommandAt, Output, Told, command_at, out_of_memory}
+use Rattle.command_promise.specs.Told.{CommandEnds, CommandAt, Output, Told, command_at}
 use Rattle.command_promise.proofs.Laws.{told-all, told-quiet, told-reads}
 use Rattle.command_promise.proofs.Endings.{pick, Faultless, Unfinished, faultless, unfinished}
 use Rattle.command_asm.specs.Disassembling.{HexInput, Bytes, BadLine, Unread, in_front, on_line, hex_input, line_bytes, is_listed, unlisted, dis_lines, dis_bytes, dis_given, dis_all, DisPromise}
@@ -100,14 +100,14 @@ told_given {tells} {to_tell} {s0} {s1} {k0} {k1} {status} at g r w =
     told-reads (dis_given at) (dis_given at g) refl r (λ answers q. (ap (dis_given at) q, tt)) w
 
 -- where nothing failed, and memory never runs out, all that is defined was written
-ended : (to_tell : Bool) (m0 m1 : CommandAt) (status : Status) (o : Output) → (status ≡ out_of_memory → ⊥)
-    → (status ≡ out_of_memory) ⊎ ((status ≡ o.status) × (IsTrue to_tell → m1.sink.written ≡ m0.sink.written ++ o.text))
+ended : (to_tell : Bool) (m0 m1 : CommandAt) (status : Status) (o : Output) → (status ≡ OutOfMemory → ⊥)
+    → (status ≡ OutOfMemory) ⊎ ((status ≡ o.status) × (IsTrue to_tell → m1.sink.written ≡ m0.sink.written ++ o.text))
     → (status ≡ o.status) × (IsTrue to_tell → m1.sink.written ≡ m0.sink.written ++ o.text)
 ended to_tell m0 m1 status o never (inl six) = absurd (never six)
 ended to_tell m0 m1 status o never (inr all) = all
 
 pub dis_promise : {tells to_tell : Bool} {m0 m1 : CommandAt} {status : Status} (at : ℕ)
-    → Told tells to_tell dis_lines m0 m1 status (dis_all at) anything → (status ≡ out_of_memory → ⊥)
+    → Told tells to_tell dis_lines m0 m1 status (dis_all at) anything → (status ≡ OutOfMemory → ⊥)
     → DisPromise at tells to_tell m0 m1 status
 dis_promise {tells} {to_tell} {m0} {m1} {status} at told never = record {
   told = told;

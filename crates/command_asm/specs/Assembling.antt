@@ -7,9 +7,9 @@ use Rattle.std.specs.Str.{is_utf8}
 use Rattle.sx_io.specs.Reading.{Answer, Line, End, Long, Fault, Ended, Limit, always, longest}
 use Rattle.sx_io.specs.Reading.{newline, scan}
 use Rattle.command_promise.specs.declared.status.Status.{Status}
-use Rattle.command_promise.specs.declared.status.Status.TheVariants.{Done, NoCode}
+use Rattle.command_promise.specs.declared.status.Status.TheVariants.{Done, OutOfMemory, NoCode}
 use Rattle.command_promise.specs.Reads.{anything}
-use Rattle.command_promise.specs.Told.{Output, CommandAt, Told, out_of_memory, unread_output}
+use Rattle.command_promise.specs.Told.{Output, CommandAt, Told, unread_output}
 use Rattle.sx_asm.specs.declared.error.AsmError.{AsmError}
 use Rattle.sx_asm.specs.declared.error.AsmError.TheVariants as error
 use Rattle.sx_asm.specs.Assembled.{assembled}
@@ -95,7 +95,7 @@ code_at at g = judged g.bad (assembled at g.text)
 -- status 10: a rule is broken; no text gives the error `OutOfMemory`
 abbrev pub asm_fault_output : AsmError → Output
 asm_fault_output (error.Fault rule number) = fault_output (codes "fault asm A") rule number NoCode
-asm_fault_output error.OutOfMemory = record { text = []; status = out_of_memory }
+asm_fault_output error.OutOfMemory = record { text = []; status = OutOfMemory }
 
 -- the listing of the code, or the fault
 abbrev pub told_code : ℕ → Result (List ℕ) AsmError → Output
@@ -125,4 +125,4 @@ pub record AsmPromise (at : ℕ) (tells to_tell : Bool) (m0 m1 : CommandAt)
   pub complete : IsTrue tells → (asm_of at m0).status ≡ Done → IsFaultless m0 m1
       → CameToItsEnd to_tell m0 m1 status (asm_of at m0)
   pub exact : IsTrue tells → IsFaultless m0 m1
-      → (status ≡ out_of_memory) ⊎ (status ≡ (asm_of at m0).status)
+      → (status ≡ OutOfMemory) ⊎ (status ≡ (asm_of at m0).status)

@@ -7,9 +7,9 @@ use Rattle.hex.specs.Hex.{decode_of}
 use Rattle.hex.specs.declared.error.FromHexError.{FromHexError}
 use Rattle.sx_io.specs.Reading.{Answer, Line, End, Long, Fault, Ended, Limit, always, longest, scan}
 use Rattle.command_promise.specs.declared.status.Status.{Status}
-use Rattle.command_promise.specs.declared.status.Status.TheVariants.{Done, NoCode}
+use Rattle.command_promise.specs.declared.status.Status.TheVariants.{Done, OutOfMemory, NoCode}
 use Rattle.command_promise.specs.Reads.{anything}
-use Rattle.command_promise.specs.Told.{CommandAt, Output, Told, out_of_memory, unread_output}
+use Rattle.command_promise.specs.Told.{CommandAt, Output, Told, unread_output}
 use Rattle.command_text.specs.Faults.{IsFaultless, TellsFaults}
 use Rattle.command_asm.specs.Listing.{listing}
 use Rattle.command_text.specs.Output.{line, end_line}
@@ -107,7 +107,7 @@ dis_input at input = dis_all at (scan dis_lines Ended [] input)
 pub record DisPromise (at : ℕ) (tells to_tell : Bool) (m0 m1 : CommandAt)
     (status : Status) : Type 0 where
   pub told : Told tells to_tell dis_lines m0 m1 status (dis_all at) anything
-  pub memory : status ≡ out_of_memory → ⊥
+  pub memory : status ≡ OutOfMemory → ⊥
   pub faults : TellsFaults m0 m1 status
   pub read_all : status ≡ Done → IsTrue tells → m1.source.rest ≡ []
   pub complete : IsTrue tells → (dis_input at m0.source.rest).status ≡ Done → IsFaultless m0 m1

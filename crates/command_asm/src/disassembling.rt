@@ -3,7 +3,8 @@
 ghost use Rattle.std.specs.Prelude.{◌≡◌, ◌≢◌, ◌+◌, ◌/◌, ◌%◌, ◌≤◌, ℕ, List, [], length};
 ghost use Rattle.std.specs.Prelude.{false, IsTrue, MatchOption};
 ghost use Rattle.hex.specs.Hex.{decode_of};
-ghost use Rattle.command_promise.specs.Told.{CommandEnds, command_at, out_of_memory};
+ghost use Rattle.command_promise.specs.declared.status.Status.TheVariants.{OutOfMemory};
+ghost use Rattle.command_promise.specs.Told.{CommandEnds, command_at};
 ghost use Rattle.command_asm.specs.Disassembling.{decoded, line_bytes, is_listed, dis_bytes};
 ghost use Rattle.command_asm.specs.Disassembling.{DisPromise};
 ghost use Rattle.command_asm.specs.Kept.{KeepsBytes, KeepsMore, CodeRead};
@@ -147,7 +148,7 @@ fn is_listed(at: u16, count: usize) -> bool
 fn tell<K: Sink>(at: u16, code: &Code, output: &mut K) -> Status
     ensures told { (bytes : List ℕ) → KeepsBytes code.now bytes
         → CommandEnds K.tells (K.at output.old) (K.at output.new) result (dis_bytes at bytes) }
-    ensures memory { result ≢ out_of_memory }
+    ensures memory { result ≢ OutOfMemory }
 {
     if !code.is_listed(at) {
         return finish(output, b"fault hex B2 -\n", Status::NoCode);

@@ -2,8 +2,8 @@
 
 ghost use Rattle.std.specs.Prelude.{◌≡◌, ◌≢◌, ◌+◌, ◌%◌, ◌≤◌, ◌<◌, ◌++◌, length};
 ghost use Rattle.hex.specs.Hex.{encode_lower};
-ghost use Rattle.command_promise.specs.declared.status.Status.TheVariants.{Done};
-ghost use Rattle.command_promise.specs.Told.{CommandEnds, out_of_memory};
+ghost use Rattle.command_promise.specs.declared.status.Status.TheVariants.{Done, OutOfMemory};
+ghost use Rattle.command_promise.specs.Told.{CommandEnds};
 ghost use Rattle.sx_asm.specs.Shown.{listed};
 ghost use Rattle.command_asm.specs.Listing.{listing_line, listing};
 ghost use Rattle.command_text.specs.Output.{end_line};
@@ -53,7 +53,7 @@ pub(crate) fn list<K: Sink>(output: &mut K, at: u16, code: &[u8]) -> Status
     requires fits { at + length code.now ≤ 65536 }
     ensures ends { CommandEnds K.tells (K.at output.old) (K.at output.new) result
         (record { text = listing at code.now ++ end_line; status = Done }) }
-    ensures memory { result ≢ out_of_memory }
+    ensures memory { result ≢ OutOfMemory }
 {
     let mut address = at;
     let mut rest = code;

@@ -7,9 +7,10 @@ use Rattle.sx_io.specs.Reading.{Answer}
 use Rattle.sx_io.specs.Reading as answer
 use Rattle.sx_io.specs.Streams.{SinkAt}
 use Rattle.command_promise.specs.declared.status.Status.{Status}
+use Rattle.command_promise.specs.declared.status.Status.TheVariants.{WriteFailed, OutOfMemory}
 use Rattle.command_promise.specs.Head.{is_mark}
 use Rattle.command_promise.specs.Parts.{WroteSome}
-use Rattle.command_promise.specs.Told.{CommandEnds, Output, behind, out_of_memory, write_failed}
+use Rattle.command_promise.specs.Told.{CommandEnds, Output, behind}
 use Rattle.command_promise.proofs.Laws.{ends-same, ends-out-of-memory, ends-write-failed, prefix-all, prefix-more}
 use Rattle.sx_trace.specs.declared.items.Item.{Item}
 use Rattle.sx_trace.specs.Names.{NameLists}
@@ -37,12 +38,12 @@ wrote_same f g after h w = record { text = w.text; wrote = w.wrote; same = λ mo
 
 -- the line of a fault was written whole, and the command goes on
 pub broken_told : {to_tell : Bool} {k0 k1 : SinkAt} {status : Status} (rule number : ℕ) → CommandEnds to_tell k0 k1 status (broken_output rule number)
-    → (status ≡ write_failed → ⊥) → (status ≡ out_of_memory → ⊥) → (left : List Answer → Output) → WroteSome to_tell k0 k1 (λ more. behind (broken_line rule number) (left more)) left
+    → (status ≡ WriteFailed → ⊥) → (status ≡ OutOfMemory → ⊥) → (left : List Answer → Output) → WroteSome to_tell k0 k1 (λ more. behind (broken_line rule number) (left more)) left
 broken_told rule number w five six left = record { text = broken_line rule number; wrote = (w.whole five six).1; same = λ more. refl; no_fault = w.no_fault five }
 
 -- or not, and it has ended
-pub broken_failed : {to_tell : Bool} {k0 k1 : SinkAt} (rule number : ℕ) → CommandEnds to_tell k0 k1 write_failed (broken_output rule number)
-    → (left : List Answer → Output) (more : List Answer) → CommandEnds to_tell k0 k1 write_failed (behind (broken_line rule number) (left more))
+pub broken_failed : {to_tell : Bool} {k0 k1 : SinkAt} (rule number : ℕ) → CommandEnds to_tell k0 k1 WriteFailed (broken_output rule number)
+    → (left : List Answer → Output) (more : List Answer) → CommandEnds to_tell k0 k1 WriteFailed (behind (broken_line rule number) (left more))
 broken_failed {to_tell} {k0} {k1} rule number w left more =
     ends-write-failed to_tell k0 k1 (behind (broken_line rule number) (left more)) (λ t. prefix-more k0.written k1.written (broken_line rule number) (left more).text (w.prefix t)) (w.fault refl)
 
@@ -75,7 +76,7 @@ module _ (names : NameLists) (set : Setting) (w : World) (number : ℕ) (text : 
 
     -- memory ran out in it, and the items that were made before were written
     pub line_wanted : {to_tell : Bool} {k0 k1 : SinkAt} (made : List Item) → IsFront made (after_next set w line).items
-        → (IsTrue to_tell → k1.written ≡ k0.written ++ items_text names made) → k1.faults ≡ k0.faults → (more : List Answer) → CommandEnds to_tell k0 k1 out_of_memory (due more)
+        → (IsTrue to_tell → k1.written ≡ k0.written ++ items_text names made) → k1.faults ≡ k0.faults → (more : List Answer) → CommandEnds to_tell k0 k1 OutOfMemory (due more)
     line_wanted {to_tell} {k0} {k1} made front wrote same more =
         let next = after_next set w line in
         let left = schedules_from assembled names set start first count (Runs next.world) (number + 1) more in

@@ -7,8 +7,9 @@ use Rattle.sx_io.specs.Streams.{SinkAt, SourceAt}
 use Rattle.sx_io.specs.Next.{Ahead}
 use Rattle.sx_io.specs.Reading.{Answer, Limit}
 use Rattle.sx_io.specs.Reading as answer
+use Rattle.command_promise.specs.declared.status.Status.TheVariants.{OutOfMemory}
 use Rattle.command_promise.specs.Head.{head_lines}
-use Rattle.command_promise.specs.Told.{CommandAt, CommandEnds, Output, out_of_memory}
+use Rattle.command_promise.specs.Told.{CommandAt, CommandEnds, Output}
 use Rattle.command_promise.specs.Parts.{Begun, DoesPart, Notes, Rest, WroteSome}
 use Rattle.command_promise.specs.declared.turned.Turned.{Turned}
 use Rattle.command_promise.specs.declared.turned.Turned.TheVariants as turn
@@ -77,7 +78,7 @@ pub record RepliesLine (to_tell : Bool) (k0 k1 : SinkAt) (names : NameLists) (se
 abbrev pub TellsMade : Bool → SinkAt → SinkAt → NameLists → Held → Held → List Item → Outcome
     → Type 0
 TellsMade to_tell k0 k1 names held left made outcome =
-    outcome ≡ Stop out_of_memory → left ≢ held
+    outcome ≡ Stop OutOfMemory → left ≢ held
     → (held.ran_out ≡ false → length made ≡ left.made)
     × (IsTrue to_tell → k1.written ≡ k0.written ++ items_text names made)
 

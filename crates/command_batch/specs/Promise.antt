@@ -2,8 +2,9 @@
 use Rattle.std.specs.Prelude.{ℕ, ◌≡◌, ◌⊎◌, Bool, true, List}
 use Rattle.sx_io.specs.Reading.{Answer}
 use Rattle.command_promise.specs.declared.status.Status.{Status}
+use Rattle.command_promise.specs.declared.status.Status.TheVariants.{OutOfMemory}
 use Rattle.command_promise.specs.Head.{is_mark}
-use Rattle.command_promise.specs.Told.{CommandAt, out_of_memory}
+use Rattle.command_promise.specs.Told.{CommandAt}
 use Rattle.sx_tag.specs.Mac.{Mac}
 use Rattle.sx_sched.specs.Reading.{Assembler}
 use Rattle.sx_deploy.specs.Deployment.{Deployed}
@@ -25,7 +26,7 @@ abbrev pub batch_part : Assembler → Mac → OwnPart
 batch_part assemble mac = record {
   output = batch_deployed assemble mac;
   status = batch_status assemble;
-  Cut = λ status. status ≡ out_of_memory;
+  Cut = λ status. status ≡ OutOfMemory;
   MayWant = batch_may assemble;
   With = RunsWith assemble mac;
 }

@@ -2,9 +2,8 @@
 use Rattle.std.specs.Prelude.{ℕ, ◌+◌, ◌==◌, if◌then◌else◌, List, [], ◌∷◌, Result, Ok, Err}
 use Rattle.sx_io.specs.Reading.{Answer, Line, End, Long, Fault}
 use Rattle.command_promise.specs.declared.status.Status.{Status}
-use Rattle.command_promise.specs.declared.status.Status.TheVariants.{Done, Broken, TooLong}
+use Rattle.command_promise.specs.declared.status.Status.TheVariants.{Done, Broken, ReadFailed, TooLong}
 use Rattle.command_promise.specs.Head.{is_mark}
-use Rattle.command_promise.specs.Told.{read_failed}
 use Rattle.sx_trace.specs.Names.{NameLists}
 use Rattle.sx_sched.specs.Lines as lines
 use Rattle.sx_sched.specs.Reading.{Assembler}
@@ -18,7 +17,7 @@ abbrev pub schedules_status : ℕ → ℕ → ℕ → List Answer → Status
 schedules_status first count number [] = Done
 schedules_status first count number (End ∷ more) = Done
 schedules_status first count number (Long ∷ more) = Broken
-schedules_status first count number (Fault ∷ more) = read_failed
+schedules_status first count number (Fault ∷ more) = ReadFailed
 schedules_status first count number (Line text ∷ more) =
     if is_mark text then
     (if count == most_schedules then TooLong else schedules_status first (count + 1) first more)
@@ -35,7 +34,7 @@ abbrev pub common_status : Assembler → NameLists → ℕ → List Answer → S
 common_status assemble names number [] = Done
 common_status assemble names number (End ∷ more) = Done
 common_status assemble names number (Long ∷ more) = Broken
-common_status assemble names number (Fault ∷ more) = read_failed
+common_status assemble names number (Fault ∷ more) = ReadFailed
 common_status assemble names number (Line text ∷ more) =
     if is_mark text then schedules_status number 1 number more
     else or_broken (judged_line assemble names number text)

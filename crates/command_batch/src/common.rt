@@ -2,9 +2,10 @@
 
 ghost use Rattle.std.specs.Prelude.{◌≡◌, ◌+◌, ◌≤◌, false, IsTrue};
 ghost use Rattle.sx_asm.specs.Assembled.{assembled};
+ghost use Rattle.command_promise.specs.declared.status.Status.TheVariants.{OutOfMemory};
 ghost use Rattle.command_promise.specs.Head.{head_lines, is_mark};
 ghost use Rattle.command_promise.specs.Parts.{Rest};
-ghost use Rattle.command_promise.specs.Told.{command_at, out_of_memory};
+ghost use Rattle.command_promise.specs.Told.{command_at};
 ghost use Rattle.sx_trace.specs.ValidNames.{are_valid};
 ghost use Rattle.sx_deploy.specs.Law.{IsSoundDeployment};
 ghost use Rattle.sx_deploy.specs.SeenDeployment.{deployed_as};
@@ -53,7 +54,7 @@ fn turn<K: Sink, B: Copied, T: Tag>(
         → TurnsCommon K.tells (K.at output.old) (K.at output.new)
         (deployed_as deployment.now).names (world_setting T.mac deployment.now world.old)
         world.new number said.now result w }
-    ensures memory { result ≡ Turned.Stop out_of_memory
+    ensures memory { result ≡ Turned.Stop OutOfMemory
         → MayRunOut (judged_line assembled (deployed_as deployment.now).names number said.now) }
     ensures few { result ≡ Turned.On → number ≤ 65536 }
     ensures sites { world.new.sites ≡ world.old.sites }
@@ -91,7 +92,7 @@ pub(crate) fn common_lines<S: Source, K: Sink, B: Copied, T: Tag>(
         (common_from assembled (deployed_as deployment.now).names
         (world_setting T.mac deployment.now world.old)
         (switched_on (world_setting T.mac deployment.now world.old)) 1) }
-    ensures wanted { result ≡ out_of_memory → RanOutSince head_lines head_lines
+    ensures wanted { result ≡ OutOfMemory → RanOutSince head_lines head_lines
         (batch_may assembled (deployed_as deployment.now)) S.tells (S.at input.old)
         (S.at input.new) lines.old lines.new }
 {

@@ -1,7 +1,8 @@
 //! The lines of a schedule after the one that breaks a rule, which are passed over.
 
 ghost use Rattle.std.specs.Prelude.{◌≡◌, ◌≢◌, ℕ};
-ghost use Rattle.command_promise.specs.Told.{CommandEnds, command_at, out_of_memory};
+ghost use Rattle.command_promise.specs.declared.status.Status.TheVariants.{OutOfMemory};
+ghost use Rattle.command_promise.specs.Told.{CommandEnds, command_at};
 ghost use Rattle.sx_deploy.specs.Deployment.{Deployed};
 ghost use Rattle.sx_trace.specs.Names.{NameLists};
 ghost use Rattle.spec_run.specs.Setting.{Setting};
@@ -17,7 +18,7 @@ use sx_io::{LineRead, Lines, Sink, Source};
 #[tactic(auto, unfolding(crate::specs::Output::long_line))]
 pub(crate) fn end_long<K: Sink>(output: &mut K) -> Status
     ensures ends { CommandEnds K.tells (K.at output.old) (K.at output.new) result long_output }
-    ensures memory { result ≢ out_of_memory }
+    ensures memory { result ≢ OutOfMemory }
 {
     finish(output, b"fault batch long\n", Status::TooLong)
 }
@@ -37,7 +38,7 @@ pub(crate) fn pass_over<S: Source, K: Sink>(
         (next_from names set start first count) }
     ensures marked { result ≡ Turned.On → (d : Deployed)
         → EndsWanting d S.tells (S.at input.old) (S.at input.new) lines.old lines.new }
-    ensures memory { result ≢ Turned.Stop out_of_memory }
+    ensures memory { result ≢ Turned.Stop OutOfMemory }
 {
     let mut into = [0; 4096];
     let mut number = broken;

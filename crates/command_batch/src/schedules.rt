@@ -4,9 +4,10 @@
 ghost use Rattle.std.specs.Prelude.{◌≡◌, ◌≢◌, ℕ, ◌+◌, ◌≤◌, false, IsTrue, List};
 ghost use Rattle.sx_asm.specs.Assembled.{assembled};
 ghost use Rattle.sx_io.specs.Reading.{Answer};
+ghost use Rattle.command_promise.specs.declared.status.Status.TheVariants.{OutOfMemory};
 ghost use Rattle.command_promise.specs.Head.{head_lines, is_mark};
 ghost use Rattle.command_promise.specs.Parts.{DoesPart, Rest};
-ghost use Rattle.command_promise.specs.Told.{Output, behind, command_at, out_of_memory};
+ghost use Rattle.command_promise.specs.Told.{Output, behind, command_at};
 ghost use Rattle.sx_trace.specs.ValidNames.{are_valid};
 ghost use Rattle.sx_deploy.specs.Law.{IsSoundDeployment};
 ghost use Rattle.sx_deploy.specs.SeenDeployment.{deployed_as};
@@ -52,7 +53,7 @@ enum Outcome {
 fn put_broken<K: Sink>(output: &mut K, rule: u8, number: u32) -> Turned
     ensures does { (left : List Answer → Output) → DoesPart K.tells (K.at output.old)
         (K.at output.new) (λ more. behind (broken_line rule number) (left more)) result left }
-    ensures memory { result ≢ Turned.Stop out_of_memory }
+    ensures memory { result ≢ Turned.Stop OutOfMemory }
 {
     match break_off(output, rule, number) {
         Status::WriteFailed => Turned::Stop(Status::WriteFailed),
@@ -81,7 +82,7 @@ fn turn<K: Sink, B: Copied, T: Tag>(
         → RepliesLine K.tells (K.at output.old) (K.at output.new)
         (deployed_as deployment.now).names (world_setting T.mac deployment.now world.old)
         world.new number said.now result w }
-    ensures memory { result ≡ Outcome.Stop out_of_memory
+    ensures memory { result ≡ Outcome.Stop OutOfMemory
         → MayRunOut (judged_line assembled (deployed_as deployment.now).names number said.now) }
     ensures made { TellsMade K.tells (K.at output.old) (K.at output.new)
         (deployed_as deployment.now).names world.old world.new items.new.items result }
@@ -137,7 +138,7 @@ fn run_schedule<S: Source, K: Sink, B: Copied, T: Tag>(
         (world_setting T.mac deployment.now world.old) w first count) }
     ensures marked { result ≡ Turned.On → EndsWanting (deployed_as deployment.now) S.tells
         (S.at input.old) (S.at input.new) lines.old lines.new }
-    ensures memory { result ≡ Turned.Stop out_of_memory
+    ensures memory { result ≡ Turned.Stop OutOfMemory
         → EndsWanting (deployed_as deployment.now) S.tells (S.at input.old) (S.at input.new)
         lines.old lines.new }
 {
@@ -193,7 +194,7 @@ fn run_copy<S: Source, K: Sink, B: Copied, T: Tag>(
         (world_setting T.mac deployment.now start.now) w first count) }
     ensures marked { result ≡ Turned.On → EndsWanting (deployed_as deployment.now) S.tells
         (S.at input.old) (S.at input.new) lines.old lines.new }
-    ensures memory { result ≡ Turned.Stop out_of_memory
+    ensures memory { result ≡ Turned.Stop OutOfMemory
         → KeepsWanting (deployed_as deployment.now) S.tells (S.at input.old) (S.at input.new)
         lines.old lines.new }
 {
@@ -228,7 +229,7 @@ pub(crate) fn run_schedules<S: Source, K: Sink, B: Copied, T: Tag>(
         (command_at (S.at input.new) (K.at output.new)) result
         (schedules_from assembled (deployed_as deployment.now).names
         (world_setting T.mac deployment.now start.now) w first 1 (Runs w) first) }
-    ensures memory { result ≡ out_of_memory
+    ensures memory { result ≡ OutOfMemory
         → KeepsWanting (deployed_as deployment.now) S.tells (S.at input.old) (S.at input.new)
         lines.old lines.new }
 {

@@ -5,7 +5,8 @@ use Rattle.sx_io.specs.Streams.{SourceAt, SinkAt}
 use Rattle.sx_io.specs.Next.{Ahead}
 use Rattle.sx_io.specs.Reading.{Answer}
 use Rattle.command_promise.specs.declared.status.Status.{Status}
-use Rattle.command_promise.specs.Told.{CommandEnds, command_at, out_of_memory, Output, CommandAt, Told, unread_output}
+use Rattle.command_promise.specs.declared.status.Status.TheVariants as exit
+use Rattle.command_promise.specs.Told.{CommandEnds, command_at, Output, CommandAt, Told, unread_output}
 use Rattle.command_promise.specs.Parts.{Notes}
 use Rattle.command_promise.specs.Reads.{Reads, anything}
 use Rattle.command_promise.specs.Got.{Got}
@@ -119,7 +120,7 @@ told_found {tells} {to_tell} {s0} {s1} {k0} {now} {m2} {status} mac own may text
 -- there is none
 told_none : {tells to_tell : Bool} {s0 s1 : SourceAt} {k0 k1 : SinkAt} {status : Status} (mac : Mac) (own : OwnOutput) (may : Wants) (h : Head) (o : Output) → HasHead None h
     → ((meaning : Meaning) → head_output own meaning [] h ≡ o) → Reads tells head_lines s0 s1 head Unread (λ answers. head answers ≡ h) → CommandEnds to_tell k0 k1 status o
-    → (status ≡ out_of_memory → ⊥) → DeployTold mac own may tells to_tell (command_at s0 k0) (command_at s1 k1) status
+    → (status ≡ exit.OutOfMemory → ⊥) → DeployTold mac own may tells to_tell (command_at s0 k0) (command_at s1 k1) status
 told_none {tells} {to_tell} {s0} {s1} {k0} {k1} {status} mac own may h o none e r w never = record {
   says = inr (record {
     deployment = None;
@@ -136,7 +137,7 @@ told_none {tells} {to_tell} {s0} {s1} {k0} {k1} {status} mac own may h o none e 
 
 -- memory ran out after a head, and nothing was written
 told_out_of_memory : {tells to_tell : Bool} {s0 s1 : SourceAt} {k : SinkAt} {now : Ahead} (mac : Mac) (own : OwnOutput) (may : Wants) (text : List ℕ)
-    → Got tells head_lines head_lines s0 s1 now head (λ more. Found text more) Unread anything → DeployTold mac own may tells to_tell (command_at s0 k) (command_at s1 k) out_of_memory
+    → Got tells head_lines head_lines s0 s1 now head (λ more. Found text more) Unread anything → DeployTold mac own may tells to_tell (command_at s0 k) (command_at s1 k) exit.OutOfMemory
 told_out_of_memory {tells} {to_tell} {s0} {s1} {k} {now} mac own may text got = record {
   says = inl (record {
     six = refl;

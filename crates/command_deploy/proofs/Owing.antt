@@ -2,9 +2,8 @@
 use Rattle.std.proofs.Common.{◌≡◌, ◌⊎◌, inl, inr, ℕ, ◌+◌, ◌<◌, Bool, true, false, List, [], ◌∷◌, ◌++◌, length, nat_lt, refl, subst, arith, Result, Ok, Err}
 use Rattle.sx_io.specs.Reading.{Answer, Line, End, Long, Fault, newline}
 use Rattle.command_promise.specs.declared.status.Status.{Status}
-use Rattle.command_promise.specs.declared.status.Status.TheVariants.{Done, Refused, Misused, ReadFailed}
+use Rattle.command_promise.specs.declared.status.Status.TheVariants.{Done, Refused, Misused, ReadFailed, OutOfMemory}
 use Rattle.command_promise.specs.Status.{status_number}
-use Rattle.command_promise.specs.Told.{out_of_memory}
 use Rattle.command_promise.proofs.Due.{lines_then, EndsUnread, Due, due-behind}
 use Rattle.command_promise.proofs.Endings.{pick, Unfinished, Faultless}
 use Rattle.sx_entries.specs.declared.fault.DeployFault.{DeployFault}
@@ -28,14 +27,14 @@ pub record Owes (part : OwnPart) : Type 0 where
   pub due : (text : List ℕ) (d : Deployed) → IsRead text (Ok d) → (texts : List (List ℕ)) (ls : List (List ℕ)) → Due (λ more. part.output d texts (lines_then ls more))
   pub ends : (d : Deployed) (texts : List (List ℕ)) (more : List Answer) → EndsUnread (part.output d texts more)
   pub status : (d : Deployed) (texts : List (List ℕ)) (more : List Answer) → CutOr part (part.output d texts more).status (part.status d more)
-  pub starved : part.Cut out_of_memory
+  pub starved : part.Cut OutOfMemory
   pub cut : (n : Status) → status_number n < 5 → part.Cut n → ⊥
   pub not_zero : (d : Deployed) (answers : List Answer) → Unfinished answers → part.status d answers ≡ Done → ⊥
   pub not_four : (d : Deployed) (answers : List Answer) → Faultless answers → part.status d answers ≡ ReadFailed → ⊥
   pub not_two : (d : Deployed) (answers : List Answer) → part.status d answers ≡ Misused → ⊥
 
 -- memory runs out with a status above these
-pub memory_above : (n : Status) → status_number n < 5 → n ≡ out_of_memory → ⊥
+pub memory_above : (n : Status) → status_number n < 5 → n ≡ OutOfMemory → ⊥
 memory_above n few six = let P : Status → Type 0 = λ s. status_number s < 5 in omega (arith, subst P six few)
 
 -- ---- what is due

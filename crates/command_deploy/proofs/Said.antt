@@ -4,8 +4,8 @@ use Rattle.std.specs.Prelude.{IsTrue}
 use Rattle.sx_io.specs.Streams.{SinkAt}
 use Rattle.sx_io.specs.Reading.{Answer, Broken, Ended, longest, scan}
 use Rattle.command_promise.specs.declared.status.Status.{Status}
-use Rattle.command_promise.specs.declared.status.Status.TheVariants.{Done, Misused, ReadFailed}
-use Rattle.command_promise.specs.Told.{CommandAt, Output, Told, out_of_memory}
+use Rattle.command_promise.specs.declared.status.Status.TheVariants.{Done, Misused, ReadFailed, OutOfMemory}
+use Rattle.command_promise.specs.Told.{CommandAt, Output, Told}
 use Rattle.command_promise.proofs.Laws.{told-all, told-quiet, told-some}
 use Rattle.command_promise.proofs.Endings.{unfinished, faultless}
 use Rattle.command_promise.proofs.Due.{streams-by}
@@ -26,7 +26,7 @@ use Rattle.command_deploy.proofs.Owing.{CutOr, Owes, due_all, not_four, not_two,
 
 -- what is said of a whole input, where no read and no write failed
 abbrev QuietlyTold : Bool → CommandAt → CommandAt → Status → Output → Type 0
-QuietlyTold to_tell m0 m1 status o = (status ≡ out_of_memory) ⊎ ((status ≡ o.status) × (IsTrue to_tell → m1.sink.written ≡ m0.sink.written ++ o.text))
+QuietlyTold to_tell m0 m1 status o = (status ≡ OutOfMemory) ⊎ ((status ≡ o.status) × (IsTrue to_tell → m1.sink.written ≡ m0.sink.written ++ o.text))
 
 -- it came to its end, or was cut short
 came_or_cut : (part : OwnPart) → Owes part → (to_tell : Bool) (m0 m1 : CommandAt) (status n : Status) (o : Output) → QuietlyTold to_tell m0 m1 status o → CutOr part o.status n → n ≡ Done
@@ -58,7 +58,7 @@ with_all {tells} {to_tell} {m0} {m1} {status} {also} part owes meaning texts tol
 
 -- images that realize their modules, with what the own part keeps of them, and what was told of the command with them
 says_with : {tells to_tell : Bool} {m0 m1 : CommandAt} {status : Status} (mac : Mac) (part : OwnPart) → Owes part → (w : ToldWith mac part.output tells to_tell m0 m1 status)
-    → part.With w.deployment w.texts → (status ≡ out_of_memory → RanOutAt head_lines part.MayWant tells m0 m1) → DeployPromise mac part tells to_tell m0 m1 status
+    → part.With w.deployment w.texts → (status ≡ OutOfMemory → RanOutAt head_lines part.MayWant tells m0 m1) → DeployPromise mac part tells to_tell m0 m1 status
 says_with {tells} {to_tell} {m0} {m1} {status} mac part owes w own memory = record {
   says = inr (record {
     deployment = w.deployment;
@@ -84,7 +84,7 @@ says_with {tells} {to_tell} {m0} {m1} {status} mac part owes w own memory = reco
 }
 
 says_starved : {tells : Bool} {m0 m1 : CommandAt} {status : Status} (mac : Mac) (part : OwnPart) → Owes part → (to_tell : Bool) → Starved tells m0 m1 status
-    → (status ≡ out_of_memory → RanOutAt head_lines part.MayWant tells m0 m1) → DeployPromise mac part tells to_tell m0 m1 status
+    → (status ≡ OutOfMemory → RanOutAt head_lines part.MayWant tells m0 m1) → DeployPromise mac part tells to_tell m0 m1 status
 says_starved {tells} {m0} {m1} {status} mac part owes to_tell s memory = record {
   says = inl s;
   faults = record {

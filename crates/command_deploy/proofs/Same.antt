@@ -6,8 +6,9 @@ use Rattle.sx_io.specs.Counts.{Rose}
 use Rattle.sx_io.specs.Reading.{Answer, Ended, scan}
 use Rattle.sx_io.specs.Streams.{SourceAt}
 use Rattle.command_promise.specs.declared.status.Status.{Status}
+use Rattle.command_promise.specs.declared.status.Status.TheVariants.{OutOfMemory}
 use Rattle.command_promise.specs.Reads.{AtEnd, AtFault, Decides, Enough, Left}
-use Rattle.command_promise.specs.Told.{CommandAt, CommandEnds, Output, Told, out_of_memory}
+use Rattle.command_promise.specs.Told.{CommandAt, CommandEnds, Output, Told}
 use Rattle.command_promise.proofs.Laws.{told-quiet}
 use Rattle.sx_entries.specs.declared.fault.DeployFault.{DeployFault}
 use Rattle.sx_tag.specs.Mac.{Mac}
@@ -87,8 +88,8 @@ module _ (mac : Mac) (part : OwnPart) (m0 m1 : CommandAt) (s : Status) (k0 k1 : 
       joined (deploy_output part.output known a.texts (input_of m0)) (deploy_output part.output known b.texts (input_of k0)) same
       (told-quiet (a.told known is_known) refl quiet.0.0 quiet.0.1) (told-quiet (b.told known is_known) refl still.0.0 still.0.1)
     where
-      joined : (o p : Output) → o ≡ p → (s ≡ out_of_memory) ⊎ ((s ≡ o.status) × (IsTrue true → m1.sink.written ≡ m0.sink.written ++ o.text))
-          → (t ≡ out_of_memory) ⊎ ((t ≡ p.status) × (IsTrue true → k1.sink.written ≡ k0.sink.written ++ p.text)) → WriteTheSame m0 m1 s k0 k1 t
+      joined : (o p : Output) → o ≡ p → (s ≡ OutOfMemory) ⊎ ((s ≡ o.status) × (IsTrue true → m1.sink.written ≡ m0.sink.written ++ o.text))
+          → (t ≡ OutOfMemory) ⊎ ((t ≡ p.status) × (IsTrue true → k1.sink.written ≡ k0.sink.written ++ p.text)) → WriteTheSame m0 m1 s k0 k1 t
       joined o p e (inl six) y = absurd (quiet.1 six)
       joined o p e (inr x) (inl six) = absurd (still.1 six)
       joined o p e (inr x) (inr y) = record {

@@ -4,8 +4,8 @@ use Rattle.std.specs.Prelude.{ℕ, ◌≡◌, ◌⊎◌, Bool, List, Option, Non
 use Rattle.sx_io.specs.Reading.{Answer}
 use Rattle.sx_io.specs.Next.{Ahead}
 use Rattle.command_promise.specs.declared.status.Status.{Status}
-use Rattle.command_promise.specs.declared.status.Status.TheVariants.{Refused}
-use Rattle.command_promise.specs.Told.{CommandAt, Output, Told, out_of_memory, read_failed}
+use Rattle.command_promise.specs.declared.status.Status.TheVariants.{Refused, ReadFailed, OutOfMemory}
+use Rattle.command_promise.specs.Told.{CommandAt, Output, Told}
 use Rattle.command_promise.specs.Parts.{Rest}
 use Rattle.command_promise.specs.Told.{unread_output}
 use Rattle.sx_entries.specs.declared.fault.DeployFault.{DeployFault}
@@ -33,7 +33,7 @@ head_output own meaning texts h = by_head (λ d. own d texts) fault_output unrea
 
 -- the exit status by an input's head
 abbrev pub head_status : (Deployed → List Answer → Status) → Meaning → Head → Status
-head_status own meaning h = by_head own (λ f. Refused) read_failed meaning h
+head_status own meaning h = by_head own (λ f. Refused) ReadFailed meaning h
 
 -- What does the rest of the command after a head of this text: with these images, which realize its
 -- modules, it writes what is defined for what is to come.
@@ -48,7 +48,7 @@ pub record DeploysBehind (mac : Mac) (own : OwnOutput) (may : Wants) (tells to_t
   pub bytes : AreByteTexts texts
   pub rest : (meaning : Meaning) → IsMeaning meaning
       → Rest tells to_tell head_lines now m1 m2 status (found_output own texts (meaning text))
-  pub wanted : status ≡ out_of_memory → (d : Deployed) × IsRead text (Ok d)
+  pub wanted : status ≡ OutOfMemory → (d : Deployed) × IsRead text (Ok d)
       × (new : Ahead)
       × RanOutSince head_lines head_lines (may d) tells m1.source m2.source now new
 
@@ -65,7 +65,7 @@ pub record ToldWith (mac : Mac) (own : OwnOutput) (tells to_tell : Bool) (m0 m1 
   pub deployment : Option (List ℕ)
   pub texts : List (List ℕ)
   pub bytes : AreByteTexts texts
-  pub headed : deployment ≡ None → status ≡ out_of_memory → ⊥
+  pub headed : deployment ≡ None → status ≡ OutOfMemory → ⊥
   pub realize : (d : Deployed) → ReadsAs deployment d → AreImages mac d texts
   pub made : (d : Deployed) → ReadsAs deployment d → texts ≡ compiled_texts d
   pub told : (meaning : Meaning) → IsMeaning meaning
@@ -77,4 +77,4 @@ pub record DeployTold (mac : Mac) (own : OwnOutput) (may : Wants) (tells to_tell
     (m0 m1 : CommandAt)
     (status : Status) : Type 0 where
   pub says : Starved tells m0 m1 status ⊎ ToldWith mac own tells to_tell m0 m1 status
-  pub memory : status ≡ out_of_memory → RanOutAt head_lines may tells m0 m1
+  pub memory : status ≡ OutOfMemory → RanOutAt head_lines may tells m0 m1

@@ -3,8 +3,8 @@
 use Rattle.std.specs.Prelude.{ℕ, List, Result, Ok, Err}
 use Rattle.sx_io.specs.Reading.{Answer}
 use Rattle.command_promise.specs.declared.status.Status.{Status}
-use Rattle.command_promise.specs.declared.status.Status.TheVariants.{Refused}
-use Rattle.command_promise.specs.Told.{Output, read_failed, unread_output}
+use Rattle.command_promise.specs.declared.status.Status.TheVariants.{Refused, ReadFailed}
+use Rattle.command_promise.specs.Told.{Output, unread_output}
 use Rattle.sx_entries.specs.declared.fault.Place.TheVariants.{Nowhere}
 use Rattle.sx_entries.specs.declared.fault.DeployFault.{DeployFault}
 use Rattle.sx_entries.specs.Fault.{fault}
@@ -44,7 +44,7 @@ deploy_output own meaning texts answers =
 
 -- the exit status, of the answers alone, over the status after the head
 abbrev pub deploy_status : (Deployed → List Answer → Status) → Meaning → List Answer → Status
-deploy_status own meaning answers = by_head own (λ f. Refused) read_failed meaning (head answers)
+deploy_status own meaning answers = by_head own (λ f. Refused) ReadFailed meaning (head answers)
 
 -- the exit status by the deployment that was read
 abbrev pub found_status : (Deployed → List Answer → Status) → Result Deployed DeployFault

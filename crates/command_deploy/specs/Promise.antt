@@ -2,8 +2,8 @@
 use Rattle.std.specs.Prelude.{ℕ, ◌≡◌, ◌⊎◌, ◌++◌, Bool, List, [], Option, None, IsTrue}
 use Rattle.sx_io.specs.Reading.{Answer}
 use Rattle.command_promise.specs.declared.status.Status.{Status}
-use Rattle.command_promise.specs.declared.status.Status.TheVariants.{Done}
-use Rattle.command_promise.specs.Told.{CommandAt, Told, out_of_memory}
+use Rattle.command_promise.specs.declared.status.Status.TheVariants.{Done, OutOfMemory}
+use Rattle.command_promise.specs.Told.{CommandAt, Told}
 use Rattle.command_promise.specs.Further.{Streams}
 use Rattle.sx_tag.specs.Mac.{Mac}
 use Rattle.command_promise.specs.Head.{head, head_lines}
@@ -36,7 +36,7 @@ pub record DeploysWith (mac : Mac) (part : OwnPart) (tells to_tell : Bool) (m0 m
     (status : Status) : Type 0 where
   pub deployment : Option (List ℕ)
   pub texts : List (List ℕ)
-  pub headed : deployment ≡ None → status ≡ out_of_memory → ⊥
+  pub headed : deployment ≡ None → status ≡ OutOfMemory → ⊥
   pub realize : (d : Deployed) → ReadsAs deployment d → AreImages mac d texts
   pub made : (d : Deployed) → ReadsAs deployment d → texts ≡ compiled_texts d
   pub told : (meaning : Meaning) → IsMeaning meaning
@@ -61,4 +61,4 @@ pub record DeployPromise (mac : Mac) (part : OwnPart) (tells to_tell : Bool) (m0
   pub read_all : status ≡ Done → IsTrue tells → m1.source.rest ≡ []
   pub exact : (meaning : Meaning) → IsMeaning meaning → IsTrue tells → IsFaultless m0 m1
       → part.Cut status ⊎ (status ≡ deploy_status part.status meaning (input_of m0))
-  pub memory : status ≡ out_of_memory → RanOutAt head_lines part.MayWant tells m0 m1
+  pub memory : status ≡ OutOfMemory → RanOutAt head_lines part.MayWant tells m0 m1

@@ -2,7 +2,8 @@
 -- k0 and at k1; and in which setting a call runs its deployment.
 use Rattle.std.specs.Prelude.{◌≡◌, ℕ, Bool, List, ◌++◌}
 use Rattle.command_promise.specs.declared.status.Status.{Status}
-use Rattle.command_promise.specs.Told.{CommandAt, out_of_memory}
+use Rattle.command_promise.specs.declared.status.Status.TheVariants.{OutOfMemory}
+use Rattle.command_promise.specs.Told.{CommandAt}
 use Rattle.sx_tag.specs.Mac.{Mac}
 use Rattle.sx_deploy.specs.Deployment.{Deployed}
 use Rattle.spec_run.specs.Setting.{Setting}
@@ -13,7 +14,7 @@ use Rattle.command_deploy.specs.Promise.{DeploysWith, OwnPart}
 
 -- no read and no write of a call failed, and memory sufficed
 abbrev pub IsUnhindered : CommandAt → CommandAt → Status → Type 0
-IsUnhindered m0 m1 status = IsFaultless m0 m1 × (status ≡ out_of_memory → ⊥)
+IsUnhindered m0 m1 status = IsFaultless m0 m1 × (status ≡ OutOfMemory → ⊥)
 
 -- both write the same, and end with the same status
 pub record WriteTheSame (m0 m1 : CommandAt) (status : Status)

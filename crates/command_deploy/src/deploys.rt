@@ -2,7 +2,8 @@
 
 ghost use Rattle.std.specs.Prelude.{◌≡◌, IsTrue, length};
 ghost use Rattle.sx_tag.specs.Mac.{Mac};
-ghost use Rattle.command_promise.specs.Told.{command_at, out_of_memory};
+ghost use Rattle.command_promise.specs.declared.status.Status.TheVariants.{OutOfMemory};
+ghost use Rattle.command_promise.specs.Told.{command_at};
 ghost use Rattle.command_promise.specs.Parts.{Rest};
 ghost use Rattle.command_promise.specs.Head.{head_lines};
 ghost use Rattle.sx_trace.specs.ValidNames.{are_valid};
@@ -47,7 +48,7 @@ pub trait Deploys {
             (command_at (S.at input.old) (K.at output.old))
             (command_at (S.at input.new) (K.at output.new)) result
             (behind T.mac (deployed_as deployment.now) (texts_of images.now)) }
-        ensures wanted { result ≡ out_of_memory → RanOutSince head_lines head_lines
+        ensures wanted { result ≡ OutOfMemory → RanOutSince head_lines head_lines
             (may (deployed_as deployment.now)) S.tells (S.at input.old) (S.at input.new)
             lines.old lines.new };
 }

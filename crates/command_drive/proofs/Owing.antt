@@ -4,9 +4,9 @@ use Rattle.std.specs.Prelude.{if◌then◌else◌}
 use Rattle.sx_io.specs.Reading.{Answer, Long}
 use Rattle.sx_io.specs.Reading as answer
 use Rattle.command_promise.specs.declared.status.Status.{Status}
-use Rattle.command_promise.specs.declared.status.Status.TheVariants.{ReadFailed, TooLong}
+use Rattle.command_promise.specs.declared.status.Status.TheVariants.{ReadFailed, OutOfMemory, TooLong}
 use Rattle.command_promise.specs.Status.{status_number}
-use Rattle.command_promise.specs.Told.{Output, behind, out_of_memory}
+use Rattle.command_promise.specs.Told.{Output, behind}
 use Rattle.command_promise.proofs.Due.{lines_then, EndsUnread, Due, due-behind, behind-ends}
 use Rattle.sx_tag.specs.Mac.{Mac}
 use Rattle.sx_deploy.specs.Deployment.{Deployed}
@@ -115,7 +115,7 @@ due_deployed mac d texts ls there =
     (images_text d.names.modules texts) (λ more. refl) (due_start d (setting_of mac d texts) ls there)
 
 -- memory ran out, or a line was left out: with a status above 4
-cut_above : (n : Status) → status_number n < 5 → (n ≡ out_of_memory) ⊎ (n ≡ TooLong) → ⊥
+cut_above : (n : Status) → status_number n < 5 → (n ≡ OutOfMemory) ⊎ (n ≡ TooLong) → ⊥
 cut_above n few (inl six) = memory_above n few six
 cut_above n few (inr nine) = let P : Status → Type 0 = λ s. status_number s < 5 in omega (arith, subst P nine few)
 

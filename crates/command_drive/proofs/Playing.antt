@@ -4,7 +4,8 @@ use Rattle.std.specs.Prelude.{IfOk, IsErr, IsTrue, OnOk, if◌then◌else◌}
 use Rattle.sx_io.specs.Streams.{SinkAt}
 use Rattle.sx_io.specs.Reading.{Answer}
 use Rattle.command_promise.specs.declared.status.Status.{Status}
-use Rattle.command_promise.specs.Told.{CommandEnds, Output, behind, out_of_memory}
+use Rattle.command_promise.specs.declared.status.Status.TheVariants.{OutOfMemory}
+use Rattle.command_promise.specs.Told.{CommandEnds, Output, behind}
 use Rattle.command_promise.specs.Parts.{WroteSome}
 use Rattle.command_promise.specs.declared.turned.Turned.{Turned}
 use Rattle.command_promise.specs.declared.turned.Turned.TheVariants.{On, Stop}
@@ -101,7 +102,7 @@ told_long to_tell names k0 k1 k2 said a status e long wrote same ends = λ left 
     (ends-behind to_tell k0 k1 k2 (said_text names said) status long_output wrote same ends)
 
 told_wanted : (to_tell : Bool) (names : NameLists) (k0 k1 : SinkAt) (said rest : List Said) (a : Driven) → said ++ rest ≡ a.said
-    → (IsTrue to_tell → k1.written ≡ k0.written ++ said_text names said) → k1.faults ≡ k0.faults → TellsPart to_tell k0 k1 names a (Stop out_of_memory)
+    → (IsTrue to_tell → k1.written ≡ k0.written ++ said_text names said) → k1.faults ≡ k0.faults → TellsPart to_tell k0 k1 names a (Stop OutOfMemory)
 told_wanted to_tell names k0 k1 said rest a e wrote same = λ left more.
     let o = if a.honest.long then long_output else left a.honest more in
     ends-out-of-memory to_tell k0 k1 (part_output names a left more)

@@ -5,7 +5,8 @@ use Rattle.std.specs.Prelude.{[], ◌∷◌, ◌++◌, length, slice_get, Some, 
 use Rattle.std.specs.List.{list_any}
 use Rattle.sx_io.specs.Streams.{SinkAt}
 use Rattle.sx_io.specs.Reading.{Answer, Line}
-use Rattle.command_promise.specs.Told.{CommandEnds, Output, behind, out_of_memory}
+use Rattle.command_promise.specs.declared.status.Status.TheVariants.{OutOfMemory}
+use Rattle.command_promise.specs.Told.{CommandEnds, Output, behind}
 use Rattle.command_promise.specs.Parts.{DoesPart}
 use Rattle.command_promise.specs.declared.turned.Turned.{Turned}
 use Rattle.command_promise.specs.declared.turned.Turned.TheVariants.{On, Stop}
@@ -91,7 +92,7 @@ SaysAll said (Err e) a = (rest : List Said) × (said ++ rest ≡ a.said)
 
 -- if memory ran out, all that was said is written
 abbrev pub TellsSaid : Bool → SinkAt → SinkAt → NameLists → List Said → Turned → Type 0
-TellsSaid to_tell k0 k1 names said turned = turned ≡ Stop out_of_memory → IsTrue to_tell
+TellsSaid to_tell k0 k1 names said turned = turned ≡ Stop OutOfMemory → IsTrue to_tell
     → k1.written ≡ k0.written ++ said_text names said
 
 -- the command stopped, since a line had no room
@@ -103,7 +104,7 @@ StopsLong to_tell k0 k1 (Stop status) = CommandEnds to_tell k0 k1 status long_ou
 abbrev pub EndsPart : {E : Type 0} → Bool → SinkAt → SinkAt → Result Drove E → Turned → Type 0
 EndsPart to_tell k0 k1 (Ok Done) turned = (turned ≡ On) × (k1 ≡ k0)
 EndsPart to_tell k0 k1 (Ok Long) turned = StopsLong to_tell k0 k1 turned
-EndsPart to_tell k0 k1 (Err e) turned = (turned ≡ Stop out_of_memory) × (k1 ≡ k0)
+EndsPart to_tell k0 k1 (Err e) turned = (turned ≡ Stop OutOfMemory) × (k1 ≡ k0)
 
 -- whichever run there was, it did this part, or the command ended
 abbrev pub PlaysPart : Mac → Deployment → Bool → SinkAt → SinkAt → Kept → Kept → Turned

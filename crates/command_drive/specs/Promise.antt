@@ -4,8 +4,8 @@ use Rattle.std.specs.Prelude.{◌++◌, length, map, Option}
 use Rattle.sx_io.specs.Reading.{Answer, End}
 use Rattle.sx_io.specs.Reading as answer
 use Rattle.command_promise.specs.declared.status.Status.{Status}
-use Rattle.command_promise.specs.declared.status.Status.TheVariants.{TooLong}
-use Rattle.command_promise.specs.Told.{CommandAt, out_of_memory}
+use Rattle.command_promise.specs.declared.status.Status.TheVariants.{OutOfMemory, TooLong}
+use Rattle.command_promise.specs.Told.{CommandAt}
 use Rattle.sx_tag.specs.Mac.{Mac}
 use Rattle.sx_asm.specs.Assembled.{assembled}
 use Rattle.sx_trace.specs.declared.items.Item.{Item}
@@ -98,7 +98,7 @@ abbrev pub drive_part : Mac → OwnPart
 drive_part mac = record {
   output = drive_deployed mac;
   status = drive_status;
-  Cut = λ status. (status ≡ out_of_memory) ⊎ (status ≡ TooLong);
+  Cut = λ status. (status ≡ OutOfMemory) ⊎ (status ≡ TooLong);
   MayWant = drive_may;
   With = DrivesWith mac;
 }

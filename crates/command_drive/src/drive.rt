@@ -1,7 +1,8 @@
 //! The command `drive`: after the head it writes the honest run of the readings that follow.
 
 ghost use Rattle.std.specs.Prelude.{◌≡◌, IfOk, IsTrue, false, length};
-ghost use Rattle.command_promise.specs.Told.{command_at, out_of_memory};
+ghost use Rattle.command_promise.specs.declared.status.Status.TheVariants.{OutOfMemory};
+ghost use Rattle.command_promise.specs.Told.{command_at};
 ghost use Rattle.command_promise.specs.Parts.{Rest};
 ghost use Rattle.command_promise.specs.Head.{head_lines};
 ghost use Rattle.sx_trace.specs.ValidNames.{are_valid};
@@ -68,7 +69,7 @@ fn drive_built<S: Source, K: Sink, B: Copied, T: Tag>(
         (command_at (S.at input.old) (K.at output.old))
         (command_at (S.at input.new) (K.at output.new)) result
         (drive_deployed T.mac (deployed_as deployment.now) (texts_of images.now)) }
-    ensures wanted { result ≡ out_of_memory → RanOutSince head_lines head_lines
+    ensures wanted { result ≡ OutOfMemory → RanOutSince head_lines head_lines
         (drive_may (deployed_as deployment.now)) S.tells (S.at input.old) (S.at input.new)
         lines.old lines.new }
 {

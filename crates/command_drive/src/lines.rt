@@ -2,8 +2,8 @@
 //! read.
 
 ghost use Rattle.std.specs.Prelude.{◌≡◌, ◌≢◌, ◌+◌, ◌≤◌, [], false, IsTrue};
-ghost use Rattle.command_promise.specs.declared.status.Status.TheVariants.{Done};
-ghost use Rattle.command_promise.specs.Told.{CommandEnds, command_at, out_of_memory};
+ghost use Rattle.command_promise.specs.declared.status.Status.TheVariants.{Done, OutOfMemory};
+ghost use Rattle.command_promise.specs.Told.{CommandEnds, command_at};
 ghost use Rattle.command_promise.specs.Parts.{Rest};
 ghost use Rattle.command_promise.specs.Head.{head_lines};
 ghost use Rattle.sx_trace.specs.ValidNames.{are_valid};
@@ -35,7 +35,7 @@ use sx_tag::Tag;
 fn break_reading<K: Sink>(output: &mut K, rule: ReadingRule, number: u32) -> Status
     ensures ends { CommandEnds K.tells (K.at output.old) (K.at output.new) result
         (reading_fault (rule_number rule) number) }
-    ensures memory { result ≢ out_of_memory }
+    ensures memory { result ≢ OutOfMemory }
 {
     finish_fault(
         output,
@@ -63,7 +63,7 @@ fn steps_text(steps: u64) -> Text
 fn end_run<K: Sink>(output: &mut K, steps: u64) -> Status
     ensures ends { CommandEnds K.tells (K.at output.old) (K.at output.new) result
         (record { text = steps_text steps; status = Done }) }
-    ensures memory { result ≢ out_of_memory }
+    ensures memory { result ≢ OutOfMemory }
 {
     finish(output, steps_text(steps).as_slice(), Status::Done)
 }
@@ -84,7 +84,7 @@ fn turn<K: Sink, B: Copied, T: Tag>(
         honest.old honest.new number text.now result }
     ensures goes_on { result ≡ Turned.On → GoesOn T.mac deployment.now honest.new }
     ensures memory { result ≡ Turned.On → honest.new.ran_out ≡ false }
-    ensures certain { result ≡ Turned.Stop out_of_memory
+    ensures certain { result ≡ Turned.Stop OutOfMemory
         → MayRunOut (judged_reading (deployed_as deployment.now) number text.now) }
     ensures made { TellsSaid K.tells (K.at output.old) (K.at output.new) deployment.now.names
         (all_said said.new.items) result }
@@ -119,7 +119,7 @@ fn read_lines<S: Source, K: Sink, B: Copied, T: Tag>(
         (command_at (S.at input.old) (K.at output.old))
         (command_at (S.at input.new) (K.at output.new)) result
         (drive_from (deployed_as deployment.now) set h 1) }
-    ensures wanted { result ≡ out_of_memory → RanOutSince head_lines head_lines
+    ensures wanted { result ≡ OutOfMemory → RanOutSince head_lines head_lines
         (drive_may (deployed_as deployment.now)) S.tells (S.at input.old) (S.at input.new)
         lines.old lines.new }
 {
@@ -157,7 +157,7 @@ pub(crate) fn drive_run<S: Source, K: Sink, B: Copied, T: Tag>(
         (command_at (S.at input.old) (K.at output.old))
         (command_at (S.at input.new) (K.at output.new)) result
         (drive_readings (deployed_as deployment.now) set) }
-    ensures wanted { result ≡ out_of_memory → RanOutSince head_lines head_lines
+    ensures wanted { result ≡ OutOfMemory → RanOutSince head_lines head_lines
         (drive_may (deployed_as deployment.now)) S.tells (S.at input.old) (S.at input.new)
         lines.old lines.new }
 {

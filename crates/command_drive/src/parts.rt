@@ -1,13 +1,13 @@
 //! Parts of an honest run: each is done, and then all that it says is written.
 
 ghost use Rattle.std.specs.Prelude.{◌≡◌, ◌<◌, [], false, IsErr, IsTrue, Ok};
-ghost use Rattle.command_promise.specs.Told.{out_of_memory};
 ghost use Rattle.sx_trace.specs.ValidNames.{are_valid};
 ghost use Rattle.sx_deploy.specs.SeenDeployment.{deployed_as};
 ghost use Rattle.sx_drive.specs.Driving.{GoesOn, IsDrivenSensor, LosesNothing, all_said, reading};
 ghost use Rattle.sx_drive.specs.Honest.{Driven, setup};
 ghost use Rattle.command_drive.specs.Parts.{AreNamed, EndsPart, PlaysPart, SaysAll, TellsPart};
 ghost use Rattle.command_drive.specs.Parts.{TellsSaid};
+ghost use Rattle.command_promise.specs.declared.status.Status.TheVariants.{OutOfMemory};
 
 use crate::saying::put_said;
 use command_promise::{Status, Turned, finish};
@@ -25,7 +25,7 @@ use sx_trace::names::Names;
 #[tactic(auto, unfolding(crate::specs::Output::long_line))]
 fn end_part<K: Sink>(output: &mut K, drove: Result<Drove, AllocError>) -> Turned
     ensures ends { EndsPart K.tells (K.at output.old) (K.at output.new) drove result }
-    ensures memory { result ≡ Turned.Stop out_of_memory → IsErr drove }
+    ensures memory { result ≡ Turned.Stop OutOfMemory → IsErr drove }
 {
     match drove {
         Ok(Drove::Done) => Turned::On,

@@ -2,7 +2,8 @@
 
 ghost use Rattle.std.specs.Prelude.{◌≡◌, ◌≢◌, ◌+◌, ◌≤◌, [], ◌++◌, IsTrue, List, length};
 ghost use Rattle.sx_io.specs.Reading.{Answer};
-ghost use Rattle.command_promise.specs.Told.{Output, behind, out_of_memory};
+ghost use Rattle.command_promise.specs.declared.status.Status.TheVariants.{OutOfMemory};
+ghost use Rattle.command_promise.specs.Told.{Output, behind};
 ghost use Rattle.command_promise.specs.Parts.{DoesPart};
 ghost use Rattle.sx_trace.specs.ValidNames.{are_valid};
 ghost use Rattle.sx_sched.specs.InForm.{IsLine, IsWritten};
@@ -126,7 +127,7 @@ pub(crate) fn put_said<K: Sink>(output: &mut K, names: &Names, said: &[Said]) ->
         result left }
     ensures whole { result ≡ Turned.On → IsTrue K.tells → (K.at output.new).written
         ≡ (K.at output.old).written ++ said_text names.now (all_said said.now) }
-    ensures memory { result ≢ Turned.Stop out_of_memory }
+    ensures memory { result ≢ Turned.Stop OutOfMemory }
 {
     match put_lines(output, names, said) {
         Ok(()) => Turned::On,

@@ -9,9 +9,10 @@ use Rattle.sx_io.specs.Next.{Ahead}
 use Rattle.sx_io.specs.declared.lines.ReaderState.{ReaderState}
 use Rattle.sx_io.specs.declared.lines.ReaderState.TheVariants as reader
 use Rattle.command_promise.specs.declared.status.Status.{Status}
+use Rattle.command_promise.specs.declared.status.Status.TheVariants.{OutOfMemory}
 use Rattle.command_promise.specs.Reads.{AtEnd, AtFault, Decides, Enough, Left, Reads, anything}
 use Rattle.command_promise.specs.Got.{Follows, Got, HoldsBehind}
-use Rattle.command_promise.specs.Told.{CommandAt, CommandEnds, Output, Told, command_at, out_of_memory, unread_output}
+use Rattle.command_promise.specs.Told.{CommandAt, CommandEnds, Output, Told, command_at, unread_output}
 use Rattle.command_promise.specs.Parts.{Notes, Rest}
 use Rattle.command_promise.proofs.Laws.{begun-got, ends-out-of-memory, prefix-none, told-reads, told-stop}
 use Rattle.command_promise.proofs.Takings.{decides-map, got-also}
@@ -266,15 +267,15 @@ told_found {tells} {to_tell} {s0} {s1} {k0} {now} {m2} {status} means text other
 
 -- there is none
 told_none : {tells to_tell : Bool} {s0 s1 : SourceAt} {k0 k1 : SinkAt} {status : Status} (means : Meanings) (h : Head) (o : Output) → IsNone h → explain_head means h ≡ o
-    → Reads tells head_lines s0 s1 head Unread (λ answers. head answers ≡ h) → CommandEnds to_tell k0 k1 status o → (status ≡ out_of_memory → ⊥)
+    → Reads tells head_lines s0 s1 head Unread (λ answers. head answers ≡ h) → CommandEnds to_tell k0 k1 status o → (status ≡ OutOfMemory → ⊥)
     → Told tells to_tell explain_lines (command_at s0 k0) (command_at s1 k1) status (explain_all means) (RunsOutBehindHead status)
 told_none means h o n e r w never = told-reads (explain_head means) o refl (reads_longer h n r) (λ answers q. (ap (explain_head means) q ∙ e, λ six. absurd (never six))) w
 
 -- memory ran out, and nothing was written
 told_starved : {tells to_tell : Bool} {s0 s1 : SourceAt} {k : SinkAt} {now : Ahead} (means : Meanings) → HeadRead tells s0 s1 now (Err none.OutOfMemory)
-    → Told tells to_tell explain_lines (command_at s0 k) (command_at s1 k) out_of_memory (explain_all means) (RunsOutBehindHead out_of_memory)
+    → Told tells to_tell explain_lines (command_at s0 k) (command_at s1 k) OutOfMemory (explain_all means) (RunsOutBehindHead OutOfMemory)
 told_starved {tells} {to_tell} {s0} {s1} {k} {now} means (text, got) =
-    told_also (RunsOutBehindHead out_of_memory) (λ answers m six. has_head (head answers) m)
+    told_also (RunsOutBehindHead OutOfMemory) (λ answers m six. has_head (head answers) m)
     (told-stop (begun-got (explain_head means) refl (got-also (Notes marked_in (1 ∷ [])) (λ answers more q. ap marked q) (got_longer text got)))
     (λ more. ends-out-of-memory to_tell k k (explain_found means (means.deployment text) more) (λ t. prefix-none k.written k.written _ refl) refl))
 

@@ -4,9 +4,9 @@ use Rattle.std.specs.Prelude.{IsTrue}
 use Rattle.std.proofs.lemmas.List.{append-nil}
 use Rattle.sx_io.specs.Reading.{Answer, Broken, Ended, scan}
 use Rattle.command_promise.specs.declared.status.Status.{Status}
-use Rattle.command_promise.specs.declared.status.Status.TheVariants.{Done, Misused}
+use Rattle.command_promise.specs.declared.status.Status.TheVariants.{Done, Misused, OutOfMemory}
 use Rattle.command_promise.specs.Reads.{AtEnd, AtFault, Decides, Enough, Left}
-use Rattle.command_promise.specs.Told.{CommandAt, CommandEnds, Told, out_of_memory}
+use Rattle.command_promise.specs.Told.{CommandAt, CommandEnds, Told}
 use Rattle.command_promise.proofs.Due.{streams-within}
 use Rattle.command_promise.proofs.Laws.{told-all, told-fault, told-no-write-fault, told-quiet, told-some, told-write-fault}
 use Rattle.command_promise.proofs.Endings.{faultless, unfinished}
@@ -59,7 +59,7 @@ zero_is {tells} {to_tell} {m0} {m1} {status} {also} means told t zero =
 
 pub explain_promise : {tells to_tell : Bool} {m0 m1 : CommandAt} {status : Status}
     → ((means : Meanings) → AreMeanings means → Told tells to_tell explain_lines m0 m1 status (explain_all means) (RunsOutBehindHead status))
-    → ((means : Meanings) → AreMeanings means → status ≡ out_of_memory → RanOutAt explain_lines (explain_may means) tells m0 m1) → ExplainPromise tells to_tell m0 m1 status
+    → ((means : Meanings) → AreMeanings means → status ≡ OutOfMemory → RanOutAt explain_lines (explain_may means) tells m0 m1) → ExplainPromise tells to_tell m0 m1 status
 explain_promise {tells} {to_tell} {m0} {m1} {status} told memory = record {
   told = told;
   streams = λ means is. streams-within explain_lines (explain_all means) (due_all means) (told means is);

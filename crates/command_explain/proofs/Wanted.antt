@@ -10,9 +10,10 @@ use Rattle.sx_io.specs.declared.lines.LineRead.{LineRead}
 use Rattle.sx_io.specs.declared.lines.LineRead.TheVariants as read
 use Rattle.sx_io.specs.declared.outside.Failed.{Failed}
 use Rattle.command_promise.specs.declared.status.Status.{Status}
+use Rattle.command_promise.specs.declared.status.Status.TheVariants.{OutOfMemory}
 use Rattle.command_promise.specs.Reads.{anything}
 use Rattle.command_promise.specs.Got.{Got}
-use Rattle.command_promise.specs.Told.{CommandAt, command_at, out_of_memory}
+use Rattle.command_promise.specs.Told.{CommandAt, command_at}
 use Rattle.command_promise.proofs.Takings.{got-line, got-same, open-not-at-end}
 use Rattle.sx_entries.specs.Gives.{GivesOne}
 use Rattle.sx_entries.specs.declared.fault.DeployError.{DeployError}
@@ -171,8 +172,8 @@ module _ {tells : Bool} {s1 s2 s3 : SourceAt} {old now next : Ahead} {number : �
 -- ---- after a head
 
 pub read_wants : {tells : Bool} {s1 s2 : SourceAt} {old new : Ahead} {status : Status} (text : List ℕ) (r : Result Deployment DeployError) → GivesOne deployed_as r (IsRead text)
-    → IfOk r (λ d. (means : Meanings) → AreMeanings means → status ≡ out_of_memory → RanOutSince image_lines trace_lines (explain_may means (deployed_as d)) tells s1 s2 old new)
-    → OnErr r (s2 ≡ s1) → (means : Meanings) → AreMeanings means → status ≡ out_of_memory → ReadWants means text tells s1 s2 old new
+    → IfOk r (λ d. (means : Meanings) → AreMeanings means → status ≡ OutOfMemory → RanOutSince image_lines trace_lines (explain_may means (deployed_as d)) tells s1 s2 old new)
+    → OnErr r (s2 ≡ s1) → (means : Meanings) → AreMeanings means → status ≡ OutOfMemory → ReadWants means text tells s1 s2 old new
 read_wants {tells} {s1} {s2} {old} {new} {status} text (Ok d) read good same means is six = inr (deployed_as d, read, good means is six)
 read_wants {tells} {s1} {s2} {old} {new} {status} text (Err e) read good same means is six = inl same
 
@@ -187,7 +188,7 @@ told_wants {tells} {s0} {s1} {k0} {m2} {now} {new} means text got w =
     ]
 
 pub headless_wants : {tells : Bool} {s0 s1 : SourceAt} (to_tell : Bool) (k0 k1 : SinkAt) (status : Status) (now : Ahead) (means : Meanings) (why : HeadFault) → HeadRead tells s0 s1 now (Err why)
-    → EndsHeadless to_tell k0 k1 status why → status ≡ out_of_memory → RanOutAt explain_lines (explain_may means) tells (command_at s0 k0) (command_at s1 k1)
+    → EndsHeadless to_tell k0 k1 status why → status ≡ OutOfMemory → RanOutAt explain_lines (explain_may means) tells (command_at s0 k0) (command_at s1 k1)
 headless_wants {tells} {s0} {s1} to_tell k0 k1 status now means none.TooLong r w six = absurd (w.1 six)
 headless_wants {tells} {s0} {s1} to_tell k0 k1 status now means none.NoMark r w six = absurd (w.1 six)
 headless_wants {tells} {s0} {s1} to_tell k0 k1 status now means none.Failed r w six = absurd (w.1 six)

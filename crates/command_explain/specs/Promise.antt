@@ -2,8 +2,8 @@
 use Rattle.std.specs.Prelude.{◌≡◌, ◌⊎◌, ℕ, ◌++◌, Bool, List, [], Option, Result, Ok, Err, IsTrue}
 use Rattle.sx_io.specs.Reading.{Answer, Ended, scan}
 use Rattle.command_promise.specs.declared.status.Status.{Status}
-use Rattle.command_promise.specs.declared.status.Status.TheVariants.{Done}
-use Rattle.command_promise.specs.Told.{CommandAt, Output, Told, out_of_memory}
+use Rattle.command_promise.specs.declared.status.Status.TheVariants.{Done, OutOfMemory}
+use Rattle.command_promise.specs.Told.{CommandAt, Output, Told}
 use Rattle.command_promise.specs.Further.{Streams}
 use Rattle.sx_entries.specs.declared.fault.DeployFault.{DeployFault}
 use Rattle.command_promise.specs.Head.{Head, Found, TooLong, NoMark, Unread, head}
@@ -45,7 +45,7 @@ input_of m0 = scan explain_lines Ended [] m0.source.rest
 
 -- the status is the one that is defined, and all that is defined was written, or memory ran out
 abbrev pub EndsAs : Bool → CommandAt → CommandAt → Status → Output → Type 0
-EndsAs to_tell m0 m1 status o = (status ≡ out_of_memory)
+EndsAs to_tell m0 m1 status o = (status ≡ OutOfMemory)
     ⊎ ((status ≡ o.status) × (IsTrue to_tell → m1.sink.written ≡ m0.sink.written ++ o.text))
 
 -- The command `explain`, whatever texts of deployments and lines of traces are said to mean. What
@@ -71,7 +71,7 @@ pub record ExplainPromise (tells to_tell : Bool) (m0 m1 : CommandAt)
   pub complete : (means : Meanings) → AreMeanings means → IsTrue tells
       → IsLegalInput means (head (input_of m0)) → IsFaultless m0 m1
       → CameToItsEnd to_tell m0 m1 status (explain_all means (input_of m0))
-  pub memory : (means : Meanings) → AreMeanings means → status ≡ out_of_memory
+  pub memory : (means : Meanings) → AreMeanings means → status ≡ OutOfMemory
       → RanOutAt explain_lines (explain_may means) tells m0 m1
   pub causes : (text : List ℕ) (d : Deployed) → IsRead text (Ok d) → (items : List Item)
       → Legal d.app items → HasCauses d.app items

@@ -2,7 +2,8 @@
 //! it.
 
 ghost use Rattle.std.specs.Prelude.{◌≡◌, IfErr, IfOk, IsTrue, OnErr};
-ghost use Rattle.command_promise.specs.Told.{Told, command_at, out_of_memory};
+ghost use Rattle.command_promise.specs.declared.status.Status.TheVariants.{OutOfMemory};
+ghost use Rattle.command_promise.specs.Told.{Told, command_at};
 ghost use Rattle.command_promise.specs.Parts.{Rest};
 ghost use Rattle.sx_trace.specs.ValidNames.{are_valid};
 ghost use Rattle.sx_deploy.specs.SeenDeployment.{deployed_as};
@@ -44,7 +45,7 @@ fn explain_read<S: Source, K: Sink>(
         (command_at (S.at input.new) (K.at output.new)) result
         (explain_deployed means (deployed_as deployment))) }
     ensures wanted { IfOk read (λ deployment. (means : Meanings) → AreMeanings means
-        → result ≡ out_of_memory
+        → result ≡ OutOfMemory
         → RanOutSince image_lines trace_lines (explain_may means (deployed_as deployment)) S.tells
         (S.at input.old) (S.at input.new) lines.old lines.new) }
     ensures refused { IfErr read (λ error.
@@ -70,7 +71,7 @@ fn explain_text<S: Source, K: Sink>(
         (command_at (S.at input.old) (K.at output.old))
         (command_at (S.at input.new) (K.at output.new)) result
         (explain_found means (means.deployment text.now)) }
-    ensures wanted { (means : Meanings) → AreMeanings means → result ≡ out_of_memory
+    ensures wanted { (means : Meanings) → AreMeanings means → result ≡ OutOfMemory
         → ReadWants means text.now S.tells (S.at input.old) (S.at input.new)
         lines.old lines.new }
 {
@@ -84,7 +85,7 @@ fn explain_told<S: Source, K: Sink>(alloc: Global, input: &mut S, output: &mut K
         → Told S.tells K.tells explain_lines (command_at (S.at input.old) (K.at output.old))
         (command_at (S.at input.new) (K.at output.new)) result (explain_all means)
         (RunsOutBehindHead result) }
-    ensures memory { (means : Meanings) → AreMeanings means → result ≡ out_of_memory
+    ensures memory { (means : Meanings) → AreMeanings means → result ≡ OutOfMemory
         → RanOutAt explain_lines (explain_may means) S.tells
         (command_at (S.at input.old) (K.at output.old))
         (command_at (S.at input.new) (K.at output.new)) }

@@ -1,7 +1,8 @@
 //! The lines before a trace. Those of images are passed, whatever they say.
 
 ghost use Rattle.std.specs.Prelude.{◌≡◌, ◌≤◌, IsTrue, length, true};
-ghost use Rattle.command_promise.specs.Told.{command_at, out_of_memory};
+ghost use Rattle.command_promise.specs.declared.status.Status.TheVariants.{OutOfMemory};
+ghost use Rattle.command_promise.specs.Told.{command_at};
 ghost use Rattle.command_promise.specs.Parts.{Rest};
 ghost use Rattle.sx_trace.specs.ValidNames.{are_valid};
 ghost use Rattle.sx_deploy.specs.SeenDeployment.{deployed_as};
@@ -66,7 +67,7 @@ pub(crate) fn explain_images<S: Source, K: Sink>(
         (command_at (S.at input.old) (K.at output.old))
         (command_at (S.at input.new) (K.at output.new)) result
         (explain_deployed means (deployed_as deployment.now)) }
-    ensures wanted { (means : Meanings) → AreMeanings means → result ≡ out_of_memory
+    ensures wanted { (means : Meanings) → AreMeanings means → result ≡ OutOfMemory
         → RanOutSince image_lines trace_lines (explain_may means (deployed_as deployment.now))
         S.tells (S.at input.old) (S.at input.new) lines.old lines.new }
 {

@@ -2,8 +2,9 @@
 //! this takes memory.
 
 ghost use Rattle.std.specs.Prelude.{◌≡◌, ◌≢◌, ◌+◌, ◌≤◌, ◌++◌, decimal, length, List, Some, true};
-ghost use Rattle.command_promise.specs.declared.status.Status.TheVariants.{Done};
-ghost use Rattle.command_promise.specs.Told.{CommandEnds, Output, behind, out_of_memory, write_failed};
+ghost use Rattle.command_promise.specs.declared.status.Status.TheVariants.{Done, WriteFailed};
+ghost use Rattle.command_promise.specs.declared.status.Status.TheVariants.{OutOfMemory};
+ghost use Rattle.command_promise.specs.Told.{CommandEnds, Output, behind};
 ghost use Rattle.sx_trace.specs.declared.items.Item.{Item as Listed};
 ghost use Rattle.sx_mean.specs.Application.{AppTree};
 ghost use Rattle.sx_explain.specs.Followed.{Follows};
@@ -94,10 +95,10 @@ fn keep_because(kept: &mut Batch, number: u32, cause: u64)
 
 /// Writes all that is kept, and ends the command with this text and status, as `finish` does.
 fn finish_kept<K: Sink>(output: &mut K, kept: &Batch, text: &[u8], status: Status) -> Status
-    requires { status ≡ write_failed → ⊥ }
+    requires { status ≡ WriteFailed → ⊥ }
     ensures ends { CommandEnds K.tells (K.at output.old) (K.at output.new) result
         (behind kept.now.items (record { text = text.now; status = status })) }
-    ensures status { (result ≡ write_failed → ⊥) → result ≡ status }
+    ensures status { (result ≡ WriteFailed → ⊥) → result ≡ status }
 {
     match put_kept(output, kept) {
         Ok(()) => finish(output, text, status),
@@ -116,7 +117,7 @@ pub(crate) fn keep_said<K: Sink>(
     ensures does { TellsItem K.tells (K.at output.old) (K.at output.new) kept.old.items
         kept.new.items number said result }
     ensures legal { result ≡ Turned.On → said ≢ Judged.Illegal }
-    ensures memory { result ≢ Turned.Stop out_of_memory }
+    ensures memory { result ≢ Turned.Stop OutOfMemory }
 {
     match said {
         Judged::Because(cause) => {
@@ -138,7 +139,7 @@ pub(crate) fn finish_legal<K: Sink>(output: &mut K, judge: &Judge) -> Status
     ensures ends { (app : AppTree) (items : List Listed) → Follows app items judge.now
         → CommandEnds K.tells (K.at output.old) (K.at output.new) result
         (record { text = legal_text items; status = Done }) }
-    ensures memory { result ≢ out_of_memory }
+    ensures memory { result ≢ OutOfMemory }
 {
     finish(output, last_text(judge).as_slice(), Status::Done)
 }
@@ -147,7 +148,7 @@ pub(crate) fn finish_legal<K: Sink>(output: &mut K, judge: &Judge) -> Status
 pub fn break_off<K: Sink>(output: &mut K, rule: TraceRule, number: u32) -> Status
     ensures ends { CommandEnds K.tells (K.at output.old) (K.at output.new) result
         (broken_output rule number) }
-    ensures memory { result ≢ out_of_memory }
+    ensures memory { result ≢ OutOfMemory }
 {
     finish_fault(
         output,
@@ -167,7 +168,7 @@ pub(crate) fn break_kept<K: Sink>(
 ) -> Status
     ensures ends { CommandEnds K.tells (K.at output.old) (K.at output.new) result
         (behind kept.now.items (broken_output rule number)) }
-    ensures memory { result ≢ out_of_memory }
+    ensures memory { result ≢ OutOfMemory }
 {
     match put_kept(output, kept) {
         Ok(()) => break_off(output, rule, number),

@@ -4,7 +4,8 @@
 ghost use Rattle.std.specs.Prelude.{◌≡◌, ◌≢◌, ◌+◌, ◌<◌, ◌≤◌, ◌++◌, ◌||◌, [], IsTrue, List, OnOk, length};
 ghost use Rattle.std.specs.Prelude.{IfSome, None, Some, true, false, is_some};
 ghost use Rattle.sx_io.specs.Next.{GivesHeld};
-ghost use Rattle.command_promise.specs.Told.{command_at, out_of_memory};
+ghost use Rattle.command_promise.specs.declared.status.Status.TheVariants.{OutOfMemory};
+ghost use Rattle.command_promise.specs.Told.{command_at};
 ghost use Rattle.command_promise.specs.Parts.{Rest};
 ghost use Rattle.sx_trace.specs.declared.items.Item.{Item as Listed};
 ghost use Rattle.sx_trace.specs.ValidNames.{are_valid};
@@ -81,10 +82,10 @@ fn turn<K: Sink>(
     requires room { length kept.old.items + LONGEST_LINE ≤ MOST }
     ensures judges { JudgesFrom K.tells (K.at output.old) (K.at output.new) kept.old.items
         kept.new.items (app_as app.now) judge.old judge.new number item.now result }
-    ensures memory { result ≡ Turned.Stop out_of_memory → judge.old.has_forged ≡ false }
-    ensures wants { result ≡ Turned.Stop out_of_memory
+    ensures memory { result ≡ Turned.Stop OutOfMemory → judge.old.has_forged ≡ false }
+    ensures wants { result ≡ Turned.Stop OutOfMemory
         → (may_take_memory item.now || is_some judge.old.behind) ≡ true }
-    ensures made { result ≡ Turned.Stop out_of_memory → IsTrue K.tells
+    ensures made { result ≡ Turned.Stop OutOfMemory → IsTrue K.tells
         → (K.at output.new).written ≡ (K.at output.old).written ++ kept.old.items }
 {
     match judge.item(app, item) {
@@ -109,7 +110,7 @@ fn explain_end<S: Source, K: Sink>(
         (command_at (S.at input.old) (K.at output.old))
         (command_at (S.at input.new) (K.at output.new)) result
         (λ more. stop_output items (stop_behind (means.item deployment.now.names) number more)) }
-    ensures memory { result ≢ out_of_memory }
+    ensures memory { result ≢ OutOfMemory }
 {
     let mut into = [0; 4096];
     match lines.next(input, &mut into) {
@@ -136,7 +137,7 @@ fn explain_lines<S: Source, K: Sink>(
         (command_at (S.at input.old) (K.at output.old))
         (command_at (S.at input.new) (K.at output.new)) result
         (explain_from (app_as deployment.now.app) (means.item deployment.now.names) []) }
-    ensures wanted { (means : Meanings) → AreMeanings means → result ≡ out_of_memory
+    ensures wanted { (means : Meanings) → AreMeanings means → result ≡ OutOfMemory
         → TraceWants (means.item deployment.now.names) S.tells (S.at input.old) (S.at input.new)
         lines.old lines.new }
 {
@@ -188,7 +189,7 @@ pub(crate) fn explain_trace<S: Source, K: Sink>(
         (command_at (S.at input.old) (K.at output.old))
         (command_at (S.at input.new) (K.at output.new)) result
         (explain_from (app_as deployment.now.app) (means.item deployment.now.names) []) }
-    ensures wanted { (means : Meanings) → AreMeanings means → result ≡ out_of_memory
+    ensures wanted { (means : Meanings) → AreMeanings means → result ≡ OutOfMemory
         → TraceWants (means.item deployment.now.names) S.tells (S.at input.old) (S.at input.new)
         lines.old lines.new }
 {

@@ -3,8 +3,8 @@ use Rattle.std.proofs.Common.{◌≡◌, inl, inr, ℕ, ◌∙◌, Bool, List, [
 use Rattle.sx_asm.specs.Assembled.{assembled}
 use Rattle.sx_io.specs.Streams.{SinkAt}
 use Rattle.command_promise.specs.declared.status.Status.{Status}
-use Rattle.command_promise.specs.declared.status.Status.TheVariants.{Done, Misused}
-use Rattle.command_promise.specs.Told.{CommandEnds, out_of_memory, Output, behind}
+use Rattle.command_promise.specs.declared.status.Status.TheVariants as exit
+use Rattle.command_promise.specs.Told.{CommandEnds, Output, behind}
 use Rattle.command_promise.specs.Parts.{WroteSome}
 use Rattle.command_promise.proofs.Laws.{ends-same, ends-behind, ran-out}
 use Rattle.sx_tag.specs.Mac.{Mac}
@@ -72,7 +72,7 @@ gen_status mac texts n (Ok d) =
 gen_status mac texts n (Err f) = refl
 
 exactly : {mac : Mac} {n : ℕ} {to_tell : Bool} {k0 k1 : SinkAt} {status : Status} (w : GenWith mac n to_tell k0 k1 status) (meaning : Meaning) → IsMeaning meaning
-    → (count.Rose k0.faults k1.faults → ⊥) → (status ≡ out_of_memory) ⊎ (status ≡ found_status (schedule_status assembled) (meaning bulk.head) (workload n))
+    → (count.Rose k0.faults k1.faults → ⊥) → (status ≡ exit.OutOfMemory) ⊎ (status ≡ found_status (schedule_status assembled) (meaning bulk.head) (workload n))
 exactly {mac} {n} {to_tell} {k0} {k1} {status} w meaning is quiet =
     let e = w.ends meaning is in
     elim (ran-out status) [
@@ -82,7 +82,7 @@ exactly {mac} {n} {to_tell} {k0} {k1} {status} w meaning is quiet =
 
 -- the workload is a good input
 ends_good : {mac : Mac} {n : ℕ} {to_tell : Bool} {k0 k1 : SinkAt} {status : Status} → GenWith mac n to_tell k0 k1 status → n ≤ 8000
-    → (count.Rose k0.faults k1.faults → ⊥) → (status ≡ out_of_memory) ⊎ (status ≡ Done)
+    → (count.Rose k0.faults k1.faults → ⊥) → (status ≡ exit.OutOfMemory) ⊎ (status ≡ exit.Done)
 ends_good {n = n} w few quiet =
     elim (exactly w known is_known quiet) [
       | inl six ↦ inl six
@@ -105,12 +105,12 @@ wrote_told {mac} {n} {to_tell} {k0} {k1} {status} few (inr w) = record {
   no_write = λ other. (w.ends known is_known).no_fault other;
 }
 
-with_not_two : {mac : Mac} {n : ℕ} {to_tell : Bool} {k0 k1 : SinkAt} {status : Status} → GenWith mac n to_tell k0 k1 status → status ≡ Misused → ⊥
+with_not_two : {mac : Mac} {n : ℕ} {to_tell : Bool} {k0 k1 : SinkAt} {status : Status} → GenWith mac n to_tell k0 k1 status → status ≡ exit.Misused → ⊥
 with_not_two {mac} {n} w two =
     found_not_two (known bulk.head) (workload n)
     (sym (gen_status mac w.texts n (known bulk.head)) ∙ sym ((w.ends known is_known).whole (λ five. cc (two, five)) (λ six. cc (two, six))).0 ∙ two)
 
-pub gen_not_two : {mac : Mac} {n : ℕ} {to_tell : Bool} {k0 k1 : SinkAt} {status : Status} → GenPromise mac n to_tell k0 k1 status → status ≡ Misused → ⊥
+pub gen_not_two : {mac : Mac} {n : ℕ} {to_tell : Bool} {k0 k1 : SinkAt} {status : Status} → GenPromise mac n to_tell k0 k1 status → status ≡ exit.Misused → ⊥
 gen_not_two g two =
     elim g.says [
       | inl starved ↦ cc (starved.six, two)

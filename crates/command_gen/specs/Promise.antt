@@ -5,9 +5,8 @@ use Rattle.sx_io.specs.Counts as count
 use Rattle.sx_io.specs.Reading.{Answer, Line, End}
 use Rattle.sx_io.specs.Streams.{SinkAt}
 use Rattle.command_promise.specs.declared.status.Status.{Status}
-use Rattle.command_promise.specs.declared.status.Status.TheVariants.{Done}
-use Rattle.command_promise.specs.Told.{Output, CommandEnds, behind, out_of_memory, unread_output}
-use Rattle.command_promise.specs.Told.{write_failed}
+use Rattle.command_promise.specs.declared.status.Status.TheVariants.{Done, WriteFailed, OutOfMemory}
+use Rattle.command_promise.specs.Told.{Output, CommandEnds, behind, unread_output}
 use Rattle.sx_tag.specs.Mac.{Mac}
 use Rattle.sx_entries.specs.declared.fault.DeployFault.{DeployFault}
 use Rattle.sx_trace.specs.Names.{NameLists}
@@ -66,7 +65,7 @@ gen_all mac meaning texts n = gen_found mac texts n (meaning bulk.head)
 
 -- memory ran out before the images were made, and nothing was written
 pub record GenStarved (k0 k1 : SinkAt) (status : Status) : Type 0 where
-  pub six : status ≡ out_of_memory
+  pub six : status ≡ OutOfMemory
   pub same : k1 ≡ k0
 
 -- there are images that realize the modules and follow from the deployment alone, and with them
@@ -91,8 +90,8 @@ pub record GenPromise (mac : Mac) (n : ℕ) (to_tell : Bool) (k0 k1 : SinkAt)
     (status : Status) : Type 0 where
   pub says : GenWrote mac n to_tell k0 k1 status
   pub exact : (meaning : Meaning) → IsMeaning meaning → (count.Rose k0.faults k1.faults → ⊥)
-      → (status ≡ out_of_memory)
+      → (status ≡ OutOfMemory)
       ⊎ (status ≡ found_status (schedule_status assembled) (meaning bulk.head) (workload n))
-  pub good : (count.Rose k0.faults k1.faults → ⊥) → (status ≡ out_of_memory) ⊎ (status ≡ Done)
-  pub write : status ≡ write_failed → k1.faults ≡ count.next_count k0.faults
-  pub no_write : (status ≡ write_failed → ⊥) → k1.faults ≡ k0.faults
+  pub good : (count.Rose k0.faults k1.faults → ⊥) → (status ≡ OutOfMemory) ⊎ (status ≡ Done)
+  pub write : status ≡ WriteFailed → k1.faults ≡ count.next_count k0.faults
+  pub no_write : (status ≡ WriteFailed → ⊥) → k1.faults ≡ k0.faults

@@ -1,8 +1,9 @@
 -- How a command that deploys begins: by the head of its input, and where memory runs out after it.
 use Rattle.std.specs.Prelude.{ℕ, ◌≡◌, Bool, List, Option, Some, None, Ok}
 use Rattle.command_promise.specs.declared.status.Status.{Status}
+use Rattle.command_promise.specs.declared.status.Status.TheVariants.{OutOfMemory}
 use Rattle.command_promise.specs.Reads.{Reads}
-use Rattle.command_promise.specs.Told.{CommandAt, out_of_memory}
+use Rattle.command_promise.specs.Told.{CommandAt}
 use Rattle.command_promise.specs.Head.{Head, Found, Unread, head, head_lines}
 use Rattle.sx_deploy.specs.Deployment.{Deployed, IsRead}
 
@@ -20,7 +21,7 @@ ReadsAs (Some text) d = IsRead text (Ok d)
 
 -- memory ran out after a head and before the images were made, and nothing was written
 pub record Starved (tells : Bool) (m0 m1 : CommandAt) (status : Status) : Type 0 where
-  pub six : status ≡ out_of_memory
+  pub six : status ≡ OutOfMemory
   pub sink : m1.sink ≡ m0.sink
   pub text : List ℕ
   pub reads : Reads tells head_lines m0.source m1.source head Unread

@@ -2,7 +2,7 @@
 use Rattle.std.specs.Prelude.{◌≡◌, List}
 use Rattle.sx_io.specs.Reading.{Answer}
 use Rattle.command_promise.specs.declared.status.Status.{Status}
-use Rattle.command_promise.specs.Told.{out_of_memory}
+use Rattle.command_promise.specs.declared.status.Status.TheVariants.{OutOfMemory}
 use Rattle.command_promise.specs.Head.{Head, Found, head}
 
 -- the input has a head
@@ -12,4 +12,4 @@ IsFound _ = ⊥
 
 -- memory runs out only if there is a head: that there is none is reported without memory
 abbrev pub RunsOutBehindHead : Status → List Answer → Type 0
-RunsOutBehindHead status answers = status ≡ out_of_memory → IsFound (head answers)
+RunsOutBehindHead status answers = status ≡ OutOfMemory → IsFound (head answers)

@@ -2,7 +2,8 @@
 use Rattle.std.specs.Prelude.{◌≡◌, Bool}
 use Rattle.sx_io.specs.Streams.{SinkAt}
 use Rattle.command_promise.specs.declared.status.Status.{Status}
-use Rattle.command_promise.specs.Told.{CommandEnds, out_of_memory, unread_output}
+use Rattle.command_promise.specs.declared.status.Status.TheVariants as exit
+use Rattle.command_promise.specs.Told.{CommandEnds, unread_output}
 use Rattle.sx_entries.specs.declared.fault.Place.TheVariants.{Nowhere}
 use Rattle.sx_entries.specs.Fault.{fault}
 use Rattle.command_promise.specs.declared.head.HeadFault.{HeadFault}
@@ -13,9 +14,9 @@ use Rattle.command_head.specs.Refused.{fault_output}
 -- written.
 abbrev pub EndsHeadless : Bool → SinkAt → SinkAt → Status → HeadFault → Type 0
 EndsHeadless to_tell k0 k1 status TooLong =
-    CommandEnds to_tell k0 k1 status (fault_output (fault 1 Nowhere)) × (status ≡ out_of_memory → ⊥)
+    CommandEnds to_tell k0 k1 status (fault_output (fault 1 Nowhere)) × (status ≡ exit.OutOfMemory → ⊥)
 EndsHeadless to_tell k0 k1 status NoMark =
-    CommandEnds to_tell k0 k1 status (fault_output (fault 2 Nowhere)) × (status ≡ out_of_memory → ⊥)
+    CommandEnds to_tell k0 k1 status (fault_output (fault 2 Nowhere)) × (status ≡ exit.OutOfMemory → ⊥)
 EndsHeadless to_tell k0 k1 status Failed =
-    CommandEnds to_tell k0 k1 status unread_output × (status ≡ out_of_memory → ⊥)
-EndsHeadless to_tell k0 k1 status OutOfMemory = (status ≡ out_of_memory) × (k1 ≡ k0)
+    CommandEnds to_tell k0 k1 status unread_output × (status ≡ exit.OutOfMemory → ⊥)
+EndsHeadless to_tell k0 k1 status OutOfMemory = (status ≡ exit.OutOfMemory) × (k1 ≡ k0)

@@ -6,7 +6,7 @@ use Rattle.sx_io.specs.Reading.{Answer}
 use Rattle.sx_io.specs.Next.{Ahead}
 use Rattle.command_promise.specs.declared.status.Status.{Status}
 use Rattle.command_promise.specs.declared.status.Status.TheVariants as exit
-use Rattle.command_promise.specs.Told.{CommandEnds, Output, Told, command_at, out_of_memory, unread_output, write_failed}
+use Rattle.command_promise.specs.Told.{CommandEnds, Output, Told, command_at, unread_output}
 use Rattle.command_promise.specs.Reads.{Reads, anything}
 use Rattle.command_promise.specs.Got.{Got}
 use Rattle.command_promise.specs.Parts.{Notes}
@@ -48,17 +48,17 @@ use Rattle.command_holds.specs.Ending.{AnswersOf, DeployedEnds, EndsOf, GivesUp,
 
 -- ---- statuses
 
-pub never_zero : (status ended : Status) → ((status ≡ write_failed → ⊥) → status ≡ ended) → (ended ≡ exit.Done → ⊥) → status ≡ exit.Done → ⊥
+pub never_zero : (status ended : Status) → ((status ≡ exit.WriteFailed → ⊥) → status ≡ ended) → (ended ≡ exit.Done → ⊥) → status ≡ exit.Done → ⊥
 never_zero status ended e n zero = n (sym (e (λ five. cc (five, zero))) ∙ zero)
 
 pub ends_zero : {to_tell : Bool} {k0 k1 : SinkAt} {status : Status} {o : Output} → CommandEnds to_tell k0 k1 status o → (o.status ≡ exit.Done → ⊥) → status ≡ exit.Done → ⊥
 ends_zero w n zero = n (sym (w.whole (λ five. cc (five, zero)) (λ six. cc (six, zero))).0 ∙ zero)
 
-pub starved : (to_tell : Bool) (k : SinkAt) (o : Output) → CommandEnds to_tell k k out_of_memory o
+pub starved : (to_tell : Bool) (k : SinkAt) (o : Output) → CommandEnds to_tell k k exit.OutOfMemory o
 starved to_tell k o = ends-out-of-memory to_tell k k o (λ t. prefix-none k.written k.written o.text refl) refl
 
 -- where neither memory ran out nor the status is 0, nothing is left to say
-quiet_says : (means : Meanings) (status : Status) (answers : List Answer) → (status ≡ out_of_memory → ⊥) → (status ≡ exit.Done → ⊥) → SaysOf means status answers
+quiet_says : (means : Meanings) (status : Status) (answers : List Answer) → (status ≡ exit.OutOfMemory → ⊥) → (status ≡ exit.Done → ⊥) → SaysOf means status answers
 quiet_says means status answers six zero = record { memory = λ e. absurd (six e); never = λ e. absurd (zero e) }
 
 -- ---- a property
@@ -95,7 +95,7 @@ pub fault_read : (n : NameLists) (app : AppTree) (text : List ℕ) (r : Result P
 fault_read n app text r x f is fault given =
     subst (λ (v : Result Property PropertyError). GivesOne v (IsProperty n app text)) (is ∙ ap Err fault) given
 
-pub starved_ends : (to_tell : Bool) (k : SinkAt) (d : Deployed) (text : List ℕ) → EndsOf to_tell k k out_of_memory d text
+pub starved_ends : (to_tell : Bool) (k : SinkAt) (d : Deployed) (text : List ℕ) → EndsOf to_tell k k exit.OutOfMemory d text
 starved_ends to_tell k d text = (Unknown [], λ means is. (starved to_tell k _, λ zero. absurd (cc zero)))
 
 -- ---- the property after a deployment
@@ -180,7 +180,7 @@ second_none : {tells to_tell : Bool} {s0 s2 : SourceAt} {k0 k1 : SinkAt} {status
     → holds_second means decision d h ≡ o
     → Reads tells head_lines s0 s2 (λ answers. noted means decision (head answers)) (behind_of means decision d text Unread)
     (λ answers. (noted means decision (head answers) ≡ behind_of means decision d text h) × Notes nothing [] answers)
-    → CommandEnds to_tell k0 k1 status o → (status ≡ out_of_memory → ⊥) → (o.status ≡ exit.Done → ⊥)
+    → CommandEnds to_tell k0 k1 status o → (status ≡ exit.OutOfMemory → ⊥) → (o.status ≡ exit.Done → ⊥)
     → Told tells to_tell head_lines (command_at s0 k0) (command_at s2 k1) status (holds_all means decision) (SaysOf means status)
 second_none means decision d text h o e r w six n =
     told-reads (λ n. n.output) o refl r (λ answers q. (ap (λ n. n.output) q.0 ∙ e, quiet_says means _ answers six (ends_zero w n))) w
@@ -189,7 +189,7 @@ second_none means decision d text h o e r w six n =
 pub read_as : {tells : Bool} {s1 : SourceAt} {old : Ahead} (s2 : SourceAt) (now : Ahead) (x y : HeadFault) → x ≡ y → TextRead tells s1 s2 old now (Err x) → TextRead tells s1 s2 old now (Err y)
 read_as {tells} {s1} {old} s2 now x y e read = subst (λ (v : HeadFault). TextRead tells s1 s2 old now (Err v)) e read
 
-pub not_six : (status : Status) → ((status ≡ write_failed → ⊥) → status ≡ exit.ReadFailed) → status ≡ out_of_memory → ⊥
+pub not_six : (status : Status) → ((status ≡ exit.WriteFailed → ⊥) → status ≡ exit.ReadFailed) → status ≡ exit.OutOfMemory → ⊥
 not_six status four six = cc (six, four (λ five. cc (five, six)))
 
 pub rest_found : {tells to_tell : Bool} {s1 s2 : SourceAt} {k0 k1 : SinkAt} {old now : Ahead} {status : Status} (d : Deployed) (t other : List ℕ) → other ≡ t
@@ -202,7 +202,7 @@ rest_found {to_tell = to_tell} {k0 = k0} {k1 = k1} {status = status} d t other s
 )
 
 pub rest_long : {tells to_tell : Bool} {s1 s2 : SourceAt} {k0 k1 : SinkAt} {old : Ahead} {status : Status} (now : Ahead) (d : Deployed)
-    → TextRead tells s1 s2 old now (Err none.TooLong) → CommandEnds to_tell k0 k1 status no_property_output → (status ≡ out_of_memory → ⊥)
+    → TextRead tells s1 s2 old now (Err none.TooLong) → CommandEnds to_tell k0 k1 status no_property_output → (status ≡ exit.OutOfMemory → ⊥)
     → DeployedEnds tells to_tell s1 s2 old k0 k1 status d
 rest_long now d read w six = (
   Unknown [],
@@ -212,7 +212,7 @@ rest_long now d read w six = (
 )
 
 pub rest_open : {tells to_tell : Bool} {s1 s2 : SourceAt} {k0 k1 : SinkAt} {old : Ahead} {status : Status} (now : Ahead) (d : Deployed)
-    → TextRead tells s1 s2 old now (Err none.NoMark) → CommandEnds to_tell k0 k1 status no_property_output → (status ≡ out_of_memory → ⊥)
+    → TextRead tells s1 s2 old now (Err none.NoMark) → CommandEnds to_tell k0 k1 status no_property_output → (status ≡ exit.OutOfMemory → ⊥)
     → DeployedEnds tells to_tell s1 s2 old k0 k1 status d
 rest_open now d read w six = (
   Unknown [],
@@ -222,7 +222,7 @@ rest_open now d read w six = (
 )
 
 pub rest_failed : {tells to_tell : Bool} {s1 s2 : SourceAt} {k0 k1 : SinkAt} {old : Ahead} {status : Status} (now : Ahead) (d : Deployed)
-    → TextRead tells s1 s2 old now (Err none.Failed) → CommandEnds to_tell k0 k1 status unread_output → (status ≡ out_of_memory → ⊥)
+    → TextRead tells s1 s2 old now (Err none.Failed) → CommandEnds to_tell k0 k1 status unread_output → (status ≡ exit.OutOfMemory → ⊥)
     → DeployedEnds tells to_tell s1 s2 old k0 k1 status d
 rest_failed now d read w six = (
   Unknown [],
@@ -232,7 +232,7 @@ rest_failed now d read w six = (
 )
 
 pub rest_starved : {tells to_tell : Bool} {s1 s2 : SourceAt} {old : Ahead} (now : Ahead) (k : SinkAt) (d : Deployed)
-    → TextRead tells s1 s2 old now (Err none.OutOfMemory) → DeployedEnds tells to_tell s1 s2 old k k out_of_memory d
+    → TextRead tells s1 s2 old now (Err none.OutOfMemory) → DeployedEnds tells to_tell s1 s2 old k k exit.OutOfMemory d
 rest_starved {to_tell = to_tell} now k d read = (
   Unknown [],
   λ means is text e s0 b.
@@ -244,7 +244,7 @@ rest_starved {to_tell = to_tell} now k d read = (
 
 -- the text breaks a rule of deployments
 refused_behind : {tells to_tell : Bool} {s0 s1 : SourceAt} {k0 k1 : SinkAt} {now : Ahead} {status : Status} (means : Meanings) (text : List ℕ) (f : DeployFault)
-    → means.deployment text ≡ Err f → CommandEnds to_tell k0 k1 status (fault_output f) → (status ≡ out_of_memory → ⊥)
+    → means.deployment text ≡ Err f → CommandEnds to_tell k0 k1 status (fault_output f) → (status ≡ exit.OutOfMemory → ⊥)
     → Got tells head_lines head_lines s0 s1 now head (λ more. Found text more) Unread anything
     → Told tells to_tell head_lines (command_at s0 k0) (command_at s1 k1) status (holds_all means (Unknown [])) (SaysOf means status)
 refused_behind means text f e w six b =
@@ -254,9 +254,9 @@ refused_behind means text f e w six b =
 -- there was no memory after the head
 starved_behind : {tells : Bool} {s0 s1 : SourceAt} {now : Ahead} (to_tell : Bool) (k : SinkAt) (means : Meanings) (text : List ℕ)
     → Got tells head_lines head_lines s0 s1 now head (λ more. Found text more) Unread anything
-    → Told tells to_tell head_lines (command_at s0 k) (command_at s1 k) out_of_memory (holds_all means (Unknown [])) (SaysOf means out_of_memory)
+    → Told tells to_tell head_lines (command_at s0 k) (command_at s1 k) exit.OutOfMemory (holds_all means (Unknown [])) (SaysOf means exit.OutOfMemory)
 starved_behind to_tell k means text b =
-    told-stop (begun-got (holds_head means (Unknown [])) refl (got-also (SaysOf means out_of_memory) (λ answers more q. record {
+    told-stop (begun-got (holds_head means (Unknown [])) refl (got-also (SaysOf means exit.OutOfMemory) (λ answers more q. record {
       memory = λ six. let P : Head → Type 0 = IsFound in subst P (sym q) tt;
       never = λ zero. absurd (cc zero);
     }) b)) (λ more. starved to_tell k _)
@@ -292,7 +292,7 @@ head_found {tells} {s0 = s0} {s1 = s1} {now = now} text other same b (decision, 
 )
 
 none_told : {tells to_tell : Bool} {s0 s1 : SourceAt} {k0 k1 : SinkAt} {status : Status} (means : Meanings) (h : Head) (o : Output) → holds_head means (Unknown []) h ≡ o
-    → Reads tells head_lines s0 s1 head Unread (λ answers. head answers ≡ h) → CommandEnds to_tell k0 k1 status o → (status ≡ out_of_memory → ⊥) → (o.status ≡ exit.Done → ⊥)
+    → Reads tells head_lines s0 s1 head Unread (λ answers. head answers ≡ h) → CommandEnds to_tell k0 k1 status o → (status ≡ exit.OutOfMemory → ⊥) → (o.status ≡ exit.Done → ⊥)
     → Told tells to_tell head_lines (command_at s0 k0) (command_at s1 k1) status (holds_all means (Unknown [])) (SaysOf means status)
 none_told means h o e r w six n =
     told-reads (holds_head means (Unknown [])) o refl r (λ answers q. (ap (holds_head means (Unknown [])) q ∙ e, quiet_says means _ answers six (ends_zero w n))) w

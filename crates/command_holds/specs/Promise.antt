@@ -2,8 +2,8 @@
 use Rattle.std.specs.Prelude.{◌≡◌, Bool, List, Result, Ok, Err, IsTrue}
 use Rattle.sx_io.specs.Reading.{Answer}
 use Rattle.command_promise.specs.declared.status.Status.{Status}
-use Rattle.command_promise.specs.declared.status.Status.TheVariants.{Done}
-use Rattle.command_promise.specs.Told.{CommandAt, Told, out_of_memory}
+use Rattle.command_promise.specs.declared.status.Status.TheVariants.{Done, OutOfMemory}
+use Rattle.command_promise.specs.Told.{CommandAt, Told}
 use Rattle.sx_entries.specs.declared.fault.DeployFault.{DeployFault}
 use Rattle.command_promise.specs.Head.{Head, Found, head, head_lines}
 use Rattle.sx_deploy.specs.Deployment.{Deployed}
@@ -37,7 +37,7 @@ NeverBehind means _ = ⊥
 
 -- Memory runs out only if there is a head. Status 0 says that the property is never broken.
 pub record SaysOf (means : Meanings) (status : Status) (answers : List Answer) : Type 0 where
-  pub memory : status ≡ out_of_memory → IsFound (head answers)
+  pub memory : status ≡ OutOfMemory → IsFound (head answers)
   pub never : status ≡ Done → NeverBehind means (head answers)
 
 -- The command `holds`, whatever texts are said to mean. What was written is what is defined for the

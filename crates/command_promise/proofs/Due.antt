@@ -4,7 +4,8 @@ use Rattle.std.specs.Prelude.{◌==◌, if◌then◌else◌}
 use Rattle.std.proofs.lemmas.List.{append-nil, append_cancel_right}
 use Rattle.sx_io.specs.Reading.{Ending, Broken, Answer, Line, Long, Fault, Limit, always, behind_line, scan, newline, without_return}
 use Rattle.command_promise.specs.declared.status.Status.{Status}
-use Rattle.command_promise.specs.Told.{Output, CommandAt, Told, behind, unread_output, read_line, read_failed}
+use Rattle.command_promise.specs.declared.status.Status.TheVariants.{ReadFailed}
+use Rattle.command_promise.specs.Told.{Output, CommandAt, Told, behind, unread_output, read_line}
 use Rattle.command_promise.specs.Further.{HasEnd, Streams}
 use Rattle.command_promise.proofs.Further.{no-further}
 
@@ -60,13 +61,13 @@ whole limit begun (b ∷ c ∷ rest) h =
 
 -- where a read failed, its line is the last
 abbrev pub EndsUnread : Output → Type 0
-EndsUnread o = o.status ≡ read_failed → (w : List ℕ) × (o.text ≡ w ++ read_line)
+EndsUnread o = o.status ≡ ReadFailed → (w : List ℕ) × (o.text ≡ w ++ read_line)
 
 -- it is settled, and not by a read; or this text is due, and what follows is g of what is to come
 abbrev pub Due : (List Answer → Output) → Type 0
-Due G = ((o : Output) × (o.status ≡ read_failed → ⊥) × ((more : List Answer) → G more ≡ o))
+Due G = ((o : Output) × (o.status ≡ ReadFailed → ⊥) × ((more : List Answer) → G more ≡ o))
     ⊎ ((t : List ℕ) × (g : List Answer → Output) × ((more : List Answer) → G more ≡ behind t (g more)) × (g (Fault ∷ []) ≡ unread_output)
-    × ((g (Long ∷ [])).status ≡ read_failed → ⊥) × ((more : List Answer) → EndsUnread (g more)))
+    × ((g (Long ∷ [])).status ≡ ReadFailed → ⊥) × ((more : List Answer) → EndsUnread (g more)))
 
 pub due-behind : (G H : List Answer → Output) (x : List ℕ) → ((more : List Answer) → G more ≡ behind x (H more)) → Due H → Due G
 due-behind G H x e (inl (o, n, c)) = inl (behind x o, n, λ more. e more ∙ ap (behind x) (c more))
@@ -78,7 +79,7 @@ behind-ends x o f e = let r = f e in (x ++ r.0, ap (λ (v : List ℕ). x ++ v) r
 
 -- ---- more of the input
 
-status-of : (o : Output) (said : List ℕ) → o ≡ behind said unread_output → o.status ≡ read_failed
+status-of : (o : Output) (said : List ℕ) → o ≡ behind said unread_output → o.status ≡ ReadFailed
 status-of o said e = ap (λ (p : Output). p.status) e
 
 text-of : (o : Output) (said : List ℕ) → o ≡ behind said unread_output → o.text ≡ said ++ read_line

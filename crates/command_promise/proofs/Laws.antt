@@ -8,11 +8,13 @@ use Rattle.sx_io.specs.Streams.{SourceAt, SinkAt, OneReadFault}
 use Rattle.sx_io.specs.Reading.{Ended, Broken, Answer, Line, End, Long, Fault, Limit, behind_line, scan}
 use Rattle.sx_io.specs.Next.{Ahead, Next}
 use Rattle.sx_io.specs.declared.lines.LineRead.TheVariants as read
-use Rattle.command_promise.specs.declared.status.Status.{Status}
-use Rattle.command_promise.specs.declared.status.Status.TheVariants as status
+use Rattle.command_promise.specs.declared.exit.Status.{Status}
+use Rattle.command_promise.specs.declared.exit.Status.TheVariants as exit
+use Rattle.command_promise.specs.declared.exit.Status.{Status}
+use Rattle.command_promise.specs.declared.exit.Status.TheVariants.{WriteFailed, OutOfMemory}
 use Rattle.command_promise.specs.Reads.{Left, AtEnd, AtFault, Enough, Decides, Reads}
 use Rattle.command_promise.specs.Got.{Got}
-use Rattle.command_promise.specs.Told.{Output, behind, CommandAt, command_at, CommandEnds, Told, unread_output, write_failed, out_of_memory}
+use Rattle.command_promise.specs.Told.{Output, behind, CommandAt, command_at, CommandEnds, Told, unread_output}
 use Rattle.command_promise.specs.Parts.{Begun, WroteSome, DoesPart}
 use Rattle.command_promise.specs.declared.turned.Turned.{Turned}
 use Rattle.command_promise.specs.declared.turned.Turned.TheVariants.{On, Stop}
@@ -55,12 +57,12 @@ ends-behind to_tell k0 k1 k2 x status o p h w = record {
 
 -- a write failed
 pub ends-write-failed : (to_tell : Bool) (k0 k1 : SinkAt) (o : Output) → (IsTrue to_tell → AppendsPrefix k0.written k1.written o.text)
-    → k1.faults ≡ next_count k0.faults → CommandEnds to_tell k0 k1 write_failed o
+    → k1.faults ≡ next_count k0.faults → CommandEnds to_tell k0 k1 WriteFailed o
 ends-write-failed to_tell k0 k1 o f r = record { whole = λ five six. absurd (five refl); prefix = f; no_fault = λ five. absurd (five refl); fault = λ _. r }
 
 -- memory ran out
 pub ends-out-of-memory : (to_tell : Bool) (k0 k1 : SinkAt) (o : Output) → (IsTrue to_tell → AppendsPrefix k0.written k1.written o.text)
-    → k1.faults ≡ k0.faults → CommandEnds to_tell k0 k1 out_of_memory o
+    → k1.faults ≡ k0.faults → CommandEnds to_tell k0 k1 OutOfMemory o
 ends-out-of-memory to_tell k0 k1 o f h = record { whole = λ five six. absurd (six refl); prefix = f; no_fault = λ _. h; fault = λ e. absurd (cc e) }
 
 -- ---- a part of a command
@@ -230,12 +232,12 @@ told-reads {A} {tells} {to_tell} {limit} {s0} {s1} {k0} {k1} {F} {due} {P} {also
 -- where nothing was written and nothing is said of the answers
 pub told-nothing : {A : Type 0} {tells to_tell : Bool} {limit : Limit} {s0 s1 : SourceAt} {k : SinkAt} {F : List Answer → A} {due : A} {P also : List Answer → Type 0} (g : A → Output)
     → g due ≡ unread_output → Reads tells limit s0 s1 F due P → ((answers : List Answer) → P answers → also answers)
-    → Told tells to_tell limit (command_at s0 k) (command_at s1 k) out_of_memory (λ answers. g (F answers)) also
+    → Told tells to_tell limit (command_at s0 k) (command_at s1 k) OutOfMemory (λ answers. g (F answers)) also
 told-nothing {A} {tells} {to_tell} {limit} {s0} {s1} {k} {F} {due} {P} {also} g u r h = record {
   said = [];
   part = [];
   wrote = λ t. sym (append-nil k.written);
-  reads = reads-due u (reads-map (λ answers. CommandEnds to_tell k k out_of_memory (g (F answers)) × also answers) g
+  reads = reads-due u (reads-map (λ answers. CommandEnds to_tell k k OutOfMemory (g (F answers)) × also answers) g
       (λ answers q. (ends-out-of-memory to_tell k k (g (F answers)) (λ t. prefix-none k.written k.written (g (F answers)).text refl) refl, h answers q)) r);
 }
 
@@ -267,26 +269,26 @@ read-fault AtFault tells limit s0 s1 taken P d never = d.0
 read-fault Enough tells limit s0 s1 taken P d never = absurd (never (taken ++ []) (d.2 Ended []))
 
 -- memory ran out, or it didn't
-pub ran-out : (s : Status) → (s ≡ out_of_memory) ⊎ (s ≡ out_of_memory → ⊥)
-ran-out status.OutOfMemory = inl refl
-ran-out status.Done = inr (λ e. cc e)
-ran-out status.Refused = inr (λ e. cc e)
-ran-out status.Misused = inr (λ e. cc e)
-ran-out status.Broken = inr (λ e. cc e)
-ran-out status.ReadFailed = inr (λ e. cc e)
-ran-out status.WriteFailed = inr (λ e. cc e)
-ran-out status.NoProperty = inr (λ e. cc e)
-ran-out status.Illegal = inr (λ e. cc e)
-ran-out status.TooLong = inr (λ e. cc e)
-ran-out status.NoCode = inr (λ e. cc e)
-ran-out status.NoQuery = inr (λ e. cc e)
-ran-out status.PropertyBroken = inr (λ e. cc e)
-ran-out status.Unknown = inr (λ e. cc e)
+pub ran-out : (s : Status) → (s ≡ OutOfMemory) ⊎ (s ≡ OutOfMemory → ⊥)
+ran-out exit.OutOfMemory = inl refl
+ran-out exit.Done = inr (λ e. cc e)
+ran-out exit.Refused = inr (λ e. cc e)
+ran-out exit.Misused = inr (λ e. cc e)
+ran-out exit.Broken = inr (λ e. cc e)
+ran-out exit.ReadFailed = inr (λ e. cc e)
+ran-out exit.WriteFailed = inr (λ e. cc e)
+ran-out exit.NoProperty = inr (λ e. cc e)
+ran-out exit.Illegal = inr (λ e. cc e)
+ran-out exit.TooLong = inr (λ e. cc e)
+ran-out exit.NoCode = inr (λ e. cc e)
+ran-out exit.NoQuery = inr (λ e. cc e)
+ran-out exit.PropertyBroken = inr (λ e. cc e)
+ran-out exit.Unknown = inr (λ e. cc e)
 
 -- where no read and no write failed, all that is defined for the whole input was written, or memory ran out
 pub told-quiet : {tells to_tell : Bool} {limit : Limit} {m0 m1 : CommandAt} {status : Status} {F : List Answer → Output} {also : List Answer → Type 0}
     → Told tells to_tell limit m0 m1 status F also → IsTrue tells → (Rose m0.source.faults m1.source.faults → ⊥) → (Rose m0.sink.faults m1.sink.faults → ⊥)
-    → (status ≡ out_of_memory) ⊎ ((status ≡ (F (scan limit Ended [] m0.source.rest)).status)
+    → (status ≡ OutOfMemory) ⊎ ((status ≡ (F (scan limit Ended [] m0.source.rest)).status)
     × (IsTrue to_tell → m1.sink.written ≡ m0.sink.written ++ (F (scan limit Ended [] m0.source.rest)).text))
 told-quiet {tells} {to_tell} {limit} {m0} {m1} {status} {F} {also} told t quiet still =
     let r = told.reads in
@@ -298,7 +300,7 @@ told-quiet {tells} {to_tell} {limit} {m0} {m1} {status} {F} {also} told t quiet 
 
 -- a status that no failed read gives comes only where the input was read to its end
 pub told-all : {tells to_tell : Bool} {limit : Limit} {m0 m1 : CommandAt} {status : Status} {F : List Answer → Output} {also : List Answer → Type 0}
-    → Told tells to_tell limit m0 m1 status F also → (status ≡ write_failed → ⊥) → (status ≡ out_of_memory → ⊥)
+    → Told tells to_tell limit m0 m1 status F also → (status ≡ WriteFailed → ⊥) → (status ≡ OutOfMemory → ⊥)
     → ((bytes : List ℕ) → status ≡ (F (scan limit Broken [] bytes)).status → ⊥) → IsTrue tells → m1.source.rest ≡ []
 told-all {tells} {to_tell} {limit} {m0} {m1} {status} {F} {also} told five six never t =
     read-all told.reads.left tells limit m0.source m1.source told.reads.taken (λ answers. CommandEnds to_tell m0.sink m1.sink status (F answers) × also answers) told.reads.decides
@@ -306,7 +308,7 @@ told-all {tells} {to_tell} {limit} {m0} {m1} {status} {F} {also} told five six n
 
 -- a status that no end of the input gives comes only where a read failed
 pub told-fault : {tells to_tell : Bool} {limit : Limit} {m0 m1 : CommandAt} {status : Status} {F : List Answer → Output} {also : List Answer → Type 0}
-    → Told tells to_tell limit m0 m1 status F also → (status ≡ write_failed → ⊥) → (status ≡ out_of_memory → ⊥)
+    → Told tells to_tell limit m0 m1 status F also → (status ≡ WriteFailed → ⊥) → (status ≡ OutOfMemory → ⊥)
     → ((bytes : List ℕ) → status ≡ (F (scan limit Ended [] bytes)).status → ⊥) → OneReadFault m0.source m1.source
 told-fault {tells} {to_tell} {limit} {m0} {m1} {status} {F} {also} told five six never =
     read-fault told.reads.left tells limit m0.source m1.source told.reads.taken (λ answers. CommandEnds to_tell m0.sink m1.sink status (F answers) × also answers) told.reads.decides
@@ -326,9 +328,9 @@ told-some {tells} {to_tell} {limit} {m0} {m1} {status} {F} {also} told =
 
 -- one write failed exactly where the status says so
 pub told-write-fault : {tells to_tell : Bool} {limit : Limit} {m0 m1 : CommandAt} {status : Status} {F : List Answer → Output} {also : List Answer → Type 0}
-    → Told tells to_tell limit m0 m1 status F also → status ≡ write_failed → m1.sink.faults ≡ next_count m0.sink.faults
+    → Told tells to_tell limit m0 m1 status F also → status ≡ WriteFailed → m1.sink.faults ≡ next_count m0.sink.faults
 told-write-fault told five = (told-some told).1.0.fault five
 
 pub told-no-write-fault : {tells to_tell : Bool} {limit : Limit} {m0 m1 : CommandAt} {status : Status} {F : List Answer → Output} {also : List Answer → Type 0}
-    → Told tells to_tell limit m0 m1 status F also → (status ≡ write_failed → ⊥) → m1.sink.faults ≡ m0.sink.faults
+    → Told tells to_tell limit m0 m1 status F also → (status ≡ WriteFailed → ⊥) → m1.sink.faults ≡ m0.sink.faults
 told-no-write-fault told five = (told-some told).1.0.no_fault five

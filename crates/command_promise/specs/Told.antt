@@ -7,8 +7,7 @@ use Rattle.sx_io.specs.Prefixes.{AppendsPrefix}
 use Rattle.sx_io.specs.Streams.{SourceAt, SinkAt}
 use Rattle.sx_io.specs.Reading.{Answer, Limit}
 use Rattle.command_promise.specs.declared.status.Status.{Status}
-use Rattle.command_promise.specs.declared.status.Status.TheVariants.{ReadFailed, WriteFailed}
-use Rattle.command_promise.specs.declared.status.Status.TheVariants.{OutOfMemory}
+use Rattle.command_promise.specs.declared.status.Status.TheVariants.{ReadFailed, WriteFailed, OutOfMemory}
 use Rattle.command_promise.specs.Reads.{Reads}
 
 -- what is written, and the exit status
@@ -29,36 +28,24 @@ pub record CommandAt : Type 0 where
 abbrev pub command_at : SourceAt → SinkAt → CommandAt
 command_at source sink = record { source = source; sink = sink }
 
--- the exit status if a read failed
-abbrev pub read_failed : Status
-read_failed = ReadFailed
-
--- the exit status if a write failed
-abbrev pub write_failed : Status
-write_failed = WriteFailed
-
--- the exit status if memory ran out
-abbrev pub out_of_memory : Status
-out_of_memory = OutOfMemory
-
 -- the line that says that a read failed
 unfoldable pub read_line : List ℕ
 read_line = codes "fault read" ++ 10 ∷ []
 
 -- what is defined if a read failed and nothing else is due
 abbrev pub unread_output : Output
-unread_output = record { text = read_line; status = read_failed }
+unread_output = record { text = read_line; status = ReadFailed }
 
 -- All that is defined was written, and the status is the defined one; but if a write failed or
 -- memory ran out, only a prefix of it was. One write failed if the status says so, and else none
 -- did.
 pub record CommandEnds (to_tell : Bool) (k0 k1 : SinkAt) (status : Status)
     (o : Output) : Type 0 where
-  pub whole : (status ≡ write_failed → ⊥) → (status ≡ out_of_memory → ⊥) → (status ≡ o.status)
+  pub whole : (status ≡ WriteFailed → ⊥) → (status ≡ OutOfMemory → ⊥) → (status ≡ o.status)
       × (IsTrue to_tell → k1.written ≡ k0.written ++ o.text)
   pub prefix : IsTrue to_tell → AppendsPrefix k0.written k1.written o.text
-  pub no_fault : (status ≡ write_failed → ⊥) → k1.faults ≡ k0.faults
-  pub fault : status ≡ write_failed → k1.faults ≡ next_count k0.faults
+  pub no_fault : (status ≡ WriteFailed → ⊥) → k1.faults ≡ k0.faults
+  pub fault : status ≡ WriteFailed → k1.faults ≡ next_count k0.faults
 
 -- What a command says: the bytes that it took decide what was written, and the status; and it took
 -- at most 4,096 bytes past the end of the line whose text it was writing. `said` is what was due

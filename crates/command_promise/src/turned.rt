@@ -2,9 +2,9 @@
 
 ghost use Rattle.std.specs.Prelude.{◌≡◌, ◌≢◌, List};
 ghost use Rattle.sx_io.specs.Reading.{Answer};
+ghost use Rattle.command_promise.specs.declared.status.Status.TheVariants.{WriteFailed, OutOfMemory};
 ghost use Rattle.command_promise.specs.Told.{Output, CommandEnds, behind};
 ghost use Rattle.command_promise.specs.Parts.{DoesPart};
-ghost use Rattle.command_promise.specs.Told.{out_of_memory, write_failed};
 
 use crate::status::Status;
 use sx_io::{Sink, put_all};
@@ -20,10 +20,10 @@ pub enum Turned {
 
 /// Writes a command's last text, and ends it with this status, or with `WriteFailed`.
 pub fn finish<K: Sink>(output: &mut K, text: &[u8], status: Status) -> Status
-    requires { status ≡ write_failed → ⊥ }
+    requires { status ≡ WriteFailed → ⊥ }
     ensures ends { CommandEnds K.tells (K.at output.old) (K.at output.new) result
         (record { text = text.now; status = status }) }
-    ensures status { (result ≡ write_failed → ⊥) → result ≡ status }
+    ensures status { (result ≡ WriteFailed → ⊥) → result ≡ status }
 {
     match put_all(output, text) {
         Ok(()) => status,
@@ -36,7 +36,7 @@ pub fn put_text<K: Sink>(output: &mut K, text: &[u8]) -> Turned
     ensures does { (left : List Answer → Output)
         → DoesPart K.tells (K.at output.old) (K.at output.new)
         (λ more. behind text.now (left more)) result left }
-    ensures memory { result ≢ Turned.Stop out_of_memory }
+    ensures memory { result ≢ Turned.Stop OutOfMemory }
 {
     match put_all(output, text) {
         Ok(()) => Turned::On,

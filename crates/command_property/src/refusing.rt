@@ -1,7 +1,8 @@
 //! What is written of a property that breaks a rule. None of it takes memory.
 
 ghost use Rattle.std.specs.Prelude.{◌≡◌, ◌+◌, ◌≤◌, ◌++◌, length};
-ghost use Rattle.command_promise.specs.Told.{CommandEnds, out_of_memory};
+ghost use Rattle.command_promise.specs.declared.status.Status.TheVariants.{OutOfMemory};
+ghost use Rattle.command_promise.specs.Told.{CommandEnds};
 ghost use Rattle.sx_deploy.specs.Checks.{number};
 ghost use Rattle.command_property.specs.Refused.{fault_words, no_property_output, place_words};
 ghost use Rattle.command_property.specs.Refused.{property_line, refused_output};
@@ -87,7 +88,7 @@ fn fault_line(fault: PropertyFault) -> Text
 pub fn refuse_property<K: Sink>(fault: PropertyFault, output: &mut K) -> Status
     ensures ends { CommandEnds K.tells (K.at output.old) (K.at output.new) result
         (refused_output (fault_words fault)) }
-    ensures memory { result ≡ out_of_memory → ⊥ }
+    ensures memory { result ≡ OutOfMemory → ⊥ }
 {
     finish(output, fault_line(fault).as_slice(), Status::NoProperty)
 }
@@ -96,7 +97,7 @@ pub fn refuse_property<K: Sink>(fault: PropertyFault, output: &mut K) -> Status
 pub fn refuse_no_property<K: Sink>(output: &mut K) -> Status
     ensures ends { CommandEnds K.tells (K.at output.old) (K.at output.new) result
         no_property_output }
-    ensures memory { result ≡ out_of_memory → ⊥ }
+    ensures memory { result ≡ OutOfMemory → ⊥ }
 {
     finish(output, b"fault property P1 -\n", Status::NoProperty)
 }

@@ -4,7 +4,8 @@ use Rattle.std.specs.Prelude.{IfErr, IfOk}
 use Rattle.sx_io.specs.Streams.{SourceAt, SinkAt}
 use Rattle.sx_io.specs.Next.{Ahead}
 use Rattle.command_promise.specs.declared.status.Status.{Status}
-use Rattle.command_promise.specs.Told.{CommandEnds, command_at, out_of_memory, Output, Told, unread_output}
+use Rattle.command_promise.specs.declared.status.Status.TheVariants as exit
+use Rattle.command_promise.specs.Told.{CommandEnds, command_at, Output, Told, unread_output}
 use Rattle.command_promise.proofs.Laws.{ends-same, ends-out-of-memory, prefix-none, told-stop, begun-got, told-reads}
 use Rattle.sx_entries.specs.Fault.{fault}
 use Rattle.sx_entries.specs.Gives.{GivesOne}
@@ -54,15 +55,15 @@ report_found {tells} {to_tell} {s0} {s1} {k0} {k1} {now} {status} report meaning
 
 -- there is none
 report_none : {tells to_tell : Bool} {s0 s1 : SourceAt} {k0 k1 : SinkAt} {status : Status} (report : Report) (meaning : Meaning) (h : Head) (o : Output) → report_head report meaning h ≡ o
-    → Reads tells head_lines s0 s1 head Unread (λ answers. head answers ≡ h) → CommandEnds to_tell k0 k1 status o → (status ≡ out_of_memory → ⊥)
+    → Reads tells head_lines s0 s1 head Unread (λ answers. head answers ≡ h) → CommandEnds to_tell k0 k1 status o → (status ≡ exit.OutOfMemory → ⊥)
     → Told tells to_tell head_lines (command_at s0 k0) (command_at s1 k1) status (report_all report meaning) (RunsOutBehindHead status)
 report_none report meaning h o e r w never = told-reads (report_head report meaning) o refl r (λ answers q. (ap (report_head report meaning) q ∙ e, λ six. absurd (never six))) w
 
 -- memory ran out, and nothing was written
 report_starved : {tells to_tell : Bool} {s0 s1 : SourceAt} {k : SinkAt} {now : Ahead} (report : Report) (meaning : Meaning) → HeadRead tells s0 s1 now (Err none.OutOfMemory)
-    → Told tells to_tell head_lines (command_at s0 k) (command_at s1 k) out_of_memory (report_all report meaning) (RunsOutBehindHead out_of_memory)
+    → Told tells to_tell head_lines (command_at s0 k) (command_at s1 k) exit.OutOfMemory (report_all report meaning) (RunsOutBehindHead exit.OutOfMemory)
 report_starved {tells} {to_tell} {s0} {s1} {k} report meaning (text, b) =
-    told-stop (begun-got (report_head report meaning) refl (got-also (RunsOutBehindHead out_of_memory) (found_is out_of_memory text) b))
+    told-stop (begun-got (report_head report meaning) refl (got-also (RunsOutBehindHead exit.OutOfMemory) (found_is exit.OutOfMemory text) b))
     (λ more. ends-out-of-memory to_tell k k (report_output report (meaning text)) (λ t. prefix-none k.written k.written _ refl) refl)
 
 -- there is none, or no memory for one

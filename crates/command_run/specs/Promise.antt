@@ -3,7 +3,8 @@
 use Rattle.std.specs.Prelude.{ℕ, ◌+◌, ◌≡◌, Bool, List, length, Option, Ok, All}
 use Rattle.sx_io.specs.Reading.{Answer}
 use Rattle.command_promise.specs.declared.status.Status.{Status}
-use Rattle.command_promise.specs.Told.{CommandAt, out_of_memory}
+use Rattle.command_promise.specs.declared.status.Status.TheVariants.{OutOfMemory}
+use Rattle.command_promise.specs.Told.{CommandAt}
 use Rattle.sx_tag.specs.Mac.{Mac}
 use Rattle.sx_trace.specs.declared.items.Item.{Item}
 use Rattle.sx_model.specs.Legal.{Legal, before}
@@ -69,7 +70,7 @@ abbrev pub run_part : Assembler → Mac → OwnPart
 run_part assemble mac = record {
   output = run_deployed assemble mac;
   status = schedule_status assemble;
-  Cut = λ status. status ≡ out_of_memory;
+  Cut = λ status. status ≡ OutOfMemory;
   MayWant = run_may assemble;
   With = RunsWith assemble mac;
 }

@@ -1,7 +1,8 @@
 -- What the command `lines` promises, of its streams at its start (m0) and at its end (m1).
 use Rattle.std.specs.Prelude.{ℕ, ◌≡◌, Bool, List, Ok}
 use Rattle.command_promise.specs.declared.status.Status.{Status}
-use Rattle.command_promise.specs.Told.{CommandAt, out_of_memory}
+use Rattle.command_promise.specs.declared.status.Status.TheVariants.{OutOfMemory}
+use Rattle.command_promise.specs.Told.{CommandAt}
 use Rattle.sx_tag.specs.Mac.{Mac}
 use Rattle.sx_trace.specs.declared.items.Item.{Item}
 use Rattle.sx_model.specs.Legal.{Legal}
@@ -26,7 +27,7 @@ abbrev pub lines_part : Assembler → Mac → OwnPart
 lines_part assemble mac = record {
   output = lines_deployed assemble mac;
   status = schedule_status assemble;
-  Cut = λ status. status ≡ out_of_memory;
+  Cut = λ status. status ≡ OutOfMemory;
   MayWant = run_may assemble;
   With = RunsWith assemble mac;
 }

@@ -6,7 +6,8 @@ use Rattle.sx_asm.specs.Assembled.{assembled}
 use Rattle.sx_io.specs.Streams.{SinkAt}
 use Rattle.sx_io.specs.Reading.{Answer}
 use Rattle.sx_io.specs.Reading as answer
-use Rattle.command_promise.specs.Told.{Output, behind, out_of_memory}
+use Rattle.command_promise.specs.declared.status.Status.TheVariants.{OutOfMemory}
+use Rattle.command_promise.specs.Told.{Output, behind}
 use Rattle.command_promise.specs.declared.turned.Turned.{Turned}
 use Rattle.command_promise.specs.declared.turned.Turned.TheVariants.{On, Stop}
 use Rattle.sx_trace.specs.declared.items.Item.{Item}
@@ -49,7 +50,7 @@ shown_from shown names set w number answers =
 abbrev pub TellsMade : Shown → Bool → SinkAt → SinkAt → List ℕ → NameLists → Held → Held → List ℕ
     → List Item → Turned → Type 0
 TellsMade shown to_tell k0 k1 kept names held left text made turned =
-    turned ≡ Stop out_of_memory → left ≢ held
+    turned ≡ Stop OutOfMemory → left ≢ held
     → (held.ran_out ≡ false → length made ≡ left.made)
     × (IsTrue to_tell → k1.written
     ≡ k0.written ++ (kept ++ shown_text shown names (record { text = text; items = made })))

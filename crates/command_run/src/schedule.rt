@@ -4,7 +4,8 @@
 ghost use Rattle.std.specs.Prelude.{◌≡◌, ◌≢◌, ◌+◌, ◌≤◌, IsTrue};
 ghost use Rattle.sx_asm.specs.Assembled.{assembled};
 ghost use Rattle.sx_trace.specs.ValidNames.{are_valid};
-ghost use Rattle.command_promise.specs.Told.{CommandEnds, behind, command_at, out_of_memory};
+ghost use Rattle.command_promise.specs.declared.status.Status.TheVariants.{OutOfMemory};
+ghost use Rattle.command_promise.specs.Told.{CommandEnds, behind, command_at};
 ghost use Rattle.command_promise.specs.Parts.{Rest};
 ghost use Rattle.command_promise.specs.Head.{head_lines};
 ghost use Rattle.sx_deploy.specs.SeenDeployment.{deployed_as};
@@ -61,7 +62,7 @@ fn next_line<S: Source, K: Sink>(
 fn break_kept<K: Sink>(output: &mut K, kept: &Batch, rule: u8, number: u32) -> Status
     ensures ends { CommandEnds K.tells (K.at output.old) (K.at output.new) result
         (behind kept.now.items (broken_output rule number)) }
-    ensures memory { result ≢ out_of_memory }
+    ensures memory { result ≢ OutOfMemory }
 {
     match put_kept(output, kept) {
         Ok(()) => break_off(output, rule, number),
@@ -91,7 +92,7 @@ fn turn<K: Sink, B: Copied, T: Tag>(
     ensures turns { TurnsFrom shown K.tells (K.at output.old) (K.at output.new) kept.old.items
         kept.new.items (deployed_as deployment.now).names (world_setting T.mac deployment.now world.old) world.old
         world.new number said.now result }
-    ensures memory { result ≡ Turned.Stop out_of_memory
+    ensures memory { result ≡ Turned.Stop OutOfMemory
         → MayRunOut (judged_line assembled (deployed_as deployment.now).names number said.now) }
     ensures made { TellsMade shown K.tells (K.at output.old) (K.at output.new) kept.old.items
         (deployed_as deployment.now).names world.old world.new said.now items.new.items result }
@@ -134,7 +135,7 @@ pub(crate) fn run_lines<S: Source, K: Sink, B: Copied, T: Tag>(
         (shown_from shown (deployed_as deployment.now).names
         (world_setting T.mac deployment.now world.old)
         (switched_on (world_setting T.mac deployment.now world.old)) 1) }
-    ensures wanted { result ≡ out_of_memory → RanOutSince head_lines head_lines
+    ensures wanted { result ≡ OutOfMemory → RanOutSince head_lines head_lines
         (run_may assembled (deployed_as deployment.now)) S.tells (S.at input.old) (S.at input.new)
         lines.old lines.new }
 {

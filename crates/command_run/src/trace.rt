@@ -2,7 +2,8 @@
 
 ghost use Rattle.std.specs.Prelude.{◌≡◌, ◌≢◌, [], ◌++◌, IsTrue, List};
 ghost use Rattle.sx_io.specs.Reading.{Answer};
-ghost use Rattle.command_promise.specs.Told.{CommandEnds, Output, behind, out_of_memory};
+ghost use Rattle.command_promise.specs.declared.status.Status.TheVariants.{OutOfMemory};
+ghost use Rattle.command_promise.specs.Told.{CommandEnds, Output, behind};
 ghost use Rattle.command_promise.specs.Parts.{DoesPart};
 ghost use Rattle.command_text.specs.Batch.{Writes};
 ghost use Rattle.command_text.specs.Keeping.{DoesKept};
@@ -90,7 +91,7 @@ pub(crate) fn keep_line<K: Sink>(
     ensures does { (left : List Answer → Output) → DoesKept K.tells (K.at output.old)
         (K.at output.new) kept.old.items kept.new.items (λ more. behind (shown_text shown names.now
         (record { text = said.now; items = items.now })) (left more)) result left }
-    ensures memory { result ≢ Turned.Stop out_of_memory }
+    ensures memory { result ≢ Turned.Stop OutOfMemory }
 {
     match add_line(output, kept, names, shown, said, items) {
         Ok(()) => Turned::On,
@@ -110,7 +111,7 @@ pub(crate) fn finish_line<K: Sink>(
     ensures ends { (o : Output) → CommandEnds K.tells (K.at output.old) (K.at output.new) result
         (behind kept.old.items (behind (shown_text shown names.now
         (record { text = said.now; items = items.now })) o)) }
-    ensures whole { result ≡ out_of_memory → IsTrue K.tells → (K.at output.new).written
+    ensures whole { result ≡ OutOfMemory → IsTrue K.tells → (K.at output.new).written
         ≡ (K.at output.old).written ++ (kept.old.items
         ++ shown_text shown names.now (record { text = said.now; items = items.now })) }
 {
@@ -152,7 +153,7 @@ pub fn put_line<K: Sink>(
     ensures whole { result ≡ Turned.On → IsTrue K.tells → (K.at output.new).written
         ≡ (K.at output.old).written
         ++ shown_text shown names.now (record { text = said.now; items = items.now }) }
-    ensures memory { result ≢ Turned.Stop out_of_memory }
+    ensures memory { result ≢ Turned.Stop OutOfMemory }
 {
     match put_batch(output, names, shown, said, items) {
         Ok(()) => Turned::On,

@@ -1,7 +1,8 @@
 -- What the command `snap` promises, of its streams at its start (m0) and at its end (m1).
 use Rattle.std.specs.Prelude.{◌≡◌, Bool}
 use Rattle.command_promise.specs.declared.status.Status.{Status}
-use Rattle.command_promise.specs.Told.{CommandAt, out_of_memory}
+use Rattle.command_promise.specs.declared.status.Status.TheVariants.{OutOfMemory}
+use Rattle.command_promise.specs.Told.{CommandAt}
 use Rattle.sx_tag.specs.Mac.{Mac}
 use Rattle.command_deploy.specs.Promise.{DeployPromise, OwnPart}
 use Rattle.command_snap.specs.Output.{snap_deployed}
@@ -13,7 +14,7 @@ abbrev pub snap_part : Mac → OwnPart
 snap_part mac = record {
   output = snap_deployed mac;
   status = snap_status;
-  Cut = λ status. status ≡ out_of_memory;
+  Cut = λ status. status ≡ OutOfMemory;
   MayWant = snap_may;
   With = λ deployment texts. Unit {0};
 }

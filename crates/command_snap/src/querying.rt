@@ -3,9 +3,9 @@
 ghost use Rattle.std.specs.Prelude.{◌≡◌, ◌≢◌, ◌+◌, ◌<◌, ◌≤◌, ◌∷◌, IsOk, IsTrue, List};
 ghost use Rattle.std.specs.Prelude.{length};
 ghost use Rattle.sx_io.specs.Reading.{Answer, Line};
+ghost use Rattle.command_promise.specs.declared.status.Status.TheVariants.{OutOfMemory};
 ghost use Rattle.command_promise.specs.Told.{CommandEnds, Output, behind, command_at};
 ghost use Rattle.command_promise.specs.Parts.{DoesPart, Rest};
-ghost use Rattle.command_promise.specs.Told.{out_of_memory};
 ghost use Rattle.command_promise.specs.Head.{head_lines};
 ghost use Rattle.sx_trace.specs.ValidNames.{are_valid};
 ghost use Rattle.sx_deploy.specs.SeenDeployment.{deployed_as};
@@ -33,7 +33,7 @@ use sx_tag::Tag;
 fn break_query<K: Sink>(output: &mut K, rule: QueryRule, number: u32) -> Status
     ensures ends { CommandEnds K.tells (K.at output.old) (K.at output.new) result
         (query_fault rule number) }
-    ensures memory { result ≢ out_of_memory }
+    ensures memory { result ≢ OutOfMemory }
 {
     finish_fault(
         output,
@@ -96,7 +96,7 @@ fn turn<K: Sink, B: Copied, T: Tag>(
         (setting T.mac (deployed_as deployment.now) timeline.now.sites) timeline.now.lines
         foreseen.new.answers.items }
     ensures few { result ≡ Turned.On → number ≤ MOST_LINES }
-    ensures memory { result ≡ Turned.Stop out_of_memory → IsOk (judged_query
+    ensures memory { result ≡ Turned.Stop OutOfMemory → IsOk (judged_query
         (deployed_as deployment.now).names (length timeline.now.lines) number said.now) }
 {
     match judge_query(&deployment.names, timeline.count() as u32, number, said) {
@@ -124,7 +124,7 @@ pub(crate) fn answer_queries<S: Source, K: Sink, B: Copied, T: Tag>(
         (command_at (S.at input.new) (K.at output.new)) result
         (answers_from (deployed_as deployment.now).names
         (setting T.mac (deployed_as deployment.now) timeline.now.sites) timeline.now.lines 1) }
-    ensures wanted { result ≡ out_of_memory → QueriesWant (deployed_as deployment.now).names
+    ensures wanted { result ≡ OutOfMemory → QueriesWant (deployed_as deployment.now).names
         (length timeline.now.lines) S.tells (S.at input.old) (S.at input.new)
         lines.old lines.new }
 {

@@ -3,7 +3,8 @@
 
 ghost use Rattle.std.specs.Prelude.{◌≡◌, ◌≢◌, ℕ, ◌+◌, ◌≤◌, [], Err, IsTrue, OnOk, length};
 ghost use Rattle.sx_asm.specs.Assembled.{assembled};
-ghost use Rattle.command_promise.specs.Told.{CommandEnds, behind, command_at, out_of_memory};
+ghost use Rattle.command_promise.specs.declared.status.Status.TheVariants.{OutOfMemory};
+ghost use Rattle.command_promise.specs.Told.{CommandEnds, behind, command_at};
 ghost use Rattle.command_promise.specs.Parts.{Rest};
 ghost use Rattle.command_promise.specs.Head.{head_lines};
 ghost use Rattle.sx_trace.specs.ValidNames.{are_valid};
@@ -65,7 +66,7 @@ fn keep<B: Copied, T: Tag>(
 fn answer_none<K: Sink>(output: &mut K, images: &[u8]) -> Status
     ensures ends { CommandEnds K.tells (K.at output.old) (K.at output.new) result
         (behind images.now ended_output) }
-    ensures memory { result ≢ out_of_memory }
+    ensures memory { result ≢ OutOfMemory }
 {
     match put_text(output, images) {
         Turned::Stop(status) => status,
@@ -91,7 +92,7 @@ fn answer_all<S: Source, K: Sink, B: Copied, T: Tag>(
         (λ more. behind images.now (answers_from (deployed_as deployment.now).names
         (setting T.mac (deployed_as deployment.now) timeline.now.sites) timeline.now.lines 1
         more)) }
-    ensures wanted { result ≡ out_of_memory → QueriesWant (deployed_as deployment.now).names
+    ensures wanted { result ≡ OutOfMemory → QueriesWant (deployed_as deployment.now).names
         (length timeline.now.lines) S.tells (S.at input.old) (S.at input.new)
         lines.old lines.new }
 {
@@ -120,7 +121,7 @@ fn snap_lines<S: Source, K: Sink, B: Copied, T: Tag>(
         (command_at (S.at input.new) (K.at output.new)) result
         (snap_from (deployed_as deployment.now).names
         (setting T.mac (deployed_as deployment.now) timeline.old.sites) images.now []) }
-    ensures wanted { result ≡ out_of_memory → RanOutSince head_lines head_lines
+    ensures wanted { result ≡ OutOfMemory → RanOutSince head_lines head_lines
         (snap_may (deployed_as deployment.now)) S.tells (S.at input.old) (S.at input.new)
         lines.old lines.new }
 {
@@ -166,7 +167,7 @@ pub(crate) fn snap_built<S: Source, K: Sink, B: Copied, T: Tag>(
         (snap_from (deployed_as deployment.now).names
         (setting T.mac (deployed_as deployment.now) timeline.old.sites)
         (images_text (deployed_as deployment.now).names.modules (texts_of images.now)) []) }
-    ensures wanted { result ≡ out_of_memory → RanOutSince head_lines head_lines
+    ensures wanted { result ≡ OutOfMemory → RanOutSince head_lines head_lines
         (snap_may (deployed_as deployment.now)) S.tells (S.at input.old) (S.at input.new)
         lines.old lines.new }
 {

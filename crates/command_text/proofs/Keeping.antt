@@ -14,9 +14,10 @@ use Rattle.sx_io.specs.declared.lines.ReaderState.TheVariants as reader
 use Rattle.sx_io.specs.declared.outside.Failed.{Failed}
 use Rattle.sx_io.proofs.Scans.{scan-ended}
 use Rattle.command_promise.specs.declared.status.Status.{Status}
+use Rattle.command_promise.specs.declared.status.Status.TheVariants.{WriteFailed}
 use Rattle.command_promise.specs.Reads.{Asked, Enough}
 use Rattle.command_promise.specs.Got.{Follows, HoldsBehind}
-use Rattle.command_promise.specs.Told.{CommandAt, CommandEnds, Output, Told, behind, command_at, unread_output, write_failed}
+use Rattle.command_promise.specs.Told.{CommandAt, CommandEnds, Output, Told, behind, command_at, unread_output}
 use Rattle.command_promise.specs.Parts.{Begun}
 use Rattle.command_promise.specs.declared.turned.Turned.{Turned}
 use Rattle.command_promise.specs.declared.turned.Turned.TheVariants.{On, Stop}
@@ -41,7 +42,7 @@ pub ends_kept : {to_tell : Bool} {k0 k1 k2 : SinkAt} {kept : List ℕ} {status :
 ends_kept {to_tell} {k0} {k1} {k2} {kept} {status} o put ends = ends-behind to_tell k0 k1 k2 kept status o put.wrote put.no_fault ends
 
 -- or in writing it
-pub ends_stopped : {to_tell : Bool} {k0 k1 : SinkAt} {kept : List ℕ} (o : Output) → WritesPrefix to_tell k0 k1 kept → CommandEnds to_tell k0 k1 write_failed (behind kept o)
+pub ends_stopped : {to_tell : Bool} {k0 k1 : SinkAt} {kept : List ℕ} (o : Output) → WritesPrefix to_tell k0 k1 kept → CommandEnds to_tell k0 k1 WriteFailed (behind kept o)
 ends_stopped {to_tell} {k0} {k1} {kept} o stop =
     ends-write-failed to_tell k0 k1 (behind kept o) (λ t. prefix-more k0.written k1.written kept o.text (stop.prefix t)) stop.fault
 
@@ -213,7 +214,7 @@ waits_stop {tells} {to_tell} {limit} {m0} {s} {k1} {k2} {now} {defined} {kept} {
 -- one write of what is kept failed
 pub waits_failed : {tells to_tell : Bool} {limit : Limit} {m0 : CommandAt} {s : SourceAt} {k1 k2 : SinkAt} {now : Ahead} {defined : List Answer → Output} {kept : List ℕ}
     {also : List Answer → Type 0} (f : List Answer → Output)
-    → Waits tells to_tell limit m0 (command_at s k1) now defined kept f also → WritesPrefix to_tell k1 k2 kept → Told tells to_tell limit m0 (command_at s k2) write_failed defined also
+    → Waits tells to_tell limit m0 (command_at s k1) now defined kept f also → WritesPrefix to_tell k1 k2 kept → Told tells to_tell limit m0 (command_at s k2) WriteFailed defined also
 waits_failed {tells} {to_tell} {limit} {m0} {s} {k1} {k2} {now} {defined} {kept} {also} f w stop =
     waits_stop f w (λ answers. ends_stopped (f answers) stop)
 
@@ -389,7 +390,7 @@ module _ {tells to_tell : Bool} {limit : Limit} {m0 : CommandAt} {defined : List
       (ends-behind to_tell w.sink k1 k2 w.out status (behind kept (f answers)) w.wrote w.no_fault (ends answers)))
 
   pub keeps_failed : {s : SourceAt} {k1 k2 : SinkAt} {now : Ahead} {kept : List ℕ} (f : List Answer → Output)
-      → Keeps tells to_tell limit m0 (command_at s k1) now defined kept f also → WritesPrefix to_tell k1 k2 kept → Told tells to_tell limit m0 (command_at s k2) write_failed defined also
+      → Keeps tells to_tell limit m0 (command_at s k1) now defined kept f also → WritesPrefix to_tell k1 k2 kept → Told tells to_tell limit m0 (command_at s k2) WriteFailed defined also
   keeps_failed {s} {k1} {k2} {now} {kept} f w stop = keeps_stop f w (λ answers. ends_stopped (f answers) stop)
 
   -- what is due of a line was kept
@@ -418,9 +419,9 @@ up_to_ends {to_tell} {k0} {k1} {k2} {status} kept text left o u ends =
 
 -- or in writing the text
 pub prefix_ends : {to_tell : Bool} {k0 k1 : SinkAt} (kept text : List ℕ) (o : Output) → WritesPrefix to_tell k0 k1 (kept ++ text)
-    → CommandEnds to_tell k0 k1 write_failed (behind kept (behind text o))
+    → CommandEnds to_tell k0 k1 WriteFailed (behind kept (behind text o))
 prefix_ends {to_tell} {k0} {k1} kept text o stop =
-    ends-same to_tell k0 k1 write_failed (behind kept (behind text o)) (behind (kept ++ text) o) (joined kept text o) (ends_stopped o stop)
+    ends-same to_tell k0 k1 WriteFailed (behind kept (behind text o)) (behind (kept ++ text) o) (joined kept text o) (ends_stopped o stop)
 
 -- what comes before is as good where it writes the same
 pub kept_same : (to_tell : Bool) (k0 k1 : SinkAt) (kept left : List ℕ) (f g after : List Answer → Output) (turned : Turned) → ((more : List Answer) → f more ≡ g more)

@@ -1,7 +1,8 @@
 //! Text that is kept, to be written together.
 
 ghost use Rattle.std.specs.Prelude.{◌≡◌, ◌+◌, ◌≤◌, ◌++◌, IsTrue, OnOk, length};
-ghost use Rattle.command_promise.specs.Told.{CommandEnds, Output, behind, out_of_memory};
+ghost use Rattle.command_promise.specs.declared.status.Status.TheVariants.{OutOfMemory};
+ghost use Rattle.command_promise.specs.Told.{CommandEnds, Output, behind};
 ghost use Rattle.command_text.specs.Batch.{Writes};
 ghost use Rattle.command_text.specs.Keeping.{Puts};
 
@@ -43,7 +44,7 @@ pub fn put_kept<K: Sink>(output: &mut K, kept: &Batch) -> Result<(), Failed>
 pub fn finish_wanted<K: Sink>(output: &mut K, kept: &Batch) -> Status
     ensures ends { (o : Output) → CommandEnds K.tells (K.at output.old) (K.at output.new) result
         (behind kept.now.items o) }
-    ensures made { result ≡ out_of_memory → IsTrue K.tells
+    ensures made { result ≡ OutOfMemory → IsTrue K.tells
         → (K.at output.new).written ≡ (K.at output.old).written ++ kept.now.items }
 {
     match put_kept(output, kept) {

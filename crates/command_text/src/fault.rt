@@ -1,7 +1,8 @@
 //! The last line of a command that names a rule and the line that breaks it.
 
 ghost use Rattle.std.specs.Prelude.{◌≡◌, ◌∷◌, [], ◌++◌, codes, decimal};
-ghost use Rattle.command_promise.specs.Told.{CommandEnds, write_failed};
+ghost use Rattle.command_promise.specs.declared.status.Status.TheVariants.{WriteFailed};
+ghost use Rattle.command_promise.specs.Told.{CommandEnds};
 ghost use Rattle.command_text.specs.Refusals.{fault_output};
 
 use crate::text::{Text, put};
@@ -31,10 +32,10 @@ pub fn finish_fault<K: Sink>(
     number: u32,
     status: Status,
 ) -> Status
-    requires { status ≡ write_failed → ⊥ }
+    requires { status ≡ WriteFailed → ⊥ }
     ensures ends { CommandEnds K.tells (K.at output.old) (K.at output.new) result
         (fault_output words.now rule number status) }
-    ensures status { (result ≡ write_failed → ⊥) → result ≡ status }
+    ensures status { (result ≡ WriteFailed → ⊥) → result ≡ status }
 {
     match put_all(output, words) {
         Ok(()) => finish(output, places(rule, number).as_slice(), status),

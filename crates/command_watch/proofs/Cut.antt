@@ -3,7 +3,8 @@ use Rattle.std.proofs.Common.{ℕ, ◌≡◌, ◌∙◌, ◌⊎◌, inl, inr, Bo
 use Rattle.std.specs.Prelude.{◌==◌, if◌then◌else◌}
 use Rattle.std.proofs.lemmas.List.{append-nil}
 use Rattle.sx_io.specs.Reading.{Ending, Broken, Answer, Line, Long, Fault, Limit, behind_line, newline, scan, without_return}
-use Rattle.command_promise.specs.Told.{Output, read_failed}
+use Rattle.command_promise.specs.declared.status.Status.TheVariants.{ReadFailed}
+use Rattle.command_promise.specs.Told.{Output}
 use Rattle.command_promise.proofs.Due.{Due, lines_then}
 
 -- the answers of these bytes are those of whole lines, which others may follow; or one of the lines is too long
@@ -48,7 +49,7 @@ cut limit begun [] = inl ([], refl, λ e more. (scan limit e begun more, refl))
 cut limit begun (b ∷ bytes) =
     by_byte limit begun b bytes (b == newline) (length begun == limit []) refl refl (cut (behind_line (without_return begun) limit) [] bytes) (cut limit (begun ++ b ∷ []) bytes)
 
-same_due : (F : List Answer → Output) (ls : List (List ℕ)) (xs : List Answer) → Due (λ more. F (lines_then ls more)) → ((F (lines_then ls (Fault ∷ []))).status ≡ read_failed → ⊥)
+same_due : (F : List Answer → Output) (ls : List (List ℕ)) (xs : List Answer) → Due (λ more. F (lines_then ls more)) → ((F (lines_then ls (Fault ∷ []))).status ≡ ReadFailed → ⊥)
     → F (lines_then ls (Fault ∷ [])) ≡ F (lines_then ls xs)
 same_due F ls xs (inl (o, n, c)) never = c (Fault ∷ []) ∙ sym (c xs)
 same_due F ls xs (inr (t, g, c, u, l, f)) never =
@@ -56,7 +57,7 @@ same_due F ls xs (inr (t, g, c, u, l, f)) never =
 
 -- what is said where a read failed, and doesn't say so, is said whatever comes
 pub settled : (limit : Limit) (F : List Answer → Output) (bytes : List ℕ) → ((ls : List (List ℕ)) → Due (λ more. F (lines_then ls more)))
-    → ((F (scan limit Broken [] bytes)).status ≡ read_failed → ⊥) → (e : Ending) (more : List ℕ) → F (scan limit Broken [] bytes) ≡ F (scan limit e [] (bytes ++ more))
+    → ((F (scan limit Broken [] bytes)).status ≡ ReadFailed → ⊥) → (e : Ending) (more : List ℕ) → F (scan limit Broken [] bytes) ≡ F (scan limit e [] (bytes ++ more))
 settled limit F bytes due never e more = by_cut (cut limit [] bytes)
   where
     by_cut : Cut limit [] bytes → F (scan limit Broken [] bytes) ≡ F (scan limit e [] (bytes ++ more))

@@ -7,9 +7,10 @@ use Rattle.sx_io.specs.Streams.{SourceAt, SinkAt}
 use Rattle.sx_io.specs.Reading.{Answer, Ending, Ended, Broken, End, Fault, Limit, scan}
 use Rattle.sx_io.specs.Next.{Ahead}
 use Rattle.command_promise.specs.declared.status.Status.{Status}
+use Rattle.command_promise.specs.declared.status.Status.TheVariants.{OutOfMemory}
 use Rattle.command_promise.specs.Reads.{IsBound, Reads, anything}
 use Rattle.command_promise.specs.Got.{Got}
-use Rattle.command_promise.specs.Told.{CommandAt, CommandEnds, Output, Told, command_at, out_of_memory, unread_output}
+use Rattle.command_promise.specs.Told.{CommandAt, CommandEnds, Output, Told, command_at, unread_output}
 use Rattle.command_promise.specs.Parts.{Begun, Notes, Rest}
 use Rattle.command_promise.proofs.Laws.{begun-got, ends-out-of-memory, ends-same, prefix-none, told-reads, told-stop}
 use Rattle.command_promise.proofs.Takings.{got-also, got-map, got-same}
@@ -210,9 +211,9 @@ module _ (w : List ℕ) where
     -- or memory ran out
     pub told_starved : {tells to_tell : Bool} {s0 s1 : SourceAt} {k : SinkAt} {now : Ahead} (t : List ℕ)
         → Got tells head_lines head_lines s0 s1 now (λ answers. second (head answers)) (λ more. seen (Found t more)) (seen Unread) (Notes marked_in (1 ∷ []))
-        → Told tells to_tell watch_lines (command_at s0 k) (command_at s1 k) out_of_memory (watch_all means) (RunsOutBehindHead out_of_memory)
+        → Told tells to_tell watch_lines (command_at s0 k) (command_at s1 k) OutOfMemory (watch_all means) (RunsOutBehindHead OutOfMemory)
     told_starved {tells} {to_tell} {s0} {s1} {k} {now} t got =
-        told_also (RunsOutBehindHead out_of_memory) (λ answers m six. has_head (head answers) m)
+        told_also (RunsOutBehindHead OutOfMemory) (λ answers m six. has_head (head answers) m)
         (told-stop (begun-got (λ (o : Output). o) refl (got_second t got))
         (λ more. ends-out-of-memory to_tell k k (watch_property means d (Found t more)) (λ t. prefix-none k.written k.written _ refl) refl))
 
@@ -232,7 +233,7 @@ module _ (w : List ℕ) where
 -- ---- where there is no first head
 
 first_none : {tells to_tell : Bool} {s0 s1 : SourceAt} {k0 k1 : SinkAt} {status : Status} (means : Meanings) (k : Head) → IsNone k
-    → Reads tells head_lines s0 s1 head Unread (λ answers. head answers ≡ k) → CommandEnds to_tell k0 k1 status (watch_head means k) → (status ≡ out_of_memory → ⊥)
+    → Reads tells head_lines s0 s1 head Unread (λ answers. head answers ≡ k) → CommandEnds to_tell k0 k1 status (watch_head means k) → (status ≡ OutOfMemory → ⊥)
     → Told tells to_tell watch_lines (command_at s0 k0) (command_at s1 k1) status (watch_all means) (RunsOutBehindHead status)
 first_none means k n r w never =
     told-reads (watch_head means) (watch_head means k) refl
@@ -252,9 +253,9 @@ told_headless {tells} {to_tell} {s0} {s1} {k0} {k1} {status} now means none.NoMa
 told_headless {tells} {to_tell} {s0} {s1} {k0} {k1} {status} now means none.Failed r w = first_none means Unread tt r w.0 w.1
 told_headless {tells} {to_tell} {s0} {s1} {k0} {k1} {status} now means none.OutOfMemory r w = rw (w.0, w.1) (starved r)
   where
-    starved : HeadRead tells s0 s1 now (Err none.OutOfMemory) → Told tells to_tell watch_lines (command_at s0 k0) (command_at s1 k0) out_of_memory (watch_all means) (RunsOutBehindHead out_of_memory)
+    starved : HeadRead tells s0 s1 now (Err none.OutOfMemory) → Told tells to_tell watch_lines (command_at s0 k0) (command_at s1 k0) OutOfMemory (watch_all means) (RunsOutBehindHead OutOfMemory)
     starved (text, got) =
-        told_also (RunsOutBehindHead out_of_memory) (λ answers m six. has_head (head answers) m)
+        told_also (RunsOutBehindHead OutOfMemory) (λ answers m six. has_head (head answers) m)
         (told-stop (begun_first means text got)
         (λ more. ends-out-of-memory to_tell k0 k0 (watch_found means (means.trace.deployment text) more) (λ t. prefix-none k0.written k0.written _ refl) refl))
 
@@ -282,7 +283,7 @@ watch_behind {tells} {to_tell} {now} {s1} {s2} {k0} {k1} {status} text (Err (err
     (λ more. ends-same _ _ _ _ _ _ (ap (λ r. watch_found means r more) (one_meaning text (means.trace.deployment text) (Err f) (is.trace.deployment text) read)) bad.0)))
 watch_behind {tells} {to_tell} {now} {s1} {s2} {k0} {k1} {status} text (Err error.OutOfMemory) read good bad same means is =
     rw (same, bad.0, bad.1) (λ s0 got.
-    told_also (RunsOutBehindHead out_of_memory) (λ answers m six. has_head (head answers) m)
+    told_also (RunsOutBehindHead OutOfMemory) (λ answers m six. has_head (head answers) m)
     (told-stop (begun_first means text got)
     (λ more. ends-out-of-memory to_tell k0 k0 (watch_found means (means.trace.deployment text) more) (λ t. prefix-none k0.written k0.written _ refl) refl)))
 

@@ -5,9 +5,9 @@ use Rattle.std.proofs.lemmas.List.{append-nil}
 use Rattle.sx_io.specs.Streams.{SinkAt, SourceAt}
 use Rattle.sx_io.specs.Reading.{Answer, Broken, Ended, scan}
 use Rattle.command_promise.specs.declared.status.Status.{Status}
-use Rattle.command_promise.specs.declared.status.Status.TheVariants.{Misused}
+use Rattle.command_promise.specs.declared.status.Status.TheVariants.{Misused, ReadFailed, WriteFailed, OutOfMemory}
 use Rattle.command_promise.specs.Reads.{AtEnd, AtFault, Decides, Enough, Left}
-use Rattle.command_promise.specs.Told.{CommandAt, CommandEnds, Output, Told, out_of_memory, read_failed, write_failed}
+use Rattle.command_promise.specs.Told.{CommandAt, CommandEnds, Output, Told}
 use Rattle.command_promise.proofs.Due.{streams-within}
 use Rattle.command_promise.proofs.Laws.{ends-same, told-all, told-fault, told-no-write-fault, told-some, told-write-fault, ran-out}
 use Rattle.command_promise.proofs.Endings.{faultless, unfinished}
@@ -43,9 +43,9 @@ faults_are {tells} {to_tell} {m0} {m1} {status} means told = record {
 }
 
 -- What is written, and the status, are those of the whole input.
-module _ (to_tell : Bool) (k0 k1 : SinkAt) (status : Status) (means : Meanings) (four : status ≢ read_failed) (five : status ≢ write_failed) where
+module _ (to_tell : Bool) (k0 k1 : SinkAt) (status : Status) (means : Meanings) (four : status ≢ ReadFailed) (five : status ≢ WriteFailed) where
   -- what ends so, or memory ran out
-  ends_as : (o : Output) → CommandEnds to_tell k0 k1 status o → (status ≡ out_of_memory) ⊎ ((status ≡ o.status) × (IsTrue to_tell → k1.written ≡ k0.written ++ o.text))
+  ends_as : (o : Output) → CommandEnds to_tell k0 k1 status o → (status ≡ OutOfMemory) ⊎ ((status ≡ o.status) × (IsTrue to_tell → k1.written ≡ k0.written ++ o.text))
   ends_as o w =
       elim (ran-out status) [
         | inl six ↦ inl six
@@ -53,13 +53,13 @@ module _ (to_tell : Bool) (k0 k1 : SinkAt) (status : Status) (means : Meanings) 
       ]
 
   -- where a read failed, that isn't said
-  not_unread : (bytes : List ℕ) → status ≢ out_of_memory → CommandEnds to_tell k0 k1 status (watch_all means (scan watch_lines Broken [] bytes))
-      → (watch_all means (scan watch_lines Broken [] bytes)).status ≡ read_failed → ⊥
+  not_unread : (bytes : List ℕ) → status ≢ OutOfMemory → CommandEnds to_tell k0 k1 status (watch_all means (scan watch_lines Broken [] bytes))
+      → (watch_all means (scan watch_lines Broken [] bytes)).status ≡ ReadFailed → ⊥
   not_unread bytes six w e = four ((w.whole five six).0 ∙ e)
 
   whole_input : (left : Left) (tells : Bool) (s0 s1 : SourceAt) (taken : List ℕ) (also : List Answer → Type 0) → IsTrue tells → s0.rest ≡ taken ++ s1.rest
       → Decides left tells watch_lines s0 s1 taken (λ answers. CommandEnds to_tell k0 k1 status (watch_all means answers) × also answers)
-      → (status ≡ out_of_memory) ⊎ CommandEnds to_tell k0 k1 status (watch_all means (scan watch_lines Ended [] s0.rest))
+      → (status ≡ OutOfMemory) ⊎ CommandEnds to_tell k0 k1 status (watch_all means (scan watch_lines Ended [] s0.rest))
   whole_input AtEnd tells s0 s1 taken also t e d =
       let P : List ℕ → Type 0 = λ bytes. CommandEnds to_tell k0 k1 status (watch_all means (scan watch_lines Ended [] bytes)) in
       inr (subst P (sym (e ∙ ap (λ (v : List ℕ). taken ++ v) (d.1 t).rest ∙ append-nil taken)) d.2.0)
@@ -74,7 +74,7 @@ module _ (to_tell : Bool) (k0 k1 : SinkAt) (status : Status) (means : Meanings) 
       inr (subst P (sym e) (d.2 Ended s1.rest).0)
 
 exact_of : {tells to_tell : Bool} {m0 m1 : CommandAt} {status : Status} {also : List Answer → Type 0} (means : Meanings)
-    → Told tells to_tell watch_lines m0 m1 status (watch_all means) also → IsTrue tells → status ≢ read_failed → status ≢ write_failed
+    → Told tells to_tell watch_lines m0 m1 status (watch_all means) also → IsTrue tells → status ≢ ReadFailed → status ≢ WriteFailed
     → EndsAs to_tell m0 m1 status (watch_all means (input_of m0))
 exact_of {tells} {to_tell} {m0} {m1} {status} {also} means told t four five =
     let r = told.reads in
@@ -85,7 +85,7 @@ exact_of {tells} {to_tell} {m0} {m1} {status} {also} means told t four five =
 
 pub watch_promise : {tells to_tell : Bool} {m0 m1 : CommandAt} {status : Status}
     → ((means : Meanings) → AreMeanings means → Told tells to_tell watch_lines m0 m1 status (watch_all means) (RunsOutBehindHead status))
-    → (status ≡ out_of_memory → m1.sink ≡ m0.sink) → WatchPromise tells to_tell m0 m1 status
+    → (status ≡ OutOfMemory → m1.sink ≡ m0.sink) → WatchPromise tells to_tell m0 m1 status
 watch_promise {tells} {to_tell} {m0} {m1} {status} told starved = record {
   told = told;
   streams = λ means is. streams-within watch_lines (watch_all means) (due_all means) (told means is);

@@ -6,9 +6,10 @@ use Rattle.sx_io.specs.Streams.{SinkAt, SourceAt}
 use Rattle.sx_io.specs.Reading.{Answer}
 use Rattle.sx_io.specs.Next.{Ahead}
 use Rattle.command_promise.specs.declared.status.Status.{Status}
+use Rattle.command_promise.specs.declared.status.Status.TheVariants as exit
 use Rattle.command_promise.specs.Reads.{anything}
 use Rattle.command_promise.specs.Got.{Got}
-use Rattle.command_promise.specs.Told.{CommandAt, CommandEnds, Told, command_at, out_of_memory}
+use Rattle.command_promise.specs.Told.{CommandAt, CommandEnds, Told, command_at}
 use Rattle.command_promise.specs.declared.turned.Turned.{Turned}
 use Rattle.command_promise.specs.declared.turned.Turned.TheVariants.{On, Stop}
 use Rattle.command_promise.specs.Head.{Found, Unread, head, head_lines}
@@ -56,8 +57,8 @@ TurnsFrom to_tell k0 k1 old new number item turned = (p : PropertyTree) (items :
 -- nothing was written.
 abbrev pub RefusesText : Bool → SinkAt → SinkAt → Status → PropertyError → Type 0
 RefusesText to_tell k0 k1 status (Fault f) =
-    CommandEnds to_tell k0 k1 status (refused_output (fault_words f)) × (status ≢ out_of_memory)
-RefusesText to_tell k0 k1 status OutOfMemory = (status ≡ out_of_memory) × (k1 ≡ k0)
+    CommandEnds to_tell k0 k1 status (refused_output (fault_words f)) × (status ≢ exit.OutOfMemory)
+RefusesText to_tell k0 k1 status OutOfMemory = (status ≡ exit.OutOfMemory) × (k1 ≡ k0)
 
 -- after this head of the input, of which nothing was written, the command does the rest
 abbrev pub ReadsOn : Meanings → List ℕ → Bool → Bool → SourceAt → Ahead → SinkAt → CommandAt

@@ -2,8 +2,8 @@
 use Rattle.std.specs.Prelude.{◌≡◌, ◌≢◌, Bool, List, [], IsTrue}
 use Rattle.sx_io.specs.Reading.{Answer, Ended, scan}
 use Rattle.command_promise.specs.declared.status.Status.{Status}
-use Rattle.command_promise.specs.declared.status.Status.TheVariants.{Done}
-use Rattle.command_promise.specs.Told.{CommandAt, Told, out_of_memory, read_failed, write_failed}
+use Rattle.command_promise.specs.declared.status.Status.TheVariants.{Done, ReadFailed, WriteFailed, OutOfMemory}
+use Rattle.command_promise.specs.Told.{CommandAt, Told}
 use Rattle.command_promise.specs.Further.{Streams}
 use Rattle.command_text.specs.Faults.{TellsFaults}
 use Rattle.command_head.specs.Found.{RunsOutBehindHead}
@@ -29,6 +29,6 @@ pub record WatchPromise (tells to_tell : Bool) (m0 m1 : CommandAt) (status : Sta
       → Streams tells to_tell watch_lines m0 m1 (watch_all means)
   pub faults : TellsFaults m0 m1 status
   pub read_all : status ≡ Done → IsTrue tells → m1.source.rest ≡ []
-  pub exact : (means : Meanings) → AreMeanings means → IsTrue tells → status ≢ read_failed
-      → status ≢ write_failed → EndsAs to_tell m0 m1 status (watch_all means (input_of m0))
-  pub memory : status ≡ out_of_memory → m1.sink ≡ m0.sink
+  pub exact : (means : Meanings) → AreMeanings means → IsTrue tells → status ≢ ReadFailed
+      → status ≢ WriteFailed → EndsAs to_tell m0 m1 status (watch_all means (input_of m0))
+  pub memory : status ≡ OutOfMemory → m1.sink ≡ m0.sink

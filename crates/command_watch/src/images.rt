@@ -1,7 +1,8 @@
 //! The lines before a trace. Those of images are passed, whatever they say.
 
 ghost use Rattle.std.specs.Prelude.{◌≡◌, IsTrue};
-ghost use Rattle.command_promise.specs.Told.{command_at, out_of_memory};
+ghost use Rattle.command_promise.specs.declared.status.Status.TheVariants.{OutOfMemory};
+ghost use Rattle.command_promise.specs.Told.{command_at};
 ghost use Rattle.command_promise.specs.Parts.{Rest};
 ghost use Rattle.sx_trace.specs.ValidNames.{are_valid};
 ghost use Rattle.sx_watch.specs.Watching.{property_as};
@@ -32,7 +33,7 @@ pub(crate) fn watch_images<S: Source, K: Sink>(
         (command_at (S.at input.old) (K.at output.old))
         (command_at (S.at input.new) (K.at output.new)) result
         (λ more. watch_start (property_as property) (means.item names.now) (start 1 more)) }
-    ensures starved { result ≡ out_of_memory → K.at output.new ≡ K.at output.old }
+    ensures starved { result ≡ OutOfMemory → K.at output.new ≡ K.at output.old }
 {
     let mut front = [0; 8];
     let mut number: u32 = 1;

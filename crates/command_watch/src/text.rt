@@ -1,7 +1,8 @@
 //! The lines that `watch` writes. None of this takes memory.
 
 ghost use Rattle.std.specs.Prelude.{◌≡◌, ◌≢◌, List, length};
-ghost use Rattle.command_promise.specs.Told.{CommandEnds, out_of_memory};
+ghost use Rattle.command_promise.specs.declared.status.Status.TheVariants.{OutOfMemory};
+ghost use Rattle.command_promise.specs.Told.{CommandEnds};
 ghost use Rattle.sx_trace.specs.declared.items.Item.{Item as Listed};
 ghost use Rattle.sx_model.specs.Legal.{before};
 ghost use Rattle.sx_watch.specs.Watched.{PropertyTree};
@@ -29,7 +30,7 @@ fn broken_text(number: u32) -> Text
 pub(crate) fn finish_broken<K: Sink>(output: &mut K, number: u32) -> Status
     ensures ends { CommandEnds K.tells (K.at output.old) (K.at output.new) result
         (broken_line number) }
-    ensures memory { result ≢ out_of_memory }
+    ensures memory { result ≢ OutOfMemory }
 {
     finish(
         output,
@@ -69,7 +70,7 @@ pub(crate) fn finish_kept<K: Sink>(output: &mut K, following: &Following, count:
     ensures ends { (p : PropertyTree) (items : List Listed) → Stands p items following.now
         → count ≡ length items → CommandEnds K.tells (K.at output.old) (K.at output.new) result
         (kept_output items) }
-    ensures memory { result ≢ out_of_memory }
+    ensures memory { result ≢ OutOfMemory }
 {
     finish(output, kept_text(following, count).as_slice(), Status::Done)
 }

@@ -2,7 +2,8 @@
 //! breaks it.
 
 ghost use Rattle.std.specs.Prelude.{◌≡◌, ◌≢◌, ◌+◌, ◌<◌, [], IsTrue, List, length};
-ghost use Rattle.command_promise.specs.Told.{command_at, out_of_memory};
+ghost use Rattle.command_promise.specs.declared.status.Status.TheVariants.{OutOfMemory};
+ghost use Rattle.command_promise.specs.Told.{command_at};
 ghost use Rattle.command_promise.specs.Parts.{Rest};
 ghost use Rattle.sx_trace.specs.declared.items.Item.{Item as Listed};
 ghost use Rattle.sx_trace.specs.ValidNames.{are_valid};
@@ -34,7 +35,7 @@ fn turn<K: Sink>(
     ensures turns { TurnsFrom K.tells (K.at output.old) (K.at output.new) following.old following.new
         number item.now result }
     ensures still { result ≡ Turned.On → K.at output.new ≡ K.at output.old }
-    ensures starved { result ≡ Turned.Stop out_of_memory → K.at output.new ≡ K.at output.old }
+    ensures starved { result ≡ Turned.Stop OutOfMemory → K.at output.new ≡ K.at output.old }
 {
     match following.item(alloc, item, number) {
         Ok(false) => Turned::On,
@@ -60,7 +61,7 @@ fn watch_end<S: Source, K: Sink>(
         (command_at (S.at input.old) (K.at output.old))
         (command_at (S.at input.new) (K.at output.new)) result
         (λ more. stop_output items (stop_behind (means.item names.now) (count + 2) more)) }
-    ensures memory { result ≢ out_of_memory }
+    ensures memory { result ≢ OutOfMemory }
 {
     let mut into = [0; 4096];
     let number = count + 2;
@@ -88,7 +89,7 @@ fn watch_lines<S: Source, K: Sink>(
         (command_at (S.at input.old) (K.at output.old))
         (command_at (S.at input.new) (K.at output.new)) result
         (watch_from p (means.item names.now) []) }
-    ensures starved { result ≡ out_of_memory → K.at output.new ≡ K.at output.old }
+    ensures starved { result ≡ OutOfMemory → K.at output.new ≡ K.at output.old }
 {
     let mut into = [0; 4096];
     let mut number: u32 = 1;
@@ -126,7 +127,7 @@ pub(crate) fn watch_trace<S: Source, K: Sink>(
         (command_at (S.at input.old) (K.at output.old))
         (command_at (S.at input.new) (K.at output.new)) result
         (watch_from (property_as property) (means.item names.now) []) }
-    ensures starved { result ≡ out_of_memory → K.at output.new ≡ K.at output.old }
+    ensures starved { result ≡ OutOfMemory → K.at output.new ≡ K.at output.old }
 {
     match Following::new(alloc, property) {
         Ok(mut following) => watch_lines(alloc, lines, input, output, names, &mut following),

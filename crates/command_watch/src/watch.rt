@@ -2,7 +2,8 @@
 //! trace while it is read.
 
 ghost use Rattle.std.specs.Prelude.{◌≡◌, ℕ, IfErr, IfOk, IsTrue, List, Ok, OnErr};
-ghost use Rattle.command_promise.specs.Told.{Told, command_at, out_of_memory};
+ghost use Rattle.command_promise.specs.declared.status.Status.TheVariants.{OutOfMemory};
+ghost use Rattle.command_promise.specs.Told.{Told, command_at};
 ghost use Rattle.command_promise.specs.Parts.{Rest};
 ghost use Rattle.sx_trace.specs.ValidNames.{are_valid};
 ghost use Rattle.sx_mean.specs.View.{app_as};
@@ -52,7 +53,7 @@ fn watch_text<S: Source, K: Sink>(
         (command_at (S.at input.new) (K.at output.new)) result
         (watch_judged (means.trace.item deployment.now.names)
         (means.property deployment.now.names (app_as deployment.now.app) text.now)) }
-    ensures starved { result ≡ out_of_memory → K.at output.new ≡ K.at output.old }
+    ensures starved { result ≡ OutOfMemory → K.at output.new ≡ K.at output.old }
 {
     match read_property(alloc, &deployment.names, &deployment.app, text) {
         Ok(property) => { watch_images(alloc, lines, input, output, &deployment.names, property) }
@@ -73,7 +74,7 @@ fn watch_deployed<S: Source, K: Sink>(
         → means.trace.deployment text ≡ Ok (deployed_as deployment.now)
         → ReadsOn means text S.tells K.tells (S.at input.old) lines.old (K.at output.old)
         (command_at (S.at input.new) (K.at output.new)) result }
-    ensures starved { result ≡ out_of_memory → K.at output.new ≡ K.at output.old }
+    ensures starved { result ≡ OutOfMemory → K.at output.new ≡ K.at output.old }
 {
     match read_text(alloc, lines, input) {
         Ok(text) => watch_text(alloc, &text, lines, input, output, deployment),
@@ -101,7 +102,7 @@ fn watch_read<S: Source, K: Sink>(
     ensures refused { IfErr read (λ error.
         EndsRefused K.tells (K.at output.old) (K.at output.new) result error) }
     ensures unread { OnErr read (S.at input.new ≡ S.at input.old) }
-    ensures starved { result ≡ out_of_memory → K.at output.new ≡ K.at output.old }
+    ensures starved { result ≡ OutOfMemory → K.at output.new ≡ K.at output.old }
 {
     match read {
         Ok(deployment) => watch_deployed(alloc, lines, input, output, &deployment),
@@ -120,7 +121,7 @@ fn watch_head<S: Source, K: Sink>(
     ensures reads { (means : Meanings) → AreMeanings means
         → ReadsOn means text.now S.tells K.tells (S.at input.old) lines.old (K.at output.old)
         (command_at (S.at input.new) (K.at output.new)) result }
-    ensures starved { result ≡ out_of_memory → K.at output.new ≡ K.at output.old }
+    ensures starved { result ≡ OutOfMemory → K.at output.new ≡ K.at output.old }
 {
     watch_read(alloc, read_deployment(alloc, text), lines, input, output)
 }
@@ -132,7 +133,7 @@ fn watch_told<S: Source, K: Sink>(alloc: Global, input: &mut S, output: &mut K) 
         → Told S.tells K.tells watch_lines (command_at (S.at input.old) (K.at output.old))
         (command_at (S.at input.new) (K.at output.new)) result (watch_all means)
         (RunsOutBehindHead result) }
-    ensures starved { result ≡ out_of_memory → K.at output.new ≡ K.at output.old }
+    ensures starved { result ≡ OutOfMemory → K.at output.new ≡ K.at output.old }
 {
     let mut lines = Lines::new();
     match read_head(alloc, &mut lines, input) {

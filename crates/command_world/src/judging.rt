@@ -5,7 +5,8 @@ ghost use Rattle.sx_asm.specs.Assembled.{assembled};
 ghost use Rattle.sx_trace.specs.ValidNames.{are_valid};
 ghost use Rattle.sx_sched.specs.Seen.{line_of};
 ghost use Rattle.sx_sched.specs.InForm.{IsLine};
-ghost use Rattle.command_promise.specs.Told.{CommandEnds, out_of_memory};
+ghost use Rattle.command_promise.specs.declared.status.Status.TheVariants.{OutOfMemory};
+ghost use Rattle.command_promise.specs.Told.{CommandEnds};
 ghost use Rattle.command_world.specs.Broken.{broken_output};
 ghost use Rattle.command_world.specs.Schedule.{judged_line};
 ghost use Rattle.command_world.specs.Turning.{MayRunOut};
@@ -51,7 +52,7 @@ pub fn judge_line(alloc: Global, names: &Names, text: &[u8], number: u32) -> Res
 pub fn break_off<K: Sink>(output: &mut K, rule: u8, number: u32) -> Status
     ensures ends { CommandEnds K.tells (K.at output.old) (K.at output.new) result
         (broken_output rule number) }
-    ensures memory { result ≢ out_of_memory }
+    ensures memory { result ≢ OutOfMemory }
 {
     finish_fault(output, b"fault schedule S", rule, number, Status::Broken)
 }

@@ -2,8 +2,8 @@
 -- (m1).
 use Rattle.std.specs.Prelude.{ℕ, ◌≡◌, Bool, List, Option, Some, None}
 use Rattle.command_promise.specs.declared.status.Status.{Status}
-use Rattle.command_promise.specs.declared.status.Status.TheVariants.{Misused}
-use Rattle.command_promise.specs.Told.{CommandEnds, CommandAt, out_of_memory}
+use Rattle.command_promise.specs.declared.status.Status.TheVariants.{Misused, OutOfMemory}
+use Rattle.command_promise.specs.Told.{CommandEnds, CommandAt}
 use Rattle.sx_asm.specs.Assembled.{assembled}
 use Rattle.sx_tag.specs.Mac.{Mac}
 use Rattle.sx_top.specs.declared.words.Command.{Command}
@@ -30,7 +30,7 @@ use Rattle.command_holds.specs.Promise.{HoldsPromise}
 pub record MisusePromise (to_tell : Bool) (m0 m1 : CommandAt) (status : Status) : Type 0 where
   pub ends : CommandEnds to_tell m0.sink m1.sink status misuse_output
   pub unread : m1.source ≡ m0.source
-  pub memory : status ≡ out_of_memory → ⊥
+  pub memory : status ≡ OutOfMemory → ⊥
 
 -- The command `gen` for n samples. Nothing is read.
 pub record GenReadsNothing (mac : Mac) (n : ℕ) (to_tell : Bool) (m0 m1 : CommandAt)

@@ -2,7 +2,8 @@ use Rattle.std.proofs.Common.{◌≡◌, ◌∙◌, ◌+◌, ◌∷◌, ◌++◌
 use Rattle.sx_io.specs.Reading.{Answer, Line}
 use Rattle.sx_io.specs.declared.lines.LineRead.TheVariants as read
 use Rattle.sx_io.specs.Streams.{SinkAt, SourceAt}
-use Rattle.command_promise.specs.Told.{Output, Told, behind, command_at, read_line, write_failed}
+use Rattle.command_promise.specs.declared.status.Status.TheVariants.{WriteFailed}
+use Rattle.command_promise.specs.Told.{Output, Told, behind, command_at, read_line}
 use Rattle.command_promise.specs.Parts.{Notes}
 use Rattle.command_promise.specs.declared.turned.Turned.TheVariants.{Stop}
 use Rattle.command_promise.proofs.Laws.{ends-same, told-end, told-too-long, told-failed}
@@ -38,7 +39,7 @@ returns-in-Err-clause-rest g c = λ means is limit m0 defined aside noted b.
     let st = c.lines.invariant.between in
     let f = explain_from (app_as c.args.deployment.now.app) (means.item c.args.deployment.now.names) st.items in
     let e = c.in-Err.ensures.comes in
-    subst (λ (s : SourceAt). Told g.S.Source.tells g.K.Sink.tells limit m0 (command_at s (g.K.Sink.at c.next_line.new.output)) write_failed defined (Notes aside noted)) (sym e.1)
+    subst (λ (s : SourceAt). Told g.S.Source.tells g.K.Sink.tells limit m0 (command_at s (g.K.Sink.at c.next_line.new.output)) WriteFailed defined (Notes aside noted)) (sym e.1)
     (waits_failed f (st.waits means is limit m0 defined aside noted b) e.0)
 
 pub returns-in-Ok-End-clause-rest : goal.returns-in-Ok-End-clause-rest

@@ -1,7 +1,7 @@
 use Rattle.std.proofs.Common.{◌≡◌, ℕ, ◌+◌, ◌<◌, List, [], ◌∷◌, ◌++◌, codes, arith, sym, ap, subst}
 use Rattle.std.proofs.lemmas.Fmt.{decimal_digit}
-use Rattle.command_promise.specs.declared.status.Status.TheVariants.{Refused}
-use Rattle.command_promise.specs.Told.{Output, read_failed, read_line}
+use Rattle.command_promise.specs.declared.status.Status.TheVariants.{Refused, ReadFailed}
+use Rattle.command_promise.specs.Told.{Output, read_line}
 use Rattle.command_promise.proofs.Laws.{ends-same}
 use Rattle.sx_entries.specs.Fault.{fault}
 use Rattle.sx_entries.specs.declared.fault.Place.TheVariants.{Nowhere}
@@ -37,4 +37,4 @@ pub returns-in-Failed : goal.returns-in-Failed
 unfolding read_line
 returns-in-Failed g c =
     let P : HeadFault → Type 0 = λ f. EndsHeadless g.K.Sink.tells (g.K.Sink.at c.args.output.now) (g.K.Sink.at c.finish-in-Failed.new.output) c.finish-in-Failed.result f in
-    subst P (sym c.in-Failed.is) (c.finish-in-Failed.ensures.ends, never_six _ read_failed c.finish-in-Failed.ensures.status (λ e. cc e))
+    subst P (sym c.in-Failed.is) (c.finish-in-Failed.ensures.ends, never_six _ ReadFailed c.finish-in-Failed.ensures.status (λ e. cc e))

@@ -3,7 +3,8 @@ use Rattle.sx_asm.specs.Assembled.{assembled}
 use Rattle.sx_io.specs.Reading.{Answer, Line}
 use Rattle.sx_io.specs.Streams.{SourceAt}
 use Rattle.sx_io.specs.declared.lines.LineRead.TheVariants as read
-use Rattle.command_promise.specs.Told.{Output, Told, command_at, read_line, write_failed}
+use Rattle.command_promise.specs.declared.status.Status.TheVariants.{WriteFailed}
+use Rattle.command_promise.specs.Told.{Output, Told, command_at, read_line}
 use Rattle.command_promise.specs.Parts.{Notes}
 use Rattle.command_promise.specs.declared.turned.Turned.TheVariants.{On, Stop}
 use Rattle.command_promise.proofs.Laws.{ends-same, told-end, told-too-long, told-failed}
@@ -48,7 +49,7 @@ returns-in-Err-clause-rest g c = λ limit m0 defined aside noted b.
     let set = setting g.T.Tag.mac d c.args.world.now.sites in
     let st = c.lines.invariant.between in
     let e = c.in-Err.ensures.comes in
-    subst (λ (s : SourceAt). Told g.S.Source.tells g.K.Sink.tells limit m0 (command_at s (g.K.Sink.at c.next_line.new.output)) write_failed defined (Notes aside noted)) (sym e.1)
+    subst (λ (s : SourceAt). Told g.S.Source.tells g.K.Sink.tells limit m0 (command_at s (g.K.Sink.at c.next_line.new.output)) WriteFailed defined (Notes aside noted)) (sym e.1)
     (keeps_failed (shown_from c.args.shown d.names set st.world c.lines.number) (st.keeps limit m0 defined aside noted b) e.0)
 
 pub returns-in-Ok-End-clause-rest : goal.returns-in-Ok-End-clause-rest
