@@ -8,10 +8,9 @@ use Rattle.sx_io.specs.Streams.{SourceAt, SinkAt, OneReadFault}
 use Rattle.sx_io.specs.Reading.{Ended, Broken, Answer, Line, End, Long, Fault, Limit, behind_line, scan}
 use Rattle.sx_io.specs.Next.{Ahead, Next}
 use Rattle.sx_io.specs.declared.lines.LineRead.TheVariants as read
-use Rattle.command_promise.specs.declared.exit.Status.{Status}
-use Rattle.command_promise.specs.declared.exit.Status.TheVariants as exit
-use Rattle.command_promise.specs.declared.exit.Status.{Status}
-use Rattle.command_promise.specs.declared.exit.Status.TheVariants.{WriteFailed, OutOfMemory}
+use Rattle.command_promise.specs.declared.status.Status.{Status}
+use Rattle.command_promise.specs.declared.status.Status.TheVariants as status
+use Rattle.command_promise.specs.declared.status.Status.TheVariants.{WriteFailed, OutOfMemory}
 use Rattle.command_promise.specs.Reads.{Left, AtEnd, AtFault, Enough, Decides, Reads}
 use Rattle.command_promise.specs.Got.{Got}
 use Rattle.command_promise.specs.Told.{Output, behind, CommandAt, command_at, CommandEnds, Told, unread_output}
@@ -270,20 +269,20 @@ read-fault Enough tells limit s0 s1 taken P d never = absurd (never (taken ++ []
 
 -- memory ran out, or it didn't
 pub ran-out : (s : Status) → (s ≡ OutOfMemory) ⊎ (s ≡ OutOfMemory → ⊥)
-ran-out exit.OutOfMemory = inl refl
-ran-out exit.Done = inr (λ e. cc e)
-ran-out exit.Refused = inr (λ e. cc e)
-ran-out exit.Misused = inr (λ e. cc e)
-ran-out exit.Broken = inr (λ e. cc e)
-ran-out exit.ReadFailed = inr (λ e. cc e)
-ran-out exit.WriteFailed = inr (λ e. cc e)
-ran-out exit.NoProperty = inr (λ e. cc e)
-ran-out exit.Illegal = inr (λ e. cc e)
-ran-out exit.TooLong = inr (λ e. cc e)
-ran-out exit.NoCode = inr (λ e. cc e)
-ran-out exit.NoQuery = inr (λ e. cc e)
-ran-out exit.PropertyBroken = inr (λ e. cc e)
-ran-out exit.Unknown = inr (λ e. cc e)
+ran-out status.OutOfMemory = inl refl
+ran-out status.Done = inr (λ e. cc e)
+ran-out status.Refused = inr (λ e. cc e)
+ran-out status.Misused = inr (λ e. cc e)
+ran-out status.Broken = inr (λ e. cc e)
+ran-out status.ReadFailed = inr (λ e. cc e)
+ran-out status.WriteFailed = inr (λ e. cc e)
+ran-out status.NoProperty = inr (λ e. cc e)
+ran-out status.Illegal = inr (λ e. cc e)
+ran-out status.TooLong = inr (λ e. cc e)
+ran-out status.NoCode = inr (λ e. cc e)
+ran-out status.NoQuery = inr (λ e. cc e)
+ran-out status.PropertyBroken = inr (λ e. cc e)
+ran-out status.Unknown = inr (λ e. cc e)
 
 -- where no read and no write failed, all that is defined for the whole input was written, or memory ran out
 pub told-quiet : {tells to_tell : Bool} {limit : Limit} {m0 m1 : CommandAt} {status : Status} {F : List Answer → Output} {also : List Answer → Type 0}
