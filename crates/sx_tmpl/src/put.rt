@@ -50,6 +50,50 @@ pub fn put_one(text: &mut Vec<u8>, instruction: Instr) -> Result<(), OutOfMemory
     put_instruction(text, instruction)
 }
 
+/// As `put_one`, for two instructions.
+#[inline(always)]
+pub fn put_two(text: &mut Vec<u8>, first: Instr, second: Instr) -> Result<(), OutOfMemory>
+    requires { are_shaped (first ∷ second ∷ []) ≡ true }
+    ensures { OnOk result (PutsWords (words_of (first ∷ second ∷ [])) text.old.items
+        text.new.items) }
+{
+    put_one(text, first)?;
+    put_one(text, second)
+}
+
+/// As `put_one`, for three instructions.
+#[inline(always)]
+pub fn put_three(
+    text: &mut Vec<u8>,
+    first: Instr,
+    second: Instr,
+    third: Instr,
+) -> Result<(), OutOfMemory>
+    requires { are_shaped (first ∷ second ∷ third ∷ []) ≡ true }
+    ensures { OnOk result (PutsWords (words_of (first ∷ second ∷ third ∷ [])) text.old.items
+        text.new.items) }
+{
+    put_one(text, first)?;
+    put_two(text, second, third)
+}
+
+/// As `put_one`, for four instructions.
+#[inline(always)]
+pub fn put_four(
+    text: &mut Vec<u8>,
+    first: Instr,
+    second: Instr,
+    third: Instr,
+    fourth: Instr,
+) -> Result<(), OutOfMemory>
+    requires { are_shaped (first ∷ second ∷ third ∷ fourth ∷ []) ≡ true }
+    ensures { OnOk result (PutsWords (words_of (first ∷ second ∷ third ∷ fourth ∷ []))
+        text.old.items text.new.items) }
+{
+    put_one(text, first)?;
+    put_three(text, second, third, fourth)
+}
+
 /// Appends the words of instructions, one after the other. The error says that memory ran out.
 #[tactic(auto, using(crate::proofs::Putting::written, crate::proofs::Putting::shaped_here, crate::proofs::Putting::shaped_behind))]
 pub fn put_instructions(text: &mut Vec<u8>, instructions: &[Instr]) -> Result<(), OutOfMemory>
@@ -62,10 +106,40 @@ pub fn put_instructions(text: &mut Vec<u8>, instructions: &[Instr]) -> Result<()
     Ok(())
 }
 
-/// Appends the words of these instructions, each ended by `;`. One alone takes no array and no loop.
+/// Appends the words of these instructions, each ended by `;`. Up to four take no array and no loop.
 macro_rules! put {
-    ($text:expr; $name:ident $($operand:expr),*;) => {
-        crate::put::put_one($text, sx_isa::instruction!($name $($operand),*))
+    ($text:expr; $n1:ident $($o1:expr),*;) => {
+        crate::put::put_one($text, sx_isa::instruction!($n1 $($o1),*))
+    };
+    ($text:expr; $n1:ident $($o1:expr),*; $n2:ident $($o2:expr),*;) => {
+        crate::put::put_two(
+            $text,
+            sx_isa::instruction!($n1 $($o1),*),
+            sx_isa::instruction!($n2 $($o2),*),
+        )
+    };
+    ($text:expr; $n1:ident $($o1:expr),*; $n2:ident $($o2:expr),*; $n3:ident $($o3:expr),*;) => {
+        crate::put::put_three(
+            $text,
+            sx_isa::instruction!($n1 $($o1),*),
+            sx_isa::instruction!($n2 $($o2),*),
+            sx_isa::instruction!($n3 $($o3),*),
+        )
+    };
+    (
+        $text:expr;
+        $n1:ident $($o1:expr),*;
+        $n2:ident $($o2:expr),*;
+        $n3:ident $($o3:expr),*;
+        $n4:ident $($o4:expr),*;
+    ) => {
+        crate::put::put_four(
+            $text,
+            sx_isa::instruction!($n1 $($o1),*),
+            sx_isa::instruction!($n2 $($o2),*),
+            sx_isa::instruction!($n3 $($o3),*),
+            sx_isa::instruction!($n4 $($o4),*),
+        )
     };
     ($text:expr; $($name:ident $($operand:expr),*;)*) => {
         crate::put::put_instructions(
