@@ -299,6 +299,14 @@ fn place_address(table: &Table, code: &Code, layout: &Layout, place: usize) -> u
     table.at(place)
 }
 
+/// The address of the exit.
+fn exit_address(table: &Table, code: &Code, layout: &Layout) -> u16
+    requires table { IsTable layout.now code.now table.now }
+    ensures { result ≡ (addresses layout.now code.now).at (length code.now.ops.items) }
+{
+    place_address(table, code, layout, code.ops.len())
+}
+
 /// How many packet routines are before that of an end; with them the text is within memory.
 fn routines_before(table: &Table, code: &Code, layout: &Layout, end: u8) -> u16
     requires table { IsTable layout.now code.now table.now }
@@ -314,7 +322,7 @@ fn packet_address(table: &Table, code: &Code, layout: &Layout, end: u8) -> u16
     requires table { IsTable layout.now code.now table.now }
     ensures { result ≡ (addresses layout.now code.now).packet end }
 {
-    let exit = place_address(table, code, layout, code.ops.len());
+    let exit = exit_address(table, code, layout);
     exit + (EXIT + SLOT_ROUTINE) + PACKET_ROUTINE * routines_before(table, code, layout, end)
 }
 
@@ -377,7 +385,6 @@ pub fn put_operation(
         operation) text.old.items text.new.items) }
 {
     let base = layout.priv_from;
-    let exit = place_address(table, code, layout, code.ops.len());
     match operation {
         Ir::Jump(to) => {
             let to = place_address(table, code, layout, usize::from(to));
@@ -385,7 +392,7 @@ pub fn put_operation(
         }
         Ir::JumpZero(to) => {
             let to = place_address(table, code, layout, usize::from(to));
-            let zero = Absolute(exit + EXIT + ZERO);
+            let zero = Absolute(exit_address(table, code, layout) + EXIT + ZERO);
             put! { text; cmp POPPED, zero; jnz 2; br Immediate(to); }
         }
         Ir::JumpEqual(offset, word, to) => {
@@ -398,14 +405,16 @@ pub fn put_operation(
             }
         }
         Ir::Packet(end) => put! { text; call Immediate(packet_address(table, code, layout, end)); },
-        Ir::SetEnd(end) =>
-            put! { text; mov Immediate(base + end_at(end)), R12; call Immediate(exit + EXIT); },
+        Ir::SetEnd(end) => {
+            let routine = exit_address(table, code, layout) + EXIT;
+            put! { text; mov Immediate(base + end_at(end)), R12; call Immediate(routine); }
+        }
         Ir::Handler(handler) => {
             let next = place_address(table, code, layout, place + 1);
             let part = usize::from(first_place(&code.parts, handler));
             put_handler(text, base, next, place_address(table, code, layout, part))
         }
-        Ir::Leave => put! { text; br Immediate(exit); },
+        Ir::Leave => put! { text; br Immediate(exit_address(table, code, layout)); },
         _ => put_plain(text, code, layout, operation),
     }
 }
