@@ -78,7 +78,7 @@ fn places(alloc: Global, from: u16, ops: &[Ir]) -> Result<Vec<u16>, OutOfMemory>
     requires { from + ops_bytes ops.now < 65536 }
     ensures { IfOk result (λ places. places.items ≡ places_from from ops.now) }
 {
-    let mut places = Vec::new(alloc);
+    let mut places = Vec::with_capacity(alloc, ops.len() + 1)?;
     let mut next = from;
     for op in ops {
         places.push(next)?;
@@ -145,7 +145,7 @@ fn routine_counts(alloc: Global, ops: &[Ir], noted: &[bool]) -> Result<Vec<u16>,
     requires { AreNoted ops.now noted.now }
     ensures { IfOk result (λ counts. AreCounts ops.now END_COUNT counts.items) }
 {
-    let mut counts = Vec::new(alloc);
+    let mut counts = Vec::with_capacity(alloc, END_COUNT)?;
     let mut count: u16 = 0;
     for end in 0..END_COUNT {
         counts.push(count)?;

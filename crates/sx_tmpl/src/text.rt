@@ -126,7 +126,9 @@ pub fn emit<T: Tag>(
     ensures does { IfOk result (λ text. DoesCode T.mac code.now layout.now text.items) }
 {
     let table = Table::new(alloc, code, layout)?;
-    let mut text = Vec::new(alloc);
+    // A section is filled up with zeros after its text, so there is room for these too.
+    let section = layout.pub_to.saturating_sub(layout.pub_from);
+    let mut text = Vec::with_capacity(alloc, usize::from(section))?;
     put_text(&mut text, code, layout, &table)?;
     Ok(text)
 }

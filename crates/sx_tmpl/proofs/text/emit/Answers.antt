@@ -20,11 +20,11 @@ put_text-requires-clause-slots g c = λ k lt h. slots_fit c.args.code.now c.args
 
 pub returns-clause-size : goal.returns-clause-size
 returns-clause-size g c =
-    let text = c.in_ok-put_text.ensures ∙ ap (λ (t : List ℕ). t ++ bytes_of (text_words c.args.layout.now c.args.code.now)) c.new-text.ensures.items in
+    let text = c.in_ok-put_text.ensures ∙ ap (λ (t : List ℕ). t ++ bytes_of (text_words c.args.layout.now c.args.code.now)) c.in_ok-text.ensures.items in
     ap (λ (t : List ℕ). length t) text ∙ text_size c.args.layout.now c.args.code.now
 
 pub returns-clause-does : goal.returns-clause-does
 returns-clause-does g c =
-    let text = c.in_ok-put_text.ensures ∙ ap (λ (t : List ℕ). t ++ bytes_of (text_words c.args.layout.now c.args.code.now)) c.new-text.ensures.items in
+    let text = c.in_ok-put_text.ensures ∙ ap (λ (t : List ℕ). t ++ bytes_of (text_words c.args.layout.now c.args.code.now)) c.in_ok-text.ensures.items in
     subst (λ (t : List ℕ). DoesCode g.T.Tag.mac c.args.code.now c.args.layout.now t) (sym text)
     (text_does g.T.Tag.mac c.args.code.now c.args.layout.now g.met.T.Tag.is_tag c.requires.room c.requires.sound)
