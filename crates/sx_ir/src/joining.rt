@@ -13,23 +13,32 @@ fn moved_place(by: u16, place: u16) -> u16
     by.saturating_add(place)
 }
 
-fn moved(by: u16, op: Ir) -> Ir
-    ensures { result ≡ moved by op }
+/// Moves the place that an operation names, if it names one.
+fn move_place(by: u16, op: &mut Ir)
+    ensures { op.new ≡ moved by op.old }
 {
     match op {
-        Ir::Jump(place) => Ir::Jump(moved_place(by, place)),
-        Ir::JumpZero(place) => Ir::JumpZero(moved_place(by, place)),
-        Ir::JumpEqual(at, word, place) => Ir::JumpEqual(at, word, moved_place(by, place)),
-        op => op,
+        Ir::Jump(place) => *place = moved_place(by, *place),
+        Ir::JumpZero(place) => *place = moved_place(by, *place),
+        Ir::JumpEqual(_, _, place) => *place = moved_place(by, *place),
+        _ => {}
+    }
+}
+
+fn move_places(by: u16, ops: &mut [Ir])
+    ensures { ops.new ≡ map (moved by) ops.old }
+{
+    for op in ops.iter_mut() {
+        move_place(by, op);
     }
 }
 
 fn put_moved(ops: &mut Vec<Ir>, by: u16, bodies: &[Ir]) -> Result<(), OutOfMemory>
     ensures { OnOk result (ops.new.items ≡ ops.old.items ++ map (moved by) bodies.now) }
 {
-    for op in bodies {
-        ops.push(moved(by, *op))?;
-    }
+    let from = ops.len();
+    ops.extend_from_slice(bodies)?;
+    move_places(by, &mut ops[from..]);
     Ok(())
 }
 
@@ -63,7 +72,7 @@ pub fn join<T: Tag>(
         ≡ map (moved_part (length stub.now.ops.items)) bodies.now.parts.items) }
 {
     let by = stub.ops.len() as u16;
-    let mut ops = Vec::new(alloc);
+    let mut ops = Vec::with_capacity(alloc, stub.ops.len() + bodies.ops.len())?;
     ops.extend_from_slice(&stub.ops)?;
     put_moved(&mut ops, by, &bodies.ops)?;
     let mut parts = Vec::new(alloc);
