@@ -1,16 +1,16 @@
 //! The rules on how names are used.
 
-ghost use Rattle.std.specs.Prelude.{◌≡◌, ◌&&◌, false, map, not};
+ghost use Rattle.std.specs.Prelude.{◌≡◌, ◌&&◌, ◌||◌, false, map, not};
 ghost use Rattle.std.specs.List.{list_any};
 ghost use Rattle.sx_lang.specs.View.{block_of, expression_of, handler_of, module_of, statement_of};
 ghost use Rattle.sx_check.specs.Bounds.{block_emits};
-ghost use Rattle.sx_check.specs.Names.{is_actuator, is_sample, is_sensor};
+ghost use Rattle.sx_check.specs.Names.{is_actuator, is_declared, is_sample, is_sensor};
 ghost use Rattle.sx_check.specs.Rules.{breaks};
 ghost use Rattle.sx_check.specs.Scopes.{is_flawed, seen_in};
 ghost use Rattle.sx_check.specs.Seen.{Knows};
 ghost use Rattle.sx_check.specs.Uses.{block_uses, expression_uses, handler_uses, handlers_uses};
-ghost use Rattle.sx_check.specs.Uses.{input_uses, is_local, is_misused, is_unknown, statement_uses};
-ghost use Rattle.sx_check.specs.Uses.{used};
+ghost use Rattle.sx_check.specs.Uses.{input_uses, is_local, is_misused, is_seen, is_unknown};
+ghost use Rattle.sx_check.specs.Uses.{statement_uses, used};
 ghost use Rattle.sx_check.specs.declared.rules.Rule.TheVariants.{Kind, Unknown};
 
 use crate::bounds::has_emit;
@@ -41,6 +41,25 @@ fn is_word(role: Role, x: &Name, scope: &Scope<'_>, seen: &Seen) -> bool
     }
 }
 
+/// Whether anything in sight has the name.
+fn is_known(decls: &Declared<'_>, x: &Name, scope: &Scope<'_>, seen: &Seen) -> bool
+    requires { Knows seen.now (seen_in scope.now) }
+    ensures { result ≡ (is_declared decls.now x.now || is_seen (seen_in scope.now) x.now) }
+{
+    decls.has_name(x) || seen.sees(scope, x)
+}
+
+/// Whether the name is known and used as another kind. Nearly every name is used as its own kind,
+/// so the kind is tested first.
+#[tactic(auto, using(crate::proofs::Misused::well, crate::proofs::Misused::badly))]
+fn is_misused(decls: &Declared<'_>, role: Role, x: &Name, scope: &Scope<'_>, seen: &Seen) -> bool
+    requires { Knows seen.now (seen_in scope.now) }
+    ensures { result ≡ is_misused decls.now (used role x.now (seen_in scope.now)) }
+{
+    let is_own_kind = decls.has_role(role, x) || is_word(role, x, scope, seen);
+    !is_own_kind && is_known(decls, x, scope, seen)
+}
+
 #[tactic(auto, unfolding(crate::specs::Scopes::is_flawed))]
 fn has_flaw(
     flaw: Flaw,
@@ -53,10 +72,9 @@ fn has_flaw(
     requires { Knows seen.now (seen_in scope.now) }
     ensures { result ≡ is_flawed flaw decls.now (used role x.now (seen_in scope.now)) }
 {
-    let known = decls.has_name(x) || seen.sees(scope, x);
     match flaw {
-        Flaw::Unknown => !known,
-        Flaw::Misused => known && !(decls.has_role(role, x) || is_word(role, x, scope, seen)),
+        Flaw::Unknown => !is_known(decls, x, scope, seen),
+        Flaw::Misused => is_misused(decls, role, x, scope, seen),
     }
 }
 
