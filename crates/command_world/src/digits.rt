@@ -1,7 +1,8 @@
 //! Bytes in hexadecimal. The digits are computed and not looked up, so that the compiler makes
 //! code for eight bytes at once.
 
-ghost use Rattle.std.specs.Prelude.{◌≡◌, ◌<◌, ◌≤◌, ◌*◌, ◌++◌, OnOk, length, slice_index};
+ghost use Rattle.std.specs.Prelude.{◌≡◌, ◌<◌, ◌≤◌, ◌*◌, ◌++◌, OnOk, length, replicate};
+ghost use Rattle.std.specs.Prelude.{slice_index, true};
 ghost use Rattle.hex.specs.Hex.{encode_lower, lower_digits};
 
 use std::alloc::AllocError;
@@ -29,14 +30,36 @@ fn write_digits(bytes: &[u8], digits: &mut [u8])
     }
 }
 
+/// Whether a block is zeros, as a section is after its text.
+fn is_zeros(block: &[u8]) -> bool
+    requires { length block.now ≤ 256 }
+    ensures { result ≡ true → block.now ≡ replicate (length block.now) 0 }
+{
+    let zeros = [0; BLOCK];
+    block == &zeros[..block.len()]
+}
+
+/// Writes two digits for each byte of a block over as many `0`, the digits of zeros.
+#[tactic(auto, using(crate::proofs::Blocks::zeros_written))]
+fn write_block(block: &[u8], digits: &mut [u8])
+    requires length { length block.now ≤ 256 }
+    requires digits { digits.old ≡ replicate (2 * length block.now) 48 }
+    ensures { digits.new ≡ encode_lower block.now }
+{
+    if !is_zeros(block) {
+        write_digits(block, digits);
+    }
+}
+
 /// Appends two digits for each byte of a block.
+#[tactic(auto, using(crate::proofs::Blocks::as_many))]
 fn push_block(text: &mut Vec<u8>, block: &[u8]) -> Result<(), AllocError>
     requires { length block.now ≤ 256 }
     ensures { OnOk result (text.new.items ≡ text.old.items ++ encode_lower block.now) }
 {
-    let mut digits = [0; 2 * BLOCK];
+    let mut digits = [b'0'; 2 * BLOCK];
     let digits = &mut digits[..2 * block.len()];
-    write_digits(block, digits);
+    write_block(block, digits);
     text.extend_from_slice(digits)
 }
 
