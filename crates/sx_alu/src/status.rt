@@ -1,6 +1,6 @@
 //! The flags as bits of the status register.
 
-ghost use Rattle.std.specs.Prelude.{◌≡◌, ◌+◌, ◌*◌, ◌/◌, ◌%◌};
+ghost use Rattle.std.specs.Prelude.{◌≡◌, ◌==◌, ◌<◌, ◌+◌, ◌*◌, ◌/◌, ◌%◌};
 ghost use Rattle.sx_alu.specs.Status.{flags_of, with_flags_in};
 
 use crate::flags::Flags;
@@ -43,6 +43,16 @@ impl StatusBits {
         ensures { result ≡ record { c = c; z = z; n = n; v = v } }
     {
         let bits = u16::from(v) * 0x100 + u16::from(n) * 4 + u16::from(z) * 2 + u16::from(c);
+        StatusBits { bits }
+    }
+
+    /// The same with N and V as numbers, 0 or 1.
+    pub fn of_numbers(c: bool, z: bool, n: u16, v: u16) -> StatusBits
+        requires n { n < 2 }
+        requires v { v < 2 }
+        ensures { result ≡ record { c = c; z = z; n = n == 1; v = v == 1 } }
+    {
+        let bits = v * 0x100 + n * 4 + u16::from(z) * 2 + u16::from(c);
         StatusBits { bits }
     }
 

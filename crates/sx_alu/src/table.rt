@@ -110,13 +110,16 @@ fn word_sum(s: u16, d: u16) -> (u16, StatusBits)
 }
 
 /// The difference of two words, in such a form. V is set where N doesn't say whether the
-/// destination is below the source as a signed number.
+/// destination is below the source as a signed number. Both are numbers, since of booleans the
+/// compiler finds N twice.
 #[inline(always)]
 fn word_difference(s: u16, d: u16) -> (u16, StatusBits)
     ensures { result ≡ difference_row true s d 1 }
 {
     let r = d.wrapping_sub(s);
-    with_flags(true, r, s <= d, is_negative(true, r) != is_less(d, s))
+    let n = r >> 15;
+    let v = n ^ u16::from(is_less(d, s));
+    (r, StatusBits::of_numbers(s <= d, r == 0, n, v))
 }
 
 /// A sum without a carry. Bytes have the flags of the words whose high bytes they are.
