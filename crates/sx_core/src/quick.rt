@@ -4,7 +4,7 @@
 //! word of memory that is at hand, where one test is all that is asked. The clauses name the same
 //! rows as those of the long way.
 
-ghost use Rattle.std.specs.Prelude.{◌≡◌, ◌<◌, ℕ, true, false, None, List};
+ghost use Rattle.std.specs.Prelude.{◌≡◌, ◌<◌, ℕ, true, false, None, IfSome, List};
 ghost use Rattle.sx_isa.specs.Reading.{length_of};
 ghost use Rattle.sx_isa.specs.Extending.{extended};
 ghost use Rattle.sx_isa.specs.declared.instruction.Operand.TheVariants.{Reg, Const, Indexed};
@@ -13,7 +13,7 @@ ghost use Rattle.sx_alu.specs.Table.{limit};
 ghost use Rattle.sx_rules.specs.declared.access.Access.TheVariants.{Read, Write};
 ghost use Rattle.spec_machine.specs.Registers.{onward, at_pc};
 ghost use Rattle.spec_machine.specs.Rows.{row, with_words, program, jump, two, onto, on_memory};
-ghost use Rattle.spec_machine.specs.Rows.{into_register, writes};
+ghost use Rattle.spec_machine.specs.Rows.{into_register, writes, computed};
 ghost use Rattle.spec_machine.specs.Run.{may_at, device_of};
 ghost use Rattle.spec_machine.specs.Answers.{followed};
 ghost use Rattle.sx_executor.specs.Machine.{ran, RunsPlan};
@@ -36,7 +36,7 @@ use crate::jump::jump_quietly;
 use crate::step::step_long;
 use crate::triple::step_triple;
 use crate::two_operands::{computed_as, on_memory, reads, writes};
-use sx_alu::StatusBits;
+use sx_alu::{StatusBits, bits_tested, compared};
 use sx_bus::Bus;
 use sx_executor::registers::{PC, cut};
 use sx_executor::{ByteDouble, ByteSingle, Double, Executor, Form, Shortcut, Single};
@@ -69,27 +69,48 @@ fn jump_quickly<B: Bus>(
 
 /// The end of an operation on a general register.
 #[inline(always)]
-fn into_general<B: Bus>(executor: &mut Executor<B>, written: bool, r: u8, value: (u16, StatusBits))
+fn into_general<B: Bus>(executor: &mut Executor<B>, r: u8, value: (u16, StatusBits))
     requires { is_general r ≡ true }
-    ensures { RunsQuietly (into_register written r value executor.old.regs) executor.old
+    ensures { RunsQuietly (into_register true r value executor.old.regs) executor.old
         executor.new }
 {
     executor.set_flags(value.1);
-    if written {
-        executor.set_general(r, value.0);
+    executor.set_general(r, value.0);
+}
+
+/// The value of an operation on words that keeps the flags: MOV, BIC and BIS.
+#[inline(always)]
+fn value_alone(op: Op2, src: u16, dst: u16, flags: StatusBits) -> Option<u16>
+    ensures value { IfSome result (λ v. computed op true src dst flags ≡ (v, flags)) }
+    ensures written { IfSome result (λ v. writes op ≡ true) }
+{
+    match op {
+        Op2::Mov => Some(src),
+        Op2::Bic => Some(dst & !src),
+        Op2::Bis => Some(dst | src),
+        _ => None,
     }
 }
 
-/// An operation on words onto a general register.
+/// An operation on words onto a general register. What keeps the flags doesn't write them, and
+/// what keeps the register doesn't write it.
 #[inline(always)]
 fn onto_general<B: Bus>(executor: &mut Executor<B>, op: Op2, src: u16, r: u8)
     requires src { src < limit true }
     requires general { is_general r ≡ true }
     ensures { RunsQuietly (onto op true (Reg r) src executor.old.regs) executor.old executor.new }
 {
-    let old = executor.operand(true, r);
-    let value = computed_as::<true>(op, src, old, executor.flags());
-    into_general(executor, writes(op), r, value);
+    let old = executor.general(r);
+    let flags = executor.flags();
+    if let Some(value) = value_alone(op, src, old, flags) {
+        into_general(executor, r, (value, flags));
+        return;
+    }
+    match op {
+        Op2::Cmp => executor.set_flags(compared(src, old)),
+        Op2::Bit => executor.set_flags(bits_tested(src, old)),
+        _ => into_general(executor, r, computed_as::<true>(op, src, old, flags)),
+    }
 }
 
 /// The same from a register; `next` is the address after the instruction.

@@ -107,6 +107,15 @@ impl<B: Bus> Executor<B> {
         cut(wide, self.register(r))
     }
 
+    /// A general register as an operand of a word instruction.
+    #[inline(always)]
+    pub fn general(&self, r: u8) -> u16
+        requires { is_general r ≡ true }
+        ensures { result ≡ cut_value true (reg self.now.regs r) }
+    {
+        cut(true, self.regs[r as usize])
+    }
+
     /// The flags in SR.
     pub fn flags(&self) -> StatusBits
         ensures { result ≡ flags self.now.regs }
