@@ -6,4 +6,5 @@ pub mod HeldEnds
 pub mod SameBytes
 pub mod Untouched
 pub mod Runners
+pub mod Recognizing
 pub mod SitesOf

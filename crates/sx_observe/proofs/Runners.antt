@@ -91,7 +91,7 @@ step_author : (mac : Mac) (s : State) → tells (step mac s).shown ≡ true → 
 step_author mac s h = settled_author mac s (attempt mac s) (attempt_told mac s) (attempt_untouched mac s) h
 
 -- a section whose public bytes are as before is the deployed module that it was
-deployed_same : (sites : List Site) (n i : ℕ) (m m2 : List ℕ) (x : Section) → public_bytes x.layout m2 ≡ public_bytes x.layout m
+pub deployed_same : (sites : List Site) (n i : ℕ) (m m2 : List ℕ) (x : Section) → public_bytes x.layout m2 ≡ public_bytes x.layout m
     → position_from (is_at_site n m2 x) i sites ≡ position_from (is_at_site n m x) i sites
 deployed_same [] n i m m2 x e = refl
 deployed_same (site ∷ sites) n i m m2 x e =

@@ -3,3 +3,4 @@
 pub mod Observing
 pub mod Computed
 pub mod InMemory
+pub mod Recognized

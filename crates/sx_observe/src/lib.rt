@@ -5,7 +5,7 @@
 //! whose code it was, and what is seen of it, the touches in their order and then the event.
 //! `recording` adds items, enters what deployed modules wrap in the ledger, and looks up there what
 //! they unwrap. `sites` says where the deployed modules are, and which of them a section is;
-//! `settings` puts the deployment and these sites together.
+//! `recognized` keeps which sections were found to be modules; `settings` puts the deployment and these sites together.
 //!
 //! Memory may run out at each item and entry: the items that were there before stay, and what was
 //! added is the first of what was due (`specs/Observing.antt`).
@@ -13,6 +13,7 @@
 
 mod devices;
 pub mod observation;
+pub mod recognized;
 pub mod recording;
 pub mod settings;
 pub mod sites;

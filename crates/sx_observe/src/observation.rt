@@ -1,7 +1,7 @@
 //! What a step of a node shows: its touches in their order, and then its event.
 
-ghost use Rattle.std.specs.Prelude.{◌≡◌, ◌≤◌, ◌++◌, ◌∷◌, [], length, slice_index, true, Some};
-ghost use Rattle.std.specs.Prelude.{OnOk, OnErr};
+ghost use Rattle.std.specs.Prelude.{◌≡◌, ◌≤◌, ◌++◌, ◌∷◌, [], List, length, slice_get, slice_index};
+ghost use Rattle.std.specs.Prelude.{true, Some, OnOk, OnErr};
 ghost use Rattle.std.specs.List.{list_any};
 ghost use Rattle.sx_trace.specs.declared.items.Item.TheVariants.{Done};
 ghost use Rattle.sx_mean.specs.View.{app_as};
@@ -10,8 +10,12 @@ ghost use Rattle.sx_observe.specs.InMemory.{setting_in};
 ghost use Rattle.spec_run.specs.Observation.{cause_of, event_seen, observed, protect_item};
 ghost use Rattle.spec_run.specs.Observation.{read_item, touch_items, write_item};
 ghost use Rattle.sx_observe.specs.Computed.{author, is_own, is_touch, runner_of, tells};
+ghost use Rattle.sx_observe.specs.Recognized.{AreRecognized};
+ghost use Rattle.sx_rules.specs.Placed.{Placed};
+ghost use Rattle.spec_machine.specs.State.{State};
 
 use crate::devices::{device_number, driver_of};
+use crate::recognized::{PLACES, Recognized, recognize};
 use crate::recording::{add_unwrapped, add_wrapped, push_item};
 use crate::settings::Setting;
 use crate::sites::{Site, module_of};
@@ -77,18 +81,25 @@ fn author<B: Copied, T: Tag>(node: &Node<B, T>, event: Event) -> u16
 }
 
 /// The deployed module whose code it was that left the node so. It is looked up only where what is
-/// seen depends on it, since that compares the text of a section with those of the sites.
+/// seen depends on it, since that compares the text of a section that wasn't recognized yet with
+/// those of the sites.
 pub fn runner_of<B: Copied, T: Tag>(
     sites: &[Site],
+    those: &mut [Recognized; PLACES],
     n: u8,
     node: &Node<B, T>,
     seen: &Seen,
 ) -> Option<u8>
     requires { length sites.now ≤ 256 }
-    ensures { result ≡ runner_of sites.now n node.now seen.now }
+    ensures found { (nodes : List State) → slice_get nodes n ≡ Some node.now
+        → AreRecognized sites.now nodes those.old
+        → result ≡ runner_of sites.now n node.now seen.now }
+    ensures kept { (nodes : List State) → slice_get nodes n ≡ Some node.now
+        → Placed node.now.sections → AreRecognized sites.now nodes those.old
+        → AreRecognized sites.now nodes those.new }
 {
     if tells(seen) {
-        module_of(sites, n, node, author(node, seen.event))
+        recognize(sites, those, n, node, author(node, seen.event))
     } else {
         None
     }
