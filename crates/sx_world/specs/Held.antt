@@ -12,14 +12,18 @@ use Rattle.spec_run.specs.Setting.{Site, Setting}
 use Rattle.sx_deployer.specs.Granting.{DeployerState}
 use Rattle.spec_run.specs.Deployer.{list_at}
 use Rattle.spec_run.specs.State.{World, Acted}
+use Rattle.sx_observe.specs.declared.recognized.Recognized.{Recognized}
+use Rattle.sx_observe.specs.Recognized.{AreRecognized}
 use Rattle.sx_observe.specs.Observing.{Records, AddsFront}
 
--- what the program keeps of a run but its sites; the ledger is a set
+-- what the program keeps of a run but its sites; the ledger is a set, and sections that were
+-- recognized as modules are kept so that their texts aren't compared again
 pub record Running : Type 0 where
   pub nodes : List State
   pub packets : List (List ℕ)
   pub deployer : Keeping
   pub ledger : List Entry
+  pub recognized : List Recognized
   pub steps : ℕ
 
 -- the program's world: where modules are deployed, the state of the run, the number of lines, whether
@@ -64,6 +68,10 @@ boots_of nodes = map (λ s. s.boot) nodes
 abbrev pub ArePlaced : List State → Type 0
 ArePlaced nodes = (n : ℕ) (s : State) → slice_get nodes n ≡ Some s → Placed s.sections
 
+-- the sections of each node are placed, and those that were recognized are the modules
+abbrev pub Recognizes : List Site → Running → Type 0
+Recognizes sites kept = ArePlaced kept.nodes × AreRecognized sites kept.nodes kept.recognized
+
 -- what the program keeps shows this world of a run
 pub record Shows (set : Setting) (kept : Running) (w : World) : Type 0 where
   pub nodes : kept.nodes ≡ w.nodes
@@ -72,6 +80,7 @@ pub record Shows (set : Setting) (kept : Running) (w : World) : Type 0 where
   pub ledger : Records kept.ledger w.ledger
   pub steps : kept.steps ≡ w.steps
   pub placed : ArePlaced w.nodes
+  pub recognized : AreRecognized set.sites w.nodes kept.recognized
 
 -- An act was done: what is kept after it shows what the act leaves, and its items were added.
 abbrev pub Did : Setting → Running → Running → List Item → List Item → (World → Acted) → Type 0

@@ -41,5 +41,6 @@ stepped mac n k s kept = record {
   packets = kept.packets;
   deployer = kept.deployer;
   ledger = kept.ledger;
+  recognized = kept.recognized;
   steps = kept.steps + k;
 }

@@ -74,6 +74,7 @@ impl<B: Copied, T: Tag> Running<B, T> {
             packets,
             deployer,
             ledger,
+            recognized: self.recognized,
             steps: self.steps,
         })
     }

@@ -1,6 +1,7 @@
 //! The state of a run: all nodes, the packets, the deployer and the ledger.
 
 ghost use Rattle.std.specs.Prelude.{◌≡◌, []};
+ghost use Rattle.sx_observe.specs.Recognized.{none_recognized};
 
 use std::alloc::Global;
 use std::marker::Model;
@@ -9,6 +10,7 @@ use sx_bus::{Bus, Copied};
 use sx_deployer::Deployer;
 use sx_ledger::Ledger;
 use sx_node::Node;
+use sx_observe::recognized::{PLACES, Recognized};
 use sx_tag::Tag;
 
 /// What a world keeps of a run but where its modules are deployed.
@@ -21,6 +23,8 @@ pub(crate) struct Running<B: Bus, T: Tag> {
     pub(crate) packets: Vec<RcSlice<u8>>,
     pub(crate) deployer: Deployer<T>,
     pub(crate) ledger: Ledger,
+    /// The sections that were recognized as modules.
+    pub(crate) recognized: [Recognized; PLACES],
     /// How many steps of nodes were taken.
     pub(crate) steps: u64,
 }
@@ -37,6 +41,7 @@ impl<B: Bus, T: Tag> Model for Running<B, T> {
       packets = map rc_slice_items r.packets.items;
       deployer = r.deployer;
       ledger = r.ledger;
+      recognized = r.recognized;
       steps = r.steps;
     } };
 }
@@ -55,6 +60,7 @@ impl<B: Copied, T: Tag> Running<B, T> {
           deployer = deployer;
           ledger =
               [];
+          recognized = none_recognized;
           steps = 0;
         } }
     {
@@ -65,6 +71,7 @@ impl<B: Copied, T: Tag> Running<B, T> {
             packets: Vec::new(alloc),
             deployer,
             ledger: Ledger::new(alloc),
+            recognized: Recognized::none(),
             steps: 0,
         }
     }

@@ -6,10 +6,11 @@ ghost use Rattle.std.specs.Option.{option_to_list};
 ghost use Rattle.spec_machine.specs.State.{State};
 ghost use Rattle.spec_machine.specs.Acts.{irq};
 ghost use Rattle.spec_run.specs.Acts.{at_node, after_interrupt};
-ghost use Rattle.sx_world.specs.Held.{DoesAct};
+ghost use Rattle.sx_world.specs.Held.{DoesAct, Recognizes};
 ghost use Rattle.sx_observe.specs.Observing.{Observes, ObservesFront};
 ghost use Rattle.sx_observe.specs.InMemory.{setting_in};
 ghost use Rattle.sx_observe.specs.Computed.{runner_of};
+ghost use Rattle.sx_observe.specs.Recognized.{AreRecognized};
 ghost use Rattle.spec_run.specs.Observation.{observed};
 ghost use Rattle.sx_world.specs.Passing.{stepped, taken, AreQuiet, EndsWith};
 ghost use Rattle.spec_run.specs.Run as run;
@@ -106,18 +107,25 @@ impl<B: Copied, T: Tag> Running<B, T> {
         items: &mut Vec<Item>,
     ) -> Result<(), AllocError>
         requires { n < length self.old.nodes }
-        ensures done { OnOk result ((s : State) → slice_get self.old.nodes n ≡ Some s
+        ensures done { OnOk result (Recognizes setting.now.sites.now self.old
+            → (s : State) → slice_get self.old.nodes n ≡ Some s
             → Observes self.old.ledger self.new.ledger items.old.items items.new.items
             (observed (setting_in T.mac setting.now) n
             (runner_of setting.now.sites.now n s seen.now) s seen.now)) }
-        ensures front { OnErr result ((s : State) → slice_get self.old.nodes n ≡ Some s
+        ensures front { OnErr result (Recognizes setting.now.sites.now self.old
+            → (s : State) → slice_get self.old.nodes n ≡ Some s
             → ObservesFront self.old.ledger items.old.items items.new.items
             (observed (setting_in T.mac setting.now) n
             (runner_of setting.now.sites.now n s seen.now) s seen.now)) }
-        ensures kept { self.new ≡ record self.old { ledger = self.new.ledger } }
+        ensures recognized { Recognizes setting.now.sites.now self.old
+            → AreRecognized setting.now.sites.now self.old.nodes self.new.recognized }
+        ensures kept { self.new ≡ record self.old {
+          ledger = self.new.ledger;
+          recognized = self.new.recognized;
+        } }
     {
         let node = &self.nodes[usize::from(n)];
-        let runner = runner_of(setting.sites, n, node, seen);
+        let runner = runner_of(setting.sites, &mut self.recognized, n, node, seen);
         add_seen(setting, n, runner, node, seen, items, &mut self.ledger)
     }
 

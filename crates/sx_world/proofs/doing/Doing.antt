@@ -3,28 +3,34 @@ use Rattle.std.proofs.Common.{◌≡◌, ℕ, zero, suc, inl, inr, ◌<◌, List
 use Rattle.std.specs.Prelude.{slice_get, slice_set}
 use Rattle.std.proofs.lemmas.Bool.{cases_eq}
 use Rattle.sx_rules.specs.Placed.{Placed}
-use Rattle.sx_rules.specs.Access.{Sections}
+use Rattle.sx_tag.specs.Mac.{Mac}
 use Rattle.sx_trace.specs.declared.items.Item.{Item}
 use Rattle.sx_ledger.specs.declared.entry.Entry.{Entry}
 use Rattle.spec_machine.specs.declared.kinds.Refused.{Refused}
 use Rattle.spec_machine.specs.State.{State, reset}
-use Rattle.spec_machine.specs.Acting.{Restart}
+use Rattle.spec_machine.specs.Acting.{Act, Restart, acted}
 use Rattle.spec_machine.proofs.Sections.{acted_placed}
-use Rattle.spec_machine.specs.Acts.{unless}
 use Rattle.spec_machine.specs.Step as machine
 use Rattle.spec_run.specs.Setting.{Setting}
 use Rattle.sx_ledger.specs.Made.{Made}
 use Rattle.spec_run.specs.State.{World, Acted}
 use Rattle.spec_run.specs.Acts.{at_node, with_node, done_on, or_refused}
-use Rattle.sx_world.specs.Held.{Running, Shows, Did, Wanted, ArePlaced, boots_of}
+use Rattle.sx_world.specs.Held.{Running, Recognizes, Shows, Did, Wanted, ArePlaced, boots_of}
+use Rattle.sx_observe.specs.declared.recognized.Recognized.{Recognized}
+use Rattle.sx_observe.specs.Recognized.{AreRecognized}
 use Rattle.sx_observe.specs.Observing.{Records}
+use Rattle.sx_observe.proofs.Recognizing.{all_stay}
 use Rattle.sx_observe.proofs.Fronts.{front_same}
 use Rattle.spec_run.proofs.tie.Lists.{get_other, some_inj, length_set}
 use Rattle.lemmas.proofs.Lists.{get_same, get_some}
 
 -- what is kept, with other nodes, another ledger, and another count of steps
 abbrev pub with_nodes : Running → List State → List Entry → ℕ → Running
-with_nodes h nodes ledger steps = record { nodes = nodes; packets = h.packets; deployer = h.deployer; ledger = ledger; steps = steps }
+with_nodes h nodes ledger steps = record { nodes = nodes; packets = h.packets; deployer = h.deployer; ledger = ledger; recognized = h.recognized; steps = steps }
+
+-- with another ledger and other recognized sections
+abbrev pub with_seen : Running → List Entry → List Recognized → Running
+with_seen h ledger those = record { nodes = h.nodes; packets = h.packets; deployer = h.deployer; ledger = ledger; recognized = those; steps = h.steps }
 
 set_placed : (nodes : List State) (n : ℕ) (s t : State) → slice_get nodes n ≡ Some s → ArePlaced nodes → Placed t.sections → ArePlaced (slice_set nodes n t)
 set_placed nodes n s t here all placed k u e = elim (cases_eq k n) [
@@ -34,39 +40,58 @@ set_placed nodes n s t here all placed k u e = elim (cases_eq k n) [
   | inr other ↦ all k u (sym (get_other nodes n k t other) ∙ e)
 ]
 
--- one node changed
-pub node_shown : (set : Setting) (old : Running) (w : World) (n : ℕ) (s t : State) (entries : List Entry) (ledger : List Made) (steps : ℕ)
-    → Shows set old w → slice_get w.nodes n ≡ Some s → Placed t.sections → Records entries ledger
-    → Shows set (with_nodes old (slice_set old.nodes n t) entries steps) (with_node w n t ledger steps)
-node_shown set old w n s t entries ledger steps h here placed records = record {
-  nodes = ap (λ ns. slice_set ns n t) h.nodes;
+-- something happened to one node
+pub node_shown : (set : Setting) (old : Running) (w : World) (n : ℕ) (s : State) (act : Act) (entries : List Entry) (ledger : List Made) (steps : ℕ)
+    → Shows set old w → slice_get w.nodes n ≡ Some s → Records entries ledger
+    → Shows set (with_nodes old (slice_set old.nodes n (acted set.mac act s).state) entries steps) (with_node w n (acted set.mac act s).state ledger steps)
+node_shown set old w n s act entries ledger steps h here records = record {
+  nodes = ap (λ ns. slice_set ns n (acted set.mac act s).state) h.nodes;
   packets = h.packets;
   deployer = h.deployer;
   ledger = records;
   steps = refl;
-  placed = set_placed w.nodes n s t here h.placed placed;
+  placed = set_placed w.nodes n s (acted set.mac act s).state here h.placed (acted_placed set.mac act s (h.placed n s here));
+  recognized = all_stay set.mac act set.sites w.nodes n s old.recognized here (h.placed n s here) h.recognized;
+}
+
+-- those that were recognized are the modules
+pub shown_recognizes : (set : Setting) (kept : Running) (w : World) → Shows set kept w → Recognizes set.sites kept
+shown_recognizes set kept w h =
+    (subst ArePlaced (sym h.nodes) h.placed, subst (λ ns. AreRecognized set.sites ns kept.recognized) (sym h.nodes) h.recognized)
+
+-- other sections were recognized
+pub recognized_shown : (set : Setting) (kept : Running) (w : World) (those : List Recognized) → Shows set kept w → AreRecognized set.sites kept.nodes those
+    → Shows set (with_seen kept kept.ledger those) w
+recognized_shown set kept w those h are = record {
+  nodes = h.nodes;
+  packets = h.packets;
+  deployer = h.deployer;
+  ledger = h.ledger;
+  steps = h.steps;
+  placed = h.placed;
+  recognized = subst (λ ns. AreRecognized set.sites ns those) h.nodes are;
 }
 
 -- an act that answers nothing was done on a node or refused
 pub done_did : {T E : Type 0} (r : Result T E) (old new : Running) (before after : List Item) (n : ℕ) (items : List Item)
-    (act : State → machine.Shown (Result (Unit {0}) Refused)) (answer : Result (Unit {0}) Refused) → n < length old.nodes
+    (act : State → machine.Shown (Result (Unit {0}) Refused)) (what : Act) (answer : Result (Unit {0}) Refused) → n < length old.nodes
     → ((s : State) → slice_get old.nodes n ≡ Some s → new ≡ with_nodes old (slice_set old.nodes n (act s).state) old.ledger old.steps)
     → ((s : State) → slice_get old.nodes n ≡ Some s → answer ≡ (act s).shown)
-    → ((s : State) → (act s).state.sections ≡ s.sections)
+    → ((mac : Mac) (s : State) → (act s).state ≡ (acted mac what s).state)
     → OnOk r (after ≡ before ++ or_refused n items answer)
     → OnOk r ((set : Setting) → Did set old new before after (λ w. at_node w (λ s. done_on w n items (act s)) (slice_get w.nodes n)))
-done_did (Ok x) old new before after n items act answer lt left said kept ok = λ set w h.
+done_did (Ok x) old new before after n items act what answer lt left said is ok = λ set w h.
     let found = get_some old.nodes n lt in
     let s = found.0 in
     let here : slice_get w.nodes n ≡ Some s = ap (λ ns. slice_get ns n) (sym h.nodes) ∙ found.1 in
     let f : State → Acted = λ s. done_on w n items (act s) in
-    let placed : Placed (act s).state.sections = subst (λ (x : Sections). Placed x) (sym (kept s)) (h.placed n s here) in
     let steps : Shows set (with_nodes old (slice_set old.nodes n (act s).state) old.ledger old.steps) (with_node w n (act s).state w.ledger w.steps) =
     subst (λ k. Shows set (with_nodes old (slice_set old.nodes n (act s).state) old.ledger k) (with_node w n (act s).state w.ledger w.steps)) (sym h.steps)
-    (node_shown set old w n s (act s).state old.ledger w.ledger w.steps h here placed h.ledger) in
+    (subst (λ (t : State). Shows set (with_nodes old (slice_set old.nodes n t) old.ledger w.steps) (with_node w n t w.ledger w.steps)) (sym (is set.mac s))
+    (node_shown set old w n s what old.ledger w.ledger w.steps h here h.ledger)) in
     subst (λ o. Shows set new (at_node w f o).world × (after ≡ before ++ (at_node w f o).items)) (sym here)
     (subst (λ x. Shows set x (with_node w n (act s).state w.ledger w.steps)) (sym (left s found.1)) steps, ok ∙ ap (λ a. before ++ or_refused n items a) (said s found.1))
-done_did (Err e) old new before after n items act answer lt left said kept ok = tt
+done_did (Err e) old new before after n items act what answer lt left said is ok = tt
 
 -- memory ran out before an item was added
 pub wanted_same : {T E : Type 0} (r : Result T E) (old : Running) (before after : List Item) (act : World → Acted)
@@ -80,11 +105,6 @@ pub wanted_here : {T E : Type 0} (r : Result T E) (set : Setting) (old : Running
 wanted_here (Ok x) set old before after act err = tt
 wanted_here (Err e) set old before after act err = λ w h. front_same after before (act w).items err
 
--- a refused act leaves the node
-pub unless_kept : {T : Type 0} (why : Option Refused) (s : State) (done : machine.Shown T) → done.state.sections ≡ s.sections → (unless why s done).state.sections ≡ s.sections
-unless_kept None s done e = e
-unless_kept (Some why) s done e = refl
-
 -- a node was reset
 pub reset_did : {T E : Type 0} (r : Result T E) (old new : Running) (before after : List Item) (n : ℕ) (items : List Item) → n < length old.nodes
     → ((s : State) → slice_get old.nodes n ≡ Some s → new ≡ with_nodes old (slice_set old.nodes n (reset s)) old.ledger old.steps)
@@ -97,7 +117,7 @@ reset_did (Ok x) old new before after n items lt left ok = λ set w h.
     let f : State → Acted = λ s. record { world = with_node w n (reset s) w.ledger w.steps; items = items } in
     let steps : Shows set (with_nodes old (slice_set old.nodes n (reset s)) old.ledger old.steps) (with_node w n (reset s) w.ledger w.steps) =
     subst (λ k. Shows set (with_nodes old (slice_set old.nodes n (reset s)) old.ledger k) (with_node w n (reset s) w.ledger w.steps)) (sym h.steps)
-    (node_shown set old w n s (reset s) old.ledger w.ledger w.steps h here (acted_placed set.mac Restart s (h.placed n s here)) h.ledger) in
+    (node_shown set old w n s Restart old.ledger w.ledger w.steps h here h.ledger) in
     subst (λ o. Shows set new (at_node w f o).world × (after ≡ before ++ (at_node w f o).items)) (sym here)
     (subst (λ x. Shows set x (with_node w n (reset s) w.ledger w.steps)) (sym (left s found.1)) steps, ok)
 reset_did (Err e) old new before after n items lt left ok = tt

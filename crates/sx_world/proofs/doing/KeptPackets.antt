@@ -18,7 +18,7 @@ use Rattle.sx_observe.proofs.Fronts.{front_same}
 
 -- what is kept, with other packets
 abbrev pub with_packets : Running → List (List ℕ) → Running
-with_packets h packets = record { nodes = h.nodes; packets = packets; deployer = h.deployer; ledger = h.ledger; steps = h.steps }
+with_packets h packets = record { nodes = h.nodes; packets = packets; deployer = h.deployer; ledger = h.ledger; recognized = h.recognized; steps = h.steps }
 
 -- packets in memory, each with the bytes in it
 module _ {X : Type 0} (bytes_in : X → List ℕ) where
@@ -58,6 +58,7 @@ packet_does set (Ok x) old packets before after bytes number count e added none 
     ledger = h.ledger;
     steps = h.steps;
     placed = h.placed;
+    recognized = h.recognized;
   },
   added ∙ ap (λ k. before ++ Packet k (length bytes) ∷ []) (count ∙ ap length h.packets),
 )

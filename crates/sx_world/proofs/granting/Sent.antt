@@ -19,7 +19,7 @@ use Rattle.sx_wire.proofs.Numbers.{challenge_same}
 
 -- what is kept, with other packets, another deployer and another ledger
 abbrev pub sent : Running → List (List ℕ) → Keeping → List Entry → Running
-sent h packets deployer ledger = record { nodes = h.nodes; packets = packets; deployer = deployer; ledger = ledger; steps = h.steps }
+sent h packets deployer ledger = record { nodes = h.nodes; packets = packets; deployer = deployer; ledger = ledger; recognized = h.recognized; steps = h.steps }
 
 -- the deployer and the ledger changed
 pub deployer_shown : (set : Setting) (old : Running) (w : World) (k : Keeping) (d : DeployerState) (entries : List Entry) (ledger : List Made)
@@ -31,6 +31,7 @@ deployer_shown set old w k d entries ledger h kept records = record {
   ledger = records;
   steps = h.steps;
   placed = h.placed;
+  recognized = h.recognized;
 }
 
 -- a packet came
@@ -44,6 +45,7 @@ packet_shown set old w packets bytes sent_bytes h e same = record {
   ledger = h.ledger;
   steps = h.steps;
   placed = h.placed;
+  recognized = h.recognized;
 }
 
 -- its item

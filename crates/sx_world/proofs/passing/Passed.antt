@@ -16,13 +16,16 @@ use Rattle.spec_machine.specs.declared.kinds.Seen.{Seen}
 use Rattle.spec_machine.specs.Run.{untouched}
 use Rattle.spec_machine.specs.State.{State}
 use Rattle.spec_machine.specs.Step.{step}
+use Rattle.spec_machine.specs.Acting.{Step}
 use Rattle.spec_machine.proofs.Boots.{step_quiet}
 use Rattle.sx_deploy.specs.Deployment.{Deployed}
 use Rattle.spec_run.specs.Setting.{Site, Setting}
+use Rattle.spec_run.specs.State.{World}
 use Rattle.spec_run.specs.Observation.{observed}
 use Rattle.sx_observe.specs.Computed.{runner_of}
-use Rattle.sx_world.specs.Held.{Running, Did, Wanted}
+use Rattle.sx_world.specs.Held.{Running, Recognizes, Shows, Did, Wanted}
 use Rattle.sx_observe.specs.Observing.{Records, Observes, ObservesFront}
+use Rattle.sx_observe.specs.Recognized.{AreRecognized}
 use Rattle.spec_run.specs.Accepted.{setting}
 use Rattle.spec_run.specs.Run.{is_reset, steps_of}
 use Rattle.sx_world.specs.Passing.{after_steps, AreQuiet, EndsWith, stepped, taken}
@@ -31,7 +34,7 @@ use Rattle.spec_run.proofs.steps.Stretch.{set_same}
 use Rattle.sx_world.proofs.passing.Going.{Going, Steps, next, going_on, going_over, is_last}
 use Rattle.spec_run.proofs.acts.Bounds.{no_reset}
 use Rattle.sx_world.proofs.passing.Stepped.{step_does, program_did, program_wanted, seen_behind}
-use Rattle.sx_world.proofs.doing.Doing.{with_nodes}
+use Rattle.sx_world.proofs.doing.Doing.{with_nodes, with_seen, node_shown, shown_recognizes, recognized_shown}
 use Rattle.lemmas.proofs.Lists.{get_same, get_some}
 
 -- what a step shows that shows nothing
@@ -159,25 +162,27 @@ node_there items old n i s node left here same e =
     e ∙ ap (λ xs. get_or xs i node) left ∙ ap (λ k. get_or old k node) same ∙ get_or_from_slice_get old n s node here
 
 -- what is seen of the node, whichever it is
-pub shown_did : {T E : Type 0} (r : Result T E) (set : Setting) (n : ℕ) (entries old new : List Entry) (before after : List Item) (nodes : List State) (node : State) (runner : Option ℕ) (seen : Seen)
-    → entries ≡ old → runner ≡ runner_of set.sites n node seen → ((s : State) → slice_get nodes n ≡ Some s → node ≡ s)
+pub shown_did : {T E : Type 0} (r : Result T E) (set : Setting) (n : ℕ) (kept : Running) (entries new : List Entry) (before after : List Item) (node : State) (runner : Option ℕ) (seen : Seen)
+    → entries ≡ kept.ledger → (Recognizes set.sites kept → slice_get kept.nodes n ≡ Some node → runner ≡ runner_of set.sites n node seen) → ((s : State) → slice_get kept.nodes n ≡ Some s → node ≡ s)
     → OnOk r (Observes entries new before after (observed set n runner node seen))
-    → OnOk r ((s : State) → slice_get nodes n ≡ Some s → Observes old new before after (observed set n (runner_of set.sites n s seen) s seen))
-shown_did (Ok x) set n entries old new before after nodes node runner seen kept found there saw = λ s here.
-    subst (λ l. Observes l new before after (observed set n (runner_of set.sites n s seen) s seen)) kept
+    → OnOk r (Recognizes set.sites kept → (s : State) → slice_get kept.nodes n ≡ Some s → Observes kept.ledger new before after (observed set n (runner_of set.sites n s seen) s seen))
+shown_did (Ok x) set n kept entries new before after node runner seen same found there saw = λ known s here.
+    let is = found known (here ∙ ap (λ (t : State). Some t) (sym (there s here))) in
+    subst (λ l. Observes l new before after (observed set n (runner_of set.sites n s seen) s seen)) same
     (subst (λ (t : State). Observes entries new before after (observed set n (runner_of set.sites n t seen) t seen)) (there s here)
-    (subst (λ o. Observes entries new before after (observed set n o node seen)) found saw))
-shown_did (Err e) set n entries old new before after nodes node runner seen kept found there saw = tt
+    (subst (λ o. Observes entries new before after (observed set n o node seen)) is saw))
+shown_did (Err e) set n kept entries new before after node runner seen same found there saw = tt
 
-pub shown_front : {T E : Type 0} (r : Result T E) (set : Setting) (n : ℕ) (entries old : List Entry) (before after : List Item) (nodes : List State) (node : State) (runner : Option ℕ) (seen : Seen)
-    → entries ≡ old → runner ≡ runner_of set.sites n node seen → ((s : State) → slice_get nodes n ≡ Some s → node ≡ s)
+pub shown_front : {T E : Type 0} (r : Result T E) (set : Setting) (n : ℕ) (kept : Running) (entries : List Entry) (before after : List Item) (node : State) (runner : Option ℕ) (seen : Seen)
+    → entries ≡ kept.ledger → (Recognizes set.sites kept → slice_get kept.nodes n ≡ Some node → runner ≡ runner_of set.sites n node seen) → ((s : State) → slice_get kept.nodes n ≡ Some s → node ≡ s)
     → OnErr r (ObservesFront entries before after (observed set n runner node seen))
-    → OnErr r ((s : State) → slice_get nodes n ≡ Some s → ObservesFront old before after (observed set n (runner_of set.sites n s seen) s seen))
-shown_front (Ok x) set n entries old before after nodes node runner seen kept found there saw = tt
-shown_front (Err e) set n entries old before after nodes node runner seen kept found there saw = λ s here.
-    subst (λ l. ObservesFront l before after (observed set n (runner_of set.sites n s seen) s seen)) kept
+    → OnErr r (Recognizes set.sites kept → (s : State) → slice_get kept.nodes n ≡ Some s → ObservesFront kept.ledger before after (observed set n (runner_of set.sites n s seen) s seen))
+shown_front (Ok x) set n kept entries before after node runner seen same found there saw = tt
+shown_front (Err e) set n kept entries before after node runner seen same found there saw = λ known s here.
+    let is = found known (here ∙ ap (λ (t : State). Some t) (sym (there s here))) in
+    subst (λ l. ObservesFront l before after (observed set n (runner_of set.sites n s seen) s seen)) same
     (subst (λ (t : State). ObservesFront entries before after (observed set n (runner_of set.sites n t seen) t seen)) (there s here)
-    (subst (λ o. ObservesFront entries before after (observed set n o node seen)) found saw))
+    (subst (λ o. ObservesFront entries before after (observed set n o node seen)) is saw))
 
 -- of the steps that are left, as many less one
 pub one_less : (left k : ℕ) → k < left → left - k ≡ suc (left - (k + 1))
@@ -186,29 +191,51 @@ one_less left k h = omega arith
 pub none_more : (left k : ℕ) → k < left → left ≡ left - k + k
 none_more left k h = omega arith
 
+-- what is kept after them and one more is what one more step leaves
+passed_next : (mac : Mac) (idle : Bool) (n k left : ℕ) (now mid : Running) (seen : Seen) (entries : List Entry) → (p : Passage mac idle n k left now mid seen)
+    → with_nodes mid mid.nodes entries mid.steps
+    ≡ with_nodes (stepped mac n k p.node now) (slice_set (stepped mac n k p.node now).nodes n (step mac (after_steps mac k p.node)).state) entries ((stepped mac n k p.node now).steps + 1)
+passed_next mac idle n k left now mid seen entries p =
+    ap (λ (r : Running). with_nodes r r.nodes entries r.steps) p.leaves ∙ stepped_next mac n k p.node now entries
+
+-- those that were recognized are the modules after it
+passed_recognizes : (mac : Mac) (d : Deployed) (sites : List Site) (now mid : Running) (idle : Bool) (n k left : ℕ) (seen : Seen)
+    → (p : Passage mac idle n k left now mid seen) → (v : World) → Shows (setting mac d sites) (stepped mac n k p.node now) v → Recognizes sites mid
+passed_recognizes mac d sites now mid idle n k left seen p v h =
+    let set = setting mac d sites in
+    let old = stepped mac n k p.node now in
+    let t = after_steps mac k p.node in
+    let here : slice_get v.nodes n ≡ Some t = ap (λ ns. slice_get ns n) (sym h.nodes) ∙ stepped_there mac n k p.node now p.here in
+    subst (λ (r : Running). Recognizes sites r) (sym (passed_next mac idle n k left now mid seen old.ledger p))
+    (shown_recognizes set _ _ (node_shown set old v n t Step old.ledger v.ledger (old.steps + 1) h here h.ledger))
+
 -- the step after them, and what is seen of it
 pub passed_did : (mac : Mac) (d : Deployed) (sites : List Site) (now mid new : Running) (came after : List Item) (idle : Bool) (n k left : ℕ) (seen : Seen)
-    → (p : Passage mac idle n k left now mid seen) → new ≡ with_nodes mid mid.nodes new.ledger mid.steps
-    → ((t : State) → slice_get mid.nodes n ≡ Some t → Observes mid.ledger new.ledger came after (observed (setting mac d sites) n (runner_of sites n t seen) t seen))
+    → (p : Passage mac idle n k left now mid seen) → new ≡ with_seen mid new.ledger new.recognized
+    → (Recognizes sites mid → (t : State) → slice_get mid.nodes n ≡ Some t → Observes mid.ledger new.ledger came after (observed (setting mac d sites) n (runner_of sites n t seen) t seen))
+    → (Recognizes sites mid → AreRecognized sites mid.nodes new.recognized)
     → Steps (setting mac d sites) n (stepped mac n k p.node now) new came after
-passed_did mac d sites now mid new came after idle n k left seen p kept saw =
+passed_did mac d sites now mid new came after idle n k left seen p kept saw recognizes = λ v h.
+    let set = setting mac d sites in
     let t = after_steps mac k p.node in
     let u = (step mac t).state in
-    program_did mac d sites (stepped mac n k p.node now) new came after n t u (runner_of sites n u seen) seen mid.ledger new.ledger
-    (stepped_there mac n k p.node now p.here) refl p.shown refl (ap (λ (r : Running). r.ledger) p.leaves)
-    (kept ∙ ap (λ (r : Running). with_nodes r r.nodes new.ledger r.steps) p.leaves ∙ stepped_next mac n k p.node now new.ledger)
-    (saw u (node_at mac n k p.node now mid p.here p.leaves))
+    let known = passed_recognizes mac d sites now mid idle n k left seen p v h in
+    let left_by = with_nodes mid mid.nodes new.ledger mid.steps in
+    let did = program_did mac d sites (stepped mac n k p.node now) left_by came after n t u (runner_of sites n u seen) seen mid.ledger new.ledger
+    (stepped_there mac n k p.node now p.here) refl p.shown refl (ap (λ (r : Running). r.ledger) p.leaves) (passed_next mac idle n k left now mid seen new.ledger p)
+    (saw known u (node_at mac n k p.node now mid p.here p.leaves)) v h in
+    (subst (λ (r : Running). Shows set r (next set n v).world) (sym kept) (recognized_shown set left_by (next set n v).world new.recognized did.0 (recognizes known)), did.1)
 
 pub passed_front : (mac : Mac) (d : Deployed) (sites : List Site) (now mid : Running) (came after : List Item) (idle : Bool) (n k left : ℕ) (seen : Seen)
     → (p : Passage mac idle n k left now mid seen)
-    → ((t : State) → slice_get mid.nodes n ≡ Some t → ObservesFront mid.ledger came after (observed (setting mac d sites) n (runner_of sites n t seen) t seen))
+    → (Recognizes sites mid → (t : State) → slice_get mid.nodes n ≡ Some t → ObservesFront mid.ledger came after (observed (setting mac d sites) n (runner_of sites n t seen) t seen))
     → Wanted (setting mac d sites) (stepped mac n k p.node now) came after (next (setting mac d sites) n)
-passed_front mac d sites now mid came after idle n k left seen p saw =
+passed_front mac d sites now mid came after idle n k left seen p saw = λ v h.
     let t = after_steps mac k p.node in
     let u = (step mac t).state in
     program_wanted mac d sites (stepped mac n k p.node now) came after n t u (runner_of sites n u seen) seen mid.ledger
     (stepped_there mac n k p.node now p.here) refl p.shown refl (ap (λ (r : Running). r.ledger) p.leaves)
-    (saw u (node_at mac n k p.node now mid p.here p.leaves))
+    (saw (passed_recognizes mac d sites now mid idle n k left seen p v h) u (node_at mac n k p.node now mid p.here p.leaves)) v h
 
 -- what the run has come to before it
 pub passed_going : (mac : Mac) (d : Deployed) (sites : List Site) (idle : Bool) (ends : List Item) (n all left k : ℕ) (old now mid : Running) (before came : List Item) (seen : Seen)
@@ -218,13 +245,13 @@ passed_going mac d sites idle ends n all left k old now mid before came seen p g
     going_quiet mac d sites idle ends n all left k (left - k) old now before came p.node going (none_more left k p.few) p.here p.quiet
 
 -- the node after it
-pub passed_there : (mac : Mac) (idle : Bool) (n k left : ℕ) (now mid new : Running) (seen : Seen) → (p : Passage mac idle n k left now mid seen) → new ≡ with_nodes mid mid.nodes new.ledger mid.steps
+pub passed_there : (mac : Mac) (idle : Bool) (n k left : ℕ) (now mid new : Running) (seen : Seen) → (p : Passage mac idle n k left now mid seen) → new ≡ with_seen mid new.ledger new.recognized
     → slice_get new.nodes n ≡ Some (step mac (after_steps mac k p.node)).state
 passed_there mac idle n k left now mid new seen p kept = ap (λ (r : Running). slice_get r.nodes n) kept ∙ node_at mac n k p.node now mid p.here p.leaves
 
 -- the program's test whether it is the last one
 pub passed_ends : (mac : Mac) (idle : Bool) (n k left : ℕ) (now mid new : Running) (seen : Seen) (b : Bool)
-    → (p : Passage mac idle n k left now mid seen) → new ≡ with_nodes mid mid.nodes new.ledger mid.steps
+    → (p : Passage mac idle n k left now mid seen) → new ≡ with_seen mid new.ledger new.recognized
     → ((u : State) → slice_get new.nodes n ≡ Some u → b ≡ (is_reset seen.event || (idle && (u.cur == 0))))
     → (is_reset (step mac (after_steps mac k p.node)).shown.event || (idle && ((step mac (after_steps mac k p.node)).state.cur == 0))) ≡ b
 passed_ends mac idle n k left now mid new seen b p kept test =
@@ -235,12 +262,12 @@ pub passed_within : (mac : Mac) (idle : Bool) (n k left : ℕ) (now mid : Runnin
 passed_within mac idle n k left now mid seen p lt =
     subst (λ i. n < i) (sym (ap (λ (r : Running). length r.nodes) p.leaves ∙ length_set now.nodes n (after_steps mac (suc k) p.node))) lt
 
-pub shown_within : (n : ℕ) (mid new : Running) → new ≡ with_nodes mid mid.nodes new.ledger mid.steps → n < length mid.nodes → n < length new.nodes
+pub shown_within : (n : ℕ) (mid new : Running) → new ≡ with_seen mid new.ledger new.recognized → n < length mid.nodes → n < length new.nodes
 shown_within n mid new kept lt = subst (λ i. n < i) (sym (ap (λ (r : Running). length r.nodes) kept)) lt
 
 -- where it isn't, the count of resets is kept
 pub passed_small : (mac : Mac) (idle : Bool) (n k left : ℕ) (now mid new : Running) (seen : Seen) (b : Bool)
-    → (p : Passage mac idle n k left now mid seen) → new ≡ with_nodes mid mid.nodes new.ledger mid.steps
+    → (p : Passage mac idle n k left now mid seen) → new ≡ with_seen mid new.ledger new.recognized
     → ((u : State) → slice_get new.nodes n ≡ Some u → b ≡ (is_reset seen.event || (idle && (u.cur == 0)))) → b ≡ false
     → p.node.boot < 4294967295 → (t : State) → slice_get new.nodes n ≡ Some t → t.boot < 4294967295
 passed_small mac idle n k left now mid new seen b p kept test more small t here =
@@ -253,8 +280,9 @@ passed_small mac idle n k left now mid new seen b p kept test more small t here 
 
 -- What that step showed was said: the program goes on after it, or it was the last one.
 module _ (mac : Mac) (d : Deployed) (sites : List Site) (idle : Bool) (ends : List Item) (n all left k : ℕ) (old now mid new : Running) (before came after : List Item) (seen : Seen) (b : Bool)
-    (p : Passage mac idle n k left now mid seen) (kept : new ≡ with_nodes mid mid.nodes new.ledger mid.steps)
-    (saw : (t : State) → slice_get mid.nodes n ≡ Some t → Observes mid.ledger new.ledger came after (observed (setting mac d sites) n (runner_of sites n t seen) t seen))
+    (p : Passage mac idle n k left now mid seen) (kept : new ≡ with_seen mid new.ledger new.recognized)
+    (saw : Recognizes sites mid → (t : State) → slice_get mid.nodes n ≡ Some t → Observes mid.ledger new.ledger came after (observed (setting mac d sites) n (runner_of sites n t seen) t seen))
+    (recognizes : Recognizes sites mid → AreRecognized sites mid.nodes new.recognized)
     (test : (u : State) → slice_get new.nodes n ≡ Some u → b ≡ (is_reset seen.event || (idle && (u.cur == 0))))
     (going : Going (setting mac d sites) (λ s. idle && (s.cur == 0)) ends n all left old now before came) where
   ends_as : (is_reset (step mac (after_steps mac k p.node)).shown.event || (idle && ((step mac (after_steps mac k p.node)).state.cur == 0))) ≡ b
@@ -264,7 +292,7 @@ module _ (mac : Mac) (d : Deployed) (sites : List Site) (idle : Bool) (ends : Li
   so_far = passed_going mac d sites idle ends n all left k old now mid before came seen p going
 
   showed : Steps (setting mac d sites) n (stepped mac n k p.node now) new came after
-  showed = passed_did mac d sites now mid new came after idle n k left seen p kept saw
+  showed = passed_did mac d sites now mid new came after idle n k left seen p kept saw recognizes
 
   pub passed_over : b ≡ true → Did (setting mac d sites) old new before after (steps_of (setting mac d sites) (λ s. idle && (s.cur == 0)) ends n all)
   passed_over last =
@@ -281,7 +309,7 @@ few_left : (limit now mid new left k : ℕ) → new ≡ mid → mid ≡ now + su
 few_left limit now mid new left k e f few most = omega arith
 
 pub passed_steps : (limit : ℕ) (mac : Mac) (idle : Bool) (n k left : ℕ) (now mid new : Running) (seen : Seen)
-    → Passage mac idle n k left now mid seen → new ≡ with_nodes mid mid.nodes new.ledger mid.steps
+    → Passage mac idle n k left now mid seen → new ≡ with_seen mid new.ledger new.recognized
     → now.steps + left ≤ limit → new.steps + (left - (k + 1)) ≤ limit
 passed_steps limit mac idle n k left now mid new seen p kept most =
     few_left limit now.steps mid.steps new.steps left k (ap (λ (r : Running). r.steps) kept) (ap (λ (r : Running). r.steps) p.leaves) p.few most

@@ -14,7 +14,6 @@ use Rattle.spec_machine.specs.State.{State}
 use Rattle.spec_machine.specs.Step.{own_of, step}
 use Rattle.spec_machine.specs.Step.{Shown as Shown}
 use Rattle.spec_machine.specs.Acting.{Step, Interrupt}
-use Rattle.spec_machine.proofs.Sections.{acted_placed}
 use Rattle.sx_deploy.specs.Deployment.{Deployed}
 use Rattle.spec_run.specs.Setting.{Site, Setting, module_of}
 use Rattle.spec_run.specs.State.{World, Acted}
@@ -48,7 +47,7 @@ step_does mac d sites old new before after n s entries there left saw = λ w h.
     let records : Records entries (seen_of set n s w.ledger).ledger = subst (λ (x : Observed). Records entries x.ledger) same o.1 in
     let counted : Shows set (with_nodes old (slice_set old.nodes n (step mac s).state) entries (old.steps + 1)) (with_node w n (step mac s).state (seen_of set n s w.ledger).ledger (w.steps + 1)) =
     subst (λ k. Shows set (with_nodes old (slice_set old.nodes n (step mac s).state) entries (k + 1)) (with_node w n (step mac s).state (seen_of set n s w.ledger).ledger (w.steps + 1))) (sym h.steps)
-    (node_shown set old w n s (step mac s).state entries (seen_of set n s w.ledger).ledger (w.steps + 1) h here (acted_placed mac Step s (h.placed n s here)) records) in
+    (node_shown set old w n s Step entries (seen_of set n s w.ledger).ledger (w.steps + 1) h here records) in
     subst (λ o. Shows set new (at_node w (after_step set w n) o).world × (after ≡ before ++ (at_node w (after_step set w n) o).items)) (sym here)
     (subst (λ x. Shows set x (after_step set w n s).world) (sym left) counted, o.0 ∙ ap (λ (x : Observed). before ++ x.items) same)
 
@@ -118,7 +117,7 @@ irq_did (Ok x) mac d sites old new before after n line s node seen entries entri
     let ledger = (observed set n None t seen w.ledger).ledger in
     let shows : Shows set (with_nodes old (slice_set old.nodes n t) entries2 old.steps) (with_node w n t ledger w.steps) =
     subst (λ k. Shows set (with_nodes old (slice_set old.nodes n t) entries2 k) (with_node w n t ledger w.steps)) (sym h.steps)
-    (node_shown set old w n s t entries2 ledger w.steps h here (acted_placed mac (Interrupt line) s (h.placed n s here)) o.1) in
+    (node_shown set old w n s (Interrupt line) entries2 ledger w.steps h here o.1) in
     subst (λ q. Shows set new (at_node w (λ s. after_interrupt set w n (irq s line).state (irq s line).shown) q).world
     × (after ≡ before ++ (at_node w (λ s. after_interrupt set w n (irq s line).state (irq s line).shown) q).items)) (sym here)
     (subst (λ q. Shows set new (after_interrupt set w n t q).world × (after ≡ before ++ (after_interrupt set w n t q).items)) (sym shown)

@@ -97,7 +97,7 @@ module _ (mac : Mac) (d : Deployed) (sites : List Site) (acc : deployment.IsSoun
   formed_then (x ∷ lines) line are is = (are.0, formed_then lines line are.1 is)
 
   shows_counted : (kept : Running) (w : World) → Shows set kept w → Shows set kept (line_counted w)
-  shows_counted kept w h = record { nodes = h.nodes; packets = h.packets; deployer = h.deployer; ledger = h.ledger; steps = h.steps; placed = h.placed }
+  shows_counted kept w h = record { nodes = h.nodes; packets = h.packets; deployer = h.deployer; ledger = h.ledger; steps = h.steps; placed = h.placed; recognized = h.recognized }
 
   -- after a line that was acted it is at the world after it
   pub acted_stands : (old new : Held) (w : World) (line : Line) → IsLine d.names line → new.performed ≡ old.performed + 1

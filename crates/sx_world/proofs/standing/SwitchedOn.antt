@@ -24,6 +24,8 @@ use Rattle.spec_run.specs.State.{nodes_from, switched_on}
 use Rattle.spec_run.specs.Accepted.{sites_of}
 use Rattle.sx_world.specs.Held.{Held, Running, IsKept, ArePlaced, Shows, targets_from}
 use Rattle.sx_observe.specs.Observing.{Records}
+use Rattle.sx_observe.specs.Recognized.{none_recognized}
+use Rattle.sx_observe.proofs.Recognizing.{first_recognized}
 use Rattle.spec_run.specs.Accepted.{setting}
 use Rattle.sx_world.specs.Standing.{Stands}
 use Rattle.spec_run.proofs.accepted.LaidSites.{site_at}
@@ -82,7 +84,7 @@ all_placed set n s e = let r = get_nodes set 0 set.keys n s e in subst (λ (z : 
 
 -- such a world is where no line was acted
 pub stands_first : (set : Setting) (held : Held) (nodes : List State) (deployer : Keeping) (targets : List Known) → length set.app.parts ≤ 32 → length set.app.links ≤ 64
-    → targets ≡ targets_from set 0 set.sites → held.performed ≡ 0 → held.running ≡ record { nodes = nodes; packets = []; deployer = deployer; ledger = []; steps = 0 }
+    → targets ≡ targets_from set 0 set.sites → held.performed ≡ 0 → held.running ≡ record { nodes = nodes; packets = []; deployer = deployer; ledger = []; recognized = none_recognized; steps = 0 }
     → nodes ≡ nodes_from set 0 set.keys → deployer ≡ first set.secret targets → Stands set held (switched_on set)
 stands_first set held nodes deployer targets parts links et el er en ed = record {
   lines = [];
@@ -97,5 +99,6 @@ stands_first set held nodes deployer targets parts links et el er en ed = record
     ledger = nothing_made;
     steps = refl;
     placed = all_placed set;
+    recognized = first_recognized set.sites (nodes_from set 0 set.keys) (all_placed set);
   });
 }

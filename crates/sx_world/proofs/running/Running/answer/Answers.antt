@@ -37,6 +37,7 @@ returns-in-None-clause-does g c =
       packets = map rc_slice_items c.self.inside.packets.items;
       deployer = c.judge_answer.new.deployer;
       ledger = c.self.inside.ledger;
+      recognized = c.self.inside.recognized;
       steps = c.self.inside.steps;
     } in
     subst (λ (o : Running). (sites : List Site) → DoesAct (setting mac (deployed_as c.args.deployment.now) sites) c.push_item.result o new c.args.items.now.items c.push_item.new.items.items

@@ -12,7 +12,7 @@ use Rattle.sx_world.proofs.running.Running.ask.Goals as goal
 pub returns-clause-does : goal.returns-clause-does
 returns-clause-does g c =
     let packets = map rc_slice_items c.add_packet.new.packets.items in
-    let new : Running = record { nodes = c.self.inside.nodes.items; packets = packets; deployer = c.ask-packet.new.self; ledger = c.self.inside.ledger; steps = c.self.inside.steps } in
+    let new : Running = record { nodes = c.self.inside.nodes.items; packets = packets; deployer = c.ask-packet.new.self; ledger = c.self.inside.ledger; recognized = c.self.inside.recognized; steps = c.self.inside.steps } in
     let asks = subst (λ (o : Running). o.deployer.state.asks < 4294967295) (sym c.self.view_is) c.requires.asks in
     subst (λ (o : Running). (set : Setting) → DoesAct set c.add_packet.result o new c.args.items.now.items c.add_packet.new.items.items (λ w. ask w c.args.m)) c.self.view_is
     (λ set. ask_does set c.add_packet.result _ c.ask-packet.new.self c.args.items.now.items c.push_item.new.items.items c.add_packet.new.items.items c.args.m _ _ c.ask-packet.result

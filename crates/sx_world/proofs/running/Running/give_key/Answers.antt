@@ -16,7 +16,7 @@ use Rattle.sx_world.proofs.running.Running.give_key.Goals as goal
 pub returns-in_ok-record-in-Some-clause-does : goal.returns-in_ok-record-in-Some-clause-does
 returns-in_ok-record-in-Some-clause-does g c =
     let packets = map rc_slice_items c.add_packet.new.packets.items in
-    let new : Running = record { nodes = c.self.inside.nodes.items; packets = packets; deployer = c.self.inside.deployer; ledger = c.record.new.ledger; steps = c.self.inside.steps } in
+    let new : Running = record { nodes = c.self.inside.nodes.items; packets = packets; deployer = c.self.inside.deployer; ledger = c.record.new.ledger; recognized = c.self.inside.recognized; steps = c.self.inside.steps } in
     let given : Grant = record { holder = c.g.inside.holder; boot = c.g.inside.boot; «end» = c.g.inside.«end»; epoch = c.g.inside.epoch } in
     subst (λ (x : Grant). (sites : List Site) → DoesAct (setting g.T.Tag.mac (deployed_as c.args.deployment.now) sites) c.add_packet.result c.args.self.now new
     c.args.items.now.items c.add_packet.new.items.items (λ w. key_given (setting g.T.Tag.mac (deployed_as c.args.deployment.now) sites) w x (slice_get sites x.holder))) c.g.view_is

@@ -3,8 +3,9 @@ use Rattle.std.specs.Prelude.{slice_get}
 use Rattle.std.proofs.lemmas.List.{with_items_is}
 use Rattle.spec_machine.specs.State.{State}
 use Rattle.spec_machine.specs.Acts.{put, put_refusal}
+use Rattle.spec_machine.specs.Acting as acting
 use Rattle.sx_world.specs.Held.{Running}
-use Rattle.sx_world.proofs.doing.Doing.{done_did, as_kept, lent_set, lent_long, unless_kept, boots_kept, wanted_same}
+use Rattle.sx_world.proofs.doing.Doing.{done_did, as_kept, lent_set, lent_long, boots_kept, wanted_same}
 use Rattle.spec_run.proofs.acts.Bounds.{unless_boot}
 use Rattle.spec_run.specs.Run.{put_on}
 use Rattle.sx_world.proofs.doing.Composed.{does_any}
@@ -16,14 +17,14 @@ returns-clause-does g c =
     let same : c.deref_mut.result.now ≡ c.args.self.now.nodes = c.deref_mut.ensures.value ∙ ap (λ (k : Running). k.nodes) c.self.view_is in
     λ any. does_any any c.add_answer.result c.args.self.now _ c.args.items.now.items c.add_answer.new.items.items
     (put_on c.args.n c.args.at c.args.bytes.now)
-    (done_did c.add_answer.result c.args.self.now _ c.args.items.now.items c.add_answer.new.items.items c.args.n [] (λ s. put s c.args.at c.args.bytes.now) c.put_node-answer.result c.requires
+    (done_did c.add_answer.result c.args.self.now _ c.args.items.now.items c.add_answer.new.items.items c.args.n [] (λ s. put s c.args.at c.args.bytes.now) (acting.Put c.args.at c.args.bytes.now) c.put_node-answer.result c.requires
     (λ s e. as_kept c.args.self.now _ _ c.args.n (act s) c.self.view_is
     (with_items_is c.self.inside.nodes c.put_node-answer.new.nodes
     (lent_long c.deref_mut.result.now c.args.self.now.nodes c.put_node-answer.new.nodes c.args.n s act same e c.put_node-answer.ensures.nodes
     ∙ c.deref_mut.ensures.len)
     ∙ lent_set c.deref_mut.result.now c.args.self.now.nodes c.put_node-answer.new.nodes c.args.n s act same e c.put_node-answer.ensures.nodes))
     (λ s e. c.put_node-answer.ensures.answer s (ap (λ ns. slice_get ns c.args.n) same ∙ e))
-    (λ s. unless_kept (put_refusal s c.args.at (length c.args.bytes.now)) s _ refl)
+    (λ mac s. refl)
     c.add_answer.ensures.ok)
     (wanted_same c.add_answer.result c.args.self.now c.args.items.now.items c.add_answer.new.items.items (put_on c.args.n c.args.at c.args.bytes.now) c.add_answer.ensures.err)
 

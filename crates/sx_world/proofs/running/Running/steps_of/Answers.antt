@@ -52,7 +52,7 @@ returns-then-ends g c =
     c.stretches.invariant.within c.pass-quiet.ensures.quiet c.pass-quiet.ensures.last c.pass-quiet.ensures.left c.in-Some.is in
     passed_over g.T.Tag.mac (deployed_as c.args.setting.now.deployment.now) c.args.setting.now.sites.now c.args.idle (option_to_list c.args.end) c.args.n c.args.count c.stretches.left
     c.pass-quiet.result.count c.args.self.now c.stretches.self c.pass-quiet.new.self c.show.new.self c.args.items.now.items c.stretches.items.items c.show.new.items.items c.in-Some.seen
-    c.ends.result p c.in_ok-show.ensures.kept c.in_ok-show.ensures.done c.ends.ensures c.stretches.invariant.going c.if-ends.true
+    c.ends.result p c.in_ok-show.ensures.kept c.in_ok-show.ensures.done c.in_ok-show.ensures.recognized c.ends.ensures c.stretches.invariant.going c.if-ends.true
 
 pub overflow_add-left : goal.overflow_add-left
 overflow_add-left g c =
@@ -83,7 +83,7 @@ stretches-preserved g c =
     record {
       going = passed_on g.T.Tag.mac (deployed_as c.args.setting.now.deployment.now) c.args.setting.now.sites.now c.args.idle (option_to_list c.args.end) c.args.n c.args.count c.stretches.left
           c.pass-quiet.result.count c.args.self.now c.stretches.self c.pass-quiet.new.self c.show.new.self c.args.items.now.items c.stretches.items.items c.show.new.items.items c.in-Some.seen
-          c.ends.result p c.in_ok-show.ensures.kept c.in_ok-show.ensures.done c.ends.ensures c.stretches.invariant.going c.if-ends.false;
+          c.ends.result p c.in_ok-show.ensures.kept c.in_ok-show.ensures.done c.in_ok-show.ensures.recognized c.ends.ensures c.stretches.invariant.going c.if-ends.false;
       within = shown_within c.args.n c.pass-quiet.new.self c.show.new.self c.in_ok-show.ensures.kept
           (passed_within g.T.Tag.mac c.args.idle c.args.n c.pass-quiet.result.count c.stretches.left c.stretches.self c.pass-quiet.new.self c.in-Some.seen p c.stretches.invariant.within);
       boot = passed_small g.T.Tag.mac c.args.idle c.args.n c.pass-quiet.result.count c.stretches.left
