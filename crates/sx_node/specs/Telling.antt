@@ -1,8 +1,8 @@
 -- What a step tells, where it says whether anything is seen.
 --     silent      nothing is seen
 --     told      what is seen, where a step said whether that is anything
---     is_told      whether anything is seen, by how a step ended
 --     Tells      an attempt at a step, settled, was told so
+--     IsIdle      code outside goes on
 --     IsAtHome      a module runs whose next instruction passes every test but that for a device
 use Rattle.std.specs.Prelude.{◌≡◌, ◌<◌, Bool, true, false}
 use Rattle.sx_rules.specs.Access.{in_order}
@@ -11,8 +11,6 @@ use Rattle.spec_machine.specs.declared.kinds.Seen.{Seen}
 use Rattle.spec_machine.specs.State.{State}
 use Rattle.spec_machine.specs.Run.{untouched, Outcome}
 use Rattle.spec_machine.specs.Step.{settled_step, own_of, pc_of, word_outside}
-use Rattle.sx_node.specs.declared.at_home.StepEnd.{StepEnd}
-use Rattle.sx_node.specs.declared.at_home.StepEnd.TheVariants.{AtHome, Silent, Told}
 
 -- nothing is seen
 abbrev pub silent : Seen
@@ -23,17 +21,16 @@ abbrev pub told : Bool → Seen → Seen
 told true seen = seen
 told false seen = silent
 
--- whether anything is seen
-abbrev pub is_told : StepEnd → Bool
-is_told AtHome = false
-is_told Silent = false
-is_told Told = true
-
 -- A step of a node `s` that attempted this is settled as `t`. It said whether anything is seen, and
 -- left that.
 abbrev pub Tells : State → Outcome → Bool → Seen → State → Type 0
 Tells s outcome is_seen seen t = (t ≡ (settled_step s outcome).state)
     × (told is_seen seen ≡ (settled_step s outcome).shown)
+
+-- No module runs, and the last instruction was of none.
+pub record IsIdle (s : State) : Type 0 where
+  pub runs : s.cur ≡ 0
+  pub went_on : s.last ≡ 0
 
 -- A module runs, the last instruction was its own, and PC is at a word of its public section, to
 -- which it may go on.

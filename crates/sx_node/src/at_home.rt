@@ -6,18 +6,19 @@
 //! section is at hand. Where PC is at home again after an instruction, nothing of the node but what
 //! the instruction did has changed.
 
-ghost use Rattle.std.specs.Prelude.{◌≡◌, ◌≢◌, ◌==◌, ◌<◌, if◌then◌else◌, true, None, IsTrue};
+ghost use Rattle.std.specs.Prelude.{◌≡◌, ◌==◌, ◌<◌, if◌then◌else◌, false, None, IsTrue};
 ghost use Rattle.sx_rules.specs.Access.{holder};
 ghost use Rattle.sx_bus.specs.Devices.{device_at};
 ghost use Rattle.spec_machine.specs.declared.kinds.Event.TheVariants.{Quiet};
+ghost use Rattle.spec_machine.specs.Memory.{word};
 ghost use Rattle.spec_machine.specs.Run.{exec, untouched};
 ghost use Rattle.spec_machine.specs.Rows.{program};
-ghost use Rattle.spec_machine.specs.Step.{step, attempt, instruction, pc_of, own_of};
+ghost use Rattle.spec_machine.specs.Step.{step, instruction, pc_of, own_of};
 ghost use Rattle.spec_machine.specs.Step.{start, entered_from, left};
-ghost use Rattle.sx_node.specs.Telling.{told, Tells, is_told, IsAtHome};
+ghost use Rattle.sx_node.specs.Telling.{told, Tells, IsAtHome};
 
 use crate::node::Node;
-use crate::quick::{is_anything, is_untouched};
+use crate::quick::is_untouched;
 use spec_machine::{Seen, Touch};
 use sx_bus::Bus;
 use sx_core::{Stepped, step_quick};
@@ -25,94 +26,29 @@ use sx_executor::registers::PC;
 use sx_rules::Violation;
 use sx_tag::Tag;
 
-/// How a step ended in a loop of steps of modules.
-#[derive(Clone, Copy)]
-pub enum StepEnd {
-    /// Nothing is seen, and PC is at home.
-    AtHome,
-    /// Nothing is seen.
-    Silent,
-    /// What is seen was left for the caller.
-    Told,
-}
-
-impl StepEnd {
-    /// The end of a step after which PC may be anywhere.
-    #[inline(always)]
-    fn of(is_seen: bool) -> StepEnd
-        ensures told { is_told result ≡ is_seen }
-        ensures away { result ≢ StepEnd.AtHome }
-    {
-        if is_seen {
-            return StepEnd::Told;
-        }
-        StepEnd::Silent
-    }
-
-    /// Whether anything is seen.
-    #[inline(always)]
-    fn is_told(self) -> bool
-        ensures { result ≡ is_told self }
-    {
-        matches!(self, StepEnd::Told)
-    }
-}
-
 impl<B: Bus, T: Tag> Node<B, T> {
-    /// One step, told as `step_told` tells it. In a loop of steps of a module this is the shorter
-    /// one: the caller has the code of what a module does, and what code outside does is a call.
-    /// After `AtHome` the next step needs no look at where PC is, which the caller says by
-    /// `at_home`. The caller has a number as in `step_told`.
+    /// Whether a module goes on at home.
     #[inline(always)]
-    pub fn step_running<const CALLER: u8>(&mut self, at_home: bool, seen: &mut Seen) -> StepEnd
-        requires boot { self.old.boot < u32.MAX }
-        requires home { IsTrue at_home → IsAtHome self.old }
-        ensures state { self.new ≡ (step T.mac self.old).state }
-        ensures shown { told (is_told result) seen.new ≡ (step T.mac self.old).shown }
-        ensures home { result ≡ StepEnd.AtHome → IsAtHome self.new }
-    {
-        if !self.goes_on(at_home) {
-            return StepEnd::of(self.step_elsewhere(seen));
-        }
-        self.step_at_home::<CALLER>(seen)
-    }
-
-    /// Whether a module goes on at home, as is already known where `at_home` says so.
-    #[inline(always)]
-    fn goes_on(&self, at_home: bool) -> bool
-        requires { IsTrue at_home → IsAtHome self.now }
+    pub fn is_at_home(&self) -> bool
         ensures { IsTrue result → IsAtHome self.now }
     {
-        if at_home {
-            return true;
-        }
-        self.cur != 0 && self.last == self.cur && self.is_at_home(self.cur)
+        self.cur != 0 && self.last == self.cur && self.stays_at_home(self.cur)
     }
 
-    /// A step that isn't one of a module at home. Its code stays out of the way of what most steps
-    /// of a module do.
-    #[cold]
-    #[inline(never)]
-    fn step_elsewhere(&mut self, seen: &mut Seen) -> bool
-        requires { self.old.boot < u32.MAX }
-        ensures state { self.new ≡ (step T.mac self.old).state }
-        ensures shown { told result seen.new ≡ (step T.mac self.old).shown }
-    {
-        *seen = self.step_learning();
-        is_anything(seen)
-    }
-
-    /// One step of a module at home.
+    /// One step of a module at home, as `step` takes it. Whether it shows something, or leaves no
+    /// module at home; what is seen is then left in `seen`. So in a loop of such steps none of them
+    /// looks at where PC is before its instruction. The caller has a number as in `step_idle`.
     #[inline(always)]
-    fn step_at_home<const CALLER: u8>(&mut self, seen: &mut Seen) -> StepEnd
+    pub fn step_at_home<const CALLER: u8>(&mut self, seen: &mut Seen) -> bool
         requires boot { self.old.boot < u32.MAX }
         requires home { IsAtHome self.old }
-        ensures tells { Tells self.old (attempt T.mac self.old) (is_told result) seen.new self.new }
-        ensures home { result ≡ StepEnd.AtHome → IsAtHome self.new }
+        ensures state { self.new ≡ (step T.mac self.old).state }
+        ensures shown { told result seen.new ≡ (step T.mac self.old).shown }
+        ensures home { result ≡ false → IsAtHome self.new }
     {
         let pc = self.executor.register(PC);
         match self.executor.windows().at(pc) {
-            Some(_device) => StepEnd::of(self.end_reset(Violation::Device, seen)),
+            Some(_device) => self.end_reset(Violation::Device, seen),
             None => self.instruction_inside::<CALLER>(self.cur, seen),
         }
     }
@@ -120,27 +56,38 @@ impl<B: Bus, T: Tag> Node<B, T> {
     /// The instruction at PC, where the fast path is taken.
     #[inline(always)]
     #[tactic(auto, using(sx_executor::proofs::Rights::outside_word, sx_executor::proofs::Clear::none_found))]
-    fn instruction_inside<const CALLER: u8>(&mut self, own: u16, seen: &mut Seen) -> StepEnd
+    fn instruction_inside<const CALLER: u8>(&mut self, own: u16, seen: &mut Seen) -> bool
         requires boot { self.old.boot < u32.MAX }
         requires cur { own ≡ self.old.cur }
         requires home { IsAtHome self.old }
         requires memory { device_at self.old.devices (pc_of self.old) ≡ None }
-        ensures tells { Tells self.old (instruction T.mac self.old) (is_told result) seen.new
-            self.new }
-        ensures home { result ≡ StepEnd.AtHome → IsAtHome self.new }
+        ensures tells { Tells self.old (instruction T.mac self.old) result seen.new self.new }
+        ensures home { result ≡ false → IsAtHome self.new }
     {
         let pc = self.executor.register(PC);
         let first = self.executor.read(true, pc);
         if self.executor.has_shortcut(pc, first) {
             self.plain_inside::<CALLER>(own, first, seen)
         } else {
-            StepEnd::of(self.instruction_near(own, first, seen))
+            self.near_inside(own, first, seen)
         }
+    }
+
+    /// An instruction without a shortcut, after which PC may be anywhere.
+    #[inline(never)]
+    fn near_inside(&mut self, own: u16, first: u16, seen: &mut Seen) -> bool
+        requires boot { self.old.boot < u32.MAX }
+        requires own { own ≡ own_of self.old }
+        requires word { first ≡ word self.old.mem (pc_of self.old) }
+        ensures tells { Tells self.old (instruction T.mac self.old) result seen.new self.new }
+        ensures home { result ≡ false → IsAtHome self.new }
+    {
+        self.instruction_near(own, first, seen) || !self.is_at_home()
     }
 
     /// A plain instruction with a shortcut.
     #[inline(always)]
-    fn plain_inside<const CALLER: u8>(&mut self, own: u16, first: u16, seen: &mut Seen) -> StepEnd
+    fn plain_inside<const CALLER: u8>(&mut self, own: u16, first: u16, seen: &mut Seen) -> bool
         requires boot { self.old.boot < u32.MAX }
         requires some { 0 < own }
         requires own { own ≡ own_of self.old }
@@ -148,8 +95,8 @@ impl<B: Bus, T: Tag> Node<B, T> {
         requires last { self.old.last ≡ own }
         ensures tells { Tells self.old
             (exec self.old.sections own (program first self.old.regs) (start self.old))
-            (is_told result) seen.new self.new }
-        ensures home { result ≡ StepEnd.AtHome → IsAtHome self.new }
+            result seen.new self.new }
+        ensures home { result ≡ false → IsAtHome self.new }
     {
         self.executor.turn(own);
         match step_quick::<B, CALLER>(&mut self.executor, first) {
@@ -159,7 +106,7 @@ impl<B: Bus, T: Tag> Node<B, T> {
             }
             Stepped::Answered(Err(violation)) => {
                 self.executor.begin(0);
-                StepEnd::of(self.end_reset(violation, seen))
+                self.end_reset(violation, seen)
             }
             Stepped::Answered(Ok(())) => {
                 let touch = self.executor.touches();
@@ -169,14 +116,15 @@ impl<B: Bus, T: Tag> Node<B, T> {
                 }
                 self.executor.begin(0);
                 let caller = self.entered_from(own);
-                StepEnd::of(self.ends_plain(own, caller, touch, seen))
+                self.ends_plain(own, caller, touch, seen);
+                true
             }
         }
     }
 
     /// The end of an instruction of the module that did nothing at devices.
     #[inline(always)]
-    fn ends_inside(&mut self, own: u16, seen: &mut Seen) -> StepEnd
+    fn ends_inside(&mut self, own: u16, seen: &mut Seen) -> bool
         requires some { 0 < own }
         requires cur { self.old.cur ≡ own }
         requires last { self.old.last ≡ own }
@@ -185,20 +133,21 @@ impl<B: Bus, T: Tag> Node<B, T> {
           last = own;
           caller = entered_from self.old own;
         } }
-        ensures shown { told (is_told result) seen.new
+        ensures shown { told result seen.new
             ≡ record { touch = untouched; event = left self.old own self.old.regs } }
-        ensures home { result ≡ StepEnd.AtHome → IsAtHome self.new }
+        ensures home { result ≡ false → IsAtHome self.new }
     {
-        if self.is_at_home(own) {
-            return StepEnd::AtHome;
+        if self.stays_at_home(own) {
+            return false;
         }
         let caller = self.entered_from(own);
-        StepEnd::of(self.ends_plain(own, caller, [Touch::Quiet; 2], seen))
+        self.ends_plain(own, caller, [Touch::Quiet; 2], seen);
+        true
     }
 
     /// Whether PC is at home. Then the end of an instruction of the module changes nothing.
     #[inline(always)]
-    fn is_at_home(&self, own: u16) -> bool
+    fn stays_at_home(&self, own: u16) -> bool
         requires some { 0 < own }
         requires cur { self.now.cur ≡ own }
         requires last { self.now.last ≡ own }

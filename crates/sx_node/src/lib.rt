@@ -13,6 +13,5 @@ mod node;
 mod quick;
 mod step;
 
-pub use at_home::StepEnd;
 pub use node::Node;
 pub use spec_machine::{Event, Exchange, Refused, Seen, Touch};

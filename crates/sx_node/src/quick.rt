@@ -5,7 +5,7 @@
 //! instruction does. Most steps show nothing, which is told without a look at what was touched, and
 //! with no word on what was seen.
 
-ghost use Rattle.std.specs.Prelude.{◌≡◌, ◌==◌, ◌<◌, if◌then◌else◌, true, None, IsTrue};
+ghost use Rattle.std.specs.Prelude.{◌≡◌, ◌==◌, ◌<◌, if◌then◌else◌, true, false, None, IsTrue};
 ghost use Rattle.sx_rules.specs.Access.{holder, in_order};
 ghost use Rattle.sx_bus.specs.Devices.{device_at};
 ghost use Rattle.spec_machine.specs.declared.kinds.Event.TheVariants.{Quiet};
@@ -14,7 +14,7 @@ ghost use Rattle.spec_machine.specs.Run.{exec, untouched, Violated};
 ghost use Rattle.spec_machine.specs.Rows.{program};
 ghost use Rattle.spec_machine.specs.Step.{step, attempt, instruction, word_outside, pc_of, own_of};
 ghost use Rattle.spec_machine.specs.Step.{start, entered_from, left};
-ghost use Rattle.sx_node.specs.Telling.{told, Tells};
+ghost use Rattle.sx_node.specs.Telling.{told, Tells, IsIdle};
 
 use crate::node::Node;
 use crate::step::{code_of, reset_by};
@@ -52,18 +52,28 @@ fn tell_touches(touch: [Touch; 2], seen: &mut Seen) -> bool
 }
 
 impl<B: Bus, T: Tag> Node<B, T> {
-    /// One step, as `step` takes it. Whether it shows something, as few steps do, or leaves a module
-    /// running; what is seen is then left in `seen`. So a loop of code outside ends where a module
-    /// is entered, and none of its own steps asks for that. Each caller has a number, and so code of
-    /// its own (`step_quick`).
+    /// Whether no module runs, and the last instruction was of none.
     #[inline(always)]
-    pub fn step_told<const CALLER: u8>(&mut self, seen: &mut Seen) -> bool
-        requires { self.old.boot < u32.MAX }
+    pub fn is_idle(&self) -> bool
+        ensures { IsTrue result → IsIdle self.now }
+    {
+        self.cur == 0 && self.last == 0
+    }
+
+    /// One step of an idle node, as `step` takes it. Whether it shows something, as few steps do, or
+    /// leaves a node that isn't idle; what is seen is then left in `seen`. So a loop of such steps
+    /// ends where a module is entered, and none of them asks who ran before. Each caller has a
+    /// number, and so code of its own (`step_quick`).
+    #[inline(always)]
+    pub fn step_idle<const CALLER: u8>(&mut self, seen: &mut Seen) -> bool
+        requires boot { self.old.boot < u32.MAX }
+        requires idle { IsIdle self.old }
         ensures state { self.new ≡ (step T.mac self.old).state }
         ensures shown { told result seen.new ≡ (step T.mac self.old).shown }
+        ensures idle { result ≡ false → IsIdle self.new }
     {
         let pc = self.executor.register(PC);
-        if self.cur != 0 || self.last != 0 || !self.is_apart(pc) {
+        if !self.is_apart(pc) {
             return self.step_near(seen);
         }
         match self.executor.windows().at(pc) {
@@ -80,15 +90,16 @@ impl<B: Bus, T: Tag> Node<B, T> {
         requires { self.old.boot < u32.MAX }
         ensures state { self.new ≡ (step T.mac self.old).state }
         ensures shown { told result seen.new ≡ (step T.mac self.old).shown }
+        ensures idle { result ≡ false → IsIdle self.new }
     {
         *seen = self.step_learning();
-        self.cur != 0 || is_anything(seen)
+        !self.is_idle() || is_anything(seen)
     }
 
     /// One step, after which the home of the module that runs is known, or the gap where PC is may
     /// be.
     #[inline(never)]
-    pub(crate) fn step_learning(&mut self) -> Seen
+    pub fn step_learning(&mut self) -> Seen
         requires { self.old.boot < u32.MAX }
         ensures state { self.new ≡ (step T.mac self.old).state }
         ensures seen { result ≡ (step T.mac self.old).shown }
@@ -107,7 +118,8 @@ impl<B: Bus, T: Tag> Node<B, T> {
     #[inline(never)]
     pub(crate) fn end_reset(&mut self, violation: Violation, seen: &mut Seen) -> bool
         requires { self.old.boot < u32.MAX }
-        ensures { Tells self.old (Violated violation) result seen.new self.new }
+        ensures tells { Tells self.old (Violated violation) result seen.new self.new }
+        ensures seen { result ≡ true }
     {
         self.reset();
         *seen = reset_by(violation);
@@ -120,8 +132,7 @@ impl<B: Bus, T: Tag> Node<B, T> {
     fn instruction_idle<const CALLER: u8>(&mut self, seen: &mut Seen) -> bool
         requires boot { self.old.boot < u32.MAX }
         requires own { own_of self.old ≡ 0 }
-        requires cur { self.old.cur ≡ 0 }
-        requires last { self.old.last ≡ 0 }
+        requires idle { IsIdle self.old }
         requires outside { word_outside self.old.sections.live (pc_of self.old) ≡ true }
         requires memory { device_at self.old.devices (pc_of self.old) ≡ None }
         ensures { Tells self.old (instruction T.mac self.old) result seen.new self.new }
@@ -140,8 +151,7 @@ impl<B: Bus, T: Tag> Node<B, T> {
     fn plain_idle<const CALLER: u8>(&mut self, first: u16, seen: &mut Seen) -> bool
         requires boot { self.old.boot < u32.MAX }
         requires own { own_of self.old ≡ 0 }
-        requires cur { self.old.cur ≡ 0 }
-        requires last { self.old.last ≡ 0 }
+        requires idle { IsIdle self.old }
         ensures { Tells self.old
             (exec self.old.sections 0 (program first self.old.regs) (start self.old))
             result seen.new self.new }
@@ -169,13 +179,14 @@ impl<B: Bus, T: Tag> Node<B, T> {
     }
 
     /// An instruction without a shortcut, of the module `own` or with 0 of code outside. Its code
-    /// stays out of the way of what most steps do.
+    /// stays out of the way of what most steps do. What is seen is left in `seen` in each case.
     #[inline(never)]
     pub(crate) fn instruction_near(&mut self, own: u16, first: u16, seen: &mut Seen) -> bool
         requires boot { self.old.boot < u32.MAX }
         requires own { own ≡ own_of self.old }
         requires word { first ≡ word self.old.mem (pc_of self.old) }
-        ensures { Tells self.old (instruction T.mac self.old) result seen.new self.new }
+        ensures tells { Tells self.old (instruction T.mac self.old) result seen.new self.new }
+        ensures seen { told result seen.new ≡ seen.new }
     {
         match code_of(first) {
             Some(code) => match self.module_instruction(own, code) {
@@ -194,9 +205,10 @@ impl<B: Bus, T: Tag> Node<B, T> {
     fn plain_long(&mut self, own: u16, first: u16, seen: &mut Seen) -> bool
         requires boot { self.old.boot < u32.MAX }
         requires own { own ≡ own_of self.old }
-        ensures { Tells self.old
+        ensures tells { Tells self.old
             (exec self.old.sections own (program first self.old.regs) (start self.old))
             result seen.new self.new }
+        ensures seen { told result seen.new ≡ seen.new }
     {
         let caller = self.entered_from(own);
         self.executor.turn(own);
@@ -208,26 +220,21 @@ impl<B: Bus, T: Tag> Node<B, T> {
             Ok(()) => {
                 let touch = self.executor.touches();
                 self.executor.begin(0);
-                self.ends_plain(own, caller, touch, seen)
+                self.ends_plain(own, caller, touch, seen);
+                is_anything(seen)
             }
         }
     }
 
     /// The end of a plain instruction of `own`, which did this at devices.
     #[inline(never)]
-    pub(crate) fn ends_plain(
-        &mut self,
-        own: u16,
-        caller: u16,
-        touch: [Touch; 2],
-        seen: &mut Seen,
-    ) -> bool
+    pub(crate) fn ends_plain(&mut self, own: u16, caller: u16, touch: [Touch; 2], seen: &mut Seen)
         ensures state { self.new ≡ record self.old {
           cur = if holder self.old.sections.live (pc_of self.old) == own then own else 0;
           last = own;
           caller = caller;
         } }
-        ensures shown { told result seen.new
+        ensures seen { seen.new
             ≡ record { touch = touch; event = left self.old own self.old.regs } }
     {
         self.settle(own, caller);
@@ -238,7 +245,6 @@ impl<B: Bus, T: Tag> Node<B, T> {
             Event::Left(own)
         };
         *seen = Seen { touch, event };
-        is_anything(seen)
     }
 
     /// Whether one look says that no section has a byte of the word at an address. Then what a step
@@ -254,8 +260,7 @@ impl<B: Bus, T: Tag> Node<B, T> {
     /// Where no module runs and the last instruction was of none, `settle` changes nothing.
     #[inline(always)]
     fn stays_idle(&self)
-        requires cur { self.now.cur ≡ 0 }
-        requires last { self.now.last ≡ 0 }
+        requires { IsIdle self.now }
         ensures cur { (if holder self.now.sections.live (pc_of self.now) == 0 then 0 else 0)
             ≡ self.now.cur }
         ensures caller { entered_from self.now 0 ≡ self.now.caller }

@@ -1,4 +1,6 @@
--- Steps of a node: one by one (Going, Stepped), and those that show nothing in one go (Passed).
+-- Steps of a node: one by one (Going, Stepped), and those that show nothing in one go
+-- (Passed), counted down (Counted).
 pub mod Going
 pub mod Stepped
 pub mod Passed
+pub mod Counted

@@ -137,7 +137,7 @@ passage mac idle n k left now mid last seen lt quiet ends leaves e =
     }
 
 -- As many steps as were asked for showed nothing.
-none_of : (o : Option Seen) → ((v : Seen) → o ≡ Some v → ⊥) → o ≡ None
+pub none_of : (o : Option Seen) → ((v : Seen) → o ≡ Some v → ⊥) → o ≡ None
 none_of None f = refl
 none_of (Some v) f = absurd (f v refl)
 

@@ -1,10 +1,15 @@
-use Rattle.std.proofs.Common.{◌<◌, true, sym, subst, ap, ◌∙◌}
-use Rattle.spec_machine.specs.State.{State}
-use Rattle.sx_world.proofs.passing.Passed.{quiet_boot}
+use Rattle.std.proofs.Common.{true, arith}
+use Rattle.sx_world.proofs.passing.Counted.{counted_boot, counted_told, not_none}
 use Rattle.sx_world.proofs.quiet.module_stretch.Goals as goal
 
-pub step_running-requires-clause-boot : goal.step_running-requires-clause-boot
-step_running-requires-clause-boot g c =
-    subst (λ k. k < 4294967295)
-    (sym (ap (λ (s : State). s.boot) c.loop-done.invariant.left ∙ quiet_boot g.T.Tag.mac true c.loop-done.done c.args.node.now c.loop-done.invariant.quiet))
-    c.requires
+pub step_at_home-requires-clause-boot : goal.step_at_home-requires-clause-boot
+step_at_home-requires-clause-boot g c = counted_boot g.T.Tag.mac true c.args.count c.steps.left c.args.node.now c.steps.node c.steps.invariant.counted c.requires.boot
+
+pub steps-preserved : goal.steps-preserved
+steps-preserved g c =
+    let home = c.step_at_home.ensures.home c.if-step_at_home.false in
+    record {
+      counted = counted_told g.T.Tag.mac true c.args.count c.steps.left c.args.node.now c.steps.node c.step_at_home.new.self c.step_at_home.new.seen c.step_at_home.result
+          c.steps.invariant.counted (omega (arith, c.steps-test.true)) c.step_at_home.ensures.state c.step_at_home.ensures.shown c.if-step_at_home.false (not_none c.step_at_home.new.self.cur home.runs);
+      home = home;
+    }

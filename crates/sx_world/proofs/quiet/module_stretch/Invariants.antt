@@ -1,11 +1,13 @@
-use Rattle.std.proofs.Common.{◌≡◌, true, IsTrue}
+use Rattle.std.proofs.Common.{true}
 use Rattle.sx_node.specs.Telling.{IsAtHome}
-use Rattle.sx_world.specs.Passing.{after_steps, AreQuiet}
+use Rattle.sx_world.proofs.passing.Counted.{Counted}
 use Rattle.sx_world.proofs.quiet.module_stretch.Given as goal
 
-abbrev pub invariant-loop-done : goal.invariant-loop-done
-invariant-loop-done g l = record {
-  quiet : AreQuiet g.T.Tag.mac true l.done l.fn.node;
-  home : IsTrue l.at_home → IsAtHome l.node;
-  left : l.node ≡ after_steps g.T.Tag.mac l.done l.fn.node;
+abbrev pub invariant-steps : goal.invariant-steps
+invariant-steps g l = record {
+  counted : Counted g.T.Tag.mac true l.fn.count l.left l.fn.node l.node;
+  home : IsAtHome l.node;
 }
+
+abbrev pub decreases-steps : goal.decreases-steps
+decreases-steps g l = l.left

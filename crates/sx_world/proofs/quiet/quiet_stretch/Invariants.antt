@@ -1,9 +1,13 @@
-use Rattle.std.proofs.Common.{◌≡◌, false}
-use Rattle.sx_world.specs.Passing.{after_steps, AreQuiet}
+use Rattle.std.proofs.Common.{false}
+use Rattle.sx_node.specs.Telling.{IsIdle}
+use Rattle.sx_world.proofs.passing.Counted.{Counted}
 use Rattle.sx_world.proofs.quiet.quiet_stretch.Given as goal
 
-abbrev pub invariant-loop-done : goal.invariant-loop-done
-invariant-loop-done g l = record {
-  quiet : AreQuiet g.T.Tag.mac false l.done l.fn.node;
-  left : l.node ≡ after_steps g.T.Tag.mac l.done l.fn.node;
+abbrev pub invariant-steps : goal.invariant-steps
+invariant-steps g l = record {
+  counted : Counted g.T.Tag.mac false l.fn.count l.left l.fn.node l.node;
+  idle : IsIdle l.node;
 }
+
+abbrev pub decreases-steps : goal.decreases-steps
+decreases-steps g l = l.left
