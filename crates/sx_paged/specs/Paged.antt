@@ -1,6 +1,6 @@
 -- How a paged memory keeps its pages in an arena. Nobody has to believe it: the contracts of
 -- `PagedBus` cite Memory.antt alone.
-use Rattle.std.specs.Prelude.{◌≡◌, ◌≢◌, ℕ, ◌+◌, ◌<◌, ◌≤◌, ◌==◌, nat_lt, true, if◌then◌else◌, List}
+use Rattle.std.specs.Prelude.{◌≡◌, ◌≢◌, ℕ, ◌+◌, ◌<◌, ◌≤◌, ◌/◌, ◌%◌, ◌==◌, nat_lt, true, if◌then◌else◌, List}
 use Rattle.std.specs.Prelude.{length, map, get_or, Option, Some, None}
 use Rattle.sx_pages.specs.Pages.{Pages, is_live, size, zeros}
 
@@ -16,9 +16,9 @@ paged arena numbers blank = map (page_of arena blank) numbers
 abbrev pub spare : ℕ → ℕ
 spare blank = if nat_lt blank 256 then 1 else 0
 
--- the first n indices have the number of the blank page
+-- the first n indices have the blank page
 abbrev pub AreBlank : List ℕ → ℕ → ℕ → Type 0
-AreBlank numbers blank n = (index : ℕ) → index < n → get_or numbers index 0 ≡ blank
+AreBlank starts blank n = (index : ℕ) → index < n → get_or starts index 0 ≡ blank
 
 -- Each number is that of a live page, the blank page is zeros, no two indices have the same number
 -- except that of the blank page, and no other page is live
@@ -31,3 +31,17 @@ pub record IsPaged (arena : Pages) (numbers : List ℕ) (blank : ℕ) : Type 0 w
   pub within : blank ≤ 256
   pub zeroed : blank < 256 → get_or arena blank None ≡ Some zeros
   pub counted : size arena ≡ size (paged arena numbers blank) + spare blank
+
+-- the number of the page that starts there; 256, which no page has, for what is no start
+abbrev pub number : ℕ → ℕ
+number start = (start + 255) / 256
+
+-- the pages of the memory, at each index the one that starts there
+abbrev pub kept : Pages → List ℕ → ℕ → Pages
+kept arena starts blank = paged arena (map number starts) (number blank)
+
+-- the starts are those of pages, and so is that of the blank page if there is one
+pub record IsKept (arena : Pages) (starts : List ℕ) (blank : ℕ) : Type 0 where
+  pub pages : IsPaged arena (map number starts) (number blank)
+  pub even : (index : ℕ) → get_or starts index 0 % 256 ≡ 0
+  pub start : blank ≢ 65535 → blank % 256 ≡ 0

@@ -1,10 +1,10 @@
 //! The pages, and where they are in the arena.
 
-ghost use Rattle.std.specs.Prelude.{◌≡◌, ◌<◌, ◌≤◌, ◌+◌, ◌%◌, ℕ, ◌/◌, true, replicate, get_or, IfOk, None};
+ghost use Rattle.std.specs.Prelude.{◌≡◌, ◌<◌, ◌≤◌, ◌+◌, ◌*◌, ◌%◌, ℕ, ◌/◌, true, replicate, get_or, IfOk, None};
 ghost use Rattle.std.specs.Prelude.{length, take, drop, bytes_eq};
 ghost use Rattle.sx_pages.specs.Pages.{no_pages, size, is_live, with_byte};
 ghost use Rattle.sx_paged.specs.Memory.{IsMemory, byte_at, page_bytes, joined, after_put};
-ghost use Rattle.sx_paged.specs.Paged.{paged, IsPaged, AreBlank};
+ghost use Rattle.sx_paged.specs.Paged.{kept, IsKept, AreBlank};
 
 use std::alloc::{AllocError as OutOfMemory, Global};
 use std::marker::Model;
@@ -13,10 +13,10 @@ use sx_pages::Arena;
 /// How many bytes a page has.
 const PAGE_BYTES: usize = 256;
 
-/// The number that is given in place of a blank page's, if there is none. No page has it.
-const NO_PAGE: u16 = 256;
+/// What is given in place of the blank page's start, if there is none. No page starts there.
+const NO_PAGE: u16 = 0xFFFF;
 
-/// How many numbers a wipe compares at once.
+/// How many starts a wipe compares at once.
 const RUN: usize = 32;
 
 /// The 256 pages of a memory. All absent ones have one page of the arena, the blank page, which is
@@ -25,9 +25,9 @@ const RUN: usize = 32;
 #[derive(Drop)]
 pub(crate) struct Paged {
     arena: Arena,
-    /// At the index of a page its number in the arena.
-    numbers: [u8; 256],
-    /// The number of the blank page; `NO_PAGE` if no page is absent.
+    /// At the index of a page how many bytes of the arena are before it: 256 times its number.
+    starts: [u16; 256],
+    /// The start of the blank page; `NO_PAGE` if no page is absent.
     blank: u16,
 }
 
@@ -36,11 +36,11 @@ impl Model for Paged {
 
     ghost Value = { List (Option (List ℕ)) };
 
-    ghost use Rattle.sx_paged.specs.Paged.{paged, IsPaged};
+    ghost use Rattle.sx_paged.specs.Paged.{kept, IsKept};
 
-    ghost view = { λ b. paged b.arena b.numbers b.blank };
+    ghost view = { λ b. kept b.arena b.starts b.blank };
 
-    ghost invariant = { λ b. IsPaged b.arena b.numbers b.blank };
+    ghost invariant = { λ b. IsKept b.arena b.starts b.blank };
 }
 
 impl Paged {
@@ -50,11 +50,14 @@ impl Paged {
     {
         let mut arena = Arena::new(alloc)?;
         match arena.take() {
-            Some(page) => Ok(Paged {
-                arena,
-                numbers: [page; 256],
-                blank: u16::from(page),
-            }),
+            Some(page) => {
+                let blank = start_of(page);
+                Ok(Paged {
+                    arena,
+                    starts: [blank; 256],
+                    blank,
+                })
+            }
             None => Err(OutOfMemory),
         }
     }
@@ -64,14 +67,14 @@ impl Paged {
         ensures { result ≡ byte_at self.now at }
     {
         self.arena
-            .read(self.numbers[(at / 256) as usize], (at % 256) as u8)
+            .read_at(place_of(self.starts[(at / 256) as usize], at))
     }
 
     /// The bytes of a page; zeros where it is absent.
     fn page(&self, index: u8) -> &[u8]
         ensures { result.now ≡ page_bytes (get_or self.now index None) }
     {
-        self.arena.page(self.numbers[index as usize])
+        self.arena.page(number_of(self.starts[index as usize]))
     }
 
     /// Whether these bytes are in memory from an address on, where no page ends before them.
@@ -106,13 +109,13 @@ impl Paged {
     pub(crate) fn put(&mut self, at: u16, byte: u8)
         ensures { self.new ≡ after_put self.old at byte }
     {
-        let number = self.numbers[(at / 256) as usize];
-        if u16::from(number) != self.blank {
-            self.arena.write(number, (at % 256) as u8, byte);
+        let start = self.starts[(at / 256) as usize];
+        if start != self.blank {
+            self.arena.write_at(place_of(start, at), byte);
         } else {
             put_new(
                 &mut self.arena,
-                &mut self.numbers,
+                &mut self.starts,
                 &mut self.blank,
                 at,
                 byte,
@@ -129,9 +132,9 @@ impl Paged {
     {
         let low = (value % 256) as u8;
         let high = (value / 256) as u8;
-        let number = self.numbers[(at / 256) as usize];
-        if u16::from(number) != self.blank {
-            write_two(&mut self.arena, number, (at % 256) as u8, low, high);
+        let start = self.starts[(at / 256) as usize];
+        if start != self.blank {
+            write_two(&mut self.arena, place_of(start, at), low, high);
         } else {
             self.put_two(at, low, high);
         }
@@ -151,9 +154,9 @@ impl Paged {
     pub(crate) fn wipe(&mut self)
         ensures { self.new ≡ no_pages }
     {
-        let blank = blank_page(&mut self.arena, &mut self.numbers, self.blank);
-        release_all(&mut self.arena, &mut self.numbers, blank);
-        self.blank = u16::from(blank);
+        let blank = blank_page(&mut self.arena, &mut self.starts, self.blank);
+        release_all(&mut self.arena, &mut self.starts, blank);
+        self.blank = blank;
     }
 
     /// Equal pages of their own.
@@ -163,7 +166,7 @@ impl Paged {
         let arena = self.arena.copy(alloc)?;
         Ok(Paged {
             arena,
-            numbers: self.numbers,
+            starts: self.starts,
             blank: self.blank,
         })
     }
@@ -181,81 +184,107 @@ impl Paged {
     }
 }
 
-// Writes two bytes of a live page, one after the other.
-fn write_two(arena: &mut Arena, page: u8, at: u8, low: u8, high: u8)
-    requires live { is_live arena.old page ≡ true }
-    requires within { at < 255 }
-    ensures { arena.new ≡ with_byte (with_byte arena.old page at low) page (at + 1) high }
+// How many bytes of the arena are before the page with a number.
+fn start_of(page: u8) -> u16
+    ensures { result ≡ page * 256 }
 {
-    arena.write(page, at, low);
-    arena.write(page, at + 1, high);
+    u16::from(page) * 256
+}
+
+// The number of the page that starts there.
+fn number_of(start: u16) -> u8
+    ensures { result ≡ start / 256 }
+{
+    (start / 256) as u8
+}
+
+// How many bytes of the arena are before the byte at an address, by where its page starts.
+fn place_of(start: u16, at: u16) -> usize
+    ensures { result ≡ start + at % 256 }
+{
+    usize::from(start) + usize::from(at % 256)
+}
+
+// Writes two bytes of a live page, one after the other.
+fn write_two(arena: &mut Arena, place: usize, low: u8, high: u8)
+    requires within { place < 65535 }
+    requires inside { place % 256 < 255 }
+    requires live { is_live arena.old (place / 256) ≡ true }
+    ensures { arena.new ≡ with_byte (with_byte arena.old (place / 256) (place % 256) low)
+        (place / 256) (place % 256 + 1) high }
+{
+    arena.write_at(place, low);
+    arena.write_at(place + 1, high);
 }
 
 // Writes a byte of a page that was absent. If no page is free for it, all others are present, so no
 // other page needs the blank one.
-fn put_new(arena: &mut Arena, numbers: &mut [u8], blank: &mut u16, at: u16, byte: u8)
-    requires { IsPaged arena.old numbers.old blank.old
-        × (get_or numbers.old (at / 256) 0 ≡ blank.old) }
-    ensures value { paged arena.new numbers.new blank.new
-        ≡ after_put (paged arena.old numbers.old blank.old) at byte }
-    ensures kept { IsPaged arena.new numbers.new blank.new }
+fn put_new(arena: &mut Arena, starts: &mut [u16], blank: &mut u16, at: u16, byte: u8)
+    requires { IsKept arena.old starts.old blank.old
+        × (get_or starts.old (at / 256) 0 ≡ blank.old) }
+    ensures value { kept arena.new starts.new blank.new
+        ≡ after_put (kept arena.old starts.old blank.old) at byte }
+    ensures kept { IsKept arena.new starts.new blank.new }
 {
     let index = (at / 256) as usize;
     match arena.take() {
         Some(page) => {
             arena.write(page, (at % 256) as u8, byte);
-            numbers[index] = page;
+            starts[index] = start_of(page);
         }
         None => {
-            arena.write(numbers[index], (at % 256) as u8, byte);
+            arena.write(number_of(starts[index]), (at % 256) as u8, byte);
             *blank = NO_PAGE;
         }
     }
 }
 
-// The number of the blank page. If there is none, the index 0 gives its page up, and the page that
+// The start of the blank page. If there is none, the index 0 gives its page up, and the page that
 // is free then becomes the blank one.
-fn blank_page(arena: &mut Arena, numbers: &mut [u8], blank: u16) -> u8
-    requires { IsPaged arena.old numbers.old blank }
-    ensures { IsPaged arena.new numbers.new result }
+fn blank_page(arena: &mut Arena, starts: &mut [u16], blank: u16) -> u16
+    requires { IsKept arena.old starts.old blank }
+    ensures kept { IsKept arena.new starts.new result }
+    ensures page { result % 256 ≡ 0 }
 {
     if blank != NO_PAGE {
-        return blank as u8;
+        return blank;
     }
-    arena.release(numbers[0]);
+    arena.release(number_of(starts[0]));
     if let Some(page) = arena.take() {
-        numbers[0] = page;
+        starts[0] = start_of(page);
     }
-    numbers[0]
+    starts[0]
 }
 
-// Makes all pages absent. Most are absent already, so a run of numbers is compared at once.
-fn release_all(arena: &mut Arena, numbers: &mut [u8], blank: u8)
-    requires { IsPaged arena.old numbers.old blank }
-    ensures none { numbers.new ≡ replicate 256 blank }
-    ensures kept { IsPaged arena.new numbers.new blank }
+// Makes all pages absent. Most are absent already, so a run of starts is compared at once.
+fn release_all(arena: &mut Arena, starts: &mut [u16], blank: u16)
+    requires kept { IsKept arena.old starts.old blank }
+    requires page { blank % 256 ≡ 0 }
+    ensures none { starts.new ≡ replicate 256 blank }
+    ensures kept { IsKept arena.new starts.new blank }
 {
     let absent = [blank; RUN];
     for run in 0..256 / RUN {
         let from = RUN * run;
-        if &numbers[from..from + RUN] != absent.as_slice() {
-            release_run(arena, numbers, blank, from);
+        if &starts[from..from + RUN] != absent.as_slice() {
+            release_run(arena, starts, blank, from);
         }
     }
 }
 
 // Makes the pages of a run of indices absent.
-fn release_run(arena: &mut Arena, numbers: &mut [u8], blank: u8, from: usize)
-    requires paged { IsPaged arena.old numbers.old blank }
+fn release_run(arena: &mut Arena, starts: &mut [u16], blank: u16, from: usize)
+    requires kept { IsKept arena.old starts.old blank }
+    requires page { blank % 256 ≡ 0 }
     requires within { from + RUN ≤ 256 }
-    requires before { AreBlank numbers.old blank from }
-    ensures { IsPaged arena.new numbers.new blank × AreBlank numbers.new blank (from + RUN) }
+    requires before { AreBlank starts.old blank from }
+    ensures { IsKept arena.new starts.new blank × AreBlank starts.new blank (from + RUN) }
 {
     for index in from..from + RUN {
-        let number = numbers[index];
-        if number != blank {
-            arena.release(number);
-            numbers[index] = blank;
+        let start = starts[index];
+        if start != blank {
+            arena.release(number_of(start));
+            starts[index] = blank;
         }
     }
 }

@@ -1,7 +1,7 @@
 //! The arena: pages that are taken and released.
 
-ghost use Rattle.std.specs.Prelude.{◌≡◌, ℕ, ◌+◌, ◌<◌, true, length, slice_index, slice_set, IfOk};
-ghost use Rattle.std.specs.Prelude.{None};
+ghost use Rattle.std.specs.Prelude.{◌≡◌, ℕ, ◌+◌, ◌/◌, ◌%◌, ◌<◌, true, length, slice_index};
+ghost use Rattle.std.specs.Prelude.{slice_set, IfOk, None};
 ghost use Rattle.sx_pages.specs.Pages.{no_pages, is_live, held, size, with_byte, TakesPage};
 
 use crate::block::{Block, Lease};
@@ -93,6 +93,15 @@ impl Arena {
         *self.block.byte(page, at)
     }
 
+    /// The byte at a place of the block: the index `place % 256` of the live page `place / 256`.
+    pub fn read_at(&self, place: usize) -> u8
+        requires within { place < 65536 }
+        requires live { is_live self.now (place / 256) ≡ true }
+        ensures { result ≡ slice_index (held self.now (place / 256)) (place % 256) }
+    {
+        *self.block.byte_at(place)
+    }
+
     /// What a live page holds.
     pub fn page(&self, page: u8) -> &[u8]
         requires { is_live self.now page ≡ true }
@@ -107,6 +116,16 @@ impl Arena {
         ensures { self.new ≡ with_byte self.old page at byte }
     {
         self.block.put(page, at, byte);
+    }
+
+    /// Writes the byte at a place of the block: the index `place % 256` of the live page
+    /// `place / 256`. All other bytes stay.
+    pub fn write_at(&mut self, place: usize, byte: u8)
+        requires within { place < 65536 }
+        requires live { is_live self.old (place / 256) ≡ true }
+        ensures { self.new ≡ with_byte self.old (place / 256) (place % 256) byte }
+    {
+        self.block.put_at(place, byte);
     }
 
     /// Whether the page is live.

@@ -1,7 +1,7 @@
 //! The block of memory after a raw pointer. Everything that touches the pointer is in this file.
 
-ghost use Rattle.std.specs.Prelude.{◌≡◌, ◌<◌, List, All, get_or, map, slice_set, IfSome, Some};
-ghost use Rattle.std.specs.Prelude.{[]};
+ghost use Rattle.std.specs.Prelude.{◌≡◌, ◌<◌, ◌/◌, ◌%◌, List, All, get_or, map, slice_set, IfSome};
+ghost use Rattle.std.specs.Prelude.{[], Some};
 ghost use denote.RawPtr.{Ptr};
 ghost use Rattle.sx_pages.specs.Arena.{HasByte, slot_of, with_slot, zeroed, AllLinked, CanCopy};
 ghost use Rattle.sx_pages.specs.Arena.{AreCopied};
@@ -16,7 +16,8 @@ use std::slice;
 /// The bytes of a block.
 const BYTES: usize = 65536;
 
-/// A block of 256 pages of 256 bytes. Each byte is unwritten until it is put.
+/// A block of 256 pages of 256 bytes. Each byte is unwritten until it is put. The place of a byte is
+/// how many bytes of the block are before it.
 pub(crate) struct Block {
     start: *mut u8,
     pub(crate) ghost pages: { List (List Slot) },
@@ -66,12 +67,20 @@ impl Block {
         unsafe { alloc.deallocate(start, BYTES, 1) }
     }
 
-    /// A byte that was written.
+    /// The byte at a place, which was written.
+    pub(crate) fn byte_at(&self, place: usize) -> &u8
+        requires { (place < BYTES) × HasByte (slot_of self.now.pages (place / 256) (place % 256)) }
+        ensures { slot_of self.now.pages (place / 256) (place % 256) ≡ Some result.now }
+    {
+        unsafe { &*self.start.add(place) }
+    }
+
+    /// A byte that was written, by its page and its index there.
     pub(crate) fn byte(&self, page: u8, at: u8) -> &u8
         requires { HasByte (slot_of self.now.pages page at) }
         ensures { slot_of self.now.pages page at ≡ Some result.now }
     {
-        unsafe { &*self.start.add(page as usize * 256 + at as usize) }
+        self.byte_at(page as usize * 256 + at as usize)
     }
 
     /// The bytes of a page that was written whole.
@@ -82,14 +91,23 @@ impl Block {
         unsafe { slice::from_raw_parts(self.start.add(page as usize * 256), 256) }
     }
 
-    /// Writes one byte.
+    /// Writes the byte at a place.
+    pub(crate) fn put_at(&mut self, place: usize, byte: u8)
+        requires { place < BYTES }
+        ensures { (self.new.start ≡ self.old.start)
+            × (self.new.pages ≡ with_slot self.old.pages (place / 256) (place % 256) byte) }
+    {
+        unsafe {
+            *self.start.add(place) = byte;
+        }
+    }
+
+    /// Writes one byte, by its page and its index there.
     pub(crate) fn put(&mut self, page: u8, at: u8, byte: u8)
         ensures { (self.new.start ≡ self.old.start)
             × (self.new.pages ≡ with_slot self.old.pages page at byte) }
     {
-        unsafe {
-            *self.start.add(page as usize * 256 + at as usize) = byte;
-        }
+        self.put_at(page as usize * 256 + at as usize, byte);
     }
 
     /// Makes each page a free one that is linked to the next.
