@@ -92,7 +92,7 @@ changed arena arena2 numbers numbers2 blank blank2 i x long long2 hi others here
     (λ ne. others j (omega (arith, h, new)) ne ∙ sym (at-index arena numbers blank j (omega (arith, h, new, long))) ∙ sym (get_or-set_other old i j x None ne)))
 
 -- what the numbers of a paged memory name
-numbered : (arena : Pages) (numbers : List ℕ) (blank i : ℕ) → IsPaged arena numbers blank → i < 256 → get_or numbers i 0 < 256
+pub numbered : (arena : Pages) (numbers : List ℕ) (blank i : ℕ) → IsPaged arena numbers blank → i < 256 → get_or numbers i 0 < 256
 numbered arena numbers blank i is hi = omega (arith, is.whole, live-within arena (get_or numbers i 0) (is.live i hi))
 
 present : (arena : Pages) (numbers : List ℕ) (blank i : ℕ) → IsPaged arena numbers blank → i < 256 → get_or numbers i 0 ≢ blank → is_live (paged arena numbers blank) i ≡ true
@@ -115,7 +115,7 @@ unnumbered arena numbers blank i p is hi f e = false≢true (sym f ∙ ap (is_li
 unblank : (arena : Pages) (numbers : List ℕ) (blank p : ℕ) → IsPaged arena numbers blank → p < 256 → is_live arena p ≡ false → p ≢ blank
 unblank arena numbers blank p is h f e = false≢true (sym f ∙ ap (is_live arena) e ∙ blank-live arena numbers blank is (omega (arith, h, e)))
 
-spare-some : (blank : ℕ) → blank < 256 → spare blank ≡ 1
+pub spare-some : (blank : ℕ) → blank < 256 → spare blank ≡ 1
 spare-some blank h = ap (λ (t : Bool). if t then 1 else 0) (lt-ltb blank 256 h)
 
 -- what a page holds, present or not
@@ -123,7 +123,7 @@ live-bytes : (x : Page) → is_page x ≡ true → bytes_of x ≡ page_bytes x
 live-bytes None e = cc
 live-bytes (Some b) e = refl
 
-held-is : (arena : Pages) (numbers : List ℕ) (blank i : ℕ) → IsPaged arena numbers blank → i < 256
+pub held-is : (arena : Pages) (numbers : List ℕ) (blank i : ℕ) → IsPaged arena numbers blank → i < 256
     → held arena (get_or numbers i 0) ≡ page_bytes (get_or (paged arena numbers blank) i None)
 held-is arena numbers blank i is hi =
     let n : ℕ = get_or numbers i 0 in let place = at-index arena numbers blank i (omega (arith, is.long, hi)) in
@@ -377,17 +377,8 @@ IsPaged-new p hp =
     }
 
 -- a turn of the loops that release the pages
-upto : (n i : ℕ) → i < n + 1 → i ≢ n → i < n
+pub upto : (n i : ℕ) → i < n + 1 → i ≢ n → i < n
 upto n i h ne = choose (cases_lt i n) (λ lt. lt) (λ ge. absurd (ne (omega (arith, h, ge))))
-
-pub drop-step : (arena : Pages) (numbers : List ℕ) (blank n : ℕ) → n < 256 → IsPaged arena numbers blank → blank < 256 → get_or numbers n 0 ≢ blank → AreBlank numbers blank n
-    → IsPaged (set arena (get_or numbers n 0) None) (set numbers n blank) blank × AreBlank (set numbers n blank) blank (n + 1)
-drop-step arena numbers blank n h is hb own so_far = (
-  IsPaged-drop arena numbers blank n is hb h own,
-  λ i hi. choose (cases_eq i n)
-      (λ same. ap (λ (k : ℕ). get_or (set numbers n blank) k 0) same ∙ get_or-set_same numbers n blank 0 (omega (arith, is.long, h)))
-      (λ ne. get_or-set_other numbers n i blank 0 ne ∙ so_far i (upto n i hi ne)),
-)
 
 pub keep-step : (numbers : List ℕ) (blank n : ℕ) → get_or numbers n 0 ≡ blank → AreBlank numbers blank n → AreBlank numbers blank (n + 1)
 keep-step numbers blank n e so_far i hi = choose (cases_eq i n) (λ same. ap (λ (k : ℕ). get_or numbers k 0) same ∙ e) (λ ne. so_far i (upto n i hi ne))

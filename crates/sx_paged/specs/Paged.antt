@@ -44,4 +44,5 @@ kept arena starts blank = paged arena (map number starts) (number blank)
 pub record IsKept (arena : Pages) (starts : List ℕ) (blank : ℕ) : Type 0 where
   pub pages : IsPaged arena (map number starts) (number blank)
   pub even : (index : ℕ) → get_or starts index 0 % 256 ≡ 0
+  pub small : blank < 65536
   pub start : blank ≢ 65535 → blank % 256 ≡ 0

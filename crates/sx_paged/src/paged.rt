@@ -113,13 +113,7 @@ impl Paged {
         if start != self.blank {
             self.arena.write_at(place_of(start, at), byte);
         } else {
-            put_new(
-                &mut self.arena,
-                &mut self.starts,
-                &mut self.blank,
-                at,
-                byte,
-            );
+            put_new(&mut self.arena, &mut self.starts, &mut self.blank, at, byte);
         }
     }
 
