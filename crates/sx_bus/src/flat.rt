@@ -40,6 +40,11 @@ impl Bus for FlatBus {
         &self.memory[from..from + expected.len()] == expected
     }
 
+    fn copy_bytes(&self, at: u16, into: &mut [u8]) {
+        let from = usize::from(at);
+        into.copy_from_slice(&self.memory[from..from + into.len()]);
+    }
+
     fn put(&mut self, at: u16, byte: u8) {
         self.memory[at as usize] = byte;
     }

@@ -18,6 +18,11 @@ pub trait Bus: Drop {
         ensures { result
             ≡ bytes_eq (take (length expected.now) (drop at (bytes self.now))) expected.now };
 
+    /// Copies the bytes in memory from an address on.
+    fn copy_bytes(&self, at: u16, into: &mut [u8])
+        requires { at + length into.old ≤ 65536 }
+        ensures { into.new ≡ take (length into.old) (drop at (bytes self.now)) };
+
     /// Writes one byte and leaves all others.
     fn put(&mut self, at: u16, byte: u8)
         ensures { bytes self.new ≡ slice_set (bytes self.old) at byte };

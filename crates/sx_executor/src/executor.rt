@@ -1,7 +1,7 @@
 //! The state that an instruction runs on, and every call that touches its memory.
 //!
 //! Memory, devices, sections and whose turn it is are fields that are seen in this file alone: the
-//! rest of the crate reaches them by these calls. An access reads by `read` and `public_byte` and
+//! rest of the crate reaches them by these calls. An access reads by `read` and `public_bytes` and
 //! writes by `write`, and these require its right, which is that of the module whose turn `begin`
 //! began. `new` and `reset` are about a whole node; `admit` and `remove` say why they ask for no
 //! right. `byte`, `holds` and `copy` ask for none either, but are only where the memory can be
@@ -243,17 +243,19 @@ impl<B: Bus> Executor<B> {
         }
     }
 
-    /// A byte of the public section of a live module, or of one that no rule refuses. It may be
-    /// read, and there is no device, since no module is admitted over one.
-    pub fn public_byte(&self, layout: &Layout, i: u16) -> u8
+    /// Copies bytes of the public section of a live module, or of one that no rule refuses, from an
+    /// offset on. They may be read, and there is no device, since no module is admitted over one.
+    pub fn public_bytes(&self, layout: &Layout, from: u16, into: &mut [u8])
         requires right { reaches self.now Read layout.now.pub_from
             (layout.now.pub_to - layout.now.pub_from) ≡ true }
         requires public { IsPublic self.now layout.now }
-        requires within { i < layout.now.pub_to - layout.now.pub_from }
-        ensures { result ≡ slice_index self.now.mem (layout.now.pub_from + i) }
+        requires within { from + length into.old ≤ layout.now.pub_to - layout.now.pub_from }
+        ensures { into.new
+            ≡ bytes_from self.now.mem (layout.now.pub_from + from) (length into.old) }
     {
+        self.bus.stays_in_range();
         let public = Buffer::between(layout.pub_from, layout.pub_to);
-        self.bus.get(public.at + i)
+        self.bus.copy_bytes(public.at + from, into);
     }
 
     /// Admits a module that `test` doesn't refuse under the next id, which it gives back. Its

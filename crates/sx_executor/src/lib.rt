@@ -4,7 +4,7 @@
 //! `fetch` ask the access table and then the devices, as the executor of the definitions does
 //! (`Run.antt` of spec_machine). Memory itself is seen in the file `executor.rt` alone, and all else
 //! reaches it by that file's calls. Of these `read` and `write` require that the access was tested,
-//! so no byte is touched before its test. Apart from them only two calls read: `public_byte`, which
+//! so no byte is touched before its test. Apart from them only two calls read: `public_bytes`, which
 //! requires the right (it asks of no device, since no module is admitted over one), and `byte`, for
 //! a caller that looks at the node from outside. The calls that make bytes zero say why they ask
 //! for no right. Contracts see an executor as the record `Machine` of `specs/Machine.antt`, and say

@@ -1,8 +1,9 @@
 -- Bytes that are in a memory from an address on, page by page.
-use Rattle.std.proofs.Common.{◌≡◌, ℕ, zero, suc, ◌+◌, ◌*◌, ◌/◌, ◌%◌, ◌<◌, ◌≤◌, Bool, true, false, ◌&&◌, List, [], ◌∷◌, ◌++◌, length, get_or, take, drop, refl, sym, ◌∙◌, ap, arith, Option, None}
-use Rattle.std.proofs.lemmas.List.{length-append, length-drop, length-take-le, take-append-drop, take-append-le, take-take, drop-drop, drop_at, drop-append-le, drop-take}
+use Rattle.std.proofs.Common.{◌≡◌, ℕ, zero, suc, ◌+◌, ◌-◌, ◌*◌, ◌/◌, ◌%◌, ◌<◌, ◌≤◌, Bool, true, false, ◌&&◌, List, [], ◌∷◌, ◌++◌, length, get_or, take, drop, refl, sym, ◌∙◌, ap, arith, append-nil, Option, None}
+use Rattle.std.proofs.lemmas.List.{length-append, length-drop, length-take-le, take-append-drop, take-append-le, take-take, drop-drop, take_at, drop_at, drop_all, drop-append-le, drop-take}
 use Rattle.std.proofs.lemmas.List.Elements.{All-head, All-tail}
 use Rattle.std.specs.Prelude.{All, bytes_eq, nat_eq}
+use borrow.Rule.Slice.PartMut.{put_mid}
 use Rattle.sx_pages.specs.Pages.{Pages}
 use Rattle.sx_paged.specs.Memory.{page_bytes, joined, IsMemory}
 
@@ -55,6 +56,25 @@ both_parts (x ∷ xs) ys (v ∷ vs) ws e =
 in_two : (n m : ℕ) (xs : List ℕ) → take (n + m) xs ≡ take n xs ++ take m (drop n xs)
 in_two n m xs = sym (take-append-drop n (take (n + m) xs))
     ∙ (λ j. take-take n (n + m) xs (omega arith) j ++ drop-take n m xs j)
+
+-- bytes from an address on are the first of them, and those that follow
+pub two_stretches : (mem : List ℕ) (at n m : ℕ) → take (n + m) (drop at mem) ≡ take n (drop at mem) ++ take m (drop (at + n) mem)
+two_stretches mem at n m = in_two n m (drop at mem) ∙ ap (λ (bytes : List ℕ). take n (drop at mem) ++ take m bytes) (drop-drop n at mem)
+
+-- bytes were copied up to a page's end, and those that follow behind them
+pub copied_on : (mem into first rest : List ℕ) (at room : ℕ) → length first ≡ room → room ≤ length into → first ≡ take room (drop at mem)
+    → rest ≡ take (length into - room) (drop (at + room) mem)
+    → put_mid room (length (first ++ drop room into) - room) (first ++ drop room into) rest ≡ take (length into) (drop at mem)
+copied_on mem into first rest at room long inside here there =
+    let all : List ℕ = first ++ drop room into in let left : ℕ = length into - room in
+    let tail : length (drop room into) ≡ left = length-drop room into in
+    let more : length all - room ≡ left = omega (arith, length-append first (drop room into), long, tail) in
+    let front : take room all ≡ first = take_at first (drop room into) room long in
+    let back : drop (length all - room) (drop room all) ≡ [] =
+    (λ j. drop (more j) (drop_at first (drop room into) room long j)) ∙ drop_all left (drop room into) (omega (arith, tail)) in
+    let sum : room + left ≡ length into = omega (arith, inside) in
+    (λ j. front j ++ (rest ++ back j)) ∙ ap (λ (bytes : List ℕ). first ++ bytes) (append-nil rest) ∙ (λ j. here j ++ there j)
+    ∙ sym (two_stretches mem at room left) ∙ ap (λ (n : ℕ). take n (drop at mem)) sum
 
 -- bytes are from an address on where their first part is there, and the rest after it
 pub stand_in_two : (mem : List ℕ) (at : ℕ) (first rest : List ℕ) → at + (length first + length rest) ≤ length mem

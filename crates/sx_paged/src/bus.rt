@@ -48,6 +48,10 @@ impl Bus for PagedBus {
         self.pages.holds(at, expected)
     }
 
+    fn copy_bytes(&self, at: u16, into: &mut [u8]) {
+        self.pages.copy_bytes(at, into);
+    }
+
     fn put(&mut self, at: u16, byte: u8)
         ensures bytes { joined self.new.pages ≡ slice_set (joined self.old.pages) at byte }
         ensures pages { self.new.pages ≡ after_put self.old.pages at byte }

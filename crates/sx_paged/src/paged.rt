@@ -105,6 +105,32 @@ impl Paged {
         self.holds_on_page(at, first) && self.holds(at + room as u16, rest)
     }
 
+    /// Copies the bytes in memory from an address on, where no page ends before them.
+    fn copy_on_page(&self, at: u16, into: &mut [u8])
+        requires shaped { IsMemory self.now }
+        requires within { at % PAGE_BYTES + length into.old ≤ PAGE_BYTES }
+        ensures { into.new ≡ take (length into.old) (drop at (joined self.now)) }
+    {
+        let from = (at % 256) as usize;
+        let page = self.page((at / 256) as u8);
+        into.copy_from_slice(&page[from..from + into.len()]);
+    }
+
+    /// Copies the bytes in memory from an address on: one copy for each page that they meet.
+    pub(crate) fn copy_bytes(&self, at: u16, into: &mut [u8])
+        requires shaped { IsMemory self.now }
+        requires within { at + length into.old ≤ 65536 }
+        ensures { into.new ≡ take (length into.old) (drop at (joined self.now)) }
+    {
+        let room = PAGE_BYTES - (at % 256) as usize;
+        if into.len() <= room {
+            self.copy_on_page(at, into);
+        } else {
+            self.copy_on_page(at, &mut into[..room]);
+            self.copy_bytes(at + room as u16, &mut into[room..]);
+        }
+    }
+
     /// Writes one byte, and makes the page where it is absent.
     pub(crate) fn put(&mut self, at: u16, byte: u8)
         ensures { self.new ≡ after_put self.old at byte }

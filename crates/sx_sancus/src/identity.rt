@@ -18,21 +18,6 @@ use sx_tag::{Tag, begin_attest_tag, begin_module_key, feed_answer, finish_answer
 /// How many bytes of a public section are fed at once: a block of SHA-256.
 const PART: u16 = 64;
 
-/// Copies bytes of a public section, from an offset on.
-#[tactic(auto, unfolding(spec_machine::specs::Memory::bytes_from), using(std::proofs::lemmas::List::take_more_set))]
-fn copy_public<B: Bus>(executor: &Executor<B>, layout: &Layout, from: u16, into: &mut [u8])
-    requires right { reads_public executor.now layout.now ≡ true }
-    requires public { IsPublic executor.now layout.now }
-    requires within { from + length into.old ≤ layout.now.pub_to - layout.now.pub_from }
-    requires room { from + length into.old < 65536 }
-    ensures { into.new
-        ≡ bytes_from executor.now.mem (layout.now.pub_from + from) (length into.old) }
-{
-    for i in 0..into.len() {
-        into[i] = executor.public_byte(layout, from + i as u16);
-    }
-}
-
 /// Copies at most 64 bytes of a public section, from an offset on, to the start of a block.
 fn copy_part<B: Bus>(
     executor: &Executor<B>,
@@ -44,12 +29,11 @@ fn copy_part<B: Bus>(
     requires right { reads_public executor.now layout.now ≡ true }
     requires public { IsPublic executor.now layout.now }
     requires within { from + count ≤ layout.now.pub_to - layout.now.pub_from }
-    requires room { from + count < 65536 }
     requires short { count ≤ PART }
     ensures { take count into.new
         ≡ bytes_from executor.now.mem (layout.now.pub_from + from) count }
 {
-    copy_public(executor, layout, from, &mut into[..count]);
+    executor.public_bytes(layout, from, &mut into[..count]);
 }
 
 /// Feeds at most 64 bytes of a public section, from an offset on.
@@ -64,7 +48,6 @@ fn feed_part<B: Bus, T: Tag>(
     requires right { reads_public executor.now layout.now ≡ true }
     requires public { IsPublic executor.now layout.now }
     requires within { from + count ≤ layout.now.pub_to - layout.now.pub_from }
-    requires room { from + count < 65536 }
     requires short { count ≤ PART }
     ensures { (answer : List ℕ → List ℕ) (fed : List ℕ) → Leads T.has T.mac answer run.old fed
         → Leads T.has T.mac answer run.new
