@@ -23,8 +23,8 @@ unfolding encode_with
 no_block t now text rest none whole = let nil = nil_from_length rest none in rw (nil, append-nil) at whole
 
 -- a part of as many zeros as a block may have
-pub zeros : (block : List ℕ) → length block ≤ 256 → same block (take (length block) (replicate 256 0)) ≡ true → block ≡ replicate (length block) 0
-zeros block short h = same-true block (take (length block) (replicate 256 0)) h ∙ take-replicate (length block) 256 0 short
+pub zeros : (block : List ℕ) → length block ≤ 1024 → same block (take (length block) (replicate 1024 0)) ≡ true → block ≡ replicate (length block) 0
+zeros block short h = same-true block (take (length block) (replicate 1024 0)) h ∙ take-replicate (length block) 1024 0 short
 
 -- the digits of zeros
 digits_of_zeros : (n : ℕ) → encode_lower (replicate n 0) ≡ replicate (2 * n) 48
@@ -38,5 +38,5 @@ pub zeros_written : (block digits : List ℕ) → digits ≡ replicate (2 * leng
 zeros_written block digits all none = all ∙ sym (ap encode_lower none ∙ digits_of_zeros (length block))
 
 -- as many digits as a block has
-pub as_many : (n : ℕ) → n ≤ 256 → take {A = ℕ} (2 * n) (replicate 512 48) ≡ replicate (2 * n) 48
-as_many n short = take-replicate (2 * n) 512 48 (omega (arith, short))
+pub as_many : (n : ℕ) → n ≤ 1024 → take {A = ℕ} (2 * n) (replicate 2048 48) ≡ replicate (2 * n) 48
+as_many n short = take-replicate (2 * n) 2048 48 (omega (arith, short))

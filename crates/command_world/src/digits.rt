@@ -9,7 +9,7 @@ use std::alloc::AllocError;
 
 /// The most bytes whose digits are appended at once. They are made on the stack, so that no second
 /// list is asked for.
-const BLOCK: usize = 256;
+const BLOCK: usize = 1024;
 
 /// The digit of a number below 16.
 fn digit(n: u8) -> u8
@@ -32,7 +32,7 @@ fn write_digits(bytes: &[u8], digits: &mut [u8])
 
 /// Whether a block is zeros, as a section is after its text.
 fn is_zeros(block: &[u8]) -> bool
-    requires { length block.now ≤ 256 }
+    requires { length block.now ≤ BLOCK }
     ensures { result ≡ true → block.now ≡ replicate (length block.now) 0 }
 {
     let zeros = [0; BLOCK];
@@ -42,7 +42,7 @@ fn is_zeros(block: &[u8]) -> bool
 /// Writes two digits for each byte of a block over as many `0`, the digits of zeros.
 #[tactic(auto, using(crate::proofs::Blocks::zeros_written))]
 fn write_block(block: &[u8], digits: &mut [u8])
-    requires length { length block.now ≤ 256 }
+    requires length { length block.now ≤ BLOCK }
     requires digits { digits.old ≡ replicate (2 * length block.now) 48 }
     ensures { digits.new ≡ encode_lower block.now }
 {
@@ -54,7 +54,7 @@ fn write_block(block: &[u8], digits: &mut [u8])
 /// Appends two digits for each byte of a block.
 #[tactic(auto, using(crate::proofs::Blocks::as_many))]
 fn push_block(text: &mut Vec<u8>, block: &[u8]) -> Result<(), AllocError>
-    requires { length block.now ≤ 256 }
+    requires { length block.now ≤ BLOCK }
     ensures { OnOk result (text.new.items ≡ text.old.items ++ encode_lower block.now) }
 {
     let mut digits = [b'0'; 2 * BLOCK];

@@ -8,5 +8,5 @@ abbrev pub invariant-blocks-2 : goal.invariant-blocks-2
 invariant-blocks-2 l =
     (goal.iterator-blocks-2).can_next l.block-iterator
     × (goal.iterator-blocks-2).is_finite l.block-iterator
-    × (chunks_size l.block-iterator ≡ 256)
+    × (chunks_size l.block-iterator ≡ 1024)
     × (l.text.items ++ encode_lower (chunks_rest l.block-iterator) ≡ l.fn.text.items ++ encode_lower l.fn.bytes)
