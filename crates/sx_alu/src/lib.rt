@@ -4,8 +4,7 @@
 //! `calc` gives the result and the flags of a calculation: its row in specs/Table.antt, which is
 //! what must be believed. `laws` says in terms of arithmetic what the flags tell after a
 //! subtraction and an addition. `calc_status` is `calc` on `StatusBits`, the flags as bits of the
-//! status register, which are in specs/Status.antt; `compared` and `bits_tested` are its flags
-//! alone. No call takes memory.
+//! status register, which are in specs/Status.antt. No call takes memory.
 #![tactic(auto)]
 
 pub mod calculation;
@@ -17,4 +16,4 @@ pub mod table;
 pub use calculation::Calc;
 pub use flags::Flags;
 pub use status::StatusBits;
-pub use table::{bits_tested, calc, calc_status, compared};
+pub use table::{calc, calc_status};

@@ -1,7 +1,7 @@
 //! The result and the flags of each calculation.
 
-ghost use Rattle.std.specs.Prelude.{◌≡◌, ◌+◌, ◌*◌, ◌%◌, ◌<◌, ◌&&◌, IsTrue, true, false, not, nat_le};
-ghost use Rattle.std.specs.Prelude.{if◌then◌else◌, bit_and};
+ghost use Rattle.std.specs.Prelude.{◌≡◌, ◌+◌, ◌*◌, ◌%◌, ◌<◌, ◌&&◌, IsTrue, true, not, nat_le};
+ghost use Rattle.std.specs.Prelude.{if◌then◌else◌};
 ghost use Rattle.sx_alu.specs.Table.{limit, half, is_negative, row, sum_row};
 ghost use Rattle.sx_alu.specs.Widths.{has_width};
 ghost use Rattle.sx_alu.specs.Table.{difference_row, carried, differ, tested, shifted, extended};
@@ -218,20 +218,4 @@ pub fn calc_status(
         Calc::Swap => (s.swap_bytes(), flags),
         Calc::Extend => tested(wide, extended(s), false),
     }
-}
-
-/// The flags after a comparison of words.
-#[inline(always)]
-pub fn compared(src: u16, dst: u16) -> StatusBits
-    ensures { result ≡ (difference_row true src dst 1).1 }
-{
-    word_difference(src, dst).1
-}
-
-/// The flags after a test of a word's bits.
-#[inline(always)]
-pub fn bits_tested(src: u16, dst: u16) -> StatusBits
-    ensures { result ≡ (tested true (bit_and dst src) false).1 }
-{
-    tested(true, dst & src, false).1
 }

@@ -36,7 +36,7 @@ use crate::jump::jump_quietly;
 use crate::step::step_long;
 use crate::triple::step_triple;
 use crate::two_operands::{computed_as, on_memory, reads, writes};
-use sx_alu::{StatusBits, bits_tested, compared};
+use sx_alu::StatusBits;
 use sx_bus::Bus;
 use sx_executor::registers::{PC, cut};
 use sx_executor::{ByteDouble, ByteSingle, Double, Executor, Form, Shortcut, Single};
@@ -69,13 +69,15 @@ fn jump_quickly<B: Bus>(
 
 /// The end of an operation on a general register.
 #[inline(always)]
-fn into_general<B: Bus>(executor: &mut Executor<B>, r: u8, value: (u16, StatusBits))
+fn into_general<B: Bus>(executor: &mut Executor<B>, written: bool, r: u8, value: (u16, StatusBits))
     requires { is_general r ≡ true }
-    ensures { RunsQuietly (into_register true r value executor.old.regs) executor.old
+    ensures { RunsQuietly (into_register written r value executor.old.regs) executor.old
         executor.new }
 {
     executor.set_flags(value.1);
-    executor.set_general(r, value.0);
+    if written {
+        executor.set_general(r, value.0);
+    }
 }
 
 /// The value of an operation on words that keeps the flags: MOV, BIC and BIS.
@@ -92,8 +94,8 @@ fn value_alone(op: Op2, src: u16, dst: u16, flags: StatusBits) -> Option<u16>
     }
 }
 
-/// An operation on words onto a general register. What keeps the flags doesn't write them, and
-/// what keeps the register doesn't write it.
+/// An operation on words onto a general register. What keeps the flags has a way of its own, on
+/// which the compiler drops their write; of the old flags the other way needs the carry alone.
 #[inline(always)]
 fn onto_general<B: Bus>(executor: &mut Executor<B>, op: Op2, src: u16, r: u8)
     requires src { src < limit true }
@@ -103,14 +105,11 @@ fn onto_general<B: Bus>(executor: &mut Executor<B>, op: Op2, src: u16, r: u8)
     let old = executor.general(r);
     let flags = executor.flags();
     if let Some(value) = value_alone(op, src, old, flags) {
-        into_general(executor, r, (value, flags));
+        into_general(executor, true, r, (value, flags));
         return;
     }
-    match op {
-        Op2::Cmp => executor.set_flags(compared(src, old)),
-        Op2::Bit => executor.set_flags(bits_tested(src, old)),
-        _ => into_general(executor, r, computed_as::<true>(op, src, old, flags)),
-    }
+    let value = computed_as::<true>(op, src, old, flags);
+    into_general(executor, writes(op), r, value);
 }
 
 /// The same from a register; `next` is the address after the instruction.
