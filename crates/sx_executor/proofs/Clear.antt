@@ -9,7 +9,7 @@ use Rattle.spec_machine.specs.Run.{device_of, found}
 use Rattle.sx_executor.specs.Machine.{IsClear}
 use Rattle.sx_executor.proofs.Rights.{byte_apart}
 
-none_at : (devices : List Window) (at n i j : ℕ) → IsClear devices at n → i < n → position_from (on_word (at + i)) j devices ≡ None
+pub none_at : (devices : List Window) (at n i j : ℕ) → IsClear devices at n → i < n → position_from (on_word (at + i)) j devices ≡ None
 none_at [] at n i j clear below = refl
 none_at (w ∷ rest) at n i j clear below =
     let parts = or_parts (meets at n w.at (w.at + 2)) (meets_device (places_of rest) at n) clear in

@@ -1,6 +1,6 @@
 -- A gap that the sections pass.
-use Rattle.std.proofs.Common.{◌≡◌, ℕ, ◌+◌, ◌==◌, Bool, true, false, ◌&&◌, ◌||◌, not, List, [], ◌∷◌, refl, sym, ◌∙◌, inl, inr}
-use Rattle.std.proofs.lemmas.Bool.{and_parts, and_from, or_cases, or_left, not_from_false, cond-false}
+use Rattle.std.proofs.Common.{◌≡◌, ℕ, ◌+◌, ◌≤◌, ◌==◌, nat_lt, nat_le, Bool, true, false, ◌&&◌, ◌||◌, not, List, [], ◌∷◌, refl, sym, ◌∙◌, inl, inr, arith}
+use Rattle.std.proofs.lemmas.Bool.{and_parts, and_from, or_cases, or_left, not_from_false, cond-false, leb-true, ltb-true, le-leb, lt-ltb}
 use Rattle.std.specs.List.{list_all}
 use Rattle.sx_rules.specs.declared.access.Access.{Access}
 use Rattle.sx_rules.specs.declared.access.Access.TheVariants.{Read, Write, Run}
@@ -12,7 +12,7 @@ use Rattle.spec_machine.specs.Run.{may_at}
 use Rattle.sx_executor.specs.declared.gap.Gap.{Gap}
 use Rattle.sx_executor.specs.declared.gap.Gaps.{Gaps}
 use Rattle.sx_executor.specs.Homes.{within}
-use Rattle.sx_executor.specs.Gaps.{passes, has_place, IsApart, KeepsGap, KeepsGaps}
+use Rattle.sx_executor.specs.Gaps.{passes, within_deep, has_place, has_deep_place, IsApart, KeepsGap, KeepsGaps}
 use Rattle.sx_executor.proofs.Homes.{low_byte, high_byte, not_both, none_within}
 use Rattle.sx_executor.proofs.Rights.{all_weaker}
 
@@ -87,4 +87,19 @@ pub known : (g : Gaps) (live : List Section) (at : ℕ) (b : Bool) → KeepsGaps
 known g live at b k e t = elim (or_cases (within g.last.from g.last.to at) (within g.older.from g.older.to at) (sym e ∙ t)) [
   | inl w ↦ k.last.places at w
   | inr w ↦ k.older.places at w
+]
+
+deep_within : (from to at i : ℕ) → within_deep from to at ≡ true → i ≤ 5 → within from to (at + i) ≡ true
+deep_within from to at i w small =
+    let parts = and_parts (nat_le from at) (nat_lt (at + 5) to) w in
+    let low = leb-true from at parts.0 in
+    let high = ltb-true (at + 5) to parts.1 in
+    and_from (nat_le from (at + i)) (nat_lt (at + i) to) (le-leb from (at + i) (omega arith)) (lt-ltb (at + i) to (omega arith))
+
+-- places from one on that is known to be in one of two gaps with the five after it
+pub known_deep : (g : Gaps) (live : List Section) (at : ℕ) (b : Bool) → KeepsGaps g live → b ≡ has_deep_place g at → b ≡ true
+    → (i : ℕ) → i ≤ 5 → IsApart live (at + i)
+known_deep g live at b k e t i small = elim (or_cases (within_deep g.last.from g.last.to at) (within_deep g.older.from g.older.to at) (sym e ∙ t)) [
+  | inl w ↦ k.last.places (at + i) (deep_within g.last.from g.last.to at i w small)
+  | inr w ↦ k.older.places (at + i) (deep_within g.older.from g.older.to at i w small)
 ]

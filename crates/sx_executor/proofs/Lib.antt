@@ -1,6 +1,6 @@
 -- Begin with Rights: what a test says of the access table. Reach, Clear and Open are of places that
 -- may be touched, Words of bytes that are written two at a time, Homes and Gaps of places that need no
--- test.
+-- test, Vacant and Deep of instructions that need none.
 pub mod Reach
 pub mod Rights
 pub mod Clear
@@ -9,3 +9,5 @@ pub mod Stretch
 pub mod Words
 pub mod Homes
 pub mod Gaps
+pub mod Vacant
+pub mod Deep

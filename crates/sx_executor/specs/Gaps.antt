@@ -3,7 +3,8 @@
 --     IsApart      what holds of a word that no live section has a byte of
 --     KeepsGap      beside these sections all places of the gap are such
 --     has_place, KeepsGaps      the same of two gaps
-use Rattle.std.specs.Prelude.{◌≡◌, ℕ, ◌+◌, Bool, true, ◌&&◌, ◌||◌, List}
+--     within_deep, has_deep_place      the byte and the five after it lie in a gap, and in one of two
+use Rattle.std.specs.Prelude.{◌≡◌, ℕ, ◌+◌, nat_lt, nat_le, Bool, true, ◌&&◌, ◌||◌, List}
 use Rattle.sx_rules.specs.declared.access.Access.{Access}
 use Rattle.sx_rules.specs.declared.section.Section.{Section}
 use Rattle.sx_rules.specs.Access.{holder, in_order, extends}
@@ -37,6 +38,15 @@ pub record KeepsGap (g : Gap) (live : List Section) : Type 0 where
 -- the byte lies in one of the gaps
 abbrev pub has_place : Gaps → ℕ → Bool
 has_place g at = within g.last.from g.last.to at || within g.older.from g.older.to at
+
+-- the byte lies between the bounds, and the five after it
+abbrev pub within_deep : ℕ → ℕ → ℕ → Bool
+within_deep from to at = nat_le from at && nat_lt (at + 5) to
+
+-- it and the five after it lie in one of the gaps
+abbrev pub has_deep_place : Gaps → ℕ → Bool
+has_deep_place g at =
+    within_deep g.last.from g.last.to at || within_deep g.older.from g.older.to at
 
 -- the same of the places of both
 pub record KeepsGaps (g : Gaps) (live : List Section) : Type 0 where

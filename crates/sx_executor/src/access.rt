@@ -1,12 +1,16 @@
 //! Reads and writes of an instruction: the access table first, and then the device at the place.
 
-ghost use Rattle.std.specs.Prelude.{◌≡◌, ◌<◌, ℕ, Bool, true, None, length, IsTrue, IfOk, IfSome};
+ghost use Rattle.std.specs.Prelude.{◌≡◌, ◌<◌, ℕ, Bool, true, None, Ok, length};
+ghost use Rattle.std.specs.Prelude.{IsTrue, IfOk, IfSome};
 ghost use Rattle.sx_alu.specs.Table.{limit};
+ghost use Rattle.sx_rules.specs.declared.access.Access.{Access};
 ghost use Rattle.sx_rules.specs.declared.access.Access.TheVariants.{Read, Write};
 ghost use Rattle.sx_rules.specs.Access.{holder, in_order};
+ghost use Rattle.sx_bus.specs.Devices.{device_at};
 ghost use Rattle.spec_machine.specs.Step.{word_outside};
 ghost use Rattle.spec_machine.specs.Run.{may_at, with_touch, device_of, fetch, sampled};
 ghost use Rattle.sx_executor.specs.Machine.{moment_of, extends_word, KeepsSections, Loads, Stores};
+ghost use Rattle.sx_executor.specs.Occupancy.{IsAhead, IsExtension};
 
 use crate::executor::Executor;
 use spec_machine::Touch;
@@ -65,7 +69,7 @@ impl<B: Bus> Executor<B> {
             → (wide : Bool) → may_at wide self.now.sections.live self.now.own Write at ≡ true }
         ensures memory { IsTrue result → device_of self.now.devices at ≡ None }
     {
-        self.is_free(at) && self.windows().at(at).is_none()
+        self.is_vacant(at) || self.is_free(at) && self.windows().at(at).is_none()
     }
 
     /// Whether one look says that the running code may read the word at a place, and each byte of
@@ -105,6 +109,50 @@ impl<B: Bus> Executor<B> {
         ensures order { IsTrue result → in_order self.now.sections.live id at ≡ true }
     {
         self.protection().has_code(id, at)
+    }
+
+    /// Whether one look says that no section and no device is on the page of the word at an address
+    /// nor on the next page. Then nothing is asked of the word, nor of the two after it.
+    #[inline(always)]
+    pub fn is_vacant(&self, at: u16) -> bool
+        ensures outside { IsTrue result → word_outside self.now.sections.live at ≡ true }
+        ensures order { IsTrue result
+            → (cur : ℕ) → in_order self.now.sections.live cur at ≡ true }
+        ensures none { IsTrue result → holder self.now.sections.live at ≡ 0 }
+        ensures reached { IsTrue result → (own : ℕ) (wide : Bool) (access : Access)
+            → may_at wide self.now.sections.live own access at ≡ true }
+        ensures memory { IsTrue result → device_at self.now.devices at ≡ None }
+        ensures ahead { IsTrue result
+            → (own : ℕ) → IsAhead self.now.sections.live self.now.devices own at }
+    {
+        self.occupancy().is_vacant(at)
+    }
+
+    /// The same of a word in a gap that has the two after it as well.
+    #[inline(always)]
+    pub fn is_deep_in_gap(&self, at: u16) -> bool
+        ensures outside { IsTrue result → word_outside self.now.sections.live at ≡ true }
+        ensures order { IsTrue result
+            → (cur : ℕ) → in_order self.now.sections.live cur at ≡ true }
+        ensures none { IsTrue result → holder self.now.sections.live at ≡ 0 }
+        ensures memory { IsTrue result → device_at self.now.devices at ≡ None }
+        ensures ahead { IsTrue result
+            → (own : ℕ) → IsAhead self.now.sections.live self.now.devices own at }
+    {
+        self.occupancy().is_deep_in_gap(at)
+    }
+
+    /// Whether the word at an address and the two after it are known to be code of the module `id`,
+    /// as one is at home, and no device is there. Then nothing is asked of them.
+    #[inline(always)]
+    pub fn is_deep_at_home(&self, id: u16, at: u16) -> bool
+        ensures held { IsTrue result → holder self.now.sections.live at ≡ id }
+        ensures outside { IsTrue result → word_outside self.now.sections.live at ≡ true }
+        ensures order { IsTrue result → in_order self.now.sections.live id at ≡ true }
+        ensures memory { IsTrue result → device_at self.now.devices at ≡ None }
+        ensures ahead { IsTrue result → IsAhead self.now.sections.live self.now.devices id at }
+    {
+        self.occupancy().is_deep_at_home(id, at)
     }
 
     /// The device whose word holds the byte, with its index.
@@ -246,5 +294,14 @@ impl<B: Bus> Executor<B> {
             None => Ok(self.read(true, at)),
             Some(_) => Err(Violation::Device),
         }
+    }
+
+    /// Fetches an extension word that is known to be one. Nothing is asked.
+    #[inline(always)]
+    pub fn fetch_known(&self, at: u16) -> u16
+        requires { IsExtension self.now.sections.live self.now.devices self.now.own at }
+        ensures { fetch self.now.sections.live self.now.own at (moment_of self.now) ≡ Ok result }
+    {
+        self.read(true, at)
     }
 }

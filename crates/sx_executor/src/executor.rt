@@ -24,6 +24,7 @@ ghost use Rattle.sx_executor.specs.Machine.{switched_on, cleared_by_reset, reach
 use crate::buffer::Buffer;
 use crate::decoded::Decoded;
 use crate::decoding::{PLACES, SHORTCUT_PLACES};
+use crate::occupancy::Occupancy;
 use crate::protection::Protection;
 use crate::shortcut::Shortcut;
 use spec_machine::Touch;
@@ -38,8 +39,7 @@ use sx_rules::{Layout, Section, Table};
 pub struct Executor<B: Bus> {
     pub(crate) regs: [u16; 16],
     bus: B,
-    windows: Windows,
-    protection: Protection,
+    occupancy: Occupancy,
     own: u16,
     pub(crate) touches: [Touch; 2],
     /// Decoded first words and shortcuts, each in the place of an address that it was decoded at.
@@ -55,8 +55,8 @@ impl<B: Bus> Model for Executor<B> {
     ghost view = { λ e. record {
       regs = e.regs;
       mem = B.bytes e.bus;
-      devices = e.windows;
-      sections = e.protection;
+      devices = e.occupancy.devices;
+      sections = e.occupancy.sections;
       own = e.own;
       touches = e.touches;
     } };
@@ -87,8 +87,7 @@ impl<B: Bus> Executor<B> {
         Executor {
             regs: [0; 16],
             bus,
-            windows,
-            protection: Protection::new(),
+            occupancy: Occupancy::new(windows),
             own: 0,
             touches: [Touch::Quiet; 2],
             decoded: [Decoded::idle(); PLACES],
@@ -102,8 +101,7 @@ impl<B: Bus> Executor<B> {
     {
         self.bus.wipe();
         self.regs = [0; 16];
-        self.windows.reset();
-        self.protection = Protection::new();
+        self.occupancy.reset();
         self.own = 0;
         self.touches = [Touch::Quiet; 2];
     }
@@ -141,7 +139,16 @@ impl<B: Bus> Executor<B> {
     pub fn table(&self) -> &Table
         ensures { result.now ≡ self.now.sections }
     {
-        self.protection.table()
+        self.occupancy.protection().table()
+    }
+
+    /// The devices and the sections, with what is known of both.
+    #[inline(always)]
+    pub(crate) fn occupancy(&self) -> &Occupancy
+        ensures devices { result.now.devices ≡ self.now.devices }
+        ensures sections { result.now.sections ≡ self.now.sections }
+    {
+        &self.occupancy
     }
 
     /// The sections, with what is known beside them.
@@ -149,7 +156,7 @@ impl<B: Bus> Executor<B> {
     pub(crate) fn protection(&self) -> &Protection
         ensures { result.now ≡ self.now.sections }
     {
-        &self.protection
+        self.occupancy.protection()
     }
 
     /// Learns the home of a module: from then on its own code needs no look at the sections there,
@@ -157,7 +164,7 @@ impl<B: Bus> Executor<B> {
     pub fn learn_home(&mut self, id: u16)
         ensures { self.new ≡ self.old }
     {
-        self.protection.learn_home(id);
+        self.occupancy.learn_home(id);
     }
 
     /// Learns the gap around a place, if a section meets its page and none holds it: from then on
@@ -165,7 +172,7 @@ impl<B: Bus> Executor<B> {
     pub fn learn_gap(&mut self, at: u16)
         ensures { self.new ≡ self.old }
     {
-        self.protection.learn_gap(at);
+        self.occupancy.learn_gap(at);
     }
 
     /// The devices.
@@ -173,7 +180,7 @@ impl<B: Bus> Executor<B> {
     pub fn windows(&self) -> &Windows
         ensures { result.now ≡ self.now.devices }
     {
-        &self.windows
+        self.occupancy.windows()
     }
 
     /// A sensor's new sample.
@@ -186,7 +193,7 @@ impl<B: Bus> Executor<B> {
           devices = with_sample self.old.devices device value;
         } }
     {
-        self.windows.sense(device, value);
+        self.occupancy.sense(device, value);
     }
 
     /// Clears the fresh mark of a device.
@@ -194,7 +201,7 @@ impl<B: Bus> Executor<B> {
         requires { device < length self.old.devices }
         ensures { self.new ≡ record self.old { devices = cleared self.old.devices device } }
     {
-        self.windows.clear(device);
+        self.occupancy.clear(device);
     }
 
     /// The word at an address, whose bit 0 doesn't count, or in byte form the byte. It may be read,
@@ -269,7 +276,7 @@ impl<B: Bus> Executor<B> {
           sections = admitted self.old.sections layout provider key;
         } }
     {
-        let id = self.protection.add(layout, provider, key);
+        let id = self.occupancy.add(layout, provider, key);
         wipe(&mut self.bus, &layout);
         id
     }
@@ -284,7 +291,7 @@ impl<B: Bus> Executor<B> {
         } }
     {
         wipe(&mut self.bus, &section.layout);
-        self.protection.remove(self.own);
+        self.occupancy.remove(self.own);
     }
 }
 
@@ -313,12 +320,11 @@ impl<B: Copied> Executor<B> {
         ensures { IfOk result (λ copy. copy ≡ self.now) }
     {
         let bus = self.bus.copy(alloc)?;
-        let windows = self.windows.copy(alloc)?;
+        let occupancy = self.occupancy.copy(alloc)?;
         Ok(Executor {
             regs: self.regs,
             bus,
-            windows,
-            protection: self.protection.copy(),
+            occupancy,
             own: self.own,
             touches: self.touches,
             decoded: self.decoded,

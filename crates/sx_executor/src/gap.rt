@@ -1,11 +1,12 @@
 //! Gaps: stretches of memory in which no live section has a byte.
 
-ghost use Rattle.std.specs.Prelude.{◌≡◌, ◌&&◌, List};
+ghost use Rattle.std.specs.Prelude.{◌≡◌, ◌&&◌, ◌+◌, ◌<◌, IsTrue, List};
 ghost use Rattle.std.specs.List.{list_all};
 ghost use Rattle.sx_rules.specs.declared.section.Section.{Section};
 ghost use Rattle.sx_rules.specs.Admission.{apart, is_even};
 ghost use Rattle.sx_executor.specs.Homes.{within};
-ghost use Rattle.sx_executor.specs.Gaps.{passes, has_place, KeepsGap, KeepsGaps};
+ghost use Rattle.sx_executor.specs.Gaps.{passes, within_deep, has_place, has_deep_place};
+ghost use Rattle.sx_executor.specs.Gaps.{KeepsGap, KeepsGaps};
 
 use crate::home::{apart, is_even};
 use sx_rules::{Section, Table};
@@ -75,6 +76,15 @@ impl Gap {
         self.from <= at && at < self.to
     }
 
+    /// Whether the byte lies in it, and the five after it.
+    #[inline(always)]
+    fn has_deep(&self, at: u16) -> bool
+        ensures place { result ≡ within_deep self.now.from self.now.to at }
+        ensures ends { IsTrue result → at + 5 < 65536 }
+    {
+        self.from <= at && u32::from(at) + 5 < u32::from(self.to)
+    }
+
     fn is_even(&self) -> bool
         ensures { result ≡ (is_even self.now.from && is_even self.now.to) }
     {
@@ -121,6 +131,15 @@ impl Gaps {
         ensures { result ≡ has_place self.now at }
     {
         self.last.has(at) || self.older.has(at)
+    }
+
+    /// Whether the byte lies in one of them, and the five after it.
+    #[inline(always)]
+    pub(crate) fn has_deep(&self, at: u16) -> bool
+        ensures place { result ≡ has_deep_place self.now at }
+        ensures ends { IsTrue result → at + 5 < 65536 }
+    {
+        self.last.has_deep(at) || self.older.has_deep(at)
     }
 
     /// This gap and the one that was learnt last.

@@ -1,12 +1,15 @@
-//! The home of a module: its two parts, where its own code needs no look at the sections.
+//! The home of a module: its two parts, where its own code needs no look at the sections, and the
+//! deep part, where it needs no look at the devices either.
 
-ghost use Rattle.std.specs.Prelude.{◌≡◌, ◌+◌, ◌≤◌, List};
+ghost use Rattle.std.specs.Prelude.{◌≡◌, ◌+◌, ◌≤◌, ℕ, List};
 ghost use Rattle.std.specs.List.{list_all};
 ghost use Rattle.sx_rules.specs.declared.section.Section.{Section};
 ghost use Rattle.sx_rules.specs.Admission.{apart, is_even};
 ghost use Rattle.sx_executor.specs.Homes.{has_code, has_data, has_data_range, leaves};
 ghost use Rattle.sx_executor.specs.Homes.{is_even_home, KeepsHome};
+ghost use Rattle.sx_executor.specs.Occupancy.{has_deep, KeepsDeep};
 
+use crate::buffer::Buffer;
 use sx_rules::{Layout, Section, Table};
 
 /// A module's id and the bounds of its two parts. Where the parts are empty, it is no one's home.
@@ -112,5 +115,51 @@ impl Home {
         ensures { result ≡ list_all (leaves self.now) live.now }
     {
         live.iter().all(|section| self.is_left_by(section))
+    }
+}
+
+/// The places of a home from which three words lie in its public part, so each instruction that
+/// begins there does, and no device is.
+#[derive(Clone, Copy)]
+pub(crate) struct Deep {
+    id: u16,
+    from: u16,
+    to: u16,
+}
+
+impl Deep {
+    /// No place.
+    pub(crate) fn empty() -> Deep
+        ensures { (live : List Section) (places : List ℕ) → KeepsDeep result live places }
+    {
+        Deep {
+            id: 0,
+            from: 0,
+            to: 0,
+        }
+    }
+
+    /// That of a home; no place where a device is in its public part.
+    pub(crate) fn of(home: &Home, places: &[u16]) -> Deep
+        ensures { (live : List Section) → KeepsHome home.now live
+            → KeepsDeep result live places.now }
+    {
+        let layout = &home.layout;
+        if Buffer::between(layout.pub_from, layout.pub_to).meets_device(places) {
+            return Deep::empty();
+        }
+        Deep {
+            id: home.id,
+            from: layout.pub_from,
+            to: layout.pub_to.saturating_sub(4),
+        }
+    }
+
+    /// Whether the byte lies in the deep part of the home of the module `id`.
+    #[inline(always)]
+    pub(crate) fn has(&self, id: u16, at: u16) -> bool
+        ensures { result ≡ has_deep self.now id at }
+    {
+        id == self.id && self.from <= at && at < self.to
     }
 }

@@ -10,6 +10,8 @@ ghost use Rattle.spec_machine.specs.Memory.{even};
 ghost use Rattle.spec_machine.specs.State.{no_sections};
 ghost use Rattle.spec_machine.specs.Run.{may_at, may_range};
 ghost use Rattle.spec_machine.specs.Step.{word_outside};
+ghost use Rattle.sx_executor.specs.Homes.{KeepsHome};
+ghost use Rattle.sx_executor.specs.Gaps.{IsApart};
 
 use crate::gap::{Gap, Gaps};
 use crate::home::Home;
@@ -108,6 +110,24 @@ impl Protection {
         ensures none { IsTrue result → holder self.now.live at ≡ 0 }
     {
         self.gaps.has(at)
+    }
+
+    /// Whether the words at an address and at the two after it are known to lie in a gap.
+    #[inline(always)]
+    pub(crate) fn has_deep_gap(&self, at: u16) -> bool
+        ensures first { IsTrue result → IsApart self.now.live at }
+        ensures second { IsTrue result → IsApart self.now.live (at + 2) }
+        ensures third { IsTrue result → IsApart self.now.live (at + 4) }
+        ensures ends { IsTrue result → at + 5 < 65536 }
+    {
+        self.gaps.has_deep(at)
+    }
+
+    /// The home.
+    pub(crate) fn home(&self) -> &Home
+        ensures { KeepsHome result.now self.now.live }
+    {
+        &self.home
     }
 
     /// Learns the home of a module, and forgets the one before.

@@ -1,0 +1,91 @@
+-- The deep part of a home, whose places have three words of the module's code.
+use Rattle.std.proofs.Common.{◌≡◌, ℕ, ◌+◌, ◌-◌, ◌<◌, ◌≤◌, ◌==◌, Bool, true, false, ◌&&◌, ◌||◌, nat_lt, nat_le, List, [], ◌∷◌, None}
+use Rattle.std.proofs.Common.{refl, sym, subst, ap, ◌∙◌, arith}
+use Rattle.std.proofs.lemmas.Bool.{and_parts, and_from, or_parts, eqb-true, leb-true, ltb-true, le-leb, lt-ltb, false_from_ne_true, true≢false}
+use Rattle.sx_rules.specs.declared.section.Section.{Section}
+use Rattle.sx_rules.specs.Access.{Sections}
+use Rattle.sx_bus.specs.declared.devices.Window.{Window}
+use Rattle.sx_bus.specs.Devices.{places_of, device_at}
+use Rattle.spec_machine.specs.Ranges.{meets, meets_device}
+use Rattle.spec_machine.specs.Registers.{onward}
+use Rattle.sx_executor.specs.declared.home.Home.{Home}
+use Rattle.sx_executor.specs.declared.home.Deep.{Deep}
+use Rattle.sx_executor.specs.Homes.{within, KeepsHome}
+use Rattle.sx_executor.specs.Occupancy.{Occupied, IsExtension, IsAhead, IsDeep, has_deep, KeepsDeep}
+use Rattle.sx_executor.proofs.Clear.{none_at, none_found}
+use Rattle.sx_executor.proofs.Homes.{none_within}
+
+-- no place
+pub empty : (live : List Section) (places : List ℕ) → KeepsDeep (record { id = 0; from = 0; to = 0 }) live places
+empty live places = record { deep = λ at w. absurd (none_within at w) }
+
+-- a device that is apart from a range is apart from each part of it
+part_apart : (from n at m place : ℕ) → from ≤ at → at + m ≤ from + n → meets from n place (place + 2) ≡ false → meets at m place (place + 2) ≡ false
+part_apart from n at m place low high h =
+    false_from_ne_true (meets at m place (place + 2)) (λ e.
+    let some = and_parts (nat_lt 0 m) (nat_lt at (place + 2) && nat_lt place (at + m)) e in
+    let ends = and_parts (nat_lt at (place + 2)) (nat_lt place (at + m)) some.1 in
+    let positive = ltb-true 0 m some.0 in
+    let before = ltb-true at (place + 2) ends.0 in
+    let behind = ltb-true place (at + m) ends.1 in
+    let some_all : 0 < n = omega arith in
+    let before_all : from < place + 2 = omega arith in
+    let behind_all : place < from + n = omega arith in
+    true≢false (sym (and_from (nat_lt 0 n) (nat_lt from (place + 2) && nat_lt place (from + n)) (lt-ltb 0 n some_all)
+    (and_from (nat_lt from (place + 2)) (nat_lt place (from + n)) (lt-ltb from (place + 2) before_all) (lt-ltb place (from + n) behind_all))) ∙ h))
+
+part_clear : (places : List ℕ) (from n at m : ℕ) → from ≤ at → at + m ≤ from + n → meets_device places from n ≡ false → meets_device places at m ≡ false
+part_clear [] from n at m low high h = refl
+part_clear (place ∷ rest) from n at m low high h =
+    let parts = or_parts (meets from n place (place + 2)) (meets_device rest from n) h in
+    ap (λ (b : Bool). b || meets_device rest at m) (part_apart from n at m place low high parts.0)
+    ∙ part_clear rest from n at m low high parts.1
+
+inside : (from to at : ℕ) → from ≤ at → at < to → within from to at ≡ true
+inside from to at low high = and_from (nat_le from at) (nat_lt at to) (le-leb from at low) (lt-ltb at to high)
+
+-- that of a home without a device
+pub keeps : (h : Home) (live : List Section) (places : List ℕ) → h.layout.pub_from + (h.layout.pub_to - h.layout.pub_from) ≤ 65536
+    → meets_device places h.layout.pub_from (h.layout.pub_to - h.layout.pub_from) ≡ false → KeepsHome h live
+    → KeepsDeep (record { id = h.id; from = h.layout.pub_from; to = h.layout.pub_to - 4 }) live places
+keeps h live places small clear k = record {
+  deep = λ at w.
+      let from = h.layout.pub_from in let to = h.layout.pub_to in
+      let parts = and_parts (nat_le from at) (nat_lt at (to - 4)) w in
+      let low = leb-true from at parts.0 in
+      let high = ltb-true at (to - 4) parts.1 in
+      record {
+        first = k.public at (inside from to at low (omega arith));
+        second = k.public (at + 2) (inside from to (at + 2) (omega arith) (omega arith));
+        third = k.public (at + 4) (inside from to (at + 4) (omega arith) (omega arith));
+        bare = part_clear places from (to - from) at 5 low (omega arith) clear;
+        ends = omega arith;
+      };
+}
+
+-- a place that is known to be deep at home
+pub known : (d : Deep) (sections : Sections) (devices : List Window) (now : Occupied) (id at : ℕ) (b : Bool)
+    → KeepsDeep d sections.live (places_of devices) → b ≡ has_deep d id at
+    → record { devices = devices; sections = sections } ≡ now → b ≡ true → IsDeep now.sections.live (places_of now.devices) id at
+known d sections devices now id at b k e view t =
+    let parts = and_parts (id == d.id) (within d.from d.to at) (sym e ∙ t) in
+    let deep = subst (λ (i : ℕ). IsDeep sections.live (places_of devices) i at) (sym (eqb-true id d.id parts.0)) (k.deep at parts.1) in
+    subst (λ (o : Occupied). IsDeep o.sections.live (places_of o.devices) id at) view deep
+
+-- no device is there
+pub bare : (live : List Section) (devices : List Window) (id at : ℕ) → IsDeep live (places_of devices) id at → device_at devices at ≡ None
+bare live devices id at d =
+    subst (λ (k : ℕ). device_at devices k ≡ None) (omega arith) (none_at devices at 5 0 0 d.bare (omega arith))
+
+-- and the words after it are code too
+pub ahead : (live : List Section) (devices : List Window) (id at : ℕ) → IsDeep live (places_of devices) id at → IsAhead live devices id at
+ahead live devices id at d =
+    let ends = d.ends in
+    let two : at + 2 ≡ onward at 2 = omega arith in
+    let four : at + 4 ≡ onward at 4 = omega arith in
+    record {
+      second = subst (λ (k : ℕ). IsExtension live devices id k) two
+          (record { extended = d.second.extended; bare = none_found devices (at + 2) (none_at devices at 5 2 0 d.bare (omega arith)) });
+      third = subst (λ (k : ℕ). IsExtension live devices id k) four
+          (record { extended = d.third.extended; bare = none_found devices (at + 4) (none_at devices at 5 4 0 d.bare (omega arith)) });
+    }
