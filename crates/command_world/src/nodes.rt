@@ -1,6 +1,6 @@
 //! The nodes of a deployment, as they are switched on.
 
-ghost use Rattle.std.specs.Prelude.{◌≡◌, ℕ, ◌<◌, List, IfOk};
+ghost use Rattle.std.specs.Prelude.{◌≡◌, ℕ, ◌<◌, List, [], ◌∷◌, ◌++◌, IfOk, OnOk};
 ghost use Rattle.sx_deploy.specs.Law.{IsSoundDeployment};
 ghost use Rattle.sx_deploy.specs.SeenDeployment.{deployed_as};
 ghost use Rattle.sx_bus.specs.Devices.{powered_on};
@@ -47,22 +47,25 @@ fn places_at(
     Ok(found)
 }
 
-/// The node of this number and with this key, just switched on.
-fn node_at<T: Tag>(
+/// Appends the node of this number and with this key, just switched on. A node is large, so it is
+/// made where it is appended.
+fn push_node<T: Tag>(
     alloc: Global,
+    nodes: &mut Vec<Node<PagedBus, T>>,
     tag: T,
     deployment: &Deployment,
     number: u8,
     key: [u8; 16],
-) -> Result<Node<PagedBus, T>, AllocError>
+) -> Result<(), AllocError>
     requires sound { IsSoundDeployment (deployed_as deployment.now) }
-    ensures { let d = deployed_as deployment.now in IfOk result (λ node.
-        node ≡ power_on key (powered_on (windows_at number d.app.devices d.places))) }
+    ensures { let d = deployed_as deployment.now in OnOk result (nodes.new.items ≡ nodes.old.items
+        ++ power_on key (powered_on (windows_at number d.app.devices d.places)) ∷ []) }
 {
     let bus = PagedBus::new(alloc)?;
     let places = places_at(alloc, &deployment.app.devices, &deployment.places, number)?;
     let windows = Windows::new(alloc, &places)?;
-    Ok(Node::new(bus, tag, key, windows))
+    nodes.push(Node::new(bus, tag, key, windows))?;
+    Ok(())
 }
 
 /// All nodes of a deployment, just switched on: each has its key, and its devices in the
@@ -76,11 +79,11 @@ pub fn nodes_of<T: Tag>(
     ensures { let d = deployed_as deployment.now in IfOk result (λ nodes.
         (texts : List (List ℕ)) → nodes.items ≡ nodes_from (setting_of T.mac d texts) 0 d.keys) }
 {
-    let mut nodes = Vec::new(alloc);
+    let mut nodes = Vec::with_capacity(alloc, deployment.keys.len())?;
     let mut number: u8 = 0;
     'nodes: while usize::from(number) < deployment.keys.len() {
         let key = deployment.keys[usize::from(number)];
-        nodes.push(node_at(alloc, tag.another(), deployment, number, key)?)?;
+        push_node(alloc, &mut nodes, tag.another(), deployment, number, key)?;
         number += 1;
     }
     Ok(nodes)

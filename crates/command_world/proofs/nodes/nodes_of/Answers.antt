@@ -1,4 +1,4 @@
-use Rattle.std.proofs.Common.{◌≡◌, ℕ, subst, sym, arith}
+use Rattle.std.proofs.Common.{◌≡◌, ℕ, refl, subst, sym, arith}
 use Rattle.std.specs.Prelude.{slice_index_or}
 use Rattle.sx_deploy.specs.SeenDeployment.{deployed_as}
 use Rattle.spec_run.specs.Accepted.{setting_of}
@@ -10,8 +10,8 @@ nodes-preserved g c = record {
   within = omega (arith, c.nodes-test.true, c.from.ensures, c.len.ensures, c.args.deployment.now.keys.ok);
   nodes = λ texts.
       one_node (setting_of g.T.Tag.mac (deployed_as c.args.deployment.now) texts) _ c.nodes.nodes.items
-      c.push.new.self.items c.in_ok-node_at.field-0 c.nodes.number c.args.deployment.now.keys.items c.index-key.result.now
+      c.push_node.new.nodes.items _ c.nodes.number c.args.deployment.now.keys.items c.index-key.result.now
       (omega (arith, c.nodes-test.true, c.from.ensures, c.len.ensures, c.args.deployment.now.keys.ok))
       (sym (subst (λ (n : ℕ). c.index-key.result.now ≡ slice_index_or c.args.deployment.now.keys.items n c.index-key.result.now) c.from-in-nodes.ensures c.index-key.ensures))
-      c.in_ok-push.ensures.items c.in_ok-node_at.ensures (c.nodes.invariant.nodes texts);
+      c.in_ok-push_node.ensures refl (c.nodes.invariant.nodes texts);
 }

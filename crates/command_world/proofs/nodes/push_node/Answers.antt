@@ -3,7 +3,7 @@ use Rattle.sx_mean.specs.declared.apps.AppDevice.{AppDevice}
 use Rattle.sx_deploy.specs.SeenDeployment.{deployed_as}
 use Rattle.spec_run.specs.Setting.{windows_at}
 use Rattle.command_world.proofs.Powering.{stand_apart}
-use Rattle.command_world.proofs.nodes.node_at.Goals as goal
+use Rattle.command_world.proofs.nodes.push_node.Goals as goal
 
 pub new-requires-2 : goal.new-requires-2
 new-requires-2 g c =
