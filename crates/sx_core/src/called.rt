@@ -84,15 +84,15 @@ pub fn step_called<B: Bus>(executor: &mut Executor<B>, shortcut: Shortcut) -> Re
             constant_onto_any(executor, op, value, dst, after)
         }
         Form::OntoSymbolic { op, value } => {
-            let x = fetch_second(executor, &shortcut, pc)?;
+            let x = fetch_second::<B, false>(executor, &shortcut, pc)?;
             constant_onto_symbolic(executor, op, value, x, after, next)
         }
         Form::ByteOntoIndexed { op, value, base } => {
-            let x = fetch_second(executor, &shortcut, pc)?;
+            let x = fetch_second::<B, false>(executor, &shortcut, pc)?;
             constant_onto_indexed(executor, op, value, base, x, after, next)
         }
         Form::ByteOntoAbsolute { op, value } => {
-            let x = fetch_second(executor, &shortcut, pc)?;
+            let x = fetch_second::<B, false>(executor, &shortcut, pc)?;
             constant_onto_absolute(executor, op, value, x, after, next)
         }
         _ => step_long(executor, shortcut.first),

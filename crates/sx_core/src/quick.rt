@@ -4,19 +4,20 @@
 //! word of memory that is at hand, where one test is all that is asked. The clauses name the same
 //! rows as those of the long way.
 
-ghost use Rattle.std.specs.Prelude.{◌≡◌, ◌<◌, ℕ, true, false, None, IfSome, List};
+ghost use Rattle.std.specs.Prelude.{◌≡◌, ◌<◌, ℕ, true, false, None, IfSome, IsTrue, List};
 ghost use Rattle.sx_isa.specs.Reading.{length_of};
 ghost use Rattle.sx_isa.specs.Extending.{extended};
 ghost use Rattle.sx_isa.specs.declared.instruction.Operand.TheVariants.{Reg, Const, Indexed};
 ghost use Rattle.sx_isa.specs.declared.instruction.Operand.TheVariants.{Absolute};
 ghost use Rattle.sx_alu.specs.Table.{limit};
 ghost use Rattle.sx_rules.specs.declared.access.Access.TheVariants.{Read, Write};
-ghost use Rattle.spec_machine.specs.Registers.{onward, at_pc};
+ghost use Rattle.spec_machine.specs.Registers.{onward, at_pc, reg};
 ghost use Rattle.spec_machine.specs.Rows.{row, with_words, program, jump, two, onto, on_memory};
 ghost use Rattle.spec_machine.specs.Rows.{into_register, writes, computed};
 ghost use Rattle.spec_machine.specs.Run.{may_at, device_of};
 ghost use Rattle.spec_machine.specs.Answers.{followed};
 ghost use Rattle.sx_executor.specs.Machine.{ran, RunsPlan};
+ghost use Rattle.sx_executor.specs.Occupancy.{IsAhead};
 ghost use Rattle.sx_executor.specs.Shortcuts.{instruction_of, words_of, is_general};
 ghost use Rattle.sx_executor.specs.Shortcuts.{single_of, double_of};
 ghost use Rattle.sx_executor.specs.Shortcuts.{byte_single_of, byte_double_of};
@@ -228,22 +229,29 @@ fn on_word_near<B: Bus>(
     on_memory(executor, op, true, at, src)
 }
 
-/// Fetches the extension word of the instruction of two words at `pc`.
+/// Fetches the extension word of the instruction of two words at `pc`. Where the words after PC are
+/// known to be extension words, nothing is asked.
 #[inline(always)]
 #[tactic(auto, unfolding(sx_isa::specs::Reading::length_of))]
-pub fn fetch_second<B: Bus>(
+pub fn fetch_second<B: Bus, const AHEAD: bool>(
     executor: &Executor<B>,
     shortcut: &Shortcut,
     pc: u16,
 ) -> Result<u16, Violation>
-    requires { words_of shortcut.now.form ≡ 2 }
+    requires form { words_of shortcut.now.form ≡ 2 }
+    requires ahead { IsTrue AHEAD
+        → IsAhead executor.now.sections.live executor.now.devices executor.now.own pc }
     ensures { (regs : List ℕ)
         → ran (with_words (length_of shortcut.now.first) shortcut.now.first regs pc) executor.now
         ≡ followed result (λ word. ran (row
         (extended (instruction_of shortcut.now.form) word 0) regs (onward pc 4)) executor.now) }
 {
     shortcut.reads_on();
-    executor.fetch(pc.wrapping_add(2))
+    let at = pc.wrapping_add(2);
+    if AHEAD {
+        return Ok(executor.fetch_known(at));
+    }
+    executor.fetch(at)
 }
 
 /// An operation on words from a constant onto memory at an address, of the instruction at `pc`.
@@ -408,10 +416,16 @@ fn with_byte_extension<B: Bus>(
 
 /// Executes the instruction at PC with this first word as `step_plain` does, and says where it
 /// knows that no device was touched. Each caller has a number, and so code of its own, which the
-/// compiler puts into it.
+/// compiler puts into it. A caller that knows that the words after PC are extension words says so
+/// by `AHEAD`, and then the code asks nothing of them.
 #[inline]
 #[tactic(auto, unfolding(spec_machine::specs::Rows::program, sx_isa::specs::Reading::length_of))]
-pub fn step_quick<B: Bus, const CALLER: u8>(executor: &mut Executor<B>, first: u16) -> Stepped
+pub fn step_quick<B: Bus, const CALLER: u8, const AHEAD: bool>(
+    executor: &mut Executor<B>,
+    first: u16,
+) -> Stepped
+    requires { IsTrue AHEAD → IsAhead executor.old.sections.live executor.old.devices
+        executor.old.own (reg executor.old.regs 0) }
     ensures { EndsStep (program first executor.old.regs) executor.old result executor.new }
 {
     let pc = executor.register(PC);
@@ -431,16 +445,18 @@ pub fn step_quick<B: Bus, const CALLER: u8>(executor: &mut Executor<B>, first: u
         Form::JumpAlways { offset } => jump_quickly(executor, 7, offset, next),
         Form::Registers { op, src, dst } => from_register(executor, op, src, dst, next),
         Form::Constant { op, value, dst } => from_constant(executor, op, value, dst, next),
-        Form::OntoIndexed { op, value, base } => match fetch_second(executor, shortcut, pc) {
+        Form::OntoIndexed { op, value, base } => match fetch_second::<B, AHEAD>(
+            executor, shortcut, pc,
+        ) {
             Ok(x) => onto_indexed(executor, op, value, base, x, pc),
             Err(violation) => Stepped::Answered(Err(violation)),
         },
-        Form::OntoAbsolute { op, value } => match fetch_second(executor, shortcut, pc) {
+        Form::OntoAbsolute { op, value } => match fetch_second::<B, AHEAD>(executor, shortcut, pc) {
             Ok(at) => onto_absolute(executor, op, value, at, pc),
             Err(violation) => Stepped::Answered(Err(violation)),
         },
         Form::Single(form) => without_extension(executor, form, next),
-        Form::Double(form) => match fetch_second(executor, shortcut, pc) {
+        Form::Double(form) => match fetch_second::<B, AHEAD>(executor, shortcut, pc) {
             Ok(x) => with_extension::<B, CALLER>(executor, form, x, pc),
             Err(violation) => Stepped::Answered(Err(violation)),
         },
@@ -452,7 +468,7 @@ pub fn step_quick<B: Bus, const CALLER: u8>(executor: &mut Executor<B>, first: u
             from_byte_constant(executor, op, value, dst, next)
         }
         Form::ByteSingle(form) => without_byte_extension(executor, form, next),
-        Form::ByteDouble(form) => match fetch_second(executor, shortcut, pc) {
+        Form::ByteDouble(form) => match fetch_second::<B, AHEAD>(executor, shortcut, pc) {
             Ok(x) => with_byte_extension(executor, form, x, pc),
             Err(violation) => Stepped::Answered(Err(violation)),
         },

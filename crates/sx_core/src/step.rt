@@ -139,7 +139,7 @@ pub fn step_long<B: Bus>(executor: &mut Executor<B>, first: u16) -> Result<(), V
 pub fn step_plain<B: Bus>(executor: &mut Executor<B>, first: u16) -> Result<(), Violation>
     ensures { RunsPlan (program first executor.old.regs) executor.old result executor.new }
 {
-    match step_quick::<B, 0>(executor, first) {
+    match step_quick::<B, 0, false>(executor, first) {
         Stepped::Quiet => Ok(()),
         Stepped::Answered(answer) => answer,
     }
