@@ -4,13 +4,16 @@
 --     Tells      an attempt at a step, settled, was told so
 --     IsIdle      code outside goes on
 --     IsAtHome      a module runs whose next instruction passes every test but that for a device
-use Rattle.std.specs.Prelude.{◌≡◌, ◌<◌, Bool, true, false}
+--     IsDeepAtHome      it passes that one, too, and so do the words after it
+use Rattle.std.specs.Prelude.{◌≡◌, ◌<◌, Bool, true, false, None}
 use Rattle.sx_rules.specs.Access.{in_order}
+use Rattle.sx_bus.specs.Devices.{device_at}
 use Rattle.spec_machine.specs.declared.kinds.Event.TheVariants.{Quiet}
 use Rattle.spec_machine.specs.declared.kinds.Seen.{Seen}
 use Rattle.spec_machine.specs.State.{State}
 use Rattle.spec_machine.specs.Run.{untouched, Outcome}
 use Rattle.spec_machine.specs.Step.{settled_step, own_of, pc_of, word_outside}
+use Rattle.sx_executor.specs.Occupancy.{IsAhead}
 
 -- nothing is seen
 abbrev pub silent : Seen
@@ -40,3 +43,10 @@ pub record IsAtHome (s : State) : Type 0 where
   pub went_on : s.last ≡ s.cur
   pub outside : word_outside s.sections.live (pc_of s) ≡ true
   pub ordered : in_order s.sections.live s.cur (pc_of s) ≡ true
+
+-- The same, where no device is at PC, and the two words after it may be extension words of the
+-- instruction.
+pub record IsDeepAtHome (s : State) : Type 0 where
+  pub home : IsAtHome s
+  pub bare : device_at s.devices (pc_of s) ≡ None
+  pub ahead : IsAhead s.sections.live s.devices s.cur (pc_of s)

@@ -15,7 +15,8 @@ ghost use Rattle.spec_machine.specs.Run.{exec, untouched};
 ghost use Rattle.spec_machine.specs.Rows.{program};
 ghost use Rattle.spec_machine.specs.Step.{step, instruction, pc_of, own_of};
 ghost use Rattle.spec_machine.specs.Step.{start, entered_from, left};
-ghost use Rattle.sx_node.specs.Telling.{told, Tells, IsAtHome};
+ghost use Rattle.sx_executor.specs.Occupancy.{IsAhead};
+ghost use Rattle.sx_node.specs.Telling.{told, Tells, IsAtHome, IsDeepAtHome};
 
 use crate::node::Node;
 use crate::quick::is_untouched;
@@ -32,42 +33,69 @@ impl<B: Bus, T: Tag> Node<B, T> {
     pub fn is_at_home(&self) -> bool
         ensures { IsTrue result → IsAtHome self.now }
     {
-        self.cur != 0 && self.last == self.cur && self.stays_at_home(self.cur)
+        let pc = self.executor.register(PC);
+        self.cur != 0 && self.last == self.cur && self.executor.is_at_home(self.cur, pc)
     }
 
-    /// One step of a module at home, as `step` takes it. Whether it shows something, or leaves no
-    /// module at home; what is seen is then left in `seen`. So in a loop of such steps none of them
+    /// Whether a module goes on deep at home.
+    #[inline(always)]
+    pub fn is_deep_at_home(&self) -> bool
+        ensures { IsTrue result → IsDeepAtHome self.now }
+    {
+        self.cur != 0 && self.last == self.cur && self.stays_deep_at_home(self.cur)
+    }
+
+    /// One step of a module deep at home, as `step` takes it. Whether it shows something, or leaves
+    /// no module deep at home; what is seen is then left in `seen`. So in a loop of such steps none
     /// looks at where PC is before its instruction. The caller has a number as in `step_idle`.
     #[inline(always)]
     pub fn step_at_home<const CALLER: u8>(&mut self, seen: &mut Seen) -> bool
         requires boot { self.old.boot < u32.MAX }
-        requires home { IsAtHome self.old }
+        requires home { IsDeepAtHome self.old }
         ensures state { self.new ≡ (step T.mac self.old).state }
         ensures shown { told result seen.new ≡ (step T.mac self.old).shown }
-        ensures home { result ≡ false → IsAtHome self.new }
+        ensures home { result ≡ false → IsDeepAtHome self.new }
+    {
+        self.instruction_inside::<CALLER, true>(self.cur, seen)
+    }
+
+    /// One step, wherever PC is. Where a module is at home but not deep there, as on the last words
+    /// of its text, the step is short, too.
+    #[inline(never)]
+    pub fn step_anywhere(&mut self, seen: &mut Seen) -> bool
+        requires { self.old.boot < u32.MAX }
+        ensures state { self.new ≡ (step T.mac self.old).state }
+        ensures shown { told result seen.new ≡ (step T.mac self.old).shown }
     {
         let pc = self.executor.register(PC);
-        match self.executor.windows().at(pc) {
-            Some(_device) => self.end_reset(Violation::Device, seen),
-            None => self.instruction_inside::<CALLER>(self.cur, seen),
+        if self.is_at_home() && self.executor.windows().at(pc).is_none() {
+            return self.instruction_inside::<3, false>(self.cur, seen);
         }
+        *seen = self.step_learning();
+        true
     }
 
     /// The instruction at PC, where the fast path is taken.
     #[inline(always)]
     #[tactic(auto, using(sx_executor::proofs::Rights::outside_word, sx_executor::proofs::Clear::none_found))]
-    fn instruction_inside<const CALLER: u8>(&mut self, own: u16, seen: &mut Seen) -> bool
+    fn instruction_inside<const CALLER: u8, const AHEAD: bool>(
+        &mut self,
+        own: u16,
+        seen: &mut Seen,
+    ) -> bool
         requires boot { self.old.boot < u32.MAX }
         requires cur { own ≡ self.old.cur }
         requires home { IsAtHome self.old }
         requires memory { device_at self.old.devices (pc_of self.old) ≡ None }
+        requires ahead { IsTrue AHEAD
+            → IsAhead self.old.sections.live self.old.devices own (pc_of self.old) }
         ensures tells { Tells self.old (instruction T.mac self.old) result seen.new self.new }
-        ensures home { result ≡ false → IsAtHome self.new }
+        ensures home { result ≡ false → IsDeepAtHome self.new }
     {
         let pc = self.executor.register(PC);
         let first = self.executor.read(true, pc);
         if self.executor.has_shortcut(pc, first) {
-            self.plain_inside::<CALLER>(own, first, seen)
+            self.plain_inside::<CALLER, AHEAD>(own, first, seen)
         } else {
             self.near_inside(own, first, seen)
         }
@@ -80,26 +108,33 @@ impl<B: Bus, T: Tag> Node<B, T> {
         requires own { own ≡ own_of self.old }
         requires word { first ≡ word self.old.mem (pc_of self.old) }
         ensures tells { Tells self.old (instruction T.mac self.old) result seen.new self.new }
-        ensures home { result ≡ false → IsAtHome self.new }
+        ensures home { result ≡ false → IsDeepAtHome self.new }
     {
-        self.instruction_near(own, first, seen) || !self.is_at_home()
+        self.instruction_near(own, first, seen) || !self.is_deep_at_home()
     }
 
     /// A plain instruction with a shortcut.
     #[inline(always)]
-    fn plain_inside<const CALLER: u8>(&mut self, own: u16, first: u16, seen: &mut Seen) -> bool
+    fn plain_inside<const CALLER: u8, const AHEAD: bool>(
+        &mut self,
+        own: u16,
+        first: u16,
+        seen: &mut Seen,
+    ) -> bool
         requires boot { self.old.boot < u32.MAX }
         requires some { 0 < own }
         requires own { own ≡ own_of self.old }
         requires cur { self.old.cur ≡ own }
         requires last { self.old.last ≡ own }
+        requires ahead { IsTrue AHEAD
+            → IsAhead self.old.sections.live self.old.devices own (pc_of self.old) }
         ensures tells { Tells self.old
             (exec self.old.sections own (program first self.old.regs) (start self.old))
             result seen.new self.new }
-        ensures home { result ≡ false → IsAtHome self.new }
+        ensures home { result ≡ false → IsDeepAtHome self.new }
     {
         self.executor.turn(own);
-        match step_quick::<B, CALLER>(&mut self.executor, first) {
+        match step_quick::<B, CALLER, AHEAD>(&mut self.executor, first) {
             Stepped::Quiet => {
                 self.executor.turn(0);
                 self.ends_inside(own, seen)
@@ -135,9 +170,9 @@ impl<B: Bus, T: Tag> Node<B, T> {
         } }
         ensures shown { told result seen.new
             ≡ record { touch = untouched; event = left self.old own self.old.regs } }
-        ensures home { result ≡ false → IsAtHome self.new }
+        ensures home { result ≡ false → IsDeepAtHome self.new }
     {
-        if self.stays_at_home(own) {
+        if self.stays_deep_at_home(own) {
             return false;
         }
         let caller = self.entered_from(own);
@@ -145,9 +180,9 @@ impl<B: Bus, T: Tag> Node<B, T> {
         true
     }
 
-    /// Whether PC is at home. Then the end of an instruction of the module changes nothing.
+    /// Whether PC is deep at home. Then the end of an instruction of the module changes nothing.
     #[inline(always)]
-    fn stays_at_home(&self, own: u16) -> bool
+    fn stays_deep_at_home(&self, own: u16) -> bool
         requires some { 0 < own }
         requires cur { self.now.cur ≡ own }
         requires last { self.now.last ≡ own }
@@ -156,8 +191,9 @@ impl<B: Bus, T: Tag> Node<B, T> {
             ≡ self.now.cur }
         ensures caller { IsTrue result → entered_from self.now own ≡ self.now.caller }
         ensures event { IsTrue result → left self.now own self.now.regs ≡ Quiet }
-        ensures home { IsTrue result → IsAtHome self.now }
+        ensures home { IsTrue result → IsDeepAtHome self.now }
     {
-        self.executor.is_at_home(own, self.executor.register(PC))
+        self.executor
+            .is_deep_at_home(own, self.executor.register(PC))
     }
 }

@@ -1,5 +1,6 @@
 //! The fast path of a node's step. It is taken where no module runs and the last instruction was of
-//! none, and where no section has a byte of the word at PC, which one look says.
+//! none, and where no section has a byte of the word at PC, which one look says. Where that look
+//! says as much of the two words after it, the fast path is in the loop; else it is a call.
 //!
 //! Then neither the sections nor who ran before change anything, so what a step does is what its
 //! instruction does. Most steps show nothing, which is told without a look at what was touched, and
@@ -14,6 +15,7 @@ ghost use Rattle.spec_machine.specs.Run.{exec, untouched, Violated};
 ghost use Rattle.spec_machine.specs.Rows.{program};
 ghost use Rattle.spec_machine.specs.Step.{step, attempt, instruction, word_outside, pc_of, own_of};
 ghost use Rattle.spec_machine.specs.Step.{start, entered_from, left};
+ghost use Rattle.sx_executor.specs.Occupancy.{IsAhead};
 ghost use Rattle.sx_node.specs.Telling.{told, Tells, IsIdle};
 
 use crate::node::Node;
@@ -73,13 +75,10 @@ impl<B: Bus, T: Tag> Node<B, T> {
         ensures idle { result ≡ false → IsIdle self.new }
     {
         let pc = self.executor.register(PC);
-        if !self.is_apart(pc) {
-            return self.step_near(seen);
+        if self.is_deep_apart(pc) {
+            return self.instruction_idle::<CALLER, true>(seen);
         }
-        match self.executor.windows().at(pc) {
-            Some(_device) => self.end_reset(Violation::Device, seen),
-            None => self.instruction_idle::<CALLER>(seen),
-        }
+        self.step_near(seen)
     }
 
     /// The same in each case. Its code stays out of the way of what most steps do, and `cold` keeps
@@ -87,11 +86,16 @@ impl<B: Bus, T: Tag> Node<B, T> {
     #[cold]
     #[inline(never)]
     fn step_near(&mut self, seen: &mut Seen) -> bool
-        requires { self.old.boot < u32.MAX }
+        requires boot { self.old.boot < u32.MAX }
+        requires idle { IsIdle self.old }
         ensures state { self.new ≡ (step T.mac self.old).state }
         ensures shown { told result seen.new ≡ (step T.mac self.old).shown }
         ensures idle { result ≡ false → IsIdle self.new }
     {
+        let pc = self.executor.register(PC);
+        if self.is_apart(pc) && self.executor.windows().at(pc).is_none() {
+            return self.instruction_idle::<3, false>(seen);
+        }
         *seen = self.step_learning();
         !self.is_idle() || is_anything(seen)
     }
@@ -129,18 +133,20 @@ impl<B: Bus, T: Tag> Node<B, T> {
     /// The instruction at PC, where the fast path is taken.
     #[inline(always)]
     #[tactic(auto, using(sx_executor::proofs::Rights::outside_word, sx_executor::proofs::Clear::none_found))]
-    fn instruction_idle<const CALLER: u8>(&mut self, seen: &mut Seen) -> bool
+    fn instruction_idle<const CALLER: u8, const AHEAD: bool>(&mut self, seen: &mut Seen) -> bool
         requires boot { self.old.boot < u32.MAX }
         requires own { own_of self.old ≡ 0 }
         requires idle { IsIdle self.old }
         requires outside { word_outside self.old.sections.live (pc_of self.old) ≡ true }
         requires memory { device_at self.old.devices (pc_of self.old) ≡ None }
+        requires ahead { IsTrue AHEAD
+            → IsAhead self.old.sections.live self.old.devices 0 (pc_of self.old) }
         ensures { Tells self.old (instruction T.mac self.old) result seen.new self.new }
     {
         let pc = self.executor.register(PC);
         let first = self.executor.read(true, pc);
         if self.executor.has_shortcut(pc, first) {
-            self.plain_idle::<CALLER>(first, seen)
+            self.plain_idle::<CALLER, AHEAD>(first, seen)
         } else {
             self.instruction_near(0, first, seen)
         }
@@ -148,15 +154,21 @@ impl<B: Bus, T: Tag> Node<B, T> {
 
     /// A plain instruction with a shortcut.
     #[inline(always)]
-    fn plain_idle<const CALLER: u8>(&mut self, first: u16, seen: &mut Seen) -> bool
+    fn plain_idle<const CALLER: u8, const AHEAD: bool>(
+        &mut self,
+        first: u16,
+        seen: &mut Seen,
+    ) -> bool
         requires boot { self.old.boot < u32.MAX }
         requires own { own_of self.old ≡ 0 }
         requires idle { IsIdle self.old }
+        requires ahead { IsTrue AHEAD
+            → IsAhead self.old.sections.live self.old.devices 0 (pc_of self.old) }
         ensures { Tells self.old
             (exec self.old.sections 0 (program first self.old.regs) (start self.old))
             result seen.new self.new }
     {
-        match step_quick::<B, CALLER>(&mut self.executor, first) {
+        match step_quick::<B, CALLER, AHEAD>(&mut self.executor, first) {
             Stepped::Quiet => {
                 self.stays_idle();
                 false
@@ -255,6 +267,22 @@ impl<B: Bus, T: Tag> Node<B, T> {
         ensures own { IsTrue result → holder self.now.sections.live at ≡ 0 }
     {
         self.executor.is_apart(at)
+    }
+
+    /// The same, and that no device is there and the two words after it may be fetched. Then a step
+    /// asks nothing of the words of its instruction.
+    #[inline(always)]
+    fn is_deep_apart(&self, at: u16) -> bool
+        ensures outside { IsTrue result → word_outside self.now.sections.live at ≡ true }
+        ensures order { IsTrue result → in_order self.now.sections.live self.now.cur at ≡ true }
+        ensures own { IsTrue result → holder self.now.sections.live at ≡ 0 }
+        ensures memory { IsTrue result → device_at self.now.devices at ≡ None }
+        ensures ahead { IsTrue result → IsAhead self.now.sections.live self.now.devices 0 at }
+    {
+        if self.executor.is_vacant(at) {
+            return true;
+        }
+        self.executor.is_deep_in_gap(at)
     }
 
     /// Where no module runs and the last instruction was of none, `settle` changes nothing.

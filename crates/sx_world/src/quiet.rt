@@ -1,7 +1,7 @@
 //! Steps of a node that show nothing, taken one after the other.
 
 ghost use Rattle.std.specs.Prelude.{◌≡◌, ◌==◌, ◌&&◌, ◌<◌, true, false, IsTrue};
-ghost use Rattle.sx_node.specs.Telling.{silent, IsIdle, IsAtHome};
+ghost use Rattle.sx_node.specs.Telling.{silent, IsIdle, IsDeepAtHome};
 ghost use Rattle.sx_world.specs.Passing.{after_steps, AreQuiet, EndsWith, taken};
 
 use sx_bus::Bus;
@@ -76,7 +76,7 @@ fn quiet_stretch<B: Bus, T: Tag>(node: &mut Node<B, T>, count: u32) -> QuietStep
 #[inline(never)]
 fn module_stretch<B: Bus, T: Tag>(node: &mut Node<B, T>, count: u32) -> QuietSteps
     requires boot { node.old.boot < u32.MAX }
-    requires home { IsAtHome node.old }
+    requires home { IsDeepAtHome node.old }
     ensures quiet { AreQuiet T.mac true result.count node.old }
     ensures last { EndsWith T.mac count result.count result.last node.old }
     ensures left { node.new ≡ after_steps T.mac (taken result.count result.last) node.old }
@@ -105,9 +105,11 @@ fn one_step<B: Bus, T: Tag>(node: &mut Node<B, T>, count: u32) -> QuietSteps
     if count == 0 {
         return QuietSteps { count, last: None };
     }
+    let mut seen = silent();
+    let is_seen = node.step_anywhere(&mut seen);
     QuietSteps {
         count: 0,
-        last: Some(node.step_learning()),
+        last: Some(if is_seen { seen } else { silent() }),
     }
 }
 
@@ -121,7 +123,7 @@ fn part<B: Bus, T: Tag>(node: &mut Node<B, T>, count: u32, idle: bool) -> QuietS
     ensures last { EndsWith T.mac count result.count result.last node.old }
     ensures left { node.new ≡ after_steps T.mac (taken result.count result.last) node.old }
 {
-    if node.is_at_home() {
+    if node.is_deep_at_home() {
         return module_stretch(node, count);
     }
     if !idle && node.is_idle() {
