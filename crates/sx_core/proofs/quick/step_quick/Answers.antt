@@ -1,4 +1,4 @@
-use Rattle.std.proofs.Common.{rules, ◌≡◌, ℕ, false, refl, sym, subst}
+use Rattle.std.proofs.Common.{rules, ◌≡◌, ℕ, true, false, refl, sym, subst}
 use Rattle.sx_isa.specs.declared.instruction.Operand.TheVariants.{Reg, Const}
 use Rattle.spec_machine.specs.Plan.{Plan}
 use Rattle.spec_machine.specs.Registers.{at_pc, onward}
@@ -8,6 +8,28 @@ use Rattle.sx_executor.specs.Shortcuts.{single_of, byte_single_of}
 use Rattle.sx_core.specs.Quickly.{EndsStep}
 use Rattle.sx_core.proofs.OneWord.{of_form}
 use Rattle.sx_core.proofs.quick.step_quick.Goals as goal
+
+pub returns-in-Registers : goal.returns-in-Registers
+returns-in-Registers g c =
+    let m = c.args.executor.now in
+    let s = c.shortcut-shortcut.result.now in
+    let op = c.in-Registers.op in let src = c.in-Registers.src in let dst = c.in-Registers.dst in
+    let Does : Plan → Type 0 = λ plan. EndsStep plan m c.from_register.result c.from_register.new.executor in
+    let At : ℕ → Type 0 = λ pc. Does (two op true (Reg src) (Reg dst) (at_pc m.regs (onward pc 2)) (onward pc 2)) in
+    let same : s.first ≡ c.args.first = search rules in
+    let plan = subst Does (sym (of_form s (form.Registers op src dst) c.in-Registers.is refl m.regs)) (subst At c.register-pc.ensures c.from_register.ensures) in
+    subst (λ (w : ℕ). Does (program w m.regs)) same plan
+
+pub returns-in-Constant : goal.returns-in-Constant
+returns-in-Constant g c =
+    let m = c.args.executor.now in
+    let s = c.shortcut-shortcut.result.now in
+    let op = c.in-Constant.op in let value = c.in-Constant.value in let dst = c.in-Constant.dst in
+    let Does : Plan → Type 0 = λ plan. EndsStep plan m c.from_constant.result c.from_constant.new.executor in
+    let At : ℕ → Type 0 = λ pc. Does (two op true (Const value) (Reg dst) (at_pc m.regs (onward pc 2)) (onward pc 2)) in
+    let same : s.first ≡ c.args.first = search rules in
+    let plan = subst Does (sym (of_form s (form.Constant op value dst) c.in-Constant.is refl m.regs)) (subst At c.register-pc.ensures c.from_constant.ensures) in
+    subst (λ (w : ℕ). Does (program w m.regs)) same plan
 
 pub returns-in-Single : goal.returns-in-Single
 returns-in-Single g c =
