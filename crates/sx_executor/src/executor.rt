@@ -167,8 +167,8 @@ impl<B: Bus> Executor<B> {
         self.occupancy.learn_home(id);
     }
 
-    /// Learns the gap around a place, if a section meets its page and none holds it: from then on
-    /// no code needs a look at the sections there, until they change or two others are learnt.
+    /// Learns the gap around a place, if no section holds it: from then on no code needs a look at
+    /// the sections there, until they change or two others are learnt.
     pub fn learn_gap(&mut self, at: u16)
         ensures { self.new ≡ self.old }
     {

@@ -143,7 +143,7 @@ impl Protection {
     pub(crate) fn learn_gap(&mut self, at: u16)
         ensures { self.new ≡ self.old }
     {
-        if self.table.is_open(at) || self.has_gap(at) {
+        if self.has_gap(at) {
             return;
         }
         if self.rest > 0 {

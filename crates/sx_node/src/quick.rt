@@ -94,6 +94,7 @@ impl<B: Bus, T: Tag> Node<B, T> {
     {
         let pc = self.executor.register(PC);
         if self.is_apart(pc) && self.executor.windows().at(pc).is_none() {
+            self.executor.learn_gap(pc);
             return self.instruction_idle::<3, false>(seen);
         }
         *seen = self.step_learning();
