@@ -23,6 +23,7 @@ use crate::step::{code_of, reset_by};
 use spec_machine::{Event, Seen, Touch};
 use sx_bus::Bus;
 use sx_core::{Stepped, step_long, step_quick};
+use sx_executor::Executor;
 use sx_executor::registers::PC;
 use sx_rules::Violation;
 use sx_tag::Tag;
@@ -53,6 +54,23 @@ fn tell_touches(touch: [Touch; 2], seen: &mut Seen) -> bool
     is_anything(seen)
 }
 
+/// Whether one look says that no section has a byte of the word at an address nor of the two after
+/// it, and that no device is there. Then a step asks nothing of the words of its instruction.
+#[inline(always)]
+fn is_deep_apart<B: Bus>(executor: &Executor<B>, at: u16) -> bool
+    ensures outside { IsTrue result → word_outside executor.now.sections.live at ≡ true }
+    ensures order { IsTrue result → in_order executor.now.sections.live 0 at ≡ true }
+    ensures own { IsTrue result → holder executor.now.sections.live at ≡ 0 }
+    ensures memory { IsTrue result → device_at executor.now.devices at ≡ None }
+    ensures ahead { IsTrue result
+        → IsAhead executor.now.sections.live executor.now.devices 0 at }
+{
+    if executor.is_vacant(at) {
+        return true;
+    }
+    executor.is_deep_in_gap(at)
+}
+
 impl<B: Bus, T: Tag> Node<B, T> {
     /// Whether no module runs, and the last instruction was of none.
     #[inline(always)]
@@ -75,7 +93,7 @@ impl<B: Bus, T: Tag> Node<B, T> {
         ensures idle { result ≡ false → IsIdle self.new }
     {
         let pc = self.executor.register(PC);
-        if self.is_deep_apart(pc) {
+        if is_deep_apart(&self.executor, pc) {
             return self.instruction_idle::<CALLER, true>(seen);
         }
         self.step_near(seen)
@@ -268,22 +286,6 @@ impl<B: Bus, T: Tag> Node<B, T> {
         ensures own { IsTrue result → holder self.now.sections.live at ≡ 0 }
     {
         self.executor.is_apart(at)
-    }
-
-    /// The same, and that no device is there and the two words after it may be fetched. Then a step
-    /// asks nothing of the words of its instruction.
-    #[inline(always)]
-    fn is_deep_apart(&self, at: u16) -> bool
-        ensures outside { IsTrue result → word_outside self.now.sections.live at ≡ true }
-        ensures order { IsTrue result → in_order self.now.sections.live self.now.cur at ≡ true }
-        ensures own { IsTrue result → holder self.now.sections.live at ≡ 0 }
-        ensures memory { IsTrue result → device_at self.now.devices at ≡ None }
-        ensures ahead { IsTrue result → IsAhead self.now.sections.live self.now.devices 0 at }
-    {
-        if self.executor.is_vacant(at) {
-            return true;
-        }
-        self.executor.is_deep_in_gap(at)
     }
 
     /// Where no module runs and the last instruction was of none, `settle` changes nothing.
