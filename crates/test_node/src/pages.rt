@@ -16,6 +16,12 @@ fn get<B: Bus>(bus: &B, at: u16) -> u8 {
     bus.get(at)
 }
 
+fn bytes_on_two_pages<B: Bus>(bus: &B) -> [u8; 3] {
+    let mut bytes = [0x77; 3];
+    bus.copy_bytes(0x40FE, &mut bytes);
+    bytes
+}
+
 fn wipe<B: Bus>(bus: &mut B) {
     bus.stays_in_range();
     bus.wipe();
@@ -28,6 +34,7 @@ fn has_pages_where_written(rt: &impl Abort, bus: &mut PagedBus) {
     put(bus, 0x40FF, 0x45);
     assert!(rt; bus.present() == 1);
     assert!(rt; [get(bus, 0x4000), get(bus, 0x4001), get(bus, 0xFFFF)] == [0x26, 0, 0]);
+    assert!(rt; bytes_on_two_pages(bus) == [0, 0x45, 0]);
     wipe(bus);
     assert!(rt; bus.present() == 0 && get(bus, 0x40FF) == 0);
 }
