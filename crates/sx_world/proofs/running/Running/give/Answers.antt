@@ -1,9 +1,9 @@
-use Rattle.std.proofs.Common.{◌≡◌, Some, [], length, refl, sym, ap, ◌∙◌}
+use Rattle.std.proofs.Common.{◌≡◌, Some, [], refl, sym, ap, ◌∙◌}
 use Rattle.std.specs.Prelude.{slice_get}
 use Rattle.std.specs.Rc.{rc_slice_items}
 use Rattle.std.proofs.lemmas.List.{with_items_is}
 use Rattle.spec_machine.specs.State.{State}
-use Rattle.spec_machine.specs.Acts.{put, put_refusal}
+use Rattle.spec_machine.specs.Acts.{put}
 use Rattle.spec_machine.specs.Acting as acting
 use Rattle.sx_world.specs.Held.{Running}
 use Rattle.sx_world.proofs.doing.Doing.{done_did, as_kept, lent_set, lent_long, wanted_same}

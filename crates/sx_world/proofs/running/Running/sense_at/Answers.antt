@@ -3,7 +3,7 @@ use Rattle.std.specs.Prelude.{slice_get}
 use Rattle.std.proofs.lemmas.List.{with_items_is}
 use Rattle.sx_trace.specs.declared.items.Item.TheVariants.{Sense}
 use Rattle.spec_machine.specs.State.{State}
-use Rattle.spec_machine.specs.Acts.{busy, sense}
+use Rattle.spec_machine.specs.Acts.{sense}
 use Rattle.spec_machine.specs.Acting as acting
 use Rattle.sx_world.specs.Held.{Running}
 use Rattle.sx_world.proofs.doing.Doing.{done_did, as_kept, lent_set, lent_long, wanted_same}
