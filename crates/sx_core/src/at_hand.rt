@@ -329,59 +329,6 @@ pub fn move_byte<B: Bus>(
     moved_to(executor, false, at, value)
 }
 
-/// An operation on words from memory at a register, which goes on, onto memory at a register plus
-/// `x`.
-#[inline(always)]
-pub fn increment_onto_indexed<B: Bus>(
-    executor: &mut Executor<B>,
-    op: Op2,
-    src: u8,
-    base: u8,
-    x: u16,
-    after: u16,
-    next: u16,
-) -> Stepped
-    ensures { EndsStep
-        (two op true (Increment src) (Indexed base x) (at_pc executor.old.regs after) next)
-        executor.old result executor.new }
-{
-    executor.set_pc(after);
-    let from = executor.register(src);
-    let Some(value) = load_at_hand(executor, true, from) else {
-        let (from, to) = (Operand::Increment(src), Operand::Indexed(base, x));
-        return Stepped::Answered(two_near(executor, op, true, from, to, next));
-    };
-    executor.increment(true, src);
-    executor.set_pc(next);
-    let at = executor.register(base).wrapping_add(x);
-    on_word(executor, op, at, value)
-}
-
-/// The same onto memory at an address.
-#[inline(always)]
-pub fn increment_onto_absolute<B: Bus>(
-    executor: &mut Executor<B>,
-    op: Op2,
-    src: u8,
-    at: u16,
-    after: u16,
-    next: u16,
-) -> Stepped
-    ensures { EndsStep
-        (two op true (Increment src) (Absolute at) (at_pc executor.old.regs after) next)
-        executor.old result executor.new }
-{
-    executor.set_pc(after);
-    let from = executor.register(src);
-    let Some(value) = load_at_hand(executor, true, from) else {
-        let (from, to) = (Operand::Increment(src), Operand::Absolute(at));
-        return Stepped::Answered(two_near(executor, op, true, from, to, next));
-    };
-    executor.increment(true, src);
-    executor.set_pc(next);
-    on_word(executor, op, at, value)
-}
-
 /// An operation on words from the extension word `x` onto a register.
 #[inline(always)]
 pub fn immediate_onto_register<B: Bus>(

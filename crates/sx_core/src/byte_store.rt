@@ -1,7 +1,4 @@
 //! MOV of a register's byte onto memory, which code on bytes does most.
-//!
-//! Its two forms, at an address and at a register plus a word, are one here, so that a step has one
-//! piece of code for both.
 
 ghost use Rattle.std.specs.Prelude.{◌≡◌, ℕ, true, false, IfSome};
 ghost use Rattle.sx_isa.specs.declared.instruction.Op2.TheVariants.{Mov};
@@ -9,12 +6,13 @@ ghost use Rattle.sx_isa.specs.declared.instruction.Instr.TheVariants.{Two};
 ghost use Rattle.sx_isa.specs.declared.instruction.Operand.TheVariants.{Reg};
 ghost use Rattle.sx_isa.specs.Extending.{extended};
 ghost use Rattle.spec_machine.specs.Registers.{at_pc};
-ghost use Rattle.spec_machine.specs.Rows.{two, onto, on_memory};
+ghost use Rattle.spec_machine.specs.Rows.{two};
 ghost use Rattle.sx_executor.specs.Shortcuts.{byte_double_of};
 ghost use Rattle.sx_core.specs.Quickly.{EndsStep};
 ghost use Rattle.sx_core.specs.Places.{place_of};
 
 use crate::at_hand::moved_to;
+use crate::place::address_of;
 use crate::quick::Stepped;
 use sx_bus::Bus;
 use sx_executor::{ByteDouble, Executor};
@@ -46,18 +44,6 @@ pub fn store_of(form: ByteDouble) -> Option<ByteStore>
             base: Some(base),
         }),
         _ => None,
-    }
-}
-
-/// The address of a place.
-#[inline(always)]
-fn address_of<B: Bus>(executor: &Executor<B>, base: Option<u8>, x: u16) -> u16
-    ensures { (value : ℕ) → onto Mov false (place_of base x) value executor.now.regs
-        ≡ on_memory Mov false result value executor.now.regs }
-{
-    match base {
-        Some(base) => executor.register(base).wrapping_add(x),
-        None => x,
     }
 }
 

@@ -14,10 +14,10 @@ ghost use Rattle.sx_executor.specs.Shortcuts.{single_of, double_of};
 ghost use Rattle.sx_core.specs.Quickly.{EndsStep};
 
 use crate::at_hand::{
-    absolute_onto_register, immediate_onto_register, increment_onto_absolute,
-    increment_onto_indexed, indexed_onto_register, indirect_onto_register, push_indexed,
-    register_onto_absolute, register_onto_indexed, register_onto_register,
+    absolute_onto_register, immediate_onto_register, indexed_onto_register, indirect_onto_register,
+    push_indexed, register_onto_absolute, register_onto_indexed, register_onto_register,
 };
+use crate::increment::increment_onto;
 use crate::one_operand::one;
 use crate::quick::Stepped;
 use crate::two_operands::two;
@@ -169,10 +169,10 @@ fn double_at_hand<B: Bus>(
             register_onto_indexed(executor, op, src, base, x, after, next)
         }
         Double::IncrementOntoAbsolute { op, src } => {
-            increment_onto_absolute(executor, op, src, x, after, next)
+            increment_onto(executor, op, src, None, x, after, next)
         }
         Double::IncrementOntoIndexed { op, src, base } => {
-            increment_onto_indexed(executor, op, src, base, x, after, next)
+            increment_onto(executor, op, src, Some(base), x, after, next)
         }
         Double::BytesOntoIndexed { op, src, base } => {
             let to = Operand::Indexed(base, x);

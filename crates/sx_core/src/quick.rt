@@ -25,14 +25,15 @@ ghost use Rattle.sx_executor.specs.Shortcuts.{byte_single_is_fit, byte_double_is
 ghost use Rattle.sx_core.specs.Quickly.{RunsQuietly, EndsStep};
 
 use crate::at_hand::{
-    call_immediate, immediate_onto_register, increment_onto_indexed, load_absolute, load_indexed,
-    move_byte, move_immediate, on_register, pop, push_absolute, push_constant, push_immediate,
-    store_absolute, store_indexed,
+    call_immediate, immediate_onto_register, load_absolute, load_indexed, move_byte,
+    move_immediate, on_register, pop, push_absolute, push_constant, push_immediate, store_absolute,
+    store_indexed,
 };
 use crate::byte_store::{store_byte, store_of};
 use crate::bytes::{byte_double, byte_single, constant_onto_register};
 use crate::called::step_called;
 use crate::forms::{step_double, step_single};
+use crate::increment::{IncrementOnto, increment_of, increment_onto};
 use crate::jump::jump_quietly;
 use crate::step::step_long;
 use crate::triple::step_triple;
@@ -353,13 +354,15 @@ fn with_extension<B: Bus, const CALLER: u8>(
             src,
             base,
         } => move_byte(executor, src, base, x, after, next),
-        Double::IncrementOntoIndexed { op, src, base } => {
-            increment_onto_indexed(executor, op, src, base, x, after, next)
-        }
         Double::OnImmediate { op: Op1::Call } => call_immediate(executor, x, after, next),
         Double::OnImmediate { op: Op1::Push } => push_immediate(executor, x, after, next),
         Double::OnAbsolute { op: Op1::Push } => push_absolute(executor, x, after, next),
-        _ => Stepped::Answered(step_double(executor, form, x, after, next)),
+        _ => match increment_of(form) {
+            Some(IncrementOnto { op, src, base }) => {
+                increment_onto(executor, op, src, base, x, after, next)
+            }
+            None => Stepped::Answered(step_double(executor, form, x, after, next)),
+        },
     }
 }
 
