@@ -294,8 +294,12 @@ fn onto_indexed<B: Bus>(
 }
 
 /// An instruction of another form without an extension word; `next` is the address after it.
-#[inline(always)]
-fn without_extension<B: Bus>(executor: &mut Executor<B>, form: Single, next: u16) -> Stepped
+#[inline]
+fn without_extension<B: Bus, const CALLER: u8>(
+    executor: &mut Executor<B>,
+    form: Single,
+    next: u16,
+) -> Stepped
     ensures { EndsStep (row (single_of form) (at_pc executor.old.regs next) next) executor.old
         result executor.new }
 {
@@ -458,7 +462,7 @@ pub fn step_quick<B: Bus, const CALLER: u8, const AHEAD: bool>(
             Ok(at) => onto_absolute(executor, op, value, at, pc),
             Err(violation) => Stepped::Answered(Err(violation)),
         },
-        Form::Single(form) => without_extension(executor, form, next),
+        Form::Single(form) => without_extension::<B, CALLER>(executor, form, next),
         Form::Double(form) => match fetch_second::<B, AHEAD>(executor, shortcut, pc) {
             Ok(x) => with_extension::<B, CALLER>(executor, form, x, pc),
             Err(violation) => Stepped::Answered(Err(violation)),
