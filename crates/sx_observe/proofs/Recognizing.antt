@@ -18,6 +18,7 @@ use Rattle.spec_machine.proofs.Apart.{lives_push, lives_without}
 use Rattle.spec_machine.proofs.Boots.{boots_count}
 use Rattle.spec_machine.proofs.Meanings.{steps_say, others_keep_sections}
 use Rattle.spec_machine.proofs.PublicKept.{public_kept}
+use Rattle.spec_machine.proofs.RunGuard.{lives_given}
 use Rattle.spec_machine.proofs.Stays.{found_lives, lives_below}
 use Rattle.spec_run.proofs.steps.Machine.{public_same}
 use Rattle.spec_run.proofs.tie.Lists.{get_other, some_inj}
@@ -170,11 +171,6 @@ found_recognized sites nodes those n id part i a o here placed said is all =
     let r : Recognized = record { node = n; boot = a.boot; id = id; part = part } in
     all_with sites nodes those i r all (λ b there.
     subst (λ (z : State). IsRecognized sites z r) (some_inj a b (sym here ∙ there)) (found sites n a id part (section_of a.sections.live id) placed refl (sym said ∙ is)))
-
--- no section has the id 0
-lives_given : (next : ℕ) (live : List Section) (x : Section) → AllSound next live → Lives live x → 0 < x.id
-lives_given next [] x h l = absurd l
-lives_given next (s ∷ live) x h l = elim l [ inl e ↦ subst (λ (z : Section). 0 < z.id) e h.0.given | inr r ↦ lives_given next live x h.1 r ]
 
 get_replicate : {X : Type 0} → (k i : ℕ) (x y : X) → slice_get (replicate k x) i ≡ Some y → y ≡ x
 get_replicate zero i x y e = absurd cc
