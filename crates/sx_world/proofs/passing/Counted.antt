@@ -52,9 +52,9 @@ counted_told mac idle count left old now new seen b c some leaves shown quiet ru
     let showed : silent ≡ (step mac now).shown = subst (λ i. told i seen ≡ (step mac now).shown) quiet shown in
     counted_on mac idle count left old now new c some leaves (sym showed) runs
 
--- an id is not that of no module
-pub not_none : (id : ℕ) → 0 < id → (id == 0) ≡ false
-not_none id h = grind (arith, nat_tests, h)
+-- where a module runs, its id isn't that of none
+pub not_none : (s : State) → 0 < s.cur → (s.cur == 0) ≡ false
+not_none s h = grind (arith, nat_tests, h)
 
 -- they reset nothing
 pub counted_boot : (mac : Mac) (idle : Bool) (count left : ℕ) (old now : State) → Counted mac idle count left old now → old.boot < 4294967295 → now.boot < 4294967295

@@ -10,6 +10,6 @@ steps-preserved g c =
     let home = c.step_at_home.ensures.home c.if-step_at_home.false in
     record {
       counted = counted_told g.T.Tag.mac true c.args.count c.steps.left c.args.node.now c.steps.node c.step_at_home.new.self c.step_at_home.new.seen c.step_at_home.result
-          c.steps.invariant.counted (omega (arith, c.steps-test.true)) c.step_at_home.ensures.state c.step_at_home.ensures.shown c.if-step_at_home.false (not_none c.step_at_home.new.self.cur home.home.runs);
+          c.steps.invariant.counted (omega (arith, c.steps-test.true)) c.step_at_home.ensures.state c.step_at_home.ensures.shown c.if-step_at_home.false (not_none c.step_at_home.new.self home.home.runs);
       home = home;
     }
