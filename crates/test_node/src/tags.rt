@@ -7,9 +7,10 @@ use sx_tag::{
     unwrap, wrap,
 };
 
-fn tag_of<T: Tag>(tag: &T, key: &[u8], first: &[u8], rest: &[u8]) -> [u8; 32]
+fn tag_of(key: &[u8], first: &[u8], rest: &[u8]) -> [u8; 32]
     requires { length key.now ≤ 64 }
 {
+    let tag = Hmac::new();
     let mut run = tag.begin(key);
     tag.feed(&mut run, first);
     tag.feed(&mut run, rest);
@@ -21,10 +22,10 @@ fn hmac_of_rfc_4231(rt: HostRuntime) {
     let counted: [u8; 25] = [
         1, 2, 3, 4, 5, 6, 7, 8, 9, 10, 11, 12, 13, 14, 15, 16, 17, 18, 19, 20, 21, 22, 23, 24, 25,
     ];
-    let first = tag_of(&Hmac::new(), &[0x0B; 20], b"Hi ", b"There");
-    let second = tag_of(&Hmac::new(), b"Jefe", b"what do ya want ", b"for nothing?");
-    let third = tag_of(&Hmac::new(), &[0xAA; 20], &[0xDD; 50], &[]);
-    let fourth = tag_of(&Hmac::new(), &counted, &[], &[0xCD; 50]);
+    let first = tag_of(&[0x0B; 20], b"Hi ", b"There");
+    let second = tag_of(b"Jefe", b"what do ya want ", b"for nothing?");
+    let third = tag_of(&[0xAA; 20], &[0xDD; 50], &[]);
+    let fourth = tag_of(&counted, &[], &[0xCD; 50]);
     for (tag, high, low) in [
         (
             first,
@@ -50,7 +51,7 @@ fn hmac_of_rfc_4231(rt: HostRuntime) {
         assert!(rt; &tag[..16] == high.to_be_bytes().as_slice());
         assert!(rt; &tag[16..] == low.to_be_bytes().as_slice());
     }
-    let fifth = tag_of(&Hmac::new(), &[0x0C; 20], b"Test With ", b"Truncation");
+    let fifth = tag_of(&[0x0C; 20], b"Test With ", b"Truncation");
     assert!(rt;
         &fifth[..16]
             == 0xa3b6167473100ee06e0c796c2955552b_u128
