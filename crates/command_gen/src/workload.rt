@@ -126,12 +126,7 @@ fn gen_deployment<K: Sink, T: Tag>(
 /// runs as many of its lines as carry this many samples, and writes how many lines, items, outputs,
 /// outputs of the value 1 and node steps there were. No line is kept. Gives the exit status, as
 /// `top` does for this command.
-pub fn gen_over<K: Sink, T: Tag>(
-    alloc: Global,
-    tag: T,
-    samples: u32,
-    output: &mut K,
-) -> Status
+pub fn gen_over<K: Sink, T: Tag>(alloc: Global, tag: T, samples: u32, output: &mut K) -> Status
     requires { samples ≤ MOST_SAMPLES }
     ensures { GenPromise T.mac samples K.tells (K.at output.old) (K.at output.new) result }
 {
