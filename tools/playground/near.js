@@ -19,6 +19,7 @@ function likeness(one, other) {
 
 function near(name, names) {
   const found = names.filter(it => it).map(it => ({it, like: likeness(String(it), String(name).slice(0, 40))}));
-  const best = found.sort((one, other) => other.like - one.like)[0];
+  // (of those that are as like, the last in the order of the letters, as Python's difflib has it)
+  const best = found.sort((one, other) => other.like - one.like || (one.it < other.it ? 1 : -1))[0];
   return best?.like >= 0.6 ? `; did you mean \`${best.it}\`?` : "";
 }
