@@ -154,7 +154,7 @@ impl Paged {
         let high = (value / 256) as u8;
         let start = self.starts[(at / 256) as usize];
         if start != self.blank {
-            write_two(&mut self.arena, place_of(start, at), low, high);
+            self.arena.write_two_at(place_of(start, at), low, high);
         } else {
             self.put_two(at, low, high);
         }
@@ -223,18 +223,6 @@ fn place_of(start: u16, at: u16) -> usize
     ensures { result ≡ start + at % 256 }
 {
     usize::from(start) + usize::from(at % 256)
-}
-
-// Writes two bytes of a live page, one after the other.
-fn write_two(arena: &mut Arena, place: usize, low: u8, high: u8)
-    requires within { place < 65535 }
-    requires inside { place % 256 < 255 }
-    requires live { is_live arena.old (place / 256) ≡ true }
-    ensures { arena.new ≡ with_byte (with_byte arena.old (place / 256) (place % 256) low)
-        (place / 256) (place % 256 + 1) high }
-{
-    arena.write_at(place, low);
-    arena.write_at(place + 1, high);
 }
 
 // Writes a byte of a page that was absent. If no page is free for it, all others are present, so no

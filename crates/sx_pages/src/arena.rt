@@ -128,6 +128,18 @@ impl Arena {
         self.block.put_at(place, byte);
     }
 
+    /// Writes the byte at a place of the block and the one after it, which is of the same page. All
+    /// other bytes stay.
+    pub fn write_two_at(&mut self, place: usize, low: u8, high: u8)
+        requires within { place < 65536 }
+        requires inside { place % 256 < 255 }
+        requires live { is_live self.old (place / 256) ≡ true }
+        ensures { self.new ≡ with_byte (with_byte self.old (place / 256) (place % 256) low)
+            (place / 256) (place % 256 + 1) high }
+    {
+        self.block.put_two_at(place, low, high);
+    }
+
     /// Whether the page is live.
     pub fn live(&self, page: u8) -> bool
         ensures { result ≡ is_live self.now page }

@@ -1,6 +1,6 @@
 //! The block of memory after a raw pointer. Everything that touches the pointer is in this file.
 
-ghost use Rattle.std.specs.Prelude.{◌≡◌, ◌<◌, ◌/◌, ◌%◌, List, All, get_or, map, slice_set, IfSome};
+ghost use Rattle.std.specs.Prelude.{◌≡◌, ◌+◌, ◌<◌, ◌/◌, ◌%◌, List, All, get_or, map, slice_set, IfSome};
 ghost use Rattle.std.specs.Prelude.{[], Some};
 ghost use denote.RawPtr.{Ptr};
 ghost use Rattle.sx_pages.specs.Arena.{HasByte, slot_of, with_slot, zeroed, AllLinked, CanCopy};
@@ -99,6 +99,22 @@ impl Block {
     {
         unsafe {
             *self.start.add(place) = byte;
+        }
+    }
+
+    /// Writes the byte at a place and the one after it. The pointer is loaded once, so LLVM makes one
+    /// store of both.
+    pub(crate) fn put_two_at(&mut self, place: usize, low: u8, high: u8)
+        requires { place + 1 < BYTES }
+        ensures { (self.new.start ≡ self.old.start)
+            × (self.new.pages ≡ with_slot
+            (with_slot self.old.pages (place / 256) (place % 256) low)
+            ((place + 1) / 256) ((place + 1) % 256) high) }
+    {
+        unsafe {
+            let first = self.start.add(place);
+            *first = low;
+            *first.add(1) = high;
         }
     }
 
