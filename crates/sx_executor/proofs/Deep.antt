@@ -1,4 +1,4 @@
--- The deep part of a home, whose places have three words of the module's code.
+-- The deep part of a home, whose places have three words of the module's code, and its data.
 use Rattle.std.proofs.Common.{◌≡◌, ℕ, ◌+◌, ◌-◌, ◌<◌, ◌≤◌, ◌==◌, Bool, true, false, ◌&&◌, ◌||◌, nat_lt, nat_le, List, [], ◌∷◌, None}
 use Rattle.std.proofs.Common.{refl, sym, subst, ap, ◌∙◌, arith}
 use Rattle.std.proofs.lemmas.Bool.{and_parts, and_from, or_parts, eqb-true, leb-true, ltb-true, le-leb, lt-ltb, false_from_ne_true, true≢false}
@@ -11,13 +11,13 @@ use Rattle.spec_machine.specs.Registers.{onward}
 use Rattle.sx_executor.specs.declared.home.Home.{Home}
 use Rattle.sx_executor.specs.declared.home.Deep.{Deep}
 use Rattle.sx_executor.specs.Homes.{within, KeepsHome}
-use Rattle.sx_executor.specs.Occupancy.{Occupied, IsExtension, IsAhead, IsDeep, has_deep, KeepsDeep}
+use Rattle.sx_executor.specs.Occupancy.{Occupied, IsExtension, IsAhead, IsDeep, IsDeepData, has_deep, has_deep_data, KeepsDeep}
 use Rattle.sx_executor.proofs.Clear.{none_at, none_found}
 use Rattle.sx_executor.proofs.Homes.{none_within}
 
 -- no place
-pub empty : (live : List Section) (places : List ℕ) → KeepsDeep (record { id = 0; from = 0; to = 0 }) live places
-empty live places = record { deep = λ at w. absurd (none_within at w) }
+pub empty : (live : List Section) (places : List ℕ) → KeepsDeep (record { id = 0; from = 0; to = 0; data_from = 0; data_to = 0 }) live places
+empty live places = record { deep = λ at w. absurd (none_within at w); private = λ at w. absurd (none_within at w) }
 
 -- a device that is apart from a range is apart from each part of it
 part_apart : (from n at m place : ℕ) → from ≤ at → at + m ≤ from + n → meets from n place (place + 2) ≡ false → meets at m place (place + 2) ≡ false
@@ -46,9 +46,10 @@ inside from to at low high = and_from (nat_le from at) (nat_lt at to) (le-leb fr
 
 -- that of a home without a device
 pub keeps : (h : Home) (live : List Section) (places : List ℕ) → h.layout.pub_from + (h.layout.pub_to - h.layout.pub_from) ≤ 65536
-    → meets_device places h.layout.pub_from (h.layout.pub_to - h.layout.pub_from) ≡ false → KeepsHome h live
-    → KeepsDeep (record { id = h.id; from = h.layout.pub_from; to = h.layout.pub_to - 4 }) live places
-keeps h live places small clear k = record {
+    → meets_device places h.layout.pub_from (h.layout.pub_to - h.layout.pub_from) ≡ false
+    → (begin : ℕ) → h.layout.priv_from ≤ begin → meets_device places begin (h.layout.priv_to - begin) ≡ false → KeepsHome h live
+    → KeepsDeep (record { id = h.id; from = h.layout.pub_from; to = h.layout.pub_to - 4; data_from = begin; data_to = h.layout.priv_to }) live places
+keeps h live places small clear begin behind clear_data k = record {
   deep = λ at w.
       let from = h.layout.pub_from in let to = h.layout.pub_to in
       let parts = and_parts (nat_le from at) (nat_lt at (to - 4)) w in
@@ -61,7 +62,22 @@ keeps h live places small clear k = record {
         bare = part_clear places from (to - from) at 5 low (omega arith) clear;
         ends = omega arith;
       };
+  private = λ at w.
+      let to = h.layout.priv_to in
+      let parts = and_parts (nat_le begin at) (nat_lt at to) w in
+      let low = leb-true begin at parts.0 in
+      let high = ltb-true at to parts.1 in
+      record {
+        own = k.private at (inside h.layout.priv_from to at (omega (arith, behind, low)) high);
+        bare = part_clear places begin (to - begin) at 1 low (omega (arith, low, high)) clear_data;
+      };
 }
+
+-- no device meets the part that a buffer is made of
+pub part_bare : (places : List ℕ) (from to at count : ℕ) → at ≡ from → count ≡ to - from → meets_device places at count ≡ false
+    → meets_device places from (to - from) ≡ false
+part_bare places from to at count begin size h =
+    subst (λ (n : ℕ). meets_device places from n ≡ false) size (subst (λ (k : ℕ). meets_device places k count ≡ false) begin h)
 
 -- a place that is known to be deep at home
 pub known : (d : Deep) (sections : Sections) (devices : List Window) (now : Occupied) (id at : ℕ) (b : Bool)
@@ -89,3 +105,16 @@ ahead live devices id at d =
       third = subst (λ (k : ℕ). IsExtension live devices id k) four
           (record { extended = d.third.extended; bare = none_found devices (at + 4) (none_at devices at 5 4 0 d.bare (omega arith)) });
     }
+
+-- a place that is known to be data at home
+pub known_data : (d : Deep) (sections : Sections) (devices : List Window) (now : Occupied) (id at : ℕ) (b : Bool)
+    → KeepsDeep d sections.live (places_of devices) → b ≡ has_deep_data d id at
+    → record { devices = devices; sections = sections } ≡ now → b ≡ true → IsDeepData now.sections.live (places_of now.devices) id at
+known_data d sections devices now id at b k e view t =
+    let parts = and_parts (id == d.id) (within d.data_from d.data_to at) (sym e ∙ t) in
+    let owned = subst (λ (i : ℕ). IsDeepData sections.live (places_of devices) i at) (sym (eqb-true id d.id parts.0)) (k.private at parts.1) in
+    subst (λ (o : Occupied). IsDeepData o.sections.live (places_of o.devices) id at) view owned
+
+pub bare_data : (live : List Section) (devices : List Window) (id at : ℕ) → IsDeepData live (places_of devices) id at → device_at devices at ≡ None
+bare_data live devices id at d =
+    subst (λ (k : ℕ). device_at devices k ≡ None) (omega arith) (none_at devices at 1 0 0 d.bare (omega arith))

@@ -176,7 +176,7 @@ known_code h live id at b k e t =
     let parts = and_parts (id == h.id) (within h.layout.pub_from h.layout.pub_to at) (sym e ∙ t) in
     subst (λ (i : ℕ). IsCode live i at) (sym (eqb-true id h.id parts.0)) (k.public at parts.1)
 
-pub known_data : (h : Home) (live : List Section) (id at : ℕ) (b : Bool) → KeepsHome h live → b ≡ has_data h id at → b ≡ true → IsData live id at
+known_data : (h : Home) (live : List Section) (id at : ℕ) (b : Bool) → KeepsHome h live → b ≡ has_data h id at → b ≡ true → IsData live id at
 known_data h live id at b k e t =
     let parts = and_parts (id == h.id) (within h.layout.priv_from h.layout.priv_to at) (sym e ∙ t) in
     subst (λ (i : ℕ). IsData live i at) (sym (eqb-true id h.id parts.0)) (k.private at parts.1)

@@ -5,9 +5,9 @@
 --     IsVacant      neither a section nor a device keeps any code from a word and the two after it
 --     is_bare, is_vacant      a page has no byte of a section and no device, and so has the next one
 --     IsVacantIndex      what is kept for each page
---     has_deep      a byte lies in the deep part of a home
---     IsDeep      what holds of its places
---     KeepsDeep      beside these sections and devices all its places are such
+--     has_deep, has_deep_data      a byte lies in the deep part of a home, or in its data
+--     IsDeep, IsDeepData      what holds of the places of the two
+--     KeepsDeep      beside these sections and devices all their places are such
 use Rattle.std.specs.Prelude.{◌≡◌, ℕ, ◌+◌, ◌==◌, ◌<◌, nat_lt, Bool, true, false, ◌&&◌, not, List}
 use Rattle.std.specs.Prelude.{None, slice_index_or}
 use Rattle.sx_rules.specs.declared.section.Section.{Section}
@@ -22,7 +22,7 @@ use Rattle.spec_machine.specs.Registers.{onward}
 use Rattle.spec_machine.specs.Run.{device_of}
 use Rattle.sx_executor.specs.declared.home.Deep.{Deep}
 use Rattle.sx_executor.specs.Gaps.{IsApart}
-use Rattle.sx_executor.specs.Homes.{within, IsCode}
+use Rattle.sx_executor.specs.Homes.{within, IsCode, IsData}
 
 -- the devices of a node and its sections
 pub record Occupied : Type 0 where
@@ -64,6 +64,10 @@ IsVacantIndex pages live places =
 abbrev pub has_deep : Deep → ℕ → ℕ → Bool
 has_deep d id at = (id == d.id) && within d.from d.to at
 
+-- it lies in the private part of that home
+abbrev pub has_deep_data : Deep → ℕ → ℕ → Bool
+has_deep_data d id at = (id == d.id) && within d.data_from d.data_to at
+
 -- the word at the address and the two after it are code of the module `id`, and no device has a byte
 -- of them
 pub record IsDeep (live : List Section) (places : List ℕ) (id at : ℕ) : Type 0 where
@@ -73,6 +77,12 @@ pub record IsDeep (live : List Section) (places : List ℕ) (id at : ℕ) : Type
   pub bare : meets_device places at 5 ≡ false
   pub ends : at + 4 < 65536
 
+-- the byte at the address is data of the module `id`, and no device has it
+pub record IsDeepData (live : List Section) (places : List ℕ) (id at : ℕ) : Type 0 where
+  pub own : IsData live id at
+  pub bare : meets_device places at 1 ≡ false
+
 -- beside these sections and devices all places of the deep part are such
 pub record KeepsDeep (d : Deep) (live : List Section) (places : List ℕ) : Type 0 where
   pub deep : (at : ℕ) → within d.from d.to at ≡ true → IsDeep live places d.id at
+  pub private : (at : ℕ) → within d.data_from d.data_to at ≡ true → IsDeepData live places d.id at

@@ -44,8 +44,8 @@ impl<B: Bus> Executor<B> {
         self.table().may_word(self.own(), access, at)
     }
 
-    /// Whether one look says that the running code may read and write a place: no section meets its
-    /// page, or it lies in the private part of the home or in a gap.
+    /// Whether one look says that any code may read and write a place: no section meets its page, or
+    /// it lies in a gap.
     #[inline(always)]
     #[tactic(auto, using(crate::proofs::Open::open_any))]
     fn is_free(&self, at: u16) -> bool
@@ -57,10 +57,12 @@ impl<B: Bus> Executor<B> {
         if self.table().is_open(at) {
             return true;
         }
-        self.protection().has_data(self.own(), at) || self.protection().has_gap(at)
+        self.protection().has_gap(at)
     }
 
-    /// The same where no device is either. Then a read and a write ask no more.
+    /// Whether the running code may read and write a place, and no device is there: its page is
+    /// vacant, it is the module's own data, or no section holds it. Then a read and a write ask no
+    /// more.
     #[inline(always)]
     pub fn is_at_hand(&self, at: u16) -> bool
         ensures read { IsTrue result
@@ -69,7 +71,9 @@ impl<B: Bus> Executor<B> {
             → (wide : Bool) → may_at wide self.now.sections.live self.now.own Write at ≡ true }
         ensures memory { IsTrue result → device_of self.now.devices at ≡ None }
     {
-        self.is_vacant(at) || self.is_free(at) && self.windows().at(at).is_none()
+        self.is_vacant(at)
+            || self.occupancy().has_bare_data(self.own(), at)
+            || self.is_free(at) && self.windows().at(at).is_none()
     }
 
     /// Whether one look says that the running code may read the word at a place, and each byte of

@@ -1,5 +1,5 @@
 //! The home of a module: its two parts, where its own code needs no look at the sections, and the
-//! deep part, where it needs no look at the devices either.
+//! places of them where it needs no look at the devices either.
 
 ghost use Rattle.std.specs.Prelude.{◌≡◌, ◌+◌, ◌≤◌, ℕ, List};
 ghost use Rattle.std.specs.List.{list_all};
@@ -7,7 +7,7 @@ ghost use Rattle.sx_rules.specs.declared.section.Section.{Section};
 ghost use Rattle.sx_rules.specs.Admission.{apart, is_even};
 ghost use Rattle.sx_executor.specs.Homes.{has_code, has_data, has_data_range, leaves};
 ghost use Rattle.sx_executor.specs.Homes.{is_even_home, KeepsHome};
-ghost use Rattle.sx_executor.specs.Occupancy.{has_deep, KeepsDeep};
+ghost use Rattle.sx_executor.specs.Occupancy.{has_deep, has_deep_data, KeepsDeep};
 
 use crate::buffer::Buffer;
 use sx_rules::{Layout, Section, Table};
@@ -118,13 +118,29 @@ impl Home {
     }
 }
 
-/// The places of a home from which three words lie in its public part, so each instruction that
-/// begins there does, and no device is.
+/// Places of a home without a device: those from which three words lie in its public part, so each
+/// instruction that begins there does, and its data, which is what no device is before in its
+/// private part.
 #[derive(Clone, Copy)]
 pub(crate) struct Deep {
     id: u16,
     from: u16,
     to: u16,
+    data_from: u16,
+    data_to: u16,
+}
+
+/// Where a range goes on after its last device, if its devices come in order.
+fn after_devices(from: u16, to: u16, places: &[u16]) -> u16
+    ensures { from ≤ result }
+{
+    let mut start = from;
+    for place in places {
+        if start <= *place && *place < to {
+            start = place.saturating_add(2);
+        }
+    }
+    start
 }
 
 impl Deep {
@@ -136,22 +152,30 @@ impl Deep {
             id: 0,
             from: 0,
             to: 0,
+            data_from: 0,
+            data_to: 0,
         }
     }
 
-    /// That of a home; no place where a device is in its public part.
+    /// That of a home: its data begin after the last device in its private part, as a driver's do. No
+    /// place where a device is in its public part.
     pub(crate) fn of(home: &Home, places: &[u16]) -> Deep
         ensures { (live : List Section) → KeepsHome home.now live
             → KeepsDeep result live places.now }
     {
         let layout = &home.layout;
-        if Buffer::between(layout.pub_from, layout.pub_to).meets_device(places) {
+        let data_from = after_devices(layout.priv_from, layout.priv_to, places);
+        if Buffer::between(layout.pub_from, layout.pub_to).meets_device(places)
+            || Buffer::between(data_from, layout.priv_to).meets_device(places)
+        {
             return Deep::empty();
         }
         Deep {
             id: home.id,
             from: layout.pub_from,
             to: layout.pub_to.saturating_sub(4),
+            data_from,
+            data_to: layout.priv_to,
         }
     }
 
@@ -161,5 +185,13 @@ impl Deep {
         ensures { result ≡ has_deep self.now id at }
     {
         id == self.id && self.from <= at && at < self.to
+    }
+
+    /// Whether the byte lies in the data of that home.
+    #[inline(always)]
+    pub(crate) fn has_data(&self, id: u16, at: u16) -> bool
+        ensures { result ≡ has_deep_data self.now id at }
+    {
+        id == self.id && self.data_from <= at && at < self.data_to
     }
 }

@@ -7,6 +7,7 @@ ghost use Rattle.sx_bus.specs.declared.devices.Kind.TheVariants.{Sensor};
 ghost use Rattle.sx_bus.specs.Devices.{cleared, device_at, with_sample, all_stale};
 ghost use Rattle.sx_bus.specs.Windows.{has_place};
 ghost use Rattle.sx_rules.specs.declared.access.Access.{Access};
+ghost use Rattle.sx_rules.specs.declared.access.Access.TheVariants.{Read, Write};
 ghost use Rattle.sx_rules.specs.Access.{holder, in_order};
 ghost use Rattle.sx_rules.specs.Admission.{admitted, removed};
 ghost use Rattle.spec_machine.specs.State.{no_sections};
@@ -190,6 +191,19 @@ impl Occupancy {
         ensures ahead { IsTrue result → IsAhead self.now.sections.live self.now.devices id at }
     {
         self.deep.has(id, at)
+    }
+
+    /// Whether the byte is known to be data of the module `id`, which may read and write it there,
+    /// and no device is there.
+    #[inline(always)]
+    pub(crate) fn has_bare_data(&self, id: u16, at: u16) -> bool
+        ensures read { IsTrue result
+            → (wide : Bool) → may_at wide self.now.sections.live id Read at ≡ true }
+        ensures write { IsTrue result
+            → (wide : Bool) → may_at wide self.now.sections.live id Write at ≡ true }
+        ensures memory { IsTrue result → device_at self.now.devices at ≡ None }
+    {
+        self.deep.has_data(id, at)
     }
 
     /// Learns the home of a module, and its deep part.

@@ -78,16 +78,6 @@ impl Protection {
         self.home.has_code(id, at)
     }
 
-    /// Whether it is known to be the module's own data, which it may read and write.
-    #[inline(always)]
-    pub(crate) fn has_data(&self, id: u16, at: u16) -> bool
-        ensures read { IsTrue result → (wide : Bool) → may_at wide self.now.live id Read at ≡ true }
-        ensures write { IsTrue result
-            → (wide : Bool) → may_at wide self.now.live id Write at ≡ true }
-    {
-        self.home.has_data(id, at)
-    }
-
     /// Whether so many bytes from an address on, at least one, are known to be the module's own
     /// data.
     pub(crate) fn has_data_range(&self, id: u16, at: u16, count: u16) -> bool
