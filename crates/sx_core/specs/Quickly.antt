@@ -2,7 +2,8 @@
 --     RunsQuietly      a plan was run to its end and touched no device
 --     answer_of, is_quiet      what a step answered, and whether it says that no device was touched
 --     EndsStep      a plan was run, and the step says so
-use Rattle.std.specs.Prelude.{◌≡◌, Bool, true, false, Result, Ok}
+--     MayEndStep      the same, or nothing was done
+use Rattle.std.specs.Prelude.{◌≡◌, Bool, true, false, Result, Ok, Option, Some, None}
 use Rattle.sx_rules.specs.declared.access.Violation.{Violation}
 use Rattle.spec_machine.specs.Plan.{Plan}
 use Rattle.sx_executor.specs.Machine.{Machine, RunsPlan}
@@ -27,3 +28,8 @@ is_quiet (Answered answer) = false
 abbrev pub EndsStep : Plan → Machine → Stepped → Machine → Type 0
 EndsStep plan m stepped n =
     RunsPlan plan m (answer_of stepped) n × (is_quiet stepped ≡ true → n.touches ≡ m.touches)
+
+-- the same, or nothing was done and the step is left to other code
+abbrev pub MayEndStep : Plan → Machine → Option Stepped → Machine → Type 0
+MayEndStep plan m None n = n ≡ m
+MayEndStep plan m (Some stepped) n = EndsStep plan m stepped n

@@ -22,7 +22,7 @@ ghost use Rattle.sx_executor.specs.Shortcuts.{instruction_of, words_of, is_gener
 ghost use Rattle.sx_executor.specs.Shortcuts.{single_of, double_of};
 ghost use Rattle.sx_executor.specs.Shortcuts.{byte_single_of, byte_double_of};
 ghost use Rattle.sx_executor.specs.Shortcuts.{byte_single_is_fit, byte_double_is_fit};
-ghost use Rattle.sx_core.specs.Quickly.{RunsQuietly, EndsStep};
+ghost use Rattle.sx_core.specs.Quickly.{RunsQuietly, EndsStep, MayEndStep};
 
 use crate::at_hand::{
     call_immediate, immediate_onto_register, load_absolute, load_indexed, move_byte,
@@ -32,11 +32,8 @@ use crate::at_hand::{
 use crate::byte_store::{store_byte, store_of};
 use crate::bytes::{byte_double, byte_single, constant_onto_register};
 use crate::called::step_called;
-use crate::forms::{step_double, step_single};
 use crate::increment::{IncrementOnto, increment_of, increment_onto};
 use crate::jump::jump_quietly;
-use crate::step::step_long;
-use crate::triple::step_triple;
 use crate::two_operands::{computed_as, on_memory, reads, writes};
 use sx_alu::StatusBits;
 use sx_bus::Bus;
@@ -293,14 +290,15 @@ fn onto_indexed<B: Bus>(
     on_word(executor, op, at, value)
 }
 
-/// An instruction of another form without an extension word; `next` is the address after it.
+/// An instruction of another form without an extension word, if it is done here; `next` is the
+/// address after it.
 #[inline]
 fn without_extension<B: Bus, const CALLER: u8>(
     executor: &mut Executor<B>,
     form: Single,
     next: u16,
-) -> Stepped
-    ensures { EndsStep (row (single_of form) (at_pc executor.old.regs next) next) executor.old
+) -> Option<Stepped>
+    ensures { MayEndStep (row (single_of form) (at_pc executor.old.regs next) next) executor.old
         result executor.new }
 {
     match form {
@@ -308,65 +306,64 @@ fn without_extension<B: Bus, const CALLER: u8>(
             op: Op2::Mov,
             src,
             dst,
-        } => pop(executor, src, dst, next),
-        Single::OnRegister { op, arg } => on_register(executor, op, arg, next),
+        } => Some(pop(executor, src, dst, next)),
+        Single::OnRegister { op, arg } => Some(on_register(executor, op, arg, next)),
         Single::OnConstant {
             op: Op1::Push,
             value,
-        } => push_constant(executor, value, next),
-        // Bound in this arm, so that the others write no copy of it.
-        other => Stepped::Answered(step_single(executor, other, next)),
+        } => Some(push_constant(executor, value, next)),
+        _ => None,
     }
 }
 
-/// One with the extension word `x`, at `pc`.
+/// One with the extension word `x`, at `pc`, if it is done here.
 #[inline]
 fn with_extension<B: Bus, const CALLER: u8>(
     executor: &mut Executor<B>,
     form: Double,
     x: u16,
     pc: u16,
-) -> Stepped
-    ensures { EndsStep (row (extended (double_of form) x 0)
+) -> Option<Stepped>
+    ensures { MayEndStep (row (extended (double_of form) x 0)
         (at_pc executor.old.regs (onward pc 2)) (onward pc 4)) executor.old result executor.new }
 {
     let after = pc.wrapping_add(2);
     let next = pc.wrapping_add(4);
     match form {
         Double::FromImmediate { op: Op2::Mov, dst } => {
-            move_immediate(executor, x, dst, after, next)
+            Some(move_immediate(executor, x, dst, after, next))
         }
         Double::FromImmediate { op, dst } => {
-            immediate_onto_register(executor, op, x, dst, after, next)
+            Some(immediate_onto_register(executor, op, x, dst, after, next))
         }
-        Double::FromAbsolute { op: Op2::Mov, dst } => load_absolute(executor, x, dst, after, next),
+        Double::FromAbsolute { op: Op2::Mov, dst } => {
+            Some(load_absolute(executor, x, dst, after, next))
+        }
         Double::FromIndexed {
             op: Op2::Mov,
             base,
             dst,
-        } => load_indexed(executor, base, x, dst, after, next),
+        } => Some(load_indexed(executor, base, x, dst, after, next)),
         Double::RegisterOntoAbsolute { op: Op2::Mov, src } => {
-            store_absolute(executor, src, x, after, next)
+            Some(store_absolute(executor, src, x, after, next))
         }
         Double::RegisterOntoIndexed {
             op: Op2::Mov,
             src,
             base,
-        } => store_indexed(executor, src, base, x, after, next),
+        } => Some(store_indexed(executor, src, base, x, after, next)),
         Double::BytesOntoIndexed {
             op: Op2::Mov,
             src,
             base,
-        } => move_byte(executor, src, base, x, after, next),
-        Double::OnImmediate { op: Op1::Call } => call_immediate(executor, x, after, next),
-        Double::OnImmediate { op: Op1::Push } => push_immediate(executor, x, after, next),
-        Double::OnAbsolute { op: Op1::Push } => push_absolute(executor, x, after, next),
-        _ => match increment_of(form) {
-            Some(IncrementOnto { op, src, base }) => {
-                increment_onto(executor, op, src, base, x, after, next)
-            }
-            None => Stepped::Answered(step_double(executor, form, x, after, next)),
-        },
+        } => Some(move_byte(executor, src, base, x, after, next)),
+        Double::OnImmediate { op: Op1::Call } => Some(call_immediate(executor, x, after, next)),
+        Double::OnImmediate { op: Op1::Push } => Some(push_immediate(executor, x, after, next)),
+        Double::OnAbsolute { op: Op1::Push } => Some(push_absolute(executor, x, after, next)),
+        _ => {
+            let IncrementOnto { op, src, base } = increment_of(form)?;
+            Some(increment_onto(executor, op, src, base, x, after, next))
+        }
     }
 }
 
@@ -426,7 +423,6 @@ fn with_byte_extension<B: Bus>(
 /// compiler puts into it. A caller that knows that the words after PC are extension words says so
 /// by `AHEAD`, and then the code asks nothing of them.
 #[inline]
-#[tactic(auto, unfolding(spec_machine::specs::Rows::program, sx_isa::specs::Reading::length_of))]
 pub fn step_quick<B: Bus, const CALLER: u8, const AHEAD: bool>(
     executor: &mut Executor<B>,
     first: u16,
@@ -435,53 +431,63 @@ pub fn step_quick<B: Bus, const CALLER: u8, const AHEAD: bool>(
         executor.old.own (reg executor.old.regs 0) }
     ensures { EndsStep (program first executor.old.regs) executor.old result executor.new }
 {
+    match step_at_hand::<B, CALLER, AHEAD>(executor, first) {
+        Some(stepped) => stepped,
+        None => Stepped::Answered(step_called::<B, AHEAD>(executor, first)),
+    }
+}
+
+/// The same if a shortcut of the first word is kept for PC and its code is here.
+#[inline]
+#[tactic(auto, unfolding(spec_machine::specs::Rows::program, sx_isa::specs::Reading::length_of))]
+fn step_at_hand<B: Bus, const CALLER: u8, const AHEAD: bool>(
+    executor: &mut Executor<B>,
+    first: u16,
+) -> Option<Stepped>
+    requires { IsTrue AHEAD → IsAhead executor.old.sections.live executor.old.devices
+        executor.old.own (reg executor.old.regs 0) }
+    ensures { MayEndStep (program first executor.old.regs) executor.old result executor.new }
+{
     let pc = executor.register(PC);
     let shortcut = executor.shortcut(pc);
     if shortcut.first != first {
-        return Stepped::Answered(step_long(executor, first));
+        return None;
     }
     let next = pc.wrapping_add(2);
     match shortcut.form {
-        Form::JumpNotEqual { offset } => jump_quickly(executor, 0, offset, next),
-        Form::JumpEqual { offset } => jump_quickly(executor, 1, offset, next),
-        Form::JumpNoCarry { offset } => jump_quickly(executor, 2, offset, next),
-        Form::JumpCarry { offset } => jump_quickly(executor, 3, offset, next),
-        Form::JumpNegative { offset } => jump_quickly(executor, 4, offset, next),
-        Form::JumpGreater { offset } => jump_quickly(executor, 5, offset, next),
-        Form::JumpLess { offset } => jump_quickly(executor, 6, offset, next),
-        Form::JumpAlways { offset } => jump_quickly(executor, 7, offset, next),
-        Form::Registers { op, src, dst } => from_register(executor, op, src, dst, next),
-        Form::Constant { op, value, dst } => from_constant(executor, op, value, dst, next),
+        Form::JumpNotEqual { offset } => Some(jump_quickly(executor, 0, offset, next)),
+        Form::JumpEqual { offset } => Some(jump_quickly(executor, 1, offset, next)),
+        Form::JumpNoCarry { offset } => Some(jump_quickly(executor, 2, offset, next)),
+        Form::JumpCarry { offset } => Some(jump_quickly(executor, 3, offset, next)),
+        Form::JumpNegative { offset } => Some(jump_quickly(executor, 4, offset, next)),
+        Form::JumpGreater { offset } => Some(jump_quickly(executor, 5, offset, next)),
+        Form::JumpLess { offset } => Some(jump_quickly(executor, 6, offset, next)),
+        Form::JumpAlways { offset } => Some(jump_quickly(executor, 7, offset, next)),
+        Form::Registers { op, src, dst } => Some(from_register(executor, op, src, dst, next)),
+        Form::Constant { op, value, dst } => Some(from_constant(executor, op, value, dst, next)),
         Form::OntoIndexed { op, value, base } => match fetch_second::<B, AHEAD>(
             executor, shortcut, pc,
         ) {
-            Ok(x) => onto_indexed(executor, op, value, base, x, pc),
-            Err(violation) => Stepped::Answered(Err(violation)),
+            Ok(x) => Some(onto_indexed(executor, op, value, base, x, pc)),
+            Err(violation) => Some(Stepped::Answered(Err(violation))),
         },
         Form::OntoAbsolute { op, value } => match fetch_second::<B, AHEAD>(executor, shortcut, pc) {
-            Ok(at) => onto_absolute(executor, op, value, at, pc),
-            Err(violation) => Stepped::Answered(Err(violation)),
+            Ok(at) => Some(onto_absolute(executor, op, value, at, pc)),
+            Err(violation) => Some(Stepped::Answered(Err(violation))),
         },
         Form::Single(form) => without_extension::<B, CALLER>(executor, form, next),
         Form::Double(form) => match fetch_second::<B, AHEAD>(executor, shortcut, pc) {
             Ok(x) => with_extension::<B, CALLER>(executor, form, x, pc),
-            Err(violation) => Stepped::Answered(Err(violation)),
+            Err(violation) => Some(Stepped::Answered(Err(violation))),
         },
-        Form::Triple(_) => {
-            let shortcut = *shortcut;
-            Stepped::Answered(step_triple(executor, shortcut))
-        }
         Form::ByteConstant { op, value, dst } => {
-            from_byte_constant(executor, op, value, dst, next)
+            Some(from_byte_constant(executor, op, value, dst, next))
         }
-        Form::ByteSingle(form) => without_byte_extension(executor, form, next),
+        Form::ByteSingle(form) => Some(without_byte_extension(executor, form, next)),
         Form::ByteDouble(form) => match fetch_second::<B, AHEAD>(executor, shortcut, pc) {
-            Ok(x) => with_byte_extension(executor, form, x, pc),
-            Err(violation) => Stepped::Answered(Err(violation)),
+            Ok(x) => Some(with_byte_extension(executor, form, x, pc)),
+            Err(violation) => Some(Stepped::Answered(Err(violation))),
         },
-        _ => {
-            let shortcut = *shortcut;
-            Stepped::Answered(step_called(executor, shortcut))
-        }
+        _ => None,
     }
 }

@@ -1,14 +1,15 @@
 //! Instructions of three words that have a shortcut: operations on words with two extension words.
 
-ghost use Rattle.std.specs.Prelude.{◌≡◌, ℕ, true, List};
+ghost use Rattle.std.specs.Prelude.{◌≡◌, ℕ, true, List, IsTrue};
 ghost use Rattle.sx_isa.specs.Reading.{length_of};
 ghost use Rattle.sx_isa.specs.Extending.{extended};
 ghost use Rattle.sx_isa.specs.declared.instruction.Operand.TheVariants.{Absolute, Immediate};
 ghost use Rattle.sx_isa.specs.declared.instruction.Operand.TheVariants.{Indexed};
-ghost use Rattle.spec_machine.specs.Registers.{onward, at_pc};
+ghost use Rattle.spec_machine.specs.Registers.{onward, at_pc, reg};
 ghost use Rattle.spec_machine.specs.Rows.{row, with_words, program, two};
 ghost use Rattle.spec_machine.specs.Answers.{followed};
 ghost use Rattle.sx_executor.specs.Machine.{ran, RunsPlan};
+ghost use Rattle.sx_executor.specs.Occupancy.{IsAhead};
 ghost use Rattle.sx_executor.specs.Shortcuts.{instruction_of, words_of, triple_of};
 ghost use Rattle.sx_core.specs.Quickly.{EndsStep};
 
@@ -21,15 +22,18 @@ use sx_executor::{Executor, Form, Shortcut, Triple};
 use sx_isa::Op2;
 use sx_rules::Violation;
 
-/// Fetches the extension words of the instruction of three words at `pc`.
+/// Fetches the extension words of the instruction of three words at `pc`. Where the words after PC
+/// are known to be extension words, nothing is asked.
 #[inline(always)]
 #[tactic(auto, unfolding(sx_isa::specs::Reading::length_of))]
-fn fetch_both<B: Bus>(
+fn fetch_both<B: Bus, const AHEAD: bool>(
     executor: &Executor<B>,
     shortcut: &Shortcut,
     pc: u16,
 ) -> Result<(u16, u16), Violation>
-    requires { words_of shortcut.now.form ≡ 3 }
+    requires form { words_of shortcut.now.form ≡ 3 }
+    requires ahead { IsTrue AHEAD
+        → IsAhead executor.now.sections.live executor.now.devices executor.now.own pc }
     ensures { (regs : List ℕ)
         → ran (with_words (length_of shortcut.now.first) shortcut.now.first regs pc) executor.now
         ≡ followed result (λ words. ran (row
@@ -37,9 +41,13 @@ fn fetch_both<B: Bus>(
         executor.now) }
 {
     shortcut.reads_on();
-    let second = executor.fetch(pc.wrapping_add(2))?;
-    let third = executor.fetch(pc.wrapping_add(4))?;
-    Ok((second, third))
+    let (second, third) = (pc.wrapping_add(2), pc.wrapping_add(4));
+    if AHEAD {
+        return Ok((executor.fetch_known(second), executor.fetch_known(third)));
+    }
+    let x = executor.fetch(second)?;
+    let z = executor.fetch(third)?;
+    Ok((x, z))
 }
 
 /// An operation on words from the value `x` onto memory at `z`. PC goes to `after`, the address
@@ -167,11 +175,15 @@ fn with_both<B: Bus>(executor: &mut Executor<B>, form: Triple, x: u16, z: u16, p
     }
 }
 
-/// Executes the instruction at PC of this shortcut, which is one of three words. Its code stays out
-/// of the way of what most steps do.
-#[inline(never)]
+/// Executes the instruction at PC of this shortcut, which is one of three words.
+#[inline]
 #[tactic(auto, unfolding(spec_machine::specs::Rows::program, sx_isa::specs::Reading::length_of))]
-pub fn step_triple<B: Bus>(executor: &mut Executor<B>, shortcut: Shortcut) -> Result<(), Violation>
+pub fn step_triple<B: Bus, const AHEAD: bool>(
+    executor: &mut Executor<B>,
+    shortcut: Shortcut,
+) -> Result<(), Violation>
+    requires { IsTrue AHEAD → IsAhead executor.old.sections.live executor.old.devices
+        executor.old.own (reg executor.old.regs 0) }
     ensures { RunsPlan (program shortcut.first executor.old.regs) executor.old result
         executor.new }
 {
@@ -179,7 +191,7 @@ pub fn step_triple<B: Bus>(executor: &mut Executor<B>, shortcut: Shortcut) -> Re
         return step_long(executor, shortcut.first);
     };
     let pc = executor.register(PC);
-    let (x, z) = fetch_both(executor, &shortcut, pc)?;
+    let (x, z) = fetch_both::<B, AHEAD>(executor, &shortcut, pc)?;
     match with_both(executor, form, x, z, pc) {
         Stepped::Quiet => Ok(()),
         Stepped::Answered(answer) => answer,
