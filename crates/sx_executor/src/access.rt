@@ -44,25 +44,8 @@ impl<B: Bus> Executor<B> {
         self.table().may_word(self.own(), access, at)
     }
 
-    /// Whether one look says that any code may read and write a place: no section meets its page, or
-    /// it lies in a gap.
-    #[inline(always)]
-    #[tactic(auto, using(crate::proofs::Open::open_any))]
-    fn is_free(&self, at: u16) -> bool
-        ensures read { IsTrue result
-            → (wide : Bool) → may_at wide self.now.sections.live self.now.own Read at ≡ true }
-        ensures write { IsTrue result
-            → (wide : Bool) → may_at wide self.now.sections.live self.now.own Write at ≡ true }
-    {
-        if self.table().is_open(at) {
-            return true;
-        }
-        self.protection().has_gap(at)
-    }
-
     /// Whether the running code may read and write a place, and no device is there: its page is
-    /// vacant, it is the module's own data, or no section holds it. Then a read and a write ask no
-    /// more.
+    /// vacant, it is the module's own data, or it lies in a gap. Then a read and a write ask no more.
     #[inline(always)]
     pub fn is_at_hand(&self, at: u16) -> bool
         ensures read { IsTrue result
@@ -73,7 +56,7 @@ impl<B: Bus> Executor<B> {
     {
         self.is_vacant(at)
             || self.occupancy().has_bare_data(self.own(), at)
-            || self.is_free(at) && self.windows().at(at).is_none()
+            || self.protection().has_gap(at) && self.windows().at(at).is_none()
     }
 
     /// Whether one look says that the running code may read the word at a place, and each byte of
