@@ -15,12 +15,15 @@ use Rattle.std.specs.Prelude.{◌≡◌, ℕ, Bool, true, false, ◌&&◌, nat_l
 use Rattle.sx_isa.specs.declared.instruction.Instr.{Instr}
 use Rattle.sx_isa.specs.declared.instruction.Instr.TheVariants as instr
 use Rattle.sx_isa.specs.declared.instruction.Operand.TheVariants as operand
+use Rattle.sx_isa.specs.declared.instruction.Op2.TheVariants.{Add, Sub, Cmp}
 use Rattle.sx_executor.specs.declared.shortcut.Form.{Form}
 use Rattle.sx_executor.specs.declared.shortcut.Form.TheVariants.{JumpNotEqual, JumpEqual}
 use Rattle.sx_executor.specs.declared.shortcut.Form.TheVariants.{JumpNoCarry, JumpCarry}
 use Rattle.sx_executor.specs.declared.shortcut.Form.TheVariants.{JumpNegative, JumpGreater}
 use Rattle.sx_executor.specs.declared.shortcut.Form.TheVariants.{JumpLess, JumpAlways}
 use Rattle.sx_executor.specs.declared.shortcut.Form.TheVariants.{Registers, Constant}
+use Rattle.sx_executor.specs.declared.shortcut.Form.TheVariants.{AddConstant, SubtractConstant}
+use Rattle.sx_executor.specs.declared.shortcut.Form.TheVariants.{CompareConstant}
 use Rattle.sx_executor.specs.declared.shortcut.Form.TheVariants.{OntoIndexed, OntoSymbolic}
 use Rattle.sx_executor.specs.declared.shortcut.Form.TheVariants.{OntoAbsolute}
 use Rattle.sx_executor.specs.declared.shortcut.Form.TheVariants.{ConstantOntoSpecial}
@@ -82,6 +85,8 @@ triple_of (triple.AbsoluteOntoIndexed op base) =
     instr.Two op false (operand.Absolute 0) (operand.Indexed base 0)
 triple_of (triple.IndexedOntoAbsolute op base) =
     instr.Two op false (operand.Indexed base 0) (operand.Absolute 0)
+triple_of (triple.IndexedOntoIndexed op from base) =
+    instr.Two op false (operand.Indexed from 0) (operand.Indexed base 0)
 
 -- the instruction of a form on bytes with no extension word
 abbrev pub byte_single_of : ByteSingle → Instr
@@ -117,6 +122,11 @@ instruction_of (JumpGreater offset) = instr.Jump 5 offset
 instruction_of (JumpLess offset) = instr.Jump 6 offset
 instruction_of (JumpAlways offset) = instr.Jump 7 offset
 instruction_of (Registers op src dst) = instr.Two op false (operand.Reg src) (operand.Reg dst)
+instruction_of (AddConstant value dst) = instr.Two Add false (operand.Const value) (operand.Reg dst)
+instruction_of (SubtractConstant value dst) =
+    instr.Two Sub false (operand.Const value) (operand.Reg dst)
+instruction_of (CompareConstant value dst) =
+    instr.Two Cmp false (operand.Const value) (operand.Reg dst)
 instruction_of (Constant op value dst) = instr.Two op false (operand.Const value) (operand.Reg dst)
 instruction_of (OntoIndexed op value base) =
     instr.Two op false (operand.Const value) (operand.Indexed base 0)
@@ -149,6 +159,9 @@ words_of (JumpGreater offset) = 1
 words_of (JumpLess offset) = 1
 words_of (JumpAlways offset) = 1
 words_of (Registers op src dst) = 1
+words_of (AddConstant value dst) = 1
+words_of (SubtractConstant value dst) = 1
+words_of (CompareConstant value dst) = 1
 words_of (Constant op value dst) = 1
 words_of (OntoIndexed op value base) = 2
 words_of (OntoSymbolic op value) = 2
@@ -193,6 +206,9 @@ is_fit (JumpGreater offset) = true
 is_fit (JumpLess offset) = true
 is_fit (JumpAlways offset) = true
 is_fit (Registers op src dst) = is_general dst
+is_fit (AddConstant value dst) = is_general dst
+is_fit (SubtractConstant value dst) = is_general dst
+is_fit (CompareConstant value dst) = is_general dst
 is_fit (Constant op value dst) = is_general dst
 is_fit (OntoIndexed op value base) = true
 is_fit (OntoSymbolic op value) = true

@@ -34,7 +34,11 @@ pub enum Form {
     JumpAlways { offset: i16 },
     /// From a register onto a general register.
     Registers { op: Op2, src: u8, dst: u8 },
-    /// From a constant onto a general register.
+    /// Sums, differences and comparisons of a constant and a general register are told apart, too.
+    AddConstant { value: u16, dst: u8 },
+    SubtractConstant { value: u16, dst: u8 },
+    CompareConstant { value: u16, dst: u8 },
+    /// Another one from a constant onto a general register.
     Constant { op: Op2, value: u16, dst: u8 },
     /// From a constant onto memory at a register plus the extension word.
     OntoIndexed { op: Op2, value: u16, base: u8 },
@@ -117,6 +121,8 @@ pub enum Triple {
     AbsoluteOntoIndexed { op: Op2, base: u8 },
     /// From memory at a register plus `x` onto memory at `z`.
     IndexedOntoAbsolute { op: Op2, base: u8 },
+    /// From memory at a register plus `x` onto memory at a register plus `z`.
+    IndexedOntoIndexed { op: Op2, from: u8, base: u8 },
 }
 
 /// A form of instruction without an extension word, on bytes.
@@ -198,6 +204,19 @@ fn special_form(op: Op2, src: Operand, dst: u8) -> Option<Form>
     }
 }
 
+/// The form of an operation from a constant onto a general register.
+fn constant_form(op: Op2, value: u16, dst: u8) -> Form
+    requires { is_general dst ≡ true }
+    ensures { IsForm result (Two op false (Const value) (Reg dst)) 1 }
+{
+    match op {
+        Op2::Add => Form::AddConstant { value, dst },
+        Op2::Sub => Form::SubtractConstant { value, dst },
+        Op2::Cmp => Form::CompareConstant { value, dst },
+        _ => Form::Constant { op, value, dst },
+    }
+}
+
 /// The form of an operation from a register or a constant onto a register.
 fn general_form(op: Op2, src: Operand, dst: u8) -> Option<Form>
     ensures { IfSome result (λ form. IsForm form (Two op false src (Reg dst)) 1) }
@@ -207,7 +226,7 @@ fn general_form(op: Op2, src: Operand, dst: u8) -> Option<Form>
     }
     match src {
         Operand::Reg(src) => Some(Form::Registers { op, src, dst }),
-        Operand::Const(value) => Some(Form::Constant { op, value, dst }),
+        Operand::Const(value) => Some(constant_form(op, value, dst)),
         _ => None,
     }
 }
@@ -496,11 +515,12 @@ fn absolute_form(op: Op2, dst: Operand) -> Option<Triple>
 }
 
 /// The form of an operation on words from memory at a register plus a word onto memory.
-fn indexed_form(op: Op2, base: u8, dst: Operand) -> Option<Triple>
-    ensures { IfSome result (λ form. triple_of form ≡ Two op false (Indexed base 0) dst) }
+fn indexed_form(op: Op2, from: u8, dst: Operand) -> Option<Triple>
+    ensures { IfSome result (λ form. triple_of form ≡ Two op false (Indexed from 0) dst) }
 {
     match dst {
-        Operand::Absolute(0) => Some(Triple::IndexedOntoAbsolute { op, base }),
+        Operand::Absolute(0) => Some(Triple::IndexedOntoAbsolute { op, base: from }),
+        Operand::Indexed(base, 0) => Some(Triple::IndexedOntoIndexed { op, from, base }),
         _ => None,
     }
 }
