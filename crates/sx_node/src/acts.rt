@@ -38,7 +38,6 @@ impl<B: Bus, T: Tag> Node<B, T> {
             → Guarded (Unit {0}) (λ a. record { state = reset a; shown = tt }) s self.old }
     {
         self.executor.reset();
-        self.cur = 0;
         self.last = 0;
         self.caller = 0;
         self.boot += 1;
@@ -48,7 +47,7 @@ impl<B: Bus, T: Tag> Node<B, T> {
     fn busy(&self) -> Option<Refused>
         ensures { result ≡ busy self.now }
     {
-        if self.cur == 0 {
+        if self.running() == 0 {
             None
         } else {
             Some(Refused::Busy)
@@ -62,7 +61,7 @@ impl<B: Bus, T: Tag> Node<B, T> {
         ensures private { IfNone result (meets_private self.now.sections.live at count ≡ false) }
         ensures memory { IfNone result (IsClear self.now.devices at count) }
     {
-        if self.cur != 0 {
+        if self.running() != 0 {
             return Some(Refused::Busy);
         }
         let Some(range) = Range::new(at, count) else {
@@ -84,7 +83,7 @@ impl<B: Bus, T: Tag> Node<B, T> {
         ensures private { IfNone result (meets_private self.now.sections.live at count ≡ false) }
         ensures memory { IfNone result (IsClear self.now.devices at count) }
     {
-        if self.cur != 0 {
+        if self.running() != 0 {
             return Some(Refused::Busy);
         }
         let Some(range) = Range::new(at, count) else {
@@ -171,9 +170,10 @@ impl<B: Bus, T: Tag> Node<B, T> {
     }
 
     fn irq_refusal(&self) -> Option<Refused>
-        ensures { result ≡ irq_refusal self.now }
+        ensures refusal { result ≡ irq_refusal self.now }
+        ensures outside { IfNone result (self.now.cur ≡ 0) }
     {
-        if self.cur != 0 {
+        if self.running() != 0 {
             return Some(Refused::Busy);
         }
         if (self.executor.register(SR) >> 3) & 1 == 1 {
@@ -183,14 +183,14 @@ impl<B: Bus, T: Tag> Node<B, T> {
         }
     }
 
-    /// The interrupt of a line, up to its first violation.
+    /// The interrupt of a line, up to its first violation. No module runs, so it is code outside.
     fn interrupt(&mut self, line: u8) -> Result<Seen, Violation>
-        requires { line ≤ 14 }
+        requires line { line ≤ 14 }
+        requires outside { self.old.cur ≡ 0 }
         ensures { Interrupts self.old
             (exec self.old.sections 0 (interrupt line self.old.regs) (start self.old))
             result self.new }
     {
-        self.executor.begin(0);
         let done = interrupt(&mut self.executor, line);
         let touch = self.executor.touches();
         self.executor.begin(0);

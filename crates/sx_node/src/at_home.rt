@@ -33,8 +33,9 @@ impl<B: Bus, T: Tag> Node<B, T> {
     pub fn is_at_home(&self) -> bool
         ensures { IsTrue result → IsAtHome self.now }
     {
+        let cur = self.running();
         let pc = self.executor.register(PC);
-        self.cur != 0 && self.last == self.cur && self.executor.is_at_home(self.cur, pc)
+        cur != 0 && self.last == cur && self.executor.is_at_home(cur, pc)
     }
 
     /// Whether a module goes on deep at home.
@@ -42,7 +43,8 @@ impl<B: Bus, T: Tag> Node<B, T> {
     pub fn is_deep_at_home(&self) -> bool
         ensures { IsTrue result → IsDeepAtHome self.now }
     {
-        self.cur != 0 && self.last == self.cur && self.stays_deep_at_home(self.cur)
+        let cur = self.running();
+        cur != 0 && self.last == cur && self.stays_deep_at_home()
     }
 
     /// One step of a module deep at home, as `step` takes it. Whether it shows something, or leaves
@@ -56,7 +58,7 @@ impl<B: Bus, T: Tag> Node<B, T> {
         ensures shown { told result seen.new ≡ (step T.mac self.old).shown }
         ensures home { result ≡ false → IsDeepAtHome self.new }
     {
-        self.instruction_inside::<CALLER, true>(self.cur, seen)
+        self.instruction_inside::<CALLER, true>(seen)
     }
 
     /// One step, wherever PC is. Where a module is at home but not deep there, as on the last words
@@ -69,7 +71,7 @@ impl<B: Bus, T: Tag> Node<B, T> {
     {
         let pc = self.executor.register(PC);
         if self.is_at_home() && self.executor.windows().at(pc).is_none() {
-            return self.instruction_inside::<3, false>(self.cur, seen);
+            return self.instruction_inside::<3, false>(seen);
         }
         *seen = self.step_learning();
         true
@@ -78,67 +80,54 @@ impl<B: Bus, T: Tag> Node<B, T> {
     /// The instruction at PC, where the fast path is taken.
     #[inline(always)]
     #[tactic(auto, using(sx_executor::proofs::Rights::outside_word, sx_executor::proofs::Clear::none_found))]
-    fn instruction_inside<const CALLER: u8, const AHEAD: bool>(
-        &mut self,
-        own: u16,
-        seen: &mut Seen,
-    ) -> bool
+    fn instruction_inside<const CALLER: u8, const AHEAD: bool>(&mut self, seen: &mut Seen) -> bool
         requires boot { self.old.boot < u32.MAX }
-        requires cur { own ≡ self.old.cur }
         requires home { IsAtHome self.old }
         requires memory { device_at self.old.devices (pc_of self.old) ≡ None }
         requires ahead { IsTrue AHEAD
-            → IsAhead self.old.sections.live self.old.devices own (pc_of self.old) }
+            → IsAhead self.old.sections.live self.old.devices self.old.cur (pc_of self.old) }
         ensures tells { Tells self.old (instruction T.mac self.old) result seen.new self.new }
         ensures home { result ≡ false → IsDeepAtHome self.new }
     {
         let pc = self.executor.register(PC);
         let first = self.executor.read(true, pc);
         if self.executor.has_shortcut(pc, first) {
-            self.plain_inside::<CALLER, AHEAD>(own, first, seen)
+            self.plain_inside::<CALLER, AHEAD>(first, seen)
         } else {
-            self.near_inside(own, first, seen)
+            self.near_inside(first, seen)
         }
     }
 
     /// An instruction without a shortcut, after which PC may be anywhere.
     #[inline(never)]
-    fn near_inside(&mut self, own: u16, first: u16, seen: &mut Seen) -> bool
+    fn near_inside(&mut self, first: u16, seen: &mut Seen) -> bool
         requires boot { self.old.boot < u32.MAX }
-        requires own { own ≡ own_of self.old }
+        requires held { own_of self.old ≡ self.old.cur }
         requires word { first ≡ word self.old.mem (pc_of self.old) }
         ensures tells { Tells self.old (instruction T.mac self.old) result seen.new self.new }
         ensures home { result ≡ false → IsDeepAtHome self.new }
     {
-        self.instruction_near(own, first, seen) || !self.is_deep_at_home()
+        self.instruction_near(self.running(), first, seen) || !self.is_deep_at_home()
     }
 
-    /// A plain instruction with a shortcut.
+    /// A plain instruction with a shortcut. The turn is the module's already, and stays so.
     #[inline(always)]
     fn plain_inside<const CALLER: u8, const AHEAD: bool>(
         &mut self,
-        own: u16,
         first: u16,
         seen: &mut Seen,
     ) -> bool
         requires boot { self.old.boot < u32.MAX }
-        requires some { 0 < own }
-        requires own { own ≡ own_of self.old }
-        requires cur { self.old.cur ≡ own }
-        requires last { self.old.last ≡ own }
+        requires home { IsAtHome self.old }
         requires ahead { IsTrue AHEAD
-            → IsAhead self.old.sections.live self.old.devices own (pc_of self.old) }
+            → IsAhead self.old.sections.live self.old.devices self.old.cur (pc_of self.old) }
         ensures tells { Tells self.old
-            (exec self.old.sections own (program first self.old.regs) (start self.old))
+            (exec self.old.sections self.old.cur (program first self.old.regs) (start self.old))
             result seen.new self.new }
         ensures home { result ≡ false → IsDeepAtHome self.new }
     {
-        self.executor.turn(own);
         match step_quick::<B, CALLER, AHEAD>(&mut self.executor, first) {
-            Stepped::Quiet => {
-                self.executor.turn(0);
-                self.ends_inside(own, seen)
-            }
+            Stepped::Quiet => self.ends_inside(seen),
             Stepped::Answered(Err(violation)) => {
                 self.executor.begin(0);
                 self.end_reset(violation, seen)
@@ -146,12 +135,11 @@ impl<B: Bus, T: Tag> Node<B, T> {
             Stepped::Answered(Ok(())) => {
                 let touch = self.executor.touches();
                 if is_untouched(&touch) {
-                    self.executor.turn(0);
-                    return self.ends_inside(own, seen);
+                    return self.ends_inside(seen);
                 }
+                let own = self.executor.own();
                 self.executor.begin(0);
-                let caller = self.entered_from(own);
-                self.ends_plain(own, caller, touch, seen);
+                self.ends_plain(own, self.caller, touch, seen);
                 true
             }
         }
@@ -159,41 +147,40 @@ impl<B: Bus, T: Tag> Node<B, T> {
 
     /// The end of an instruction of the module that did nothing at devices.
     #[inline(always)]
-    fn ends_inside(&mut self, own: u16, seen: &mut Seen) -> bool
-        requires some { 0 < own }
-        requires cur { self.old.cur ≡ own }
-        requires last { self.old.last ≡ own }
+    fn ends_inside(&mut self, seen: &mut Seen) -> bool
+        requires some { 0 < self.old.cur }
+        requires last { self.old.last ≡ self.old.cur }
         ensures state { self.new ≡ record self.old {
-          cur = if holder self.old.sections.live (pc_of self.old) == own then own else 0;
-          last = own;
-          caller = entered_from self.old own;
+          cur = if holder self.old.sections.live (pc_of self.old) == self.old.cur
+              then self.old.cur else 0;
+          last = self.old.cur;
+          caller = entered_from self.old self.old.cur;
         } }
         ensures shown { told result seen.new
-            ≡ record { touch = untouched; event = left self.old own self.old.regs } }
+            ≡ record { touch = untouched; event = left self.old self.old.cur self.old.regs } }
         ensures home { result ≡ false → IsDeepAtHome self.new }
     {
-        if self.stays_deep_at_home(own) {
+        if self.stays_deep_at_home() {
             return false;
         }
-        let caller = self.entered_from(own);
-        self.ends_plain(own, caller, [Touch::Quiet; 2], seen);
+        self.ends_plain(self.running(), self.caller, [Touch::Quiet; 2], seen);
         true
     }
 
     /// Whether PC is deep at home. Then the end of an instruction of the module changes nothing.
     #[inline(always)]
-    fn stays_deep_at_home(&self, own: u16) -> bool
-        requires some { 0 < own }
-        requires cur { self.now.cur ≡ own }
-        requires last { self.now.last ≡ own }
+    fn stays_deep_at_home(&self) -> bool
+        requires some { 0 < self.now.cur }
+        requires last { self.now.last ≡ self.now.cur }
         ensures cur { IsTrue result
-            → (if holder self.now.sections.live (pc_of self.now) == own then own else 0)
-            ≡ self.now.cur }
-        ensures caller { IsTrue result → entered_from self.now own ≡ self.now.caller }
-        ensures event { IsTrue result → left self.now own self.now.regs ≡ Quiet }
+            → (if holder self.now.sections.live (pc_of self.now) == self.now.cur
+            then self.now.cur else 0) ≡ self.now.cur }
+        ensures caller { IsTrue result
+            → entered_from self.now self.now.cur ≡ self.now.caller }
+        ensures event { IsTrue result → left self.now self.now.cur self.now.regs ≡ Quiet }
         ensures home { IsTrue result → IsDeepAtHome self.now }
     {
         self.executor
-            .is_deep_at_home(own, self.executor.register(PC))
+            .is_deep_at_home(self.running(), self.executor.register(PC))
     }
 }

@@ -36,7 +36,6 @@ impl<B: Copied, T: Tag> Node<B, T> {
         let executor = self.executor.copy(alloc)?;
         Ok(Node {
             executor,
-            cur: self.cur,
             last: self.last,
             caller: self.caller,
             boot: self.boot,

@@ -17,7 +17,6 @@ use sx_tag::Tag;
 #[derive(Drop)]
 pub struct Node<B: Bus, T: Tag> {
     pub(crate) executor: Executor<B>,
-    pub(crate) cur: u16,
     pub(crate) last: u16,
     pub(crate) caller: u16,
     pub(crate) boot: u32,
@@ -33,16 +32,15 @@ impl<B: Bus, T: Tag> Model for Node<B, T> {
 
     ghost Value = { State };
 
-    // Between acts code outside every module has its turn, so no act reads by a module's right,
-    // and nothing was touched.
-    ghost invariant = { λ n. (n.executor.own ≡ 0) × (n.executor.touches ≡ untouched) };
+    // Between acts nothing was touched, and the executor's turn is that of the module that runs.
+    ghost invariant = { λ n. n.executor.touches ≡ untouched };
 
     ghost view = { λ n. record {
       regs = n.executor.regs;
       mem = n.executor.mem;
       devices = n.executor.devices;
       sections = n.executor.sections;
-      cur = n.cur;
+      cur = n.executor.own;
       last = n.last;
       caller = n.caller;
       boot = n.boot;
@@ -75,7 +73,6 @@ impl<B: Bus, T: Tag> Node<B, T> {
     {
         Node {
             executor: Executor::new(bus, windows),
-            cur: 0,
             last: 0,
             caller: 0,
             boot: 0,
@@ -87,10 +84,11 @@ impl<B: Bus, T: Tag> Node<B, T> {
 
     /// The id of the module that runs, or 0: the module of the last instruction runs where PC was
     /// in its public section afterwards.
+    #[inline(always)]
     pub fn running(&self) -> u16
         ensures { result ≡ self.now.cur }
     {
-        self.cur
+        self.executor.own()
     }
 
     /// The value of a register.

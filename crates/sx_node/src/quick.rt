@@ -77,7 +77,7 @@ impl<B: Bus, T: Tag> Node<B, T> {
     pub fn is_idle(&self) -> bool
         ensures { IsTrue result → IsIdle self.now }
     {
-        self.cur == 0 && self.last == 0
+        self.running() == 0 && self.last == 0
     }
 
     /// One step of an idle node, as `step` takes it. Whether it shows something, as few steps do, or
@@ -129,10 +129,11 @@ impl<B: Bus, T: Tag> Node<B, T> {
     {
         let seen = self.step();
         let pc = self.executor.register(PC);
-        if self.cur == 0 {
+        let cur = self.running();
+        if cur == 0 {
             self.executor.learn_gap(pc);
-        } else if !self.executor.is_at_home(self.cur, pc) {
-            self.executor.learn_home(self.cur);
+        } else if !self.executor.is_at_home(cur, pc) {
+            self.executor.learn_home(cur);
         }
         seen
     }
@@ -269,7 +270,7 @@ impl<B: Bus, T: Tag> Node<B, T> {
             ≡ record { touch = touch; event = left self.old own self.old.regs } }
     {
         self.settle(own, caller);
-        let stays = own == 0 || self.cur == own;
+        let stays = own == 0 || self.running() == own;
         let event = if stays {
             Event::Quiet
         } else {

@@ -101,7 +101,7 @@ impl<B: Bus, T: Tag> Node<B, T> {
         if let Some(_device) = self.executor.windows().at(pc) {
             return Err(Violation::Device);
         }
-        if !self.executor.table().in_order(self.cur, pc) {
+        if !self.executor.table().in_order(self.running(), pc) {
             return Err(Violation::Order);
         }
         let own = self.executor.holder(pc);
@@ -176,7 +176,7 @@ impl<B: Bus, T: Tag> Node<B, T> {
         self.executor.begin(0);
         done?;
         self.settle(own, caller);
-        let stays = own == 0 || self.cur == own;
+        let stays = own == 0 || self.running() == own;
         let event = if stays {
             Event::Quiet
         } else {
@@ -189,7 +189,7 @@ impl<B: Bus, T: Tag> Node<B, T> {
     pub(crate) fn entered_from(&self, own: u16) -> u16
         ensures { result ≡ entered_from self.now own }
     {
-        if own == self.cur {
+        if own == self.running() {
             self.caller
         } else if self.executor.section(self.last).is_some() {
             self.last
@@ -198,7 +198,8 @@ impl<B: Bus, T: Tag> Node<B, T> {
         }
     }
 
-    /// Keeps which module runs after an instruction of `own`.
+    /// Keeps which module runs after an instruction of `own`: it has the turn where PC is in its
+    /// public section.
     pub(crate) fn settle(&mut self, own: u16, caller: u16)
         ensures { self.new ≡ record self.old {
           cur = if holder self.old.sections.live (pc_of self.old) == own then own else 0;
@@ -206,8 +207,11 @@ impl<B: Bus, T: Tag> Node<B, T> {
           caller = caller;
         } }
     {
-        let inside = own != 0 && self.executor.holder(self.executor.register(PC)) == own;
-        self.cur = if inside { own } else { 0 };
+        if own != 0 && self.executor.holder(self.executor.register(PC)) == own {
+            self.executor.turn(own);
+        } else {
+            self.executor.turn(0);
+        }
         self.last = own;
         self.caller = caller;
     }
