@@ -94,20 +94,8 @@ impl<B: Bus, T: Tag> Node<B, T> {
         if self.executor.has_shortcut(pc, first) {
             self.plain_inside::<CALLER, AHEAD>(first, seen)
         } else {
-            self.near_inside(first, seen)
+            self.instruction_near(self.running(), first, seen) || !self.is_deep_at_home()
         }
-    }
-
-    /// An instruction without a shortcut, after which PC may be anywhere.
-    #[inline(never)]
-    fn near_inside(&mut self, first: u16, seen: &mut Seen) -> bool
-        requires boot { self.old.boot < u32.MAX }
-        requires held { own_of self.old ≡ self.old.cur }
-        requires word { first ≡ word self.old.mem (pc_of self.old) }
-        ensures tells { Tells self.old (instruction T.mac self.old) result seen.new self.new }
-        ensures home { result ≡ false → IsDeepAtHome self.new }
-    {
-        self.instruction_near(self.running(), first, seen) || !self.is_deep_at_home()
     }
 
     /// A plain instruction with a shortcut. The turn is the module's already, and stays so.
