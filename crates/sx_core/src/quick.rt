@@ -464,6 +464,15 @@ fn step_at_hand<B: Bus, const CALLER: u8, const AHEAD: bool>(
         Form::JumpLess { offset } => Some(jump_quickly(executor, 6, offset, next)),
         Form::JumpAlways { offset } => Some(jump_quickly(executor, 7, offset, next)),
         Form::Registers { op, src, dst } => Some(from_register(executor, op, src, dst, next)),
+        Form::AddConstant { value, dst } => {
+            Some(from_constant(executor, Op2::Add, value, dst, next))
+        }
+        Form::SubtractConstant { value, dst } => {
+            Some(from_constant(executor, Op2::Sub, value, dst, next))
+        }
+        Form::CompareConstant { value, dst } => {
+            Some(from_constant(executor, Op2::Cmp, value, dst, next))
+        }
         Form::Constant { op, value, dst } => Some(from_constant(executor, op, value, dst, next)),
         Form::OntoIndexed { op, value, base } => match fetch_second::<B, AHEAD>(
             executor, shortcut, pc,

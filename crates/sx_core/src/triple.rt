@@ -148,6 +148,25 @@ fn indexed_onto_absolute<B: Bus>(
     word_onto_absolute(executor, op, from, z, next)
 }
 
+/// The same from memory at a register plus `x` onto memory at a register plus `z`, at `pc`.
+#[inline(always)]
+fn indexed_onto_indexed<B: Bus>(
+    executor: &mut Executor<B>,
+    op: Op2,
+    from: u8,
+    x: u16,
+    base: u8,
+    z: u16,
+    pc: u16,
+) -> Stepped
+    ensures { EndsStep (two op true (Indexed from x) (Indexed base z)
+        (at_pc executor.old.regs (onward pc 2)) (onward pc 6)) executor.old result executor.new }
+{
+    executor.set_pc(pc.wrapping_add(2));
+    let from = executor.register(from).wrapping_add(x);
+    word_onto_indexed(executor, op, from, base, z, pc.wrapping_add(6))
+}
+
 /// The instruction at `pc` with the extension words `x` and `z`.
 #[inline(always)]
 fn with_both<B: Bus>(executor: &mut Executor<B>, form: Triple, x: u16, z: u16, pc: u16) -> Stepped
@@ -171,6 +190,9 @@ fn with_both<B: Bus>(executor: &mut Executor<B>, form: Triple, x: u16, z: u16, p
         }
         Triple::IndexedOntoAbsolute { op, base } => {
             indexed_onto_absolute(executor, op, base, x, z, after, next)
+        }
+        Triple::IndexedOntoIndexed { op, from, base } => {
+            indexed_onto_indexed(executor, op, from, x, base, z, pc)
         }
     }
 }

@@ -1,4 +1,5 @@
 use Rattle.std.proofs.Common.{rules, ◌≡◌, ℕ, true, false, refl, sym, subst}
+use Rattle.sx_isa.specs.declared.instruction.Op2.TheVariants.{Add, Sub, Cmp}
 use Rattle.sx_isa.specs.declared.instruction.Operand.TheVariants.{Reg, Const}
 use Rattle.spec_machine.specs.Plan.{Plan}
 use Rattle.spec_machine.specs.Registers.{at_pc, onward}
@@ -18,6 +19,39 @@ returns-in-Registers g c =
     let At : ℕ → Type 0 = λ pc. Does (two op true (Reg src) (Reg dst) (at_pc m.regs (onward pc 2)) (onward pc 2)) in
     let same : s.first ≡ c.args.first = search rules in
     let plan = subst Does (sym (of_form s (form.Registers op src dst) c.in-Registers.is refl m.regs)) (subst At c.register-pc.ensures c.from_register.ensures) in
+    subst (λ (w : ℕ). Does (program w m.regs)) same plan
+
+pub returns-in-AddConstant : goal.returns-in-AddConstant
+returns-in-AddConstant g c =
+    let m = c.args.executor.now in
+    let s = c.shortcut-shortcut.result.now in
+    let value = c.in-AddConstant.value in let dst = c.in-AddConstant.dst in
+    let Does : Plan → Type 0 = λ plan. EndsStep plan m c.from_constant.result c.from_constant.new.executor in
+    let At : ℕ → Type 0 = λ pc. Does (two Add true (Const value) (Reg dst) (at_pc m.regs (onward pc 2)) (onward pc 2)) in
+    let same : s.first ≡ c.args.first = search rules in
+    let plan = subst Does (sym (of_form s (form.AddConstant value dst) c.in-AddConstant.is refl m.regs)) (subst At c.register-pc.ensures c.from_constant.ensures) in
+    subst (λ (w : ℕ). Does (program w m.regs)) same plan
+
+pub returns-in-SubtractConstant : goal.returns-in-SubtractConstant
+returns-in-SubtractConstant g c =
+    let m = c.args.executor.now in
+    let s = c.shortcut-shortcut.result.now in
+    let value = c.in-SubtractConstant.value in let dst = c.in-SubtractConstant.dst in
+    let Does : Plan → Type 0 = λ plan. EndsStep plan m c.from_constant.result c.from_constant.new.executor in
+    let At : ℕ → Type 0 = λ pc. Does (two Sub true (Const value) (Reg dst) (at_pc m.regs (onward pc 2)) (onward pc 2)) in
+    let same : s.first ≡ c.args.first = search rules in
+    let plan = subst Does (sym (of_form s (form.SubtractConstant value dst) c.in-SubtractConstant.is refl m.regs)) (subst At c.register-pc.ensures c.from_constant.ensures) in
+    subst (λ (w : ℕ). Does (program w m.regs)) same plan
+
+pub returns-in-CompareConstant : goal.returns-in-CompareConstant
+returns-in-CompareConstant g c =
+    let m = c.args.executor.now in
+    let s = c.shortcut-shortcut.result.now in
+    let value = c.in-CompareConstant.value in let dst = c.in-CompareConstant.dst in
+    let Does : Plan → Type 0 = λ plan. EndsStep plan m c.from_constant.result c.from_constant.new.executor in
+    let At : ℕ → Type 0 = λ pc. Does (two Cmp true (Const value) (Reg dst) (at_pc m.regs (onward pc 2)) (onward pc 2)) in
+    let same : s.first ≡ c.args.first = search rules in
+    let plan = subst Does (sym (of_form s (form.CompareConstant value dst) c.in-CompareConstant.is refl m.regs)) (subst At c.register-pc.ensures c.from_constant.ensures) in
     subst (λ (w : ℕ). Does (program w m.regs)) same plan
 
 pub returns-in-Constant : goal.returns-in-Constant
