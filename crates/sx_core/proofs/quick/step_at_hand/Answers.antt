@@ -37,10 +37,10 @@ returns-in-SubtractConstant g c =
     let m = c.args.executor.now in
     let s = c.shortcut-shortcut.result.now in
     let value = c.in-SubtractConstant.value in let dst = c.in-SubtractConstant.dst in
-    let Does : Plan → Type 0 = λ plan. EndsStep plan m c.from_constant.result c.from_constant.new.executor in
+    let Does : Plan → Type 0 = λ plan. EndsStep plan m c.from_constant-in-SubtractConstant.result c.from_constant-in-SubtractConstant.new.executor in
     let At : ℕ → Type 0 = λ pc. Does (two Sub true (Const value) (Reg dst) (at_pc m.regs (onward pc 2)) (onward pc 2)) in
     let same : s.first ≡ c.args.first = search rules in
-    let plan = subst Does (sym (of_form s (form.SubtractConstant value dst) c.in-SubtractConstant.is refl m.regs)) (subst At c.register-pc.ensures c.from_constant.ensures) in
+    let plan = subst Does (sym (of_form s (form.SubtractConstant value dst) c.in-SubtractConstant.is refl m.regs)) (subst At c.register-pc.ensures c.from_constant-in-SubtractConstant.ensures) in
     subst (λ (w : ℕ). Does (program w m.regs)) same plan
 
 pub returns-in-CompareConstant : goal.returns-in-CompareConstant
@@ -48,10 +48,10 @@ returns-in-CompareConstant g c =
     let m = c.args.executor.now in
     let s = c.shortcut-shortcut.result.now in
     let value = c.in-CompareConstant.value in let dst = c.in-CompareConstant.dst in
-    let Does : Plan → Type 0 = λ plan. EndsStep plan m c.from_constant.result c.from_constant.new.executor in
+    let Does : Plan → Type 0 = λ plan. EndsStep plan m c.from_constant-in-CompareConstant.result c.from_constant-in-CompareConstant.new.executor in
     let At : ℕ → Type 0 = λ pc. Does (two Cmp true (Const value) (Reg dst) (at_pc m.regs (onward pc 2)) (onward pc 2)) in
     let same : s.first ≡ c.args.first = search rules in
-    let plan = subst Does (sym (of_form s (form.CompareConstant value dst) c.in-CompareConstant.is refl m.regs)) (subst At c.register-pc.ensures c.from_constant.ensures) in
+    let plan = subst Does (sym (of_form s (form.CompareConstant value dst) c.in-CompareConstant.is refl m.regs)) (subst At c.register-pc.ensures c.from_constant-in-CompareConstant.ensures) in
     subst (λ (w : ℕ). Does (program w m.regs)) same plan
 
 pub returns-in-Constant : goal.returns-in-Constant
@@ -59,10 +59,10 @@ returns-in-Constant g c =
     let m = c.args.executor.now in
     let s = c.shortcut-shortcut.result.now in
     let op = c.in-Constant.op in let value = c.in-Constant.value in let dst = c.in-Constant.dst in
-    let Does : Plan → Type 0 = λ plan. EndsStep plan m c.from_constant.result c.from_constant.new.executor in
+    let Does : Plan → Type 0 = λ plan. EndsStep plan m c.from_constant-in-Constant.result c.from_constant-in-Constant.new.executor in
     let At : ℕ → Type 0 = λ pc. Does (two op true (Const value) (Reg dst) (at_pc m.regs (onward pc 2)) (onward pc 2)) in
     let same : s.first ≡ c.args.first = search rules in
-    let plan = subst Does (sym (of_form s (form.Constant op value dst) c.in-Constant.is refl m.regs)) (subst At c.register-pc.ensures c.from_constant.ensures) in
+    let plan = subst Does (sym (of_form s (form.Constant op value dst) c.in-Constant.is refl m.regs)) (subst At c.register-pc.ensures c.from_constant-in-Constant.ensures) in
     subst (λ (w : ℕ). Does (program w m.regs)) same plan
 
 pub returns-in-Single : goal.returns-in-Single
