@@ -1,5 +1,5 @@
--- One turn of the loop that writes instructions.
-use Rattle.std.proofs.Common.{◌≡◌, ℕ, ◌+◌, ◌<◌, true, List, [], ◌∷◌, ◌++◌, Result, Ok, Err, OnOk, drop, length, sym, ap, ◌∙◌, get_or}
+-- Instructions that are put one after the other.
+use Rattle.std.proofs.Common.{◌≡◌, ℕ, ◌+◌, ◌<◌, true, List, [], ◌∷◌, ◌++◌, Result, Ok, Err, OnOk, drop, length, refl, sym, ap, ◌∙◌, get_or}
 use Rattle.std.proofs.lemmas.Bool.{and_parts}
 use Rattle.std.proofs.lemmas.List.{append_assoc, append-nil, drop_more}
 use Rattle.sx_isa.specs.declared.instruction.Instr.{Instr}
@@ -36,22 +36,21 @@ shaped_behind is k lt h = (shaped_parts is k Reti lt h).1
 pub shaped_alone : (i : Instr) → are_shaped (i ∷ []) ≡ true → is_shaped i ≡ true
 shaped_alone i h = (and_parts (is_shaped i) true h).0
 
--- an instruction, and those after it
-pub then_more : (i : Instr) (is : List Instr) (text text2 text3 : List ℕ) → text2 ≡ text ++ bytes_of (words_of (i ∷ [])) → text3 ≡ text2 ++ bytes_of (words_of is)
-    → text3 ≡ text ++ bytes_of (words_of (i ∷ is))
-then_more i is text text2 text3 first rest =
-    let alone : words_of (i ∷ []) ≡ spelling i = append-nil (spelling i) in
-    rest
-    ∙ ap (λ (t : List ℕ). t ++ bytes_of (words_of is)) (first ∙ ap (λ (ws : List ℕ). text ++ bytes_of ws) alone)
-    ∙ append_assoc text (bytes_of (spelling i)) (bytes_of (words_of is))
-    ∙ ap (λ (l : List ℕ). text ++ l) (sym (bytes_append (spelling i) (words_of is)))
-
 -- those after it are shaped as well
 pub shaped_after : (i : Instr) (is : List Instr) → are_shaped (i ∷ is) ≡ true → are_shaped is ≡ true
 shaped_after i is h = (and_parts (is_shaped i) (are_shaped is) h).1
 
--- the same where those after it may not be put
-pub then_rest : {U E : Type 0} (r : Result U E) (i : Instr) (is : List Instr) (text text2 text3 : List ℕ) → text2 ≡ text ++ bytes_of (words_of (i ∷ []))
-    → OnOk r (text3 ≡ text2 ++ bytes_of (words_of is)) → OnOk r (text3 ≡ text ++ bytes_of (words_of (i ∷ is)))
-then_rest (Ok u) i is text text2 text3 first rest = then_more i is text text2 text3 first rest
-then_rest (Err e) i is text text2 text3 first rest = tt
+words_append : (is js : List Instr) → words_of (is ++ js) ≡ words_of is ++ words_of js
+words_append [] js = refl
+words_append (i ∷ is) js = ap (λ (ws : List ℕ). spelling i ++ ws) (words_append is js) ∙ sym (append_assoc (spelling i) (words_of is) (words_of js))
+
+-- instructions, and those after them, which may not be put
+pub then_rest : {U E : Type 0} (r : Result U E) (is js : List Instr) (text text2 text3 : List ℕ) → text2 ≡ text ++ bytes_of (words_of is)
+    → OnOk r (text3 ≡ text2 ++ bytes_of (words_of js)) → OnOk r (text3 ≡ text ++ bytes_of (words_of (is ++ js)))
+then_rest (Err e) is js text text2 text3 first rest = tt
+then_rest (Ok u) is js text text2 text3 first rest =
+    rest
+    ∙ ap (λ (t : List ℕ). t ++ bytes_of (words_of js)) first
+    ∙ append_assoc text (bytes_of (words_of is)) (bytes_of (words_of js))
+    ∙ ap (λ (l : List ℕ). text ++ l) (sym (bytes_append (words_of is) (words_of js)))
+    ∙ ap (λ (ws : List ℕ). text ++ bytes_of ws) (sym (words_append is js))

@@ -337,11 +337,10 @@ open_slot base =
 abbrev pub slot_words : ℕ → List ℕ
 slot_words base = words_of (open_slot base)
 
--- The packet routine of the k-th end tests that the end is open and its number below 65,535, makes
--- the header and the body, wraps, copies the packet to its offset in the out-window, 24 bytes for
--- each piece, and counts.
-abbrev pub routine : ℕ → ℕ → List Instr
-routine base k =
+-- The next event of the k-th end is wrapped, if the end is open and its number below 65,535: its
+-- header and its body are made first.
+abbrev pub wrapping : ℕ → ℕ → List Instr
+wrapping base k =
     tst (& (base + offsets.end_open_at k))
     ∷ jz (ahead 66)  -- done
     ∷ cmp (# protocol.last_number) (& (base + offsets.end_number_at k))
@@ -350,7 +349,6 @@ routine base k =
     ∷ mov (& (base + offsets.end_at k)) (& (base + scratch.connection_at))
     ∷ mov (& (base + offsets.end_number_at k)) (& (base + scratch.number_at))
     ∷ mov (2 ⟨ sp ⟩) (& (base + scratch.body_at))
-    -- wrap
     ∷ mov (## (base + offsets.end_key_at k)) r9
     ∷ mov (## (base + scratch.kind_at)) r10
     ∷ mov (# protocol.header_size) r11
@@ -359,25 +357,35 @@ routine base k =
     ∷ mov (## (base + scratch.cipher_at)) r14
     ∷ mov (## (base + scratch.tag_at)) r15
     ∷ wrap
-    -- a packet's size times the count of pieces
-    ∷ mov (& (base + working.pieces_at)) r12
+    ∷ []
+
+-- The packet is copied to its offset in the out-window, a packet's size times the count of pieces.
+abbrev pub packet_copy : ℕ → List Instr
+packet_copy base =
+    mov (& (base + working.pieces_at)) r12
     ∷ rla r12
     ∷ rla r12
     ∷ rla r12
     ∷ mov r12 r14
     ∷ rla r12
     ∷ add r14 r12
-    -- copy
     ∷ add (& (base + scratch.out_window_at)) r12
     ∷ mov (## (base + scratch.kind_at)) r13
     ∷ mov (# (protocol.event_size / 8)) r15
     ∷ turns 8
-    -- count
-    ++ inc (& (base + offsets.end_number_at k))
+
+-- one more packet of the k-th end, and one more piece
+abbrev pub counting : ℕ → ℕ → List Instr
+counting base k =
+    inc (& (base + offsets.end_number_at k))
     ∷ inc (& (base + working.pieces_at))
     -- done:
     ∷ ret
     ∷ []
+
+-- The packet routine of the k-th end wraps, copies the packet, 24 bytes for each piece, and counts.
+abbrev pub routine : ℕ → ℕ → List Instr
+routine base k = wrapping base k ++ (packet_copy base ++ counting base k)
 
 abbrev pub routine_words : ℕ → ℕ → List ℕ
 routine_words base k = words_of (routine base k)

@@ -3,7 +3,9 @@
 ghost use Rattle.std.specs.Prelude.{◌<◌, ◌+◌, OnOk};
 ghost use Rattle.sx_mean.specs.Offsets.{end_at};
 ghost use Rattle.sx_mean.specs.Working.{stack_to};
-ghost use Rattle.sx_tmpl.specs.Template.{entry_words, leave_words, routine_words, slot_words};
+ghost use Rattle.sx_isa.specs.Standing.{words_of};
+ghost use Rattle.sx_tmpl.specs.Template.{counting, entry_words, leave_words, packet_copy};
+ghost use Rattle.sx_tmpl.specs.Template.{routine_words, slot_words, wrapping};
 ghost use Rattle.sx_tmpl.specs.Text.{PutsWords};
 
 use crate::put::put;
@@ -11,6 +13,7 @@ use crate::scratch::{
     BODY, CALLER, CALLER_SP, CIPHER, CONNECTION, COPIED_CONNECTION, HEADER, KIND, NUMBER,
     OUT_WINDOW, TAG, VALUE,
 };
+use crate::templates::put_turns;
 use spec_invocation::protocol::{EVENT_KIND, EVENT_SIZE, LAST_NUMBER};
 use std::alloc::AllocError as OutOfMemory;
 use sx_isa::Operand::{Absolute, Const, Immediate, Increment, Indexed};
@@ -83,14 +86,14 @@ pub fn put_slots(text: &mut Vec<u8>, base: u16) -> Result<(), OutOfMemory>
     }
 }
 
-/// An end's packet routine. The error says that memory ran out.
-pub fn put_routine(text: &mut Vec<u8>, base: u16, end: u8) -> Result<(), OutOfMemory>
+/// What wraps an end's next event.
+fn put_wrapping(text: &mut Vec<u8>, base: u16, end: u8) -> Result<(), OutOfMemory>
     requires slot { base + end_at (end + 1) < 65536 }
     requires base { base + stack_to < 65536 }
-    ensures { OnOk result (PutsWords (routine_words base end) text.old.items text.new.items) }
+    ensures { OnOk result (PutsWords (words_of (wrapping base end)) text.old.items
+        text.new.items) }
 {
     let number = Absolute(base + end_number_at(end));
-    let pieces = Absolute(base + PIECES);
     let (kind, body) = (base + KIND, base + BODY);
     put! {
         text;
@@ -110,29 +113,38 @@ pub fn put_routine(text: &mut Vec<u8>, base: u16, end: u8) -> Result<(), OutOfMe
         mov Immediate(base + CIPHER), R14;
         mov Immediate(base + TAG), R15;
         wrap;
-        mov pieces, R12;
-        rla R12;
-        rla R12;
-        rla R12;
-        mov R12, R14;
-        rla R12;
-        add R14, R12;
-        add Absolute(base + OUT_WINDOW), R12;
-        mov Immediate(kind), R13;
-        mov Immediate(EVENT_SIZE / 8), R15;
-        mov_b Increment(13), Indexed(12, 0);
-        mov_b Increment(13), Indexed(12, 1);
-        mov_b Increment(13), Indexed(12, 2);
-        mov_b Increment(13), Indexed(12, 3);
-        mov_b Increment(13), Indexed(12, 4);
-        mov_b Increment(13), Indexed(12, 5);
-        mov_b Increment(13), Indexed(12, 6);
-        mov_b Increment(13), Indexed(12, 7);
-        add Const(8), R12;
-        dec R15;
-        jnz -19;
-        inc number;
-        inc pieces;
-        ret;
     }
+}
+
+/// What copies a packet to the out-window.
+fn put_packet_copy(text: &mut Vec<u8>, base: u16) -> Result<(), OutOfMemory>
+    requires { base + stack_to < 65536 }
+    ensures { OnOk result (PutsWords (words_of (packet_copy base)) text.old.items text.new.items) }
+{
+    put! { text; mov Absolute(base + PIECES), R12; rla R12; rla R12; rla R12; }?;
+    put! { text; mov R12, R14; rla R12; add R14, R12; add Absolute(base + OUT_WINDOW), R12; }?;
+    put! { text; mov Immediate(base + KIND), R13; mov Immediate(EVENT_SIZE / 8), R15; }?;
+    put_turns(text, EVENT_SIZE)
+}
+
+/// What counts an end's packet, and the return.
+fn put_counting(text: &mut Vec<u8>, base: u16, end: u8) -> Result<(), OutOfMemory>
+    requires slot { base + end_at (end + 1) < 65536 }
+    requires base { base + stack_to < 65536 }
+    ensures { OnOk result (PutsWords (words_of (counting base end)) text.old.items
+        text.new.items) }
+{
+    let number = Absolute(base + end_number_at(end));
+    put! { text; inc number; inc Absolute(base + PIECES); ret; }
+}
+
+/// An end's packet routine. The error says that memory ran out.
+pub fn put_routine(text: &mut Vec<u8>, base: u16, end: u8) -> Result<(), OutOfMemory>
+    requires slot { base + end_at (end + 1) < 65536 }
+    requires base { base + stack_to < 65536 }
+    ensures { OnOk result (PutsWords (routine_words base end) text.old.items text.new.items) }
+{
+    put_wrapping(text, base, end)?;
+    put_packet_copy(text, base)?;
+    put_counting(text, base, end)
 }

@@ -21,23 +21,13 @@ use sx_isa::assembly::{POPPED, R9, R10, R11, R12, R13, R14, R15, SP, TOP};
 use sx_mean::offsets::{PIECES, end_at, saved_at};
 use sx_rules::Layout;
 
+/// A product is put by fours, since compiled code has many.
 fn put_product(text: &mut Vec<u8>) -> Result<(), OutOfMemory>
     ensures { OnOk result (PutsWords multiply_words text.old.items text.new.items) }
 {
-    put! {
-        text;
-        pop R12;
-        pop R13;
-        clr R14;
-        mov Immediate(16), R15;
-        rla R14;
-        rla R12;
-        jnc 1;
-        add R13, R14;
-        dec R15;
-        jnz -6;
-        push R14;
-    }
+    put! { text; pop R12; pop R13; clr R14; mov Immediate(16), R15; }?;
+    put! { text; rla R14; rla R12; jnc 1; add R13, R14; }?;
+    put! { text; dec R15; jnz -6; push R14; }
 }
 
 fn put_operator(text: &mut Vec<u8>, operator: IrOp) -> Result<(), OutOfMemory>
@@ -132,25 +122,28 @@ fn put_meets(
     }
 }
 
-/// The turns of a copy of `count` bytes: from R13 on to R12 on, as often as R15 says. Each of the
-/// instructions of a turn of eight bytes is known before the program runs, if it is put alone.
-fn put_turns(text: &mut Vec<u8>, count: u16) -> Result<(), OutOfMemory>
+/// The turns of a copy of `count` bytes: from R13 on to R12 on, as often as R15 says. The error says
+/// that memory ran out.
+pub fn put_turns(text: &mut Vec<u8>, count: u16) -> Result<(), OutOfMemory>
     ensures { OnOk result (PutsWords (words_of (turns (turn_size count))) text.old.items
         text.new.items) }
 {
     if count % 8 == 0 {
-        put! { text; mov_b Increment(13), Indexed(12, 0); }?;
-        put! { text; mov_b Increment(13), Indexed(12, 1); }?;
-        put! { text; mov_b Increment(13), Indexed(12, 2); }?;
-        put! { text; mov_b Increment(13), Indexed(12, 3); }?;
-        put! { text; mov_b Increment(13), Indexed(12, 4); }?;
-        put! { text; mov_b Increment(13), Indexed(12, 5); }?;
-        put! { text; mov_b Increment(13), Indexed(12, 6); }?;
-        put! { text; mov_b Increment(13), Indexed(12, 7); }?;
-        put! { text; add Const(8), R12; }?;
-        put! { text; dec R15; }?;
-        put! { text; jnz -19; }?;
-        Ok(())
+        put! {
+            text;
+            mov_b Increment(13), Indexed(12, 0);
+            mov_b Increment(13), Indexed(12, 1);
+            mov_b Increment(13), Indexed(12, 2);
+            mov_b Increment(13), Indexed(12, 3);
+        }?;
+        put! {
+            text;
+            mov_b Increment(13), Indexed(12, 4);
+            mov_b Increment(13), Indexed(12, 5);
+            mov_b Increment(13), Indexed(12, 6);
+            mov_b Increment(13), Indexed(12, 7);
+        }?;
+        put! { text; add Const(8), R12; dec R15; jnz -19; }
     } else {
         put! {
             text;

@@ -7,5 +7,5 @@ put_three-requires c = shaped_after c.args.first (c.args.second ∷ c.args.third
 
 pub returns : goal.returns
 returns c =
-    then_rest c.put_three.result c.args.first (c.args.second ∷ c.args.third ∷ c.args.fourth ∷ []) c.args.text.now.items c.put_one.new.text.items c.put_three.new.text.items c.in_ok-put_one.ensures
+    then_rest c.put_three.result (c.args.first ∷ []) (c.args.second ∷ c.args.third ∷ c.args.fourth ∷ []) c.args.text.now.items c.put_one.new.text.items c.put_three.new.text.items c.in_ok-put_one.ensures
     c.put_three.ensures

@@ -7,5 +7,5 @@ put_two-requires c = shaped_after c.args.first (c.args.second ∷ c.args.third �
 
 pub returns : goal.returns
 returns c =
-    then_rest c.put_two.result c.args.first (c.args.second ∷ c.args.third ∷ []) c.args.text.now.items c.put_one.new.text.items c.put_two.new.text.items c.in_ok-put_one.ensures
+    then_rest c.put_two.result (c.args.first ∷ []) (c.args.second ∷ c.args.third ∷ []) c.args.text.now.items c.put_one.new.text.items c.put_two.new.text.items c.in_ok-put_one.ensures
     c.put_two.ensures

@@ -7,5 +7,5 @@ put_one-requires-2 c = shaped_after c.args.first (c.args.second ∷ []) c.requir
 
 pub returns : goal.returns
 returns c =
-    then_rest c.put_one-2.result c.args.first (c.args.second ∷ []) c.args.text.now.items c.put_one.new.text.items c.put_one-2.new.text.items c.in_ok-put_one.ensures
+    then_rest c.put_one-2.result (c.args.first ∷ []) (c.args.second ∷ []) c.args.text.now.items c.put_one.new.text.items c.put_one-2.new.text.items c.in_ok-put_one.ensures
     c.put_one-2.ensures
