@@ -325,15 +325,15 @@ fn put_plain(
     text: &mut Vec<u8>,
     code: &Code,
     layout: &Layout,
-    operation: Ir,
+    operation: &Ir,
 ) -> Result<(), OutOfMemory>
-    requires plain { is_plain operation ≡ true }
-    requires fits { OperationFits layout.now code.now operation }
+    requires plain { is_plain operation.now ≡ true }
+    requires fits { OperationFits layout.now code.now operation.now }
     ensures { (a : Addresses) (place : ℕ) → OnOk result
-        (PutsWords (template layout.now a place operation) text.old.items text.new.items) }
+        (PutsWords (template layout.now a place operation.now) text.old.items text.new.items) }
 {
     let base = layout.priv_from;
-    match operation {
+    match *operation {
         Ir::Push(word) => put! { text; push Immediate(word); },
         Ir::Load(offset) => put! { text; push Absolute(base + offset); },
         Ir::Store(offset) => put! { text; pop Absolute(base + offset); },
@@ -369,16 +369,16 @@ pub fn put_operation(
     layout: &Layout,
     table: &Table,
     place: usize,
-    operation: Ir,
+    operation: &Ir,
 ) -> Result<(), OutOfMemory>
     requires table { IsTable layout.now code.now table.now }
     requires place { place < length code.now.ops.items }
-    requires fits { OperationFits layout.now code.now operation }
+    requires fits { OperationFits layout.now code.now operation.now }
     ensures { OnOk result (PutsWords (template layout.now (addresses layout.now code.now) place
-        operation) text.old.items text.new.items) }
+        operation.now) text.old.items text.new.items) }
 {
     let base = layout.priv_from;
-    match operation {
+    match *operation {
         Ir::Jump(to) => {
             let to = place_address(table, code, layout, usize::from(to));
             put! { text; br Immediate(to); }

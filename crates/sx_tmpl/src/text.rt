@@ -35,7 +35,7 @@ fn put_operations(
         code.now.ops.items) text.old.items text.new.items) }
 {
     for (place, operation) in code.ops.iter().enumerate() {
-        put_operation(text, code, layout, table, place, *operation)?;
+        put_operation(text, code, layout, table, place, operation)?;
     }
     Ok(())
 }
