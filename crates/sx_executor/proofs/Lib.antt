@@ -11,3 +11,4 @@ pub mod Homes
 pub mod Gaps
 pub mod Vacant
 pub mod Deep
+pub mod Marking

@@ -1,6 +1,6 @@
 -- What nothing keeps code from: the words on a vacant page, and those deep in a gap.
 use Rattle.std.proofs.Common.{◌≡◌, ◌⊎◌, ℕ, ◌+◌, ◌/◌, ◌<◌, Bool, true, false, ◌&&◌, not, nat_lt, List, None, slice_index_or}
-use Rattle.std.proofs.Common.{sym, subst, ◌∙◌, inl, inr, arith}
+use Rattle.std.proofs.Common.{ap, sym, subst, ◌∙◌, inl, inr, arith}
 use Rattle.std.proofs.lemmas.Bool.{and_parts, cases_eq, ltb-true, not-true}
 use Rattle.sx_rules.specs.declared.section.Section.{Section}
 use Rattle.sx_rules.specs.Access.{Sections}
@@ -26,16 +26,23 @@ open_apart live at h = record {
   of_none = open_holder live at h;
 }
 
+-- what a bare page is
+bare_parts : (live : List Section) (places : List ℕ) (page : ℕ) → is_bare live places page ≡ true
+    → (page < 256) × (is_open live page ≡ true) × (has_place page places ≡ false)
+bare_parts live places page h =
+    let parts = and_parts (nat_lt page 256) (is_open live page && not (has_place page places)) h in
+    let both = and_parts (is_open live page) (not (has_place page places)) parts.1 in
+    (ltb-true page 256 parts.0, both.0, not-true (has_place page places) both.1)
+
 -- a word on a page that is bare
 bare_device : (live : List Section) (devices : List Window) (at : ℕ) → ArePlaces (places_of devices) → is_bare live (places_of devices) (at / 256) ≡ true
     → device_at devices at ≡ None
 bare_device live devices at p h =
-    let parts = and_parts (is_open live (at / 256)) (not (has_place (at / 256) (places_of devices))) h in
-    none_elsewhere devices at 0 p.even (not-true (has_place (at / 256) (places_of devices)) parts.1)
+    none_elsewhere devices at 0 p.even (bare_parts live (places_of devices) (at / 256) h).2
 
 bare_apart : (live : List Section) (places : List ℕ) (at : ℕ) → is_bare live places (at / 256) ≡ true → IsApart live at
 bare_apart live places at h =
-    open_apart live at (and_parts (is_open live (at / 256)) (not (has_place (at / 256) places)) h).0
+    open_apart live at (bare_parts live places (at / 256) h).1
 
 -- what follows a word closely lies on its page or on the next one
 near : (at k : ℕ) → k < 6 → ((at + k) / 256 ≡ at / 256) ⊎ ((at + k) / 256 ≡ at / 256 + 1)
@@ -48,8 +55,7 @@ near_bare : (live : List Section) (places : List ℕ) (at k : ℕ) → is_vacant
 unfolding is_vacant
 near_bare live places at k v h =
     let page = at / 256 in
-    let parts = and_parts (nat_lt page 255) (is_bare live places page && is_bare live places (page + 1)) v in
-    let both = and_parts (is_bare live places page) (is_bare live places (page + 1)) parts.1 in
+    let both = and_parts (is_bare live places page) (is_bare live places (page + 1)) v in
     elim (near at k h) [
       | inl e ↦ subst (λ (p : ℕ). is_bare live places p ≡ true) (sym e) both.0
       | inr e ↦ subst (λ (p : ℕ). is_bare live places p ≡ true) (sym e) both.1
@@ -72,15 +78,21 @@ from_apart live devices at ends first second third bare bare_second bare_third =
       };
     }
 
+-- a page is vacant if it is bare and the next one is
+pub from_bare : (live : List Section) (places : List ℕ) (page : ℕ) (bare next : Bool) → bare ≡ is_bare live places page
+    → next ≡ is_bare live places (page + 1) → (bare && next) ≡ is_vacant live places page
+unfolding is_vacant
+from_bare live places page bare next b n = ap (λ (x : Bool). x && next) b ∙ ap (λ (x : Bool). is_bare live places page && x) n
+
 on_page : (live : List Section) (devices : List Window) (at : ℕ) → ArePlaces (places_of devices) → is_vacant live (places_of devices) (at / 256) ≡ true
     → IsVacant live devices at
 unfolding is_vacant
 on_page live devices at p v =
     let places = places_of devices in
     let page = at / 256 in
-    let parts = and_parts (nat_lt page 255) (is_bare live places page && is_bare live places (page + 1)) v in
-    let room = ltb-true page 255 parts.0 in
-    let first = (and_parts (is_bare live places page) (is_bare live places (page + 1)) parts.1).0 in
+    let both = and_parts (is_bare live places page) (is_bare live places (page + 1)) v in
+    let room = (bare_parts live places (page + 1) both.1).0 in
+    let first = both.0 in
     let second = near_bare live places at 2 v (omega arith) in
     let third = near_bare live places at 4 v (omega arith) in
     from_apart live devices at (omega arith)

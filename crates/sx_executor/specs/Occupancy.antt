@@ -3,7 +3,7 @@
 --     IsExtension      an extension word may be at an address
 --     IsAhead      extension words may be at the two words after an address
 --     IsVacant      neither a section nor a device keeps any code from a word and the two after it
---     is_bare, is_vacant      a page has no byte of a section and no device, and so has the next one
+--     is_bare, is_vacant      a page has no byte of a section and no device, nor has the next one
 --     IsVacantIndex      what is kept for each page
 --     has_deep, has_deep_data      a byte lies in the deep part of a home, or in its data
 --     IsDeep, IsDeepData      what holds of the places of the two
@@ -46,14 +46,13 @@ pub record IsVacant (live : List Section) (devices : List Window) (at : ℕ) : T
   pub bare : device_at devices at ≡ None
   pub ahead : (own : ℕ) → IsAhead live devices own at
 
--- no section meets the page, and none of the devices' places is there
+-- there is such a page, no section meets it, and none of the devices' places is there
 abbrev pub is_bare : List Section → List ℕ → ℕ → Bool
-is_bare live places page = is_open live page && not (has_place page places)
+is_bare live places page = nat_lt page 256 && (is_open live page && not (has_place page places))
 
--- it has a next page, and neither is met
+-- the same of the next page too
 unfoldable pub is_vacant : List Section → List ℕ → ℕ → Bool
-is_vacant live places page =
-    nat_lt page 255 && (is_bare live places page && is_bare live places (page + 1))
+is_vacant live places page = is_bare live places page && is_bare live places (page + 1)
 
 -- what is kept for each of the 256 pages: whether it is vacant
 abbrev pub IsVacantIndex : List Bool → List Section → List ℕ → Type 0

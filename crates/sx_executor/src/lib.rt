@@ -26,6 +26,7 @@ mod devices;
 mod executor;
 mod gap;
 mod home;
+mod marks;
 mod occupancy;
 mod protection;
 mod range;

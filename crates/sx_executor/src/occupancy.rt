@@ -5,7 +5,6 @@ ghost use Rattle.std.specs.Prelude.{◌≡◌, ◌<◌, ◌≤◌, ◌+◌, ◌/
 ghost use Rattle.std.specs.Prelude.{IsTrue, IfOk, IfSome, slice_get, slice_index_or};
 ghost use Rattle.sx_bus.specs.declared.devices.Kind.TheVariants.{Sensor};
 ghost use Rattle.sx_bus.specs.Devices.{cleared, device_at, with_sample, all_stale};
-ghost use Rattle.sx_bus.specs.Windows.{has_place};
 ghost use Rattle.sx_rules.specs.declared.access.Access.{Access};
 ghost use Rattle.sx_rules.specs.declared.access.Access.TheVariants.{Read, Write};
 ghost use Rattle.sx_rules.specs.Access.{holder, in_order};
@@ -16,14 +15,12 @@ ghost use Rattle.spec_machine.specs.Step.{word_outside};
 ghost use Rattle.sx_executor.specs.Occupancy.{is_bare, is_vacant, IsVacantIndex, IsAhead};
 
 use crate::home::Deep;
+use crate::marks::{self, PAGE_COUNT};
 use crate::protection::Protection;
 use std::alloc::{AllocError as OutOfMemory, Global};
 use std::marker::Model;
 use sx_bus::Windows;
-use sx_rules::{Layout, Table};
-
-/// How many pages the memory has, of 256 bytes each.
-const PAGE_COUNT: usize = 256;
+use sx_rules::Layout;
 
 /// The devices and the sections. Where these change, what is known is made anew.
 #[derive(Drop)]
@@ -48,54 +45,6 @@ impl Model for Occupancy {
         × KeepsDeep o.deep o.protection.live (places_of o.windows) };
 }
 
-fn has_place(places: &[u16], page: u16) -> bool
-    ensures { result ≡ has_place page places.now }
-{
-    places.iter().any(|place| *place / 256 == page)
-}
-
-fn is_bare(table: &Table, places: &[u16], page: u16) -> bool
-    requires { page < 256 }
-    ensures { result ≡ is_bare table.now.live places.now page }
-{
-    table.is_open(256 * page) && !has_place(places, page)
-}
-
-#[tactic(auto, unfolding(crate::specs::Occupancy::is_vacant))]
-fn is_vacant(table: &Table, places: &[u16], page: u16) -> bool
-    requires { page < 256 }
-    ensures { result ≡ is_vacant table.now.live places.now page }
-{
-    page < 255 && is_bare(table, places, page) && is_bare(table, places, page + 1)
-}
-
-/// Keeps for each page whether it is vacant.
-fn index(vacant: &mut [bool], table: &Table, places: &[u16])
-    requires { length vacant.old ≤ PAGE_COUNT }
-    ensures { (page : ℕ) → page < length vacant.new → slice_index_or vacant.new page false
-        ≡ is_vacant table.now.live places.now page }
-{
-    for (page, kept) in vacant.iter_mut().enumerate() {
-        *kept = is_vacant(table, places, page as u16);
-    }
-}
-
-fn vacant_pages(table: &Table, places: &[u16]) -> [bool; PAGE_COUNT]
-    ensures { IsVacantIndex result table.now.live places.now }
-{
-    let mut vacant = [false; PAGE_COUNT];
-    index(&mut vacant, table, places);
-    vacant
-}
-
-/// Whether a page is marked as vacant, by an address on it.
-#[inline(always)]
-fn is_marked(vacant: &[bool; PAGE_COUNT], at: u16) -> bool
-    ensures { result ≡ slice_index_or vacant.now (at / 256) false }
-{
-    vacant[usize::from(at / 256)]
-}
-
 /// Whether no device is at three words.
 #[inline(always)]
 fn are_bare(windows: &Windows, at: u16) -> bool
@@ -113,7 +62,7 @@ impl Occupancy {
         ensures { result ≡ record { devices = windows; sections = no_sections } }
     {
         let protection = Protection::new();
-        let vacant = vacant_pages(protection.table(), windows.places());
+        let vacant = marks::without_sections(windows.places());
         Occupancy {
             windows,
             protection,
@@ -128,7 +77,7 @@ impl Occupancy {
     {
         self.windows.reset();
         self.protection = Protection::new();
-        self.vacant = vacant_pages(self.protection.table(), self.windows.places());
+        self.vacant = marks::without_sections(self.windows.places());
         self.deep = Deep::empty();
     }
 
@@ -162,7 +111,7 @@ impl Occupancy {
         ensures ahead { IsTrue result
             → (own : ℕ) → IsAhead self.now.sections.live self.now.devices own at }
     {
-        is_marked(&self.vacant, at)
+        marks::is_marked(&self.vacant, at)
     }
 
     /// Whether the word at an address and the two after it are known to lie in a gap, and no device
@@ -253,7 +202,7 @@ impl Occupancy {
         } }
     {
         let id = self.protection.add(layout, provider, key);
-        self.vacant = vacant_pages(self.protection.table(), self.windows.places());
+        self.vacant = marks::of(self.protection.table(), self.windows.places());
         self.deep = Deep::empty();
         id
     }
@@ -263,7 +212,7 @@ impl Occupancy {
         ensures { self.new ≡ record self.old { sections = removed self.old.sections id } }
     {
         self.protection.remove(id);
-        self.vacant = vacant_pages(self.protection.table(), self.windows.places());
+        self.vacant = marks::of(self.protection.table(), self.windows.places());
         self.deep = Deep::empty();
     }
 
