@@ -30,28 +30,28 @@ use sx_executor::registers::{SP, cut};
 use sx_isa::{Op1, Op2, Operand};
 use sx_rules::Violation;
 
-/// The word at a place, or in byte form the byte, if the place is at hand or in the running
-/// module's own text.
+/// The word at a place, or in byte form the byte, if the place is at hand or is known to be one that
+/// all code may read.
 #[inline(always)]
 pub fn load_at_hand<B: Bus>(executor: &Executor<B>, wide: bool, at: u16) -> Option<u16>
     ensures run { IfSome result (λ v. Loads wide at executor.now (Ok v) executor.now) }
     ensures below { IfSome result (λ v. v < limit wide) }
 {
-    if executor.is_at_hand(at) {
+    if executor.is_at_hand(at) || executor.is_text(at) {
         return Some(executor.read(wide, at));
     }
-    load_own_text(executor, wide, at)
+    load_readable(executor, wide, at)
 }
 
-/// The same if the place is in the running module's own text. This code stays out of the way of
-/// what most loads do.
+/// The same if the place is known to be one that all code may read. This code stays out of the way
+/// of what most loads do.
 #[cold]
 #[inline(never)]
-fn load_own_text<B: Bus>(executor: &Executor<B>, wide: bool, at: u16) -> Option<u16>
+fn load_readable<B: Bus>(executor: &Executor<B>, wide: bool, at: u16) -> Option<u16>
     ensures run { IfSome result (λ v. Loads wide at executor.now (Ok v) executor.now) }
     ensures below { IfSome result (λ v. v < limit wide) }
 {
-    if executor.is_own_text(at) {
+    if executor.is_readable(at) {
         return Some(executor.read(wide, at));
     }
     None

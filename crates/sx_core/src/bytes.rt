@@ -270,8 +270,8 @@ fn test_of_byte<B: Bus>(executor: &mut Executor<B>, op: Op2, at: u16, src: u16)
     executor.set_flags(value.1);
 }
 
-/// An operation on a byte of memory where a section may refuse it, or a device be there. What a
-/// module compares with its own text needs no look at the sections.
+/// An operation on a byte of memory where a section may refuse it, or a device be there. A comparison
+/// with what all code may read needs no look at the sections.
 #[inline(never)]
 fn on_byte_near<B: Bus>(
     executor: &mut Executor<B>,
@@ -283,7 +283,7 @@ fn on_byte_near<B: Bus>(
     ensures { RunsPlan (on_memory op false at src executor.old.regs) executor.old result
         executor.new }
 {
-    if !writes(op) && executor.is_own_text(at) {
+    if !writes(op) && executor.is_readable(at) {
         test_of_byte(executor, op, at, src);
         return Ok(());
     }

@@ -207,8 +207,8 @@ fn test_of_word<B: Bus>(executor: &mut Executor<B>, op: Op2, at: u16, src: u16)
     executor.set_flags(value.1);
 }
 
-/// The same where a section may refuse it, or a device be there. What a module compares with its
-/// own text needs no look at the sections. This code stays out of the way of what most steps do.
+/// The same where a section may refuse it, or a device be there. A comparison with what all code may
+/// read needs no look at the sections. This code stays out of the way of what most steps do.
 #[inline(never)]
 fn on_word_near<B: Bus>(
     executor: &mut Executor<B>,
@@ -220,7 +220,7 @@ fn on_word_near<B: Bus>(
     ensures { RunsPlan (on_memory op true at src executor.old.regs) executor.old result
         executor.new }
 {
-    if !writes(op) && executor.is_own_text(at) {
+    if !writes(op) && executor.is_readable(at) {
         test_of_word(executor, op, at, src);
         return Ok(());
     }

@@ -11,13 +11,19 @@ use Rattle.spec_machine.specs.Registers.{onward}
 use Rattle.sx_executor.specs.declared.home.Home.{Home}
 use Rattle.sx_executor.specs.declared.home.Deep.{Deep}
 use Rattle.sx_executor.specs.Homes.{within, KeepsHome}
-use Rattle.sx_executor.specs.Occupancy.{Occupied, IsExtension, IsAhead, IsDeep, IsDeepData, has_deep, has_deep_data, KeepsDeep}
+use Rattle.sx_executor.specs.Occupancy.{Occupied, IsExtension, IsAhead, IsDeep, IsDeepData, has_deep, has_deep_text, has_deep_data, KeepsDeep}
+use Rattle.sx_executor.specs.Readable.{IsReadable}
 use Rattle.sx_executor.proofs.Clear.{none_at, none_found}
 use Rattle.sx_executor.proofs.Homes.{none_within}
+use Rattle.sx_executor.proofs.Rights.{outside_any}
 
 -- no place
-pub empty : (live : List Section) (places : List ℕ) → KeepsDeep (record { id = 0; from = 0; to = 0; data_from = 0; data_to = 0 }) live places
-empty live places = record { deep = λ at w. absurd (none_within at w); private = λ at w. absurd (none_within at w) }
+pub empty : (live : List Section) (places : List ℕ) → KeepsDeep (record { id = 0; from = 0; to = 0; text_to = 0; data_from = 0; data_to = 0 }) live places
+empty live places = record {
+  deep = λ at w. absurd (none_within at w);
+  text = λ at w. absurd (none_within at w);
+  private = λ at w. absurd (none_within at w);
+}
 
 -- a device that is apart from a range is apart from each part of it
 part_apart : (from n at m place : ℕ) → from ≤ at → at + m ≤ from + n → meets from n place (place + 2) ≡ false → meets at m place (place + 2) ≡ false
@@ -34,7 +40,7 @@ part_apart from n at m place low high h =
     true≢false (sym (and_from (nat_lt 0 n) (nat_lt from (place + 2) && nat_lt place (from + n)) (lt-ltb 0 n some_all)
     (and_from (nat_lt from (place + 2)) (nat_lt place (from + n)) (lt-ltb from (place + 2) before_all) (lt-ltb place (from + n) behind_all))) ∙ h))
 
-part_clear : (places : List ℕ) (from n at m : ℕ) → from ≤ at → at + m ≤ from + n → meets_device places from n ≡ false → meets_device places at m ≡ false
+pub part_clear : (places : List ℕ) (from n at m : ℕ) → from ≤ at → at + m ≤ from + n → meets_device places from n ≡ false → meets_device places at m ≡ false
 part_clear [] from n at m low high h = refl
 part_clear (place ∷ rest) from n at m low high h =
     let parts = or_parts (meets from n place (place + 2)) (meets_device rest from n) h in
@@ -48,7 +54,7 @@ inside from to at low high = and_from (nat_le from at) (nat_lt at to) (le-leb fr
 pub keeps : (h : Home) (live : List Section) (places : List ℕ) → h.layout.pub_from + (h.layout.pub_to - h.layout.pub_from) ≤ 65536
     → meets_device places h.layout.pub_from (h.layout.pub_to - h.layout.pub_from) ≡ false
     → (begin : ℕ) → h.layout.priv_from ≤ begin → meets_device places begin (h.layout.priv_to - begin) ≡ false → KeepsHome h live
-    → KeepsDeep (record { id = h.id; from = h.layout.pub_from; to = h.layout.pub_to - 4; data_from = begin; data_to = h.layout.priv_to }) live places
+    → KeepsDeep (record { id = h.id; from = h.layout.pub_from; to = h.layout.pub_to - 4; text_to = h.layout.pub_to; data_from = begin; data_to = h.layout.priv_to }) live places
 keeps h live places small clear begin behind clear_data k = record {
   deep = λ at w.
       let from = h.layout.pub_from in let to = h.layout.pub_to in
@@ -61,6 +67,15 @@ keeps h live places small clear begin behind clear_data k = record {
         third = k.public (at + 4) (inside from to (at + 4) (omega arith) (omega arith));
         bare = part_clear places from (to - from) at 5 low (omega arith) clear;
         ends = omega arith;
+      };
+  text = λ at w.
+      let from = h.layout.pub_from in let to = h.layout.pub_to in
+      let parts = and_parts (nat_le from at) (nat_lt at to) w in
+      let low = leb-true from at parts.0 in
+      let high = ltb-true at to parts.1 in
+      record {
+        readable = λ own wide. outside_any live own at (k.public at w).outside wide;
+        bare = part_clear places from (to - from) at 1 low (omega arith) clear;
       };
   private = λ at w.
       let to = h.layout.priv_to in
@@ -105,6 +120,13 @@ ahead live devices id at d =
       third = subst (λ (k : ℕ). IsExtension live devices id k) four
           (record { extended = d.third.extended; bare = none_found devices (at + 4) (none_at devices at 5 4 0 d.bare (omega arith)) });
     }
+
+-- a place that is known to be in the text of the home
+pub known_text : (d : Deep) (sections : Sections) (devices : List Window) (now : Occupied) (at : ℕ) (b : Bool)
+    → KeepsDeep d sections.live (places_of devices) → b ≡ has_deep_text d at
+    → record { devices = devices; sections = sections } ≡ now → b ≡ true → IsReadable now.sections.live (places_of now.devices) at
+known_text d sections devices now at b k e view t =
+    subst (λ (o : Occupied). IsReadable o.sections.live (places_of o.devices) at) view (k.text at (sym e ∙ t))
 
 -- a place that is known to be data at home
 pub known_data : (d : Deep) (sections : Sections) (devices : List Window) (now : Occupied) (id at : ℕ) (b : Bool)

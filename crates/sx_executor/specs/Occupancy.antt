@@ -5,7 +5,7 @@
 --     IsVacant      neither a section nor a device keeps any code from a word and the two after it
 --     is_bare, is_vacant      a page has no byte of a section and no device, nor has the next one
 --     IsVacantIndex      what is kept for each page
---     has_deep, has_deep_data      a byte lies in the deep part of a home, or in its data
+--     has_deep, has_deep_text, has_deep_data      a byte lies in the deep part of a home, in its text, or in its data
 --     IsDeep, IsDeepData      what holds of the places of the two
 --     KeepsDeep      beside these sections and devices all their places are such
 use Rattle.std.specs.Prelude.{◌≡◌, ℕ, ◌+◌, ◌==◌, ◌<◌, nat_lt, Bool, true, false, ◌&&◌, not, List}
@@ -23,6 +23,7 @@ use Rattle.spec_machine.specs.Run.{device_of}
 use Rattle.sx_executor.specs.declared.home.Deep.{Deep}
 use Rattle.sx_executor.specs.Gaps.{IsApart}
 use Rattle.sx_executor.specs.Homes.{within, IsCode, IsData}
+use Rattle.sx_executor.specs.Readable.{IsReadable}
 
 -- the devices of a node and its sections
 pub record Occupied : Type 0 where
@@ -63,6 +64,10 @@ IsVacantIndex pages live places =
 abbrev pub has_deep : Deep → ℕ → ℕ → Bool
 has_deep d id at = (id == d.id) && within d.from d.to at
 
+-- it lies in the public part of that home
+abbrev pub has_deep_text : Deep → ℕ → Bool
+has_deep_text d at = within d.from d.text_to at
+
 -- it lies in the private part of that home
 abbrev pub has_deep_data : Deep → ℕ → ℕ → Bool
 has_deep_data d id at = (id == d.id) && within d.data_from d.data_to at
@@ -81,7 +86,9 @@ pub record IsDeepData (live : List Section) (places : List ℕ) (id at : ℕ) : 
   pub own : IsData live id at
   pub bare : meets_device places at 1 ≡ false
 
--- beside these sections and devices all places of the deep part are such
+-- beside these sections and devices all places of the deep part are such, all code may read the text,
+-- and the data are the module's own
 pub record KeepsDeep (d : Deep) (live : List Section) (places : List ℕ) : Type 0 where
   pub deep : (at : ℕ) → within d.from d.to at ≡ true → IsDeep live places d.id at
+  pub text : (at : ℕ) → within d.from d.text_to at ≡ true → IsReadable live places at
   pub private : (at : ℕ) → within d.data_from d.data_to at ≡ true → IsDeepData live places d.id at

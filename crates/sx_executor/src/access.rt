@@ -59,16 +59,26 @@ impl<B: Bus> Executor<B> {
             || self.protection().has_gap(at) && self.windows().at(at).is_none()
     }
 
-    /// Whether one look says that the running code may read the word at a place, and each byte of
-    /// it: it is in the public part of the home, and no device is there. Then a read asks no more.
+    /// Whether one look says that a place is in the text of the home, where all code may read the word
+    /// and each byte of it, and no device is there. Then a read asks no more.
     #[inline(always)]
-    #[tactic(auto, using(crate::proofs::Rights::outside_any))]
-    pub fn is_own_text(&self, at: u16) -> bool
+    pub fn is_text(&self, at: u16) -> bool
         ensures read { IsTrue result
             → (wide : Bool) → may_at wide self.now.sections.live self.now.own Read at ≡ true }
         ensures memory { IsTrue result → device_of self.now.devices at ≡ None }
     {
-        self.protection().has_code(self.own(), at) && self.windows().at(at).is_none()
+        self.occupancy().has_text(at)
+    }
+
+    /// The same of a place in that text, or around one where a read missed: no private part and no
+    /// device is there.
+    #[inline(always)]
+    pub fn is_readable(&self, at: u16) -> bool
+        ensures read { IsTrue result
+            → (wide : Bool) → may_at wide self.now.sections.live self.now.own Read at ≡ true }
+        ensures memory { IsTrue result → device_of self.now.devices at ≡ None }
+    {
+        self.is_text(at) || self.occupancy().has_readable(at)
     }
 
     /// Whether one look says that no live section has a byte of the word at an address: none meets
@@ -191,17 +201,18 @@ impl<B: Bus> Executor<B> {
         self.load_near(wide, at)
     }
 
-    /// The same where a section may meet the page, or a device be there. What a module reads of its
-    /// own text needs no look at the sections. Where the place lies in a gap, the gap is known from
-    /// then on. This code stays out of the way of what most accesses do.
+    /// The same where a section may meet the page, or a device be there. What all code may read around
+    /// the place is known from then on, and the gap if it lies in one. This code stays out of the way
+    /// of what most accesses do.
     #[inline(never)]
     fn load_near(&mut self, wide: bool, at: u16) -> Result<u16, Violation>
         ensures run { Loads wide at self.old result self.new }
         ensures below { IfOk result (λ v. v < limit wide) }
     {
-        if self.is_own_text(at) {
+        if self.is_readable(at) {
             return Ok(self.read(wide, at));
         }
+        self.learn_readable(at);
         self.learn_gap(at);
         if !self.may(wide, Access::Read, at) {
             return Err(Violation::Read);

@@ -175,6 +175,15 @@ impl<B: Bus> Executor<B> {
         self.occupancy.learn_gap(at);
     }
 
+    /// Learns what all code may read around a place: from then on a read there needs no look at the
+    /// sections nor at the devices, until the sections change or another place's is learnt.
+    #[inline(always)]
+    pub(crate) fn learn_readable(&mut self, at: u16)
+        ensures { self.new ≡ self.old }
+    {
+        self.occupancy.learn_readable(at);
+    }
+
     /// The devices.
     #[inline(always)]
     pub fn windows(&self) -> &Windows

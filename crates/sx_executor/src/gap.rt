@@ -1,13 +1,15 @@
-//! Gaps: stretches of memory in which no live section has a byte.
+//! Gaps: stretches of memory in which no live section has a byte, and one that all code may read.
 
-ghost use Rattle.std.specs.Prelude.{◌≡◌, ◌&&◌, ◌+◌, ◌<◌, IsTrue, List};
+ghost use Rattle.std.specs.Prelude.{◌≡◌, ◌&&◌, ◌+◌, ◌<◌, ℕ, IsTrue, List};
 ghost use Rattle.std.specs.List.{list_all};
 ghost use Rattle.sx_rules.specs.declared.section.Section.{Section};
 ghost use Rattle.sx_rules.specs.Admission.{apart, is_even};
 ghost use Rattle.sx_executor.specs.Homes.{within};
 ghost use Rattle.sx_executor.specs.Gaps.{passes, within_deep, has_place, has_deep_place};
 ghost use Rattle.sx_executor.specs.Gaps.{KeepsGap, KeepsGaps};
+ghost use Rattle.sx_executor.specs.Readable.{spares, KeepsReadable};
 
+use crate::buffer::Buffer;
 use crate::home::{apart, is_even};
 use sx_rules::{Section, Table};
 
@@ -23,10 +25,7 @@ pub(crate) struct Gap {
 
 /// The widest bounds around a place that leave out the sections which don't hold it.
 fn bounds_around(live: &[Section], at: u16) -> Gap {
-    let mut gap = Gap {
-        from: 0,
-        to: LAST_WORD,
-    };
+    let mut gap = Gap::whole();
     for section in live {
         let layout = &section.layout;
         gap = gap
@@ -36,12 +35,40 @@ fn bounds_around(live: &[Section], at: u16) -> Gap {
     gap
 }
 
+/// The same that leave out the private parts which don't hold it.
+fn between_private(live: &[Section], at: u16) -> Gap {
+    let mut gap = Gap::whole();
+    for section in live {
+        gap = gap.beside(section.layout.priv_from, section.layout.priv_to, at);
+    }
+    gap
+}
+
+/// The part of a gap around a place that leaves out the devices which don't hold it.
+fn between_devices(gap: Gap, places: &[u16], at: u16) -> Gap {
+    let mut gap = gap;
+    for place in places {
+        gap = gap.beside(*place, place.saturating_add(2), at);
+    }
+    gap
+}
+
 impl Gap {
     /// No place.
     pub(crate) fn empty() -> Gap
-        ensures { (live : List Section) → KeepsGap result live }
+        ensures gap { (live : List Section) → KeepsGap result live }
+        ensures readable { (live : List Section) (places : List ℕ)
+            → KeepsReadable result live places }
     {
         Gap { from: 0, to: 0 }
+    }
+
+    /// All places but the last word of memory.
+    fn whole() -> Gap {
+        Gap {
+            from: 0,
+            to: LAST_WORD,
+        }
     }
 
     /// That around a place; no place where a section holds it.
@@ -50,6 +77,22 @@ impl Gap {
     {
         let gap = bounds_around(table.live(), at);
         if gap.has(at) && gap.is_even() && gap.is_passed_by_all(table.live()) {
+            return gap;
+        }
+        Gap::empty()
+    }
+
+    /// What all code may read around a place, where no private part and no device is; no place where
+    /// one of these holds it.
+    pub(crate) fn readable_around(table: &Table, places: &[u16], at: u16) -> Gap
+        ensures { KeepsReadable result table.now.live places.now }
+    {
+        let gap = between_devices(between_private(table.live(), at), places, at);
+        if gap.has(at)
+            && gap.is_even()
+            && gap.is_spared_by_all(table.live())
+            && !Buffer::between(gap.from, gap.to).meets_device(places)
+        {
             return gap;
         }
         Gap::empty()
@@ -103,6 +146,20 @@ impl Gap {
         ensures { result ≡ list_all (passes self.now) live.now }
     {
         live.iter().all(|section| self.is_passed_by(section))
+    }
+
+    fn is_spared_by(&self, section: &Section) -> bool
+        ensures { result ≡ spares self.now section.now }
+    {
+        let layout = &section.layout;
+        apart(self.from, self.to, layout.priv_from, layout.priv_to)
+    }
+
+    /// Whether no private part has a byte in it.
+    fn is_spared_by_all(&self, live: &[Section]) -> bool
+        ensures { result ≡ list_all (spares self.now) live.now }
+    {
+        live.iter().all(|section| self.is_spared_by(section))
     }
 }
 

@@ -7,7 +7,7 @@ ghost use Rattle.sx_rules.specs.declared.section.Section.{Section};
 ghost use Rattle.sx_rules.specs.Admission.{apart, is_even};
 ghost use Rattle.sx_executor.specs.Homes.{has_code, has_data, has_data_range, leaves};
 ghost use Rattle.sx_executor.specs.Homes.{is_even_home, KeepsHome};
-ghost use Rattle.sx_executor.specs.Occupancy.{has_deep, has_deep_data, KeepsDeep};
+ghost use Rattle.sx_executor.specs.Occupancy.{has_deep, has_deep_text, has_deep_data, KeepsDeep};
 
 use crate::buffer::Buffer;
 use sx_rules::{Layout, Section, Table};
@@ -119,13 +119,14 @@ impl Home {
 }
 
 /// Places of a home without a device: those from which three words lie in its public part, so each
-/// instruction that begins there does, and its data, which is what no device is before in its
-/// private part.
+/// instruction that begins there does; its text, which is the whole of that part; and its data, which
+/// is what no device is before in its private part.
 #[derive(Clone, Copy)]
 pub(crate) struct Deep {
     id: u16,
     from: u16,
     to: u16,
+    text_to: u16,
     data_from: u16,
     data_to: u16,
 }
@@ -152,6 +153,7 @@ impl Deep {
             id: 0,
             from: 0,
             to: 0,
+            text_to: 0,
             data_from: 0,
             data_to: 0,
         }
@@ -174,6 +176,7 @@ impl Deep {
             id: home.id,
             from: layout.pub_from,
             to: layout.pub_to.saturating_sub(4),
+            text_to: layout.pub_to,
             data_from,
             data_to: layout.priv_to,
         }
@@ -185,6 +188,14 @@ impl Deep {
         ensures { result ≡ has_deep self.now id at }
     {
         id == self.id && self.from <= at && at < self.to
+    }
+
+    /// Whether the byte lies in the text of that home, which all code may read.
+    #[inline(always)]
+    pub(crate) fn has_text(&self, at: u16) -> bool
+        ensures { result ≡ has_deep_text self.now at }
+    {
+        self.from <= at && at < self.text_to
     }
 
     /// Whether the byte lies in the data of that home.

@@ -14,9 +14,10 @@ ghost use Rattle.spec_machine.specs.Run.{may_at};
 ghost use Rattle.spec_machine.specs.Step.{word_outside};
 ghost use Rattle.sx_executor.specs.Occupancy.{is_bare, is_vacant, IsVacantIndex, IsAhead};
 
+use crate::gap::Gap;
 use crate::home::Deep;
 use crate::marks::{self, PAGE_COUNT};
-use crate::protection::Protection;
+use crate::protection::{MISSES_BETWEEN, Protection};
 use std::alloc::{AllocError as OutOfMemory, Global};
 use std::marker::Model;
 use sx_bus::Windows;
@@ -30,11 +31,16 @@ pub(crate) struct Occupancy {
     /// For each page whether no section meets it and the next one, and no device is there.
     vacant: [bool; PAGE_COUNT],
     deep: Deep,
+    /// What all code may read around a place where a read missed. The next is learnt after `rest`
+    /// more misses.
+    readable: Gap,
+    rest: u8,
 }
 
 impl Model for Occupancy {
     ghost use Rattle.sx_bus.specs.Devices.{ArePlaces, places_of};
     ghost use Rattle.sx_executor.specs.Occupancy.{Occupied, IsVacantIndex, KeepsDeep};
+    ghost use Rattle.sx_executor.specs.Readable.{KeepsReadable};
 
     ghost Value = { Occupied };
 
@@ -42,7 +48,8 @@ impl Model for Occupancy {
 
     ghost invariant = { λ o. ArePlaces (places_of o.windows)
         × IsVacantIndex o.vacant o.protection.live (places_of o.windows)
-        × KeepsDeep o.deep o.protection.live (places_of o.windows) };
+        × KeepsDeep o.deep o.protection.live (places_of o.windows)
+        × KeepsReadable o.readable o.protection.live (places_of o.windows) };
 }
 
 /// Whether no device is at three words.
@@ -68,6 +75,8 @@ impl Occupancy {
             protection,
             vacant,
             deep: Deep::empty(),
+            readable: Gap::empty(),
+            rest: 0,
         }
     }
 
@@ -79,6 +88,7 @@ impl Occupancy {
         self.protection = Protection::new();
         self.vacant = marks::without_sections(self.windows.places());
         self.deep = Deep::empty();
+        self.readable = Gap::empty();
     }
 
     /// The devices.
@@ -155,6 +165,27 @@ impl Occupancy {
         self.deep.has_data(id, at)
     }
 
+    /// Whether the byte is known to be in the text of the home, which all code may read, and no
+    /// device is there.
+    #[inline(always)]
+    pub(crate) fn has_text(&self, at: u16) -> bool
+        ensures read { IsTrue result → (own : ℕ) (wide : Bool)
+            → may_at wide self.now.sections.live own Read at ≡ true }
+        ensures memory { IsTrue result → device_at self.now.devices at ≡ None }
+    {
+        self.deep.has_text(at)
+    }
+
+    /// Whether the byte is known to be one that all code may read, and no device is there.
+    #[inline(always)]
+    pub(crate) fn has_readable(&self, at: u16) -> bool
+        ensures read { IsTrue result → (own : ℕ) (wide : Bool)
+            → may_at wide self.now.sections.live own Read at ≡ true }
+        ensures memory { IsTrue result → device_at self.now.devices at ≡ None }
+    {
+        self.readable.has(at)
+    }
+
     /// Learns the home of a module, and its deep part.
     pub(crate) fn learn_home(&mut self, id: u16)
         ensures { self.new ≡ self.old }
@@ -169,6 +200,30 @@ impl Occupancy {
         ensures { self.new ≡ self.old }
     {
         self.protection.learn_gap(at);
+    }
+
+    /// Learns what all code may read around a place, if no private part and no device holds the
+    /// place; but not soon after the last time.
+    #[inline(always)]
+    pub(crate) fn learn_readable(&mut self, at: u16)
+        ensures { self.new ≡ self.old }
+    {
+        if self.rest > 0 {
+            self.rest -= 1;
+            return;
+        }
+        self.rest = MISSES_BETWEEN;
+        self.learn_readable_now(at);
+    }
+
+    #[inline(never)]
+    fn learn_readable_now(&mut self, at: u16)
+        ensures { self.new ≡ self.old }
+    {
+        let readable = Gap::readable_around(self.protection.table(), self.windows.places(), at);
+        if readable.has(at) {
+            self.readable = readable;
+        }
     }
 
     /// A sensor's new sample.
@@ -204,6 +259,7 @@ impl Occupancy {
         let id = self.protection.add(layout, provider, key);
         self.vacant = marks::of(self.protection.table(), self.windows.places());
         self.deep = Deep::empty();
+        self.readable = Gap::empty();
         id
     }
 
@@ -214,6 +270,7 @@ impl Occupancy {
         self.protection.remove(id);
         self.vacant = marks::of(self.protection.table(), self.windows.places());
         self.deep = Deep::empty();
+        self.readable = Gap::empty();
     }
 
     /// An equal one. `OutOfMemory` where there is none for it.
@@ -226,6 +283,8 @@ impl Occupancy {
             protection: self.protection.copy(),
             vacant: self.vacant,
             deep: self.deep,
+            readable: self.readable,
+            rest: self.rest,
         })
     }
 }

@@ -18,9 +18,10 @@ use crate::home::Home;
 use std::marker::Model;
 use sx_rules::{Layout, Table};
 
-/// How many misses pass between two at which a gap is learnt. Where code reads what a section
-/// holds, or goes between more than two gaps, learning at each would cost more than it saves.
-const MISSES_BETWEEN: u8 = 16;
+/// How many misses pass between two at which a gap is learnt, or what all code may read. Where code
+/// reads what a section holds, or goes between more than two gaps, learning at each would cost more
+/// than it saves.
+pub(crate) const MISSES_BETWEEN: u8 = 16;
 
 /// A table, and a home and two gaps beside its sections. What changes the sections forgets these.
 /// The next gap is learnt after `rest` more misses.

@@ -17,5 +17,5 @@ returns c = λ live kept.
     (sym c.meets_device-else-meets_device.ensures ∙ c.if-meets_device-2.false) in
     let within : from + (h.layout.pub_to - from) ≤ 65536 = omega (arith, public.within, c.between.ensures.at, c.between.ensures.count) in
     let end : h.layout.pub_to - 4 ≡ c.saturating_sub.result = omega (arith, c.saturating_sub.ensures) in
-    subst (λ (to : ℕ). KeepsDeep (record { id = h.id; from = from; to = to; data_from = begin; data_to = h.layout.priv_to }) live places) end
+    subst (λ (to : ℕ). KeepsDeep (record { id = h.id; from = from; to = to; text_to = h.layout.pub_to; data_from = begin; data_to = h.layout.priv_to }) live places) end
     (keeps h live places within text begin c.after_devices-data_from.ensures own kept)

@@ -11,4 +11,5 @@ invariant_of-self c =
       subst ArePlaces c.places.ensures.places c.places.ensures.sound,
       subst (λ (t : Sections). IsVacantIndex pages t.live (places_of c.reset.new.self)) (sym c.new-self-inside.ensures) beside,
       c.empty-self-inside.ensures c.new-self-inside.result.live (places_of c.reset.new.self),
+      c.empty-self-inside-2.ensures.readable c.new-self-inside.result.live (places_of c.reset.new.self),
     )

@@ -2,6 +2,7 @@ use Rattle.std.proofs.Common.{◌≡◌, ℕ, List, sym, ◌∙◌, ap, subst}
 use Rattle.sx_bus.specs.Devices.{ArePlaces, places_of}
 use Rattle.sx_bus.proofs.Changed.{places_of-with_sample}
 use Rattle.sx_executor.specs.Occupancy.{IsVacantIndex, KeepsDeep}
+use Rattle.sx_executor.specs.Readable.{KeepsReadable}
 use Rattle.sx_executor.proofs.occupancy.Occupancy.sense.Goals as goal
 
 pub invariant_of-self : goal.invariant_of-self
@@ -12,4 +13,5 @@ invariant_of-self c =
       subst ArePlaces same c.self.invariant.0,
       subst (λ (places : List ℕ). IsVacantIndex c.self.inside.vacant live places) same c.self.invariant.1,
       subst (λ (places : List ℕ). KeepsDeep c.self.inside.deep live places) same c.self.invariant.2,
+      subst (λ (places : List ℕ). KeepsReadable c.self.inside.readable live places) same c.self.invariant.3,
     )
