@@ -11,7 +11,7 @@ ghost use Rattle.sx_isa.specs.declared.instruction.Operand.TheVariants.{Indirect
 ghost use Rattle.sx_isa.specs.Extending.{extended};
 ghost use Rattle.sx_alu.specs.Table.{limit};
 ghost use Rattle.sx_rules.specs.declared.access.Access.TheVariants.{Read, Write};
-ghost use Rattle.spec_machine.specs.Registers.{at_pc};
+ghost use Rattle.spec_machine.specs.Registers.{at_pc, onward};
 ghost use Rattle.spec_machine.specs.Rows.{row, two, one, onto, on_memory, writes};
 ghost use Rattle.spec_machine.specs.Run.{may_at, device_of};
 ghost use Rattle.sx_executor.specs.Machine.{RunsPlan};
@@ -346,43 +346,39 @@ fn register_onto_indexed<B: Bus>(
 }
 
 /// An operation from a constant onto memory at an address.
-#[inline(always)]
+#[inline(never)]
 pub fn constant_onto_absolute<B: Bus>(
     executor: &mut Executor<B>,
     op: Op2,
     value: u16,
     at: u16,
-    after: u16,
-    next: u16,
+    pc: u16,
 ) -> Result<(), Violation>
-    ensures { RunsPlan
-        (two op false (Const value) (Absolute at) (at_pc executor.old.regs after) next)
-        executor.old result executor.new }
+    ensures { RunsPlan (two op false (Const value) (Absolute at)
+        (at_pc executor.old.regs (onward pc 2)) (onward pc 4)) executor.old result executor.new }
 {
-    executor.set_pc(after);
+    executor.set_pc(pc.wrapping_add(2));
     let value = cut(false, value);
-    executor.set_pc(next);
+    executor.set_pc(pc.wrapping_add(4));
     on_byte(executor, op, at, value)
 }
 
 /// The same at a register plus `x`.
-#[inline(always)]
+#[inline(never)]
 pub fn constant_onto_indexed<B: Bus>(
     executor: &mut Executor<B>,
     op: Op2,
     value: u16,
     base: u8,
     x: u16,
-    after: u16,
-    next: u16,
+    pc: u16,
 ) -> Result<(), Violation>
-    ensures { RunsPlan
-        (two op false (Const value) (Indexed base x) (at_pc executor.old.regs after) next)
-        executor.old result executor.new }
+    ensures { RunsPlan (two op false (Const value) (Indexed base x)
+        (at_pc executor.old.regs (onward pc 2)) (onward pc 4)) executor.old result executor.new }
 {
-    executor.set_pc(after);
+    executor.set_pc(pc.wrapping_add(2));
     let value = cut(false, value);
-    executor.set_pc(next);
+    executor.set_pc(pc.wrapping_add(4));
     let at = executor.register(base).wrapping_add(x);
     on_byte(executor, op, at, value)
 }

@@ -17,12 +17,12 @@ use crate::triple::step_triple;
 use crate::two_operands::on_memory;
 use sx_bus::Bus;
 use sx_executor::registers::{PC, cut};
-use sx_executor::{Executor, Form, Shortcut};
+use sx_executor::{Executor, Form};
 use sx_isa::Op2;
 use sx_rules::Violation;
 
 /// An operation on words from a constant onto a register; `next` is the address after it.
-#[inline(always)]
+#[inline(never)]
 fn constant_onto_any<B: Bus>(
     executor: &mut Executor<B>,
     op: Op2,
@@ -49,72 +49,31 @@ fn symbolic_place<B: Bus>(executor: &Executor<B>, x: u16) -> u16
 }
 
 /// An operation on words from a constant onto memory at the extension word's address plus that
-/// word, `x`. PC goes to `after`, the address after the first word, before operands are read.
-#[inline(always)]
+/// word, `x`, at `pc`.
+#[inline(never)]
 fn constant_onto_symbolic<B: Bus>(
     executor: &mut Executor<B>,
     op: Op2,
     value: u16,
     x: u16,
-    after: u16,
-    next: u16,
+    pc: u16,
 ) -> Result<(), Violation>
-    ensures { RunsPlan
-        (two op true (Const value) (Symbolic x) (at_pc executor.old.regs after) next)
-        executor.old result executor.new }
+    ensures { RunsPlan (two op true (Const value) (Symbolic x)
+        (at_pc executor.old.regs (onward pc 2)) (onward pc 4)) executor.old result executor.new }
 {
-    executor.set_pc(after);
+    executor.set_pc(pc.wrapping_add(2));
     let value = cut(true, value);
-    executor.set_pc(next);
+    executor.set_pc(pc.wrapping_add(4));
     let at = symbolic_place(executor, x);
     on_memory(executor, op, true, at, value)
 }
 
-/// Executes the instruction at PC of this shortcut, whose code isn't in each step.
-#[inline(always)]
-#[tactic(auto, unfolding(spec_machine::specs::Rows::program, sx_isa::specs::Reading::length_of))]
-fn step_kept<B: Bus, const AHEAD: bool>(
-    executor: &mut Executor<B>,
-    shortcut: Shortcut,
-) -> Result<(), Violation>
-    requires { IsTrue AHEAD → IsAhead executor.old.sections.live executor.old.devices
-        executor.old.own (reg executor.old.regs 0) }
-    ensures { RunsPlan (program shortcut.first executor.old.regs) executor.old result
-        executor.new }
-{
-    let pc = executor.register(PC);
-    let after = pc.wrapping_add(2);
-    let next = pc.wrapping_add(4);
-    match shortcut.form {
-        Form::Single(form) => step_single(executor, form, after),
-        Form::Double(form) => {
-            let x = fetch_second::<B, AHEAD>(executor, &shortcut, pc)?;
-            step_double(executor, form, x, after, next)
-        }
-        Form::Triple(_) => step_triple::<B, AHEAD>(executor, shortcut),
-        Form::ConstantOntoSpecial { op, value, dst } => {
-            constant_onto_any(executor, op, value, dst, after)
-        }
-        Form::OntoSymbolic { op, value } => {
-            let x = fetch_second::<B, AHEAD>(executor, &shortcut, pc)?;
-            constant_onto_symbolic(executor, op, value, x, after, next)
-        }
-        Form::ByteOntoIndexed { op, value, base } => {
-            let x = fetch_second::<B, AHEAD>(executor, &shortcut, pc)?;
-            constant_onto_indexed(executor, op, value, base, x, after, next)
-        }
-        Form::ByteOntoAbsolute { op, value } => {
-            let x = fetch_second::<B, AHEAD>(executor, &shortcut, pc)?;
-            constant_onto_absolute(executor, op, value, x, after, next)
-        }
-        _ => step_long(executor, shortcut.first),
-    }
-}
-
 /// Executes the instruction at PC with this first word where its code isn't in each step. It finds
-/// its shortcut again, so that a step which doesn't come here hands nothing on.
+/// its shortcut again, so that a step which doesn't come here hands nothing on. It saves nothing:
+/// what is done is a call at its end, which takes what it needs in registers.
 #[cold]
 #[inline(never)]
+#[tactic(auto, unfolding(spec_machine::specs::Rows::program, sx_isa::specs::Reading::length_of))]
 pub fn step_called<B: Bus, const AHEAD: bool>(
     executor: &mut Executor<B>,
     first: u16,
@@ -123,9 +82,34 @@ pub fn step_called<B: Bus, const AHEAD: bool>(
         executor.old.own (reg executor.old.regs 0) }
     ensures { RunsPlan (program first executor.old.regs) executor.old result executor.new }
 {
-    let shortcut = *executor.shortcut(executor.register(PC));
+    let pc = executor.register(PC);
+    let shortcut = executor.shortcut(pc);
     if shortcut.first != first {
         return step_long(executor, first);
     }
-    step_kept::<B, AHEAD>(executor, shortcut)
+    let after = pc.wrapping_add(2);
+    match shortcut.form {
+        Form::Single(form) => step_single(executor, form, after),
+        Form::Double(form) => {
+            let x = fetch_second::<B, AHEAD>(executor, shortcut, pc)?;
+            step_double(executor, form, x, pc)
+        }
+        Form::Triple(_) => step_triple::<B, AHEAD>(executor, first),
+        Form::ConstantOntoSpecial { op, value, dst } => {
+            constant_onto_any(executor, op, value, dst, after)
+        }
+        Form::OntoSymbolic { op, value } => {
+            let x = fetch_second::<B, AHEAD>(executor, shortcut, pc)?;
+            constant_onto_symbolic(executor, op, value, x, pc)
+        }
+        Form::ByteOntoIndexed { op, value, base } => {
+            let x = fetch_second::<B, AHEAD>(executor, shortcut, pc)?;
+            constant_onto_indexed(executor, op, value, base, x, pc)
+        }
+        Form::ByteOntoAbsolute { op, value } => {
+            let x = fetch_second::<B, AHEAD>(executor, shortcut, pc)?;
+            constant_onto_absolute(executor, op, value, x, pc)
+        }
+        _ => step_long(executor, first),
+    }
 }

@@ -14,6 +14,7 @@ ghost use Rattle.sx_executor.specs.Shortcuts.{instruction_of, words_of, triple_o
 ghost use Rattle.sx_core.specs.Quickly.{EndsStep};
 
 use crate::at_hand::{word_onto_absolute, word_onto_indexed};
+use crate::forms::answer_of;
 use crate::quick::{Stepped, on_word};
 use crate::step::step_long;
 use sx_bus::Bus;
@@ -197,25 +198,26 @@ fn with_both<B: Bus>(executor: &mut Executor<B>, form: Triple, x: u16, z: u16, p
     }
 }
 
-/// Executes the instruction at PC of this shortcut, which is one of three words.
-#[inline]
+/// Executes the instruction at PC with this first word, which is one of three words. It finds its
+/// shortcut again, so that nothing is handed on in memory.
+#[inline(never)]
 #[tactic(auto, unfolding(spec_machine::specs::Rows::program, sx_isa::specs::Reading::length_of))]
 pub fn step_triple<B: Bus, const AHEAD: bool>(
     executor: &mut Executor<B>,
-    shortcut: Shortcut,
+    first: u16,
 ) -> Result<(), Violation>
     requires { IsTrue AHEAD → IsAhead executor.old.sections.live executor.old.devices
         executor.old.own (reg executor.old.regs 0) }
-    ensures { RunsPlan (program shortcut.first executor.old.regs) executor.old result
-        executor.new }
+    ensures { RunsPlan (program first executor.old.regs) executor.old result executor.new }
 {
-    let Form::Triple(form) = shortcut.form else {
-        return step_long(executor, shortcut.first);
-    };
     let pc = executor.register(PC);
-    let (x, z) = fetch_both::<B, AHEAD>(executor, &shortcut, pc)?;
-    match with_both(executor, form, x, z, pc) {
-        Stepped::Quiet => Ok(()),
-        Stepped::Answered(answer) => answer,
+    let shortcut = executor.shortcut(pc);
+    if shortcut.first != first {
+        return step_long(executor, first);
     }
+    let Form::Triple(form) = shortcut.form else {
+        return step_long(executor, first);
+    };
+    let (x, z) = fetch_both::<B, AHEAD>(executor, shortcut, pc)?;
+    answer_of(with_both(executor, form, x, z, pc))
 }
