@@ -114,7 +114,7 @@ fn into_any<B: Bus>(executor: &mut Executor<B>, r: u8, value: (u16, StatusBits))
 
 /// An operation on words onto a register.
 #[inline(always)]
-pub fn onto_any<B: Bus>(executor: &mut Executor<B>, op: Op2, src: u16, r: u8)
+fn onto_any<B: Bus>(executor: &mut Executor<B>, op: Op2, src: u16, r: u8)
     requires { src < limit true }
     ensures { RunsQuietly (onto op true (Reg r) src executor.old.regs) executor.old executor.new }
 {
@@ -438,6 +438,25 @@ pub fn register_onto_register<B: Bus>(
 {
     executor.set_pc(next);
     let value = executor.operand(true, src);
+    executor.set_pc(next);
+    onto_any(executor, op, value, dst);
+    Stepped::Quiet
+}
+
+/// The same from a constant.
+#[inline(always)]
+pub fn constant_onto_register<B: Bus>(
+    executor: &mut Executor<B>,
+    op: Op2,
+    value: u16,
+    dst: u8,
+    next: u16,
+) -> Stepped
+    ensures { EndsStep (two op true (Const value) (Reg dst) (at_pc executor.old.regs next) next)
+        executor.old result executor.new }
+{
+    executor.set_pc(next);
+    let value = cut(true, value);
     executor.set_pc(next);
     onto_any(executor, op, value, dst);
     Stepped::Quiet

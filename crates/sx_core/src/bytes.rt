@@ -73,7 +73,7 @@ fn registers<B: Bus>(
 /// The same from a constant. This code stays out of the way of what most steps do.
 #[cold]
 #[inline(never)]
-pub fn constant_onto_register<B: Bus>(
+pub fn byte_constant<B: Bus>(
     executor: &mut Executor<B>,
     op: Op2,
     value: u16,

@@ -8,9 +8,9 @@ ghost use Rattle.spec_machine.specs.Rows.{program, two};
 ghost use Rattle.sx_executor.specs.Machine.{RunsPlan};
 ghost use Rattle.sx_executor.specs.Occupancy.{IsAhead};
 
-use crate::at_hand::onto_any;
+use crate::at_hand::constant_onto_register;
 use crate::bytes::{constant_onto_absolute, constant_onto_indexed};
-use crate::forms::{step_double, step_single};
+use crate::forms::{answer_of, step_double, step_single};
 use crate::quick::fetch_second;
 use crate::step::step_long;
 use crate::triple::step_triple;
@@ -21,9 +21,9 @@ use sx_executor::{Executor, Form};
 use sx_isa::Op2;
 use sx_rules::Violation;
 
-/// An operation on words from a constant onto a register; `next` is the address after it.
+/// An operation on words from a constant onto PC, SP, SR or R3; `next` is the address after it.
 #[inline(never)]
-fn constant_onto_any<B: Bus>(
+fn constant_onto_special<B: Bus>(
     executor: &mut Executor<B>,
     op: Op2,
     value: u16,
@@ -33,11 +33,7 @@ fn constant_onto_any<B: Bus>(
     ensures { RunsPlan (two op true (Const value) (Reg dst) (at_pc executor.old.regs next) next)
         executor.old result executor.new }
 {
-    executor.set_pc(next);
-    let value = cut(true, value);
-    executor.set_pc(next);
-    onto_any(executor, op, value, dst);
-    Ok(())
+    answer_of(constant_onto_register(executor, op, value, dst, next))
 }
 
 /// The address of the extension word plus that word, `x`. PC is after it.
@@ -96,7 +92,7 @@ pub fn step_called<B: Bus, const AHEAD: bool>(
         }
         Form::Triple(_) => step_triple::<B, AHEAD>(executor, first),
         Form::ConstantOntoSpecial { op, value, dst } => {
-            constant_onto_any(executor, op, value, dst, after)
+            constant_onto_special(executor, op, value, dst, after)
         }
         Form::OntoSymbolic { op, value } => {
             let x = fetch_second::<B, AHEAD>(executor, shortcut, pc)?;

@@ -25,12 +25,12 @@ ghost use Rattle.sx_executor.specs.Shortcuts.{byte_single_is_fit, byte_double_is
 ghost use Rattle.sx_core.specs.Quickly.{RunsQuietly, EndsStep, MayEndStep};
 
 use crate::at_hand::{
-    call_immediate, immediate_onto_register, load_absolute, load_indexed, move_byte,
-    move_immediate, on_register, pop, push_absolute, push_constant, push_immediate, store_absolute,
-    store_indexed,
+    call_immediate, constant_onto_register, immediate_onto_register, load_absolute, load_indexed,
+    move_byte, move_immediate, on_register, pop, push_absolute, push_constant, push_immediate,
+    store_absolute, store_indexed,
 };
 use crate::byte_store::{store_byte, store_of};
-use crate::bytes::{byte_double, byte_single, constant_onto_register};
+use crate::bytes::{byte_constant, byte_double, byte_single};
 use crate::called::step_called;
 use crate::increment::{IncrementOnto, increment_of, increment_onto};
 use crate::jump::jump_quietly;
@@ -381,7 +381,7 @@ fn from_byte_constant<B: Bus>(
     ensures { EndsStep (two op false (Const value) (Reg dst) (at_pc executor.old.regs next) next)
         executor.old result executor.new }
 {
-    Stepped::Answered(constant_onto_register(executor, op, value, dst, next))
+    Stepped::Answered(byte_constant(executor, op, value, dst, next))
 }
 
 /// Another instruction on bytes without an extension word, which is a call.
@@ -474,6 +474,12 @@ fn step_at_hand<B: Bus, const CALLER: u8, const AHEAD: bool>(
             Some(from_constant(executor, Op2::Cmp, value, dst, next))
         }
         Form::Constant { op, value, dst } => Some(from_constant(executor, op, value, dst, next)),
+        // CLRC, with which compiled code begins each shift to the right, clears a bit of SR.
+        Form::ConstantOntoSpecial {
+            op: Op2::Bic,
+            value,
+            dst,
+        } => Some(constant_onto_register(executor, Op2::Bic, value, dst, next)),
         Form::OntoIndexed { op, value, base } => match fetch_second::<B, AHEAD>(
             executor, shortcut, pc,
         ) {

@@ -14,10 +14,10 @@ returns-in-ConstantOntoSpecial g c =
     let m = c.args.executor.now in
     let s = c.shortcut-shortcut.result.now in
     let op = c.in-ConstantOntoSpecial.op in let value = c.in-ConstantOntoSpecial.value in let dst = c.in-ConstantOntoSpecial.dst in
-    let Does : Plan → Type 0 = λ plan. RunsPlan plan m c.constant_onto_any.result c.constant_onto_any.new.executor in
+    let Does : Plan → Type 0 = λ plan. RunsPlan plan m c.constant_onto_special.result c.constant_onto_special.new.executor in
     let At : ℕ → Type 0 = λ pc. Does (two op true (Const value) (Reg dst) (at_pc m.regs (onward pc 2)) (onward pc 2)) in
     let same : s.first ≡ c.args.first = search rules in
-    let plan = subst Does (sym (of_form s (form.ConstantOntoSpecial op value dst) c.in-ConstantOntoSpecial.is refl m.regs)) (subst At c.register-pc.ensures c.constant_onto_any.ensures) in
+    let plan = subst Does (sym (of_form s (form.ConstantOntoSpecial op value dst) c.in-ConstantOntoSpecial.is refl m.regs)) (subst At c.register-pc.ensures c.constant_onto_special.ensures) in
     subst (λ (w : ℕ). Does (program w m.regs)) same plan
 
 pub returns-in-Single : goal.returns-in-Single

@@ -1,5 +1,5 @@
-use Rattle.std.proofs.Common.{rules, ◌≡◌, ℕ, true, false, refl, sym, subst}
-use Rattle.sx_isa.specs.declared.instruction.Op2.TheVariants.{Add, Sub, Cmp}
+use Rattle.std.proofs.Common.{rules, ◌≡◌, ℕ, true, false, ap, refl, sym, subst, ◌∙◌}
+use Rattle.sx_isa.specs.declared.instruction.Op2.TheVariants.{Add, Sub, Cmp, Bic}
 use Rattle.sx_isa.specs.declared.instruction.Operand.TheVariants.{Reg, Const}
 use Rattle.spec_machine.specs.Plan.{Plan}
 use Rattle.spec_machine.specs.Registers.{at_pc, onward}
@@ -63,6 +63,19 @@ returns-in-Constant g c =
     let At : ℕ → Type 0 = λ pc. Does (two op true (Const value) (Reg dst) (at_pc m.regs (onward pc 2)) (onward pc 2)) in
     let same : s.first ≡ c.args.first = search rules in
     let plan = subst Does (sym (of_form s (form.Constant op value dst) c.in-Constant.is refl m.regs)) (subst At c.register-pc.ensures c.from_constant-in-Constant.ensures) in
+    subst (λ (w : ℕ). Does (program w m.regs)) same plan
+
+pub returns-in-ConstantOntoSpecial-Bic-default-default : goal.returns-in-ConstantOntoSpecial-Bic-default-default
+returns-in-ConstantOntoSpecial-Bic-default-default g c =
+    let m = c.args.executor.now in
+    let s = c.shortcut-shortcut.result.now in
+    let value = c.in-ConstantOntoSpecial-Bic-default-default.value in let dst = c.in-ConstantOntoSpecial-Bic-default-default.dst in
+    let Does : Plan → Type 0 = λ plan. EndsStep plan m c.constant_onto_register.result c.constant_onto_register.new.executor in
+    let At : ℕ → Type 0 = λ pc. Does (two Bic true (Const value) (Reg dst) (at_pc m.regs (onward pc 2)) (onward pc 2)) in
+    let same : s.first ≡ c.args.first = search rules in
+    let clears : c.in-ConstantOntoSpecial-Bic-default-default.op ≡ Bic = search rules in
+    let form_is = c.in-ConstantOntoSpecial-Bic-default-default.is ∙ ap (λ op. form.ConstantOntoSpecial op value dst) clears in
+    let plan = subst Does (sym (of_form s (form.ConstantOntoSpecial Bic value dst) form_is refl m.regs)) (subst At c.register-pc.ensures c.constant_onto_register.ensures) in
     subst (λ (w : ℕ). Does (program w m.regs)) same plan
 
 pub returns-in-Single : goal.returns-in-Single
