@@ -7,6 +7,7 @@ use Rattle.sx_rules.specs.declared.section.Section.{Section}
 use Rattle.sx_rules.specs.Pages.{is_open}
 use Rattle.sx_bus.specs.Windows.{has_place}
 use Rattle.sx_executor.specs.Occupancy.{is_vacant}
+use Rattle.sx_executor.proofs.Reach.{and_swap}
 
 -- a place is on the page or on the next one, so the mark is taken
 taken : (v : Bool) (a page : ℕ) → (a ≡ page) ⊎ (a ≡ page + 1) → false ≡ (v && (not (a == page) && not (a == page + 1)))
@@ -59,11 +60,6 @@ turn new old places i page place lt is e =
     ∙ sym (ap (λ (b : Bool). old && (not b && not (has_place (page + 1) (drop i places)))) first
     ∙ ap (λ (b : Bool). old && (not (place / 256 == page || has_place page rest) && not b)) second)
 
-swap : (a m b : Bool) → (a && (m && b)) ≡ (m && (a && b))
-swap true m b = refl
-swap false true b = refl
-swap false false b = refl
-
 parted : (n o m p a b : Bool) → (((n && (o && true)) && (m && (p && true))) && (a && b)) ≡ ((n && (o && a)) && (m && (p && b)))
 parted false o m p a b = refl
 parted true false m p a b = refl
@@ -86,4 +82,4 @@ pub beside_devices : (places : List ℕ) (page : ℕ) → page < 256
 unfolding is_vacant
 beside_devices places page h =
     let a = not (has_place page places) in let b = not (has_place (page + 1) places) in
-    ap (λ (x : Bool). (x && a) && (nat_lt (page + 1) 256 && b)) (lt-ltb page 256 h) ∙ swap a (nat_lt (page + 1) 256) b
+    ap (λ (x : Bool). (x && a) && (nat_lt (page + 1) 256 && b)) (lt-ltb page 256 h) ∙ and_swap a (nat_lt (page + 1) 256) b

@@ -6,7 +6,7 @@ use Rattle.sx_rules.specs.declared.section.Section.{Section}
 use Rattle.sx_rules.specs.Access.{may}
 use Rattle.spec_machine.specs.Run.{may_range, may_each}
 
-and_swap : (a b c : Bool) → (a && (b && c)) ≡ (b && (a && c))
+pub and_swap : (a b c : Bool) → (a && (b && c)) ≡ (b && (a && c))
 and_swap true true c = refl
 and_swap true false c = refl
 and_swap false true c = refl

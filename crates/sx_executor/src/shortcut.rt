@@ -34,11 +34,14 @@ pub enum Form {
     JumpAlways { offset: i16 },
     /// From a register onto a general register.
     Registers { op: Op2, src: u8, dst: u8 },
-    /// Sums, differences and comparisons of a constant and a general register are told apart, too.
+    /// The sum of a general register and a constant. This and the next two are told apart, so that
+    /// none asks for its operation.
     AddConstant { value: u16, dst: u8 },
+    /// A constant taken from a general register.
     SubtractConstant { value: u16, dst: u8 },
+    /// A general register compared with a constant.
     CompareConstant { value: u16, dst: u8 },
-    /// Another one from a constant onto a general register.
+    /// Another operation from a constant onto a general register.
     Constant { op: Op2, value: u16, dst: u8 },
     /// From a constant onto memory at a register plus the extension word.
     OntoIndexed { op: Op2, value: u16, base: u8 },
