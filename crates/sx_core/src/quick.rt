@@ -68,15 +68,12 @@ fn jump_quickly<B: Bus>(
 
 /// The end of an operation on a general register.
 #[inline(always)]
-fn into_general<B: Bus>(executor: &mut Executor<B>, written: bool, r: u8, value: (u16, StatusBits))
+fn into_general<B: Bus>(executor: &mut Executor<B>, r: u8, value: (u16, StatusBits))
     requires { is_general r ≡ true }
-    ensures { RunsQuietly (into_register written r value executor.old.regs) executor.old
-        executor.new }
+    ensures { RunsQuietly (into_register true r value executor.old.regs) executor.old executor.new }
 {
     executor.set_flags(value.1);
-    if written {
-        executor.set_general(r, value.0);
-    }
+    executor.set_general(r, value.0);
 }
 
 /// The value of an operation on words that keeps the flags: MOV, BIC and BIS.
@@ -94,7 +91,8 @@ fn value_alone(op: Op2, src: u16, dst: u16, flags: StatusBits) -> Option<u16>
 }
 
 /// An operation on words onto a general register. What keeps the flags has a way of its own, on
-/// which the compiler drops their write; of the old flags the other way needs the carry alone.
+/// which the compiler drops their write; of the old flags the others need the carry alone. CMP and
+/// BIT keep the register.
 #[inline(always)]
 fn onto_general<B: Bus>(executor: &mut Executor<B>, op: Op2, src: u16, r: u8)
     requires src { src < limit true }
@@ -104,11 +102,14 @@ fn onto_general<B: Bus>(executor: &mut Executor<B>, op: Op2, src: u16, r: u8)
     let old = executor.general(r);
     let flags = executor.flags();
     if let Some(value) = value_alone(op, src, old, flags) {
-        into_general(executor, true, r, (value, flags));
+        into_general(executor, r, (value, flags));
         return;
     }
-    let value = computed_as::<true>(op, src, old, flags);
-    into_general(executor, writes(op), r, value);
+    match op {
+        Op2::Cmp => executor.set_flags(computed_as::<true>(Op2::Cmp, src, old, flags).1),
+        Op2::Bit => executor.set_flags(computed_as::<true>(Op2::Bit, src, old, flags).1),
+        _ => into_general(executor, r, computed_as::<true>(op, src, old, flags)),
+    }
 }
 
 /// The same from a register; `next` is the address after the instruction.
