@@ -37,7 +37,7 @@ pub fn load_at_hand<B: Bus>(executor: &Executor<B>, wide: bool, at: u16) -> Opti
     ensures run { IfSome result (λ v. Loads wide at executor.now (Ok v) executor.now) }
     ensures below { IfSome result (λ v. v < limit wide) }
 {
-    if executor.is_at_hand(at) || executor.is_text(at) {
+    if executor.is_readable_at_hand(at) {
         return Some(executor.read(wide, at));
     }
     load_readable(executor, wide, at)
@@ -123,6 +123,29 @@ fn onto_any<B: Bus>(executor: &mut Executor<B>, op: Op2, src: u16, r: u8)
     executor.set_flags(value.1);
     if writes(op) {
         executor.set_register(r, value.0);
+    }
+}
+
+/// The same as a call.
+#[inline(never)]
+fn onto_any_called<B: Bus>(executor: &mut Executor<B>, op: Op2, src: u16, r: u8)
+    requires { src < limit true }
+    ensures { RunsQuietly (onto op true (Reg r) src executor.old.regs) executor.old executor.new }
+{
+    onto_any(executor, op, src, r);
+}
+
+/// The same where sums, differences and comparisons have code here, and the others are a call.
+#[inline(always)]
+fn onto_any_by_name<B: Bus>(executor: &mut Executor<B>, op: Op2, src: u16, r: u8)
+    requires { src < limit true }
+    ensures { RunsQuietly (onto op true (Reg r) src executor.old.regs) executor.old executor.new }
+{
+    match op {
+        Op2::Add => onto_any(executor, Op2::Add, src, r),
+        Op2::Sub => onto_any(executor, Op2::Sub, src, r),
+        Op2::Cmp => onto_any(executor, Op2::Cmp, src, r),
+        _ => onto_any_called(executor, op, src, r),
     }
 }
 
@@ -351,7 +374,7 @@ pub fn immediate_onto_register<B: Bus>(
 
 /// The same from memory at an address.
 #[inline(always)]
-fn word_onto_register<B: Bus>(
+pub fn word_onto_register<B: Bus>(
     executor: &mut Executor<B>,
     op: Op2,
     at: u16,
@@ -366,7 +389,7 @@ fn word_onto_register<B: Bus>(
         return Stepped::Answered(two_near(executor, op, true, from, to, next));
     };
     executor.set_pc(next);
-    onto_any(executor, op, value, dst);
+    onto_any_by_name(executor, op, value, dst);
     Stepped::Quiet
 }
 

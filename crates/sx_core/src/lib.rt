@@ -15,6 +15,7 @@ mod byte_store;
 mod bytes;
 mod called;
 mod forms;
+mod from_memory;
 mod increment;
 mod jump;
 mod one_operand;

@@ -3,7 +3,9 @@
 
 ghost use Rattle.std.specs.Prelude.{◌≡◌, ℕ, Bool};
 ghost use Rattle.sx_isa.specs.declared.instruction.Op2.{Op2};
-ghost use Rattle.spec_machine.specs.Rows.{onto, on_memory};
+ghost use Rattle.sx_isa.specs.declared.instruction.Operand.{Operand};
+ghost use Rattle.sx_isa.specs.declared.instruction.Operand.TheVariants.{Absolute};
+ghost use Rattle.spec_machine.specs.Rows.{two, onto, on_memory};
 ghost use Rattle.sx_core.specs.Places.{place_of};
 
 use sx_bus::Bus;
@@ -11,10 +13,13 @@ use sx_executor::Executor;
 use sx_isa::Operand;
 
 /// The address of a place; `base` is the register that the extension word `x` is added to, if there
-/// is one. PC is after the instruction.
+/// is one. PC is where it is when the operand is read or written.
 #[inline(always)]
 pub fn address_of<B: Bus>(executor: &Executor<B>, base: Option<u8>, x: u16) -> u16
-    ensures { (op : Op2) (wide : Bool) (value : ℕ)
+    ensures source { (op : Op2) (wide : Bool) (dst : Operand) (next : ℕ)
+        → two op wide (place_of base x) dst executor.now.regs next
+        ≡ two op wide (Absolute result) dst executor.now.regs next }
+    ensures destination { (op : Op2) (wide : Bool) (value : ℕ)
         → onto op wide (place_of base x) value executor.now.regs
         ≡ on_memory op wide result value executor.now.regs }
 {

@@ -32,6 +32,7 @@ use crate::at_hand::{
 use crate::byte_store::{store_byte, store_of};
 use crate::bytes::{byte_constant, byte_double, byte_single};
 use crate::called::step_called;
+use crate::from_memory::{FromMemory, from_memory, from_memory_of};
 use crate::increment::{IncrementOnto, increment_of, increment_onto};
 use crate::jump::jump_quietly;
 use crate::two_operands::{computed_as, on_memory, reads, writes};
@@ -317,6 +318,25 @@ fn without_extension<B: Bus, const CALLER: u8>(
     }
 }
 
+/// One with a place in memory that the extension word `x` tells, if it is done here.
+#[inline(always)]
+fn with_place<B: Bus>(
+    executor: &mut Executor<B>,
+    form: Double,
+    x: u16,
+    after: u16,
+    next: u16,
+) -> Option<Stepped>
+    ensures { MayEndStep (row (extended (double_of form) x 0) (at_pc executor.old.regs after) next)
+        executor.old result executor.new }
+{
+    if let Some(FromMemory { op, base, dst }) = from_memory_of(form) {
+        return Some(from_memory(executor, op, base, x, dst, after, next));
+    }
+    let IncrementOnto { op, src, base } = increment_of(form)?;
+    Some(increment_onto(executor, op, src, base, x, after, next))
+}
+
 /// One with the extension word `x`, at `pc`, if it is done here.
 #[inline]
 fn with_extension<B: Bus, const CALLER: u8>(
@@ -361,10 +381,7 @@ fn with_extension<B: Bus, const CALLER: u8>(
         Double::OnImmediate { op: Op1::Call } => Some(call_immediate(executor, x, after, next)),
         Double::OnImmediate { op: Op1::Push } => Some(push_immediate(executor, x, after, next)),
         Double::OnAbsolute { op: Op1::Push } => Some(push_absolute(executor, x, after, next)),
-        _ => {
-            let IncrementOnto { op, src, base } = increment_of(form)?;
-            Some(increment_onto(executor, op, src, base, x, after, next))
-        }
+        _ => with_place(executor, form, x, after, next),
     }
 }
 

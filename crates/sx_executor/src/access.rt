@@ -70,8 +70,22 @@ impl<B: Bus> Executor<B> {
         self.occupancy().has_text(at)
     }
 
-    /// The same of a place in that text, or around one where a read missed: no private part and no
-    /// device is there.
+    /// Whether the running code may read a place, and no device is there: it is at hand, or in that
+    /// text. A text is asked before gaps, which are seldom read.
+    #[inline(always)]
+    pub fn is_readable_at_hand(&self, at: u16) -> bool
+        ensures read { IsTrue result
+            → (wide : Bool) → may_at wide self.now.sections.live self.now.own Read at ≡ true }
+        ensures memory { IsTrue result → device_of self.now.devices at ≡ None }
+    {
+        self.is_vacant(at)
+            || self.occupancy().has_bare_data(self.own(), at)
+            || self.is_text(at)
+            || self.protection().has_gap(at) && self.windows().at(at).is_none()
+    }
+
+    /// Whether all code may read a place, and no device is there: it is in that text, or around a
+    /// place where a read missed.
     #[inline(always)]
     pub fn is_readable(&self, at: u16) -> bool
         ensures read { IsTrue result

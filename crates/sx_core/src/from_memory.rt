@@ -1,0 +1,69 @@
+//! Operations on words from memory that an extension word tells onto a register.
+
+ghost use Rattle.std.specs.Prelude.{◌≡◌, ◌<◌, ℕ, true, false, IfSome};
+ghost use Rattle.sx_isa.specs.declared.instruction.Instr.TheVariants.{Two};
+ghost use Rattle.sx_isa.specs.declared.instruction.Operand.TheVariants.{Reg};
+ghost use Rattle.sx_isa.specs.Extending.{extended};
+ghost use Rattle.spec_machine.specs.Registers.{at_pc};
+ghost use Rattle.spec_machine.specs.Rows.{two};
+ghost use Rattle.sx_executor.specs.Shortcuts.{double_of};
+ghost use Rattle.sx_core.specs.Quickly.{EndsStep};
+ghost use Rattle.sx_core.specs.Places.{place_of};
+
+use crate::at_hand::word_onto_register;
+use crate::place::address_of;
+use crate::quick::Stepped;
+use sx_bus::Bus;
+use sx_executor::{Double, Executor};
+use sx_isa::Op2;
+
+/// An operation from memory at the extension word, or at a base plus that word, onto a register.
+#[derive(Clone, Copy)]
+pub struct FromMemory {
+    pub op: Op2,
+    /// The register that the extension word is added to, if there is one.
+    pub base: Option<u8>,
+    /// The register that the operation is onto.
+    pub dst: u8,
+}
+
+/// The operation that a form is, if it is one.
+#[inline(always)]
+pub fn from_memory_of(form: Double) -> Option<FromMemory>
+    ensures { IfSome result (λ load. (x : ℕ) → extended (double_of form) x 0
+        ≡ Two load.op false (place_of load.base x) (Reg load.dst)) }
+{
+    match form {
+        Double::FromAbsolute { op, dst } => Some(FromMemory {
+            op,
+            base: None,
+            dst,
+        }),
+        Double::FromIndexed { op, base, dst } => Some(FromMemory {
+            op,
+            base: Some(base),
+            dst,
+        }),
+        _ => None,
+    }
+}
+
+/// The operation with the extension word `x`. PC goes to `after`, the address after the first word,
+/// before operands are read; `next` is the address after the whole.
+#[inline(always)]
+pub fn from_memory<B: Bus>(
+    executor: &mut Executor<B>,
+    op: Op2,
+    base: Option<u8>,
+    x: u16,
+    dst: u8,
+    after: u16,
+    next: u16,
+) -> Stepped
+    ensures { EndsStep (two op true (place_of base x) (Reg dst) (at_pc executor.old.regs after) next)
+        executor.old result executor.new }
+{
+    executor.set_pc(after);
+    let at = address_of(executor, base, x);
+    word_onto_register(executor, op, at, dst, next)
+}
