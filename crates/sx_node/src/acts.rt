@@ -1,4 +1,7 @@
-//! What may be done to a node from outside.
+//! Acts on a node from outside, but for `reset`: what refuses each, and what it does.
+//!
+//! No field of a node is seen here. So an act reaches memory by the calls of `node::outside` alone,
+//! each of which requires that no module runs: none touches a byte before it has asked that.
 
 ghost use Rattle.std.specs.Prelude.{◌≡◌, ◌≢◌, ◌<◌, ◌≤◌, ◌+◌, ℕ, false, length, slice_get, List};
 ghost use Rattle.std.specs.Prelude.{Ok, Err, Result, Option, Some, IfSome, IfNone, IfErr, OnOk};
@@ -6,46 +9,25 @@ ghost use Rattle.sx_rules.specs.Access.{Lives};
 ghost use Rattle.sx_rules.specs.Placed.{Placed};
 ghost use Rattle.sx_rules.specs.declared.section.Section.{Section};
 ghost use Rattle.sx_bus.specs.declared.devices.Kind.TheVariants.{Sensor};
-ghost use Rattle.spec_machine.specs.State.{reset};
 ghost use Rattle.spec_machine.specs.declared.kinds.Refused.{Refused};
 ghost use Rattle.spec_machine.specs.declared.kinds.Seen.{Seen};
 ghost use Rattle.spec_machine.specs.Acts.{put_refusal, take_refusal, busy, irq_refusal};
-ghost use Rattle.spec_machine.specs.Acts.{put, take, set, sense, interrupt, irq};
+ghost use Rattle.spec_machine.specs.Acts.{put, take, set, sense, irq};
 ghost use Rattle.spec_machine.specs.Ranges.{meets_private, meets_public};
-ghost use Rattle.spec_machine.specs.Run.{exec};
-ghost use Rattle.spec_machine.specs.Step.{start};
-ghost use Rattle.spec_machine.specs.Answers.{Interrupts};
 ghost use Rattle.spec_machine.specs.Guarding.{Guarded};
 ghost use Rattle.sx_executor.specs.Machine.{IsClear};
 
-use crate::node::{Node, no_exchange};
-use crate::step::reset_by;
-use spec_machine::{Event, Refused, Seen};
+use crate::node::{Node, reset_by};
+use spec_machine::{Refused, Seen};
 use sx_bus::Bus;
-use sx_core::interrupt;
 use sx_executor::Range;
-use sx_executor::registers::{PC, SR};
-use sx_rules::Violation;
+use sx_executor::registers::SR;
 use sx_tag::Tag;
 
 impl<B: Bus, T: Tag> Node<B, T> {
-    /// Clears memory, registers, sections and the sensors' fresh marks, sets PC to 0 and raises the
-    /// boot count by one. The sensors keep their values.
-    pub fn reset(&mut self)
-        requires { self.old.boot < u32.MAX }
-        ensures state { self.new ≡ reset self.old }
-        ensures guarded { (s : Section)
-            → Guarded (Unit {0}) (λ a. record { state = reset a; shown = tt }) s self.old }
-    {
-        self.executor.reset();
-        self.last = 0;
-        self.caller = 0;
-        self.boot += 1;
-        self.exchange = no_exchange();
-    }
-
     fn busy(&self) -> Option<Refused>
-        ensures { result ≡ busy self.now }
+        ensures refusal { result ≡ busy self.now }
+        ensures outside { IfNone result (self.now.cur ≡ 0) }
     {
         if self.running() == 0 {
             None
@@ -56,6 +38,7 @@ impl<B: Bus, T: Tag> Node<B, T> {
 
     fn put_refusal(&self, at: u16, count: usize) -> Option<Refused>
         ensures refusal { result ≡ put_refusal self.now at count }
+        ensures outside { IfNone result (self.now.cur ≡ 0) }
         ensures within { IfNone result (at + count ≤ 65536) }
         ensures public { IfNone result (meets_public self.now.sections.live at count ≡ false) }
         ensures private { IfNone result (meets_private self.now.sections.live at count ≡ false) }
@@ -67,10 +50,10 @@ impl<B: Bus, T: Tag> Node<B, T> {
         let Some(range) = Range::new(at, count) else {
             return Some(Refused::Guarded);
         };
-        let live = self.executor.table().live();
+        let live = self.table().live();
         if range.meets_public(live)
             || range.meets_private(live)
-            || range.meets_device(self.executor.windows().places())
+            || range.meets_device(self.windows().places())
         {
             return Some(Refused::Guarded);
         }
@@ -79,6 +62,7 @@ impl<B: Bus, T: Tag> Node<B, T> {
 
     fn take_refusal(&self, at: u16, count: usize) -> Option<Refused>
         ensures refusal { result ≡ take_refusal self.now at count }
+        ensures outside { IfNone result (self.now.cur ≡ 0) }
         ensures within { IfNone result (at + count ≤ 65536) }
         ensures private { IfNone result (meets_private self.now.sections.live at count ≡ false) }
         ensures memory { IfNone result (IsClear self.now.devices at count) }
@@ -89,9 +73,7 @@ impl<B: Bus, T: Tag> Node<B, T> {
         let Some(range) = Range::new(at, count) else {
             return Some(Refused::Guarded);
         };
-        if range.meets_private(self.executor.table().live())
-            || range.meets_device(self.executor.windows().places())
-        {
+        if range.meets_private(self.table().live()) || range.meets_device(self.windows().places()) {
             return Some(Refused::Guarded);
         }
         None
@@ -109,7 +91,7 @@ impl<B: Bus, T: Tag> Node<B, T> {
         if let Some(refused) = self.put_refusal(at, bytes.len()) {
             return Err(refused);
         }
-        self.executor.write_bytes(at, bytes);
+        self.write_bytes(at, bytes);
         Ok(())
     }
 
@@ -127,7 +109,7 @@ impl<B: Bus, T: Tag> Node<B, T> {
         if let Some(refused) = self.take_refusal(at, into.len()) {
             return Err(refused);
         }
-        self.executor.read_bytes(at, into);
+        self.read_bytes(at, into);
         Ok(())
     }
 
@@ -144,10 +126,7 @@ impl<B: Bus, T: Tag> Node<B, T> {
         if let Some(refused) = self.busy() {
             return Err(refused);
         }
-        self.executor.set_register(reg, value);
-        if reg == PC {
-            self.last = 0;
-        }
+        self.set_register(reg, value);
         Ok(())
     }
 
@@ -165,7 +144,7 @@ impl<B: Bus, T: Tag> Node<B, T> {
         if let Some(refused) = self.busy() {
             return Err(refused);
         }
-        self.executor.sense(device, value);
+        self.set_sample(device, value);
         Ok(())
     }
 
@@ -176,30 +155,11 @@ impl<B: Bus, T: Tag> Node<B, T> {
         if self.running() != 0 {
             return Some(Refused::Busy);
         }
-        if (self.executor.register(SR) >> 3) & 1 == 1 {
+        if (self.reg(SR) >> 3) & 1 == 1 {
             None
         } else {
             Some(Refused::Masked)
         }
-    }
-
-    /// The interrupt of a line, up to its first violation. No module runs, so it is code outside.
-    fn interrupt(&mut self, line: u8) -> Result<Seen, Violation>
-        requires line { line ≤ 14 }
-        requires outside { self.old.cur ≡ 0 }
-        ensures { Interrupts self.old
-            (exec self.old.sections 0 (interrupt line self.old.regs) (start self.old))
-            result self.new }
-    {
-        let done = interrupt(&mut self.executor, line);
-        let touch = self.executor.touches();
-        self.executor.begin(0);
-        done?;
-        self.last = 0;
-        Ok(Seen {
-            touch,
-            event: Event::Quiet,
-        })
     }
 
     /// An interrupt of a line from 0 to 14: PC and then SR are pushed as by code outside every

@@ -7,11 +7,7 @@
 #![tactic(auto)]
 
 mod acts;
-mod at_home;
-mod copied;
 mod node;
-mod quick;
-mod step;
 
 pub use node::Node;
 pub use spec_machine::{Event, Exchange, Refused, Seen, Touch};

@@ -1,28 +1,43 @@
-//! The state of a node, and its parts.
+//! The state of a node, its reset, and the calls that look at it.
+//!
+//! Its fields are seen here and in the child modules: `step`, `quick` and `at_home`, which run
+//! instructions, `copied`, and `outside`, by which alone an act from outside reaches memory. While a
+//! module runs, the calls of this file have its turn, too: that none reads memory is to be checked
+//! by eye.
 
 ghost use Rattle.std.specs.Prelude.{◌≡◌, ◌<◌, slice_index};
 ghost use Rattle.sx_bus.specs.Memory.{blank};
 ghost use Rattle.sx_bus.specs.Windows.{AreNew};
 ghost use Rattle.sx_rules.specs.Access.{section_of};
-ghost use Rattle.spec_machine.specs.State.{power_on, no_exchange};
+ghost use Rattle.sx_rules.specs.declared.section.Section.{Section};
+ghost use Rattle.spec_machine.specs.declared.kinds.Event.TheVariants.{Reset};
+ghost use Rattle.spec_machine.specs.State.{power_on, no_exchange, reset};
+ghost use Rattle.spec_machine.specs.Run.{untouched};
+ghost use Rattle.spec_machine.specs.Guarding.{Guarded};
 
-use spec_machine::Exchange;
+mod at_home;
+mod copied;
+mod outside;
+mod quick;
+mod step;
+
+use spec_machine::{Event, Exchange, Seen, Touch};
 use std::marker::Model;
 use sx_bus::{Bus, Windows};
 use sx_executor::Executor;
-use sx_rules::Section;
+use sx_rules::{Section, Table, Violation};
 use sx_tag::Tag;
 
 /// A node over any memory and any tag.
 #[derive(Drop)]
 pub struct Node<B: Bus, T: Tag> {
-    pub(crate) executor: Executor<B>,
-    pub(crate) last: u16,
-    pub(crate) caller: u16,
-    pub(crate) boot: u32,
-    pub(crate) key: [u8; 16],
-    pub(crate) exchange: Exchange,
-    pub(crate) tag: T,
+    executor: Executor<B>,
+    last: u16,
+    caller: u16,
+    boot: u32,
+    key: [u8; 16],
+    exchange: Exchange,
+    tag: T,
 }
 
 impl<B: Bus, T: Tag> Model for Node<B, T> {
@@ -49,8 +64,18 @@ impl<B: Bus, T: Tag> Model for Node<B, T> {
     } };
 }
 
+/// What is shown where a violation ended a step or an interrupt.
+pub(crate) fn reset_by(violation: Violation) -> Seen
+    ensures { result ≡ record { touch = untouched; event = Reset violation } }
+{
+    Seen {
+        touch: [Touch::Quiet; 2],
+        event: Event::Reset(violation),
+    }
+}
+
 /// No header and no body yet.
-pub(crate) fn no_exchange() -> Exchange
+fn no_exchange() -> Exchange
     ensures { result ≡ no_exchange }
 {
     Exchange {
@@ -82,6 +107,21 @@ impl<B: Bus, T: Tag> Node<B, T> {
         }
     }
 
+    /// Clears memory, registers, sections and the sensors' fresh marks, sets PC to 0 and raises the
+    /// boot count by one. The sensors keep their values.
+    pub fn reset(&mut self)
+        requires { self.old.boot < u32.MAX }
+        ensures state { self.new ≡ reset self.old }
+        ensures guarded { (s : Section)
+            → Guarded (Unit {0}) (λ a. record { state = reset a; shown = tt }) s self.old }
+    {
+        self.executor.reset();
+        self.last = 0;
+        self.caller = 0;
+        self.boot += 1;
+        self.exchange = no_exchange();
+    }
+
     /// The id of the module that runs, or 0: the module of the last instruction runs where PC was
     /// in its public section afterwards.
     #[inline(always)]
@@ -111,6 +151,20 @@ impl<B: Bus, T: Tag> Node<B, T> {
         ensures { result ≡ section_of self.now.sections.live id }
     {
         self.executor.section(id)
+    }
+
+    /// The sections.
+    pub(crate) fn table(&self) -> &Table
+        ensures { result.now ≡ self.now.sections }
+    {
+        self.executor.table()
+    }
+
+    /// The devices.
+    pub(crate) fn windows(&self) -> &Windows
+        ensures { result.now ≡ self.now.devices }
+    {
+        self.executor.windows()
     }
 
     /// The header and the body of the last `Wrapped` or `Unwrapped`.

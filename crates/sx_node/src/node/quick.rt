@@ -18,8 +18,8 @@ ghost use Rattle.spec_machine.specs.Step.{start, entered_from, left};
 ghost use Rattle.sx_executor.specs.Occupancy.{IsAhead};
 ghost use Rattle.sx_node.specs.Telling.{told, Tells, IsIdle};
 
-use crate::node::Node;
-use crate::step::{code_of, reset_by};
+use crate::node::step::code_of;
+use crate::node::{Node, reset_by};
 use spec_machine::{Event, Seen, Touch};
 use sx_bus::Bus;
 use sx_core::{Stepped, step_long, step_quick};
@@ -29,14 +29,14 @@ use sx_rules::Violation;
 use sx_tag::Tag;
 
 /// Whether an instruction did nothing at devices.
-pub(crate) fn is_untouched(touch: &[Touch; 2]) -> bool
+pub(super) fn is_untouched(touch: &[Touch; 2]) -> bool
     ensures { IsTrue result → touch.now ≡ untouched }
 {
     matches!(*touch, [Touch::Quiet, Touch::Quiet])
 }
 
 /// Whether a step shows anything.
-pub(crate) fn is_anything(seen: &Seen) -> bool
+pub(super) fn is_anything(seen: &Seen) -> bool
     ensures { told result seen.now ≡ seen.now }
 {
     !is_untouched(&seen.touch) || !matches!(seen.event, Event::Quiet)
@@ -140,7 +140,7 @@ impl<B: Bus, T: Tag> Node<B, T> {
 
     /// The end of a step by a violation, which is always told.
     #[inline(never)]
-    pub(crate) fn end_reset(&mut self, violation: Violation, seen: &mut Seen) -> bool
+    pub(super) fn end_reset(&mut self, violation: Violation, seen: &mut Seen) -> bool
         requires { self.old.boot < u32.MAX }
         ensures tells { Tells self.old (Violated violation) result seen.new self.new }
         ensures seen { result ≡ true }
@@ -213,7 +213,7 @@ impl<B: Bus, T: Tag> Node<B, T> {
     /// An instruction without a shortcut, of the module `own` or with 0 of code outside. Its code
     /// stays out of the way of what most steps do. What is seen is left in `seen` in each case.
     #[inline(never)]
-    pub(crate) fn instruction_near(&mut self, own: u16, first: u16, seen: &mut Seen) -> bool
+    pub(super) fn instruction_near(&mut self, own: u16, first: u16, seen: &mut Seen) -> bool
         requires boot { self.old.boot < u32.MAX }
         requires own { own ≡ own_of self.old }
         requires word { first ≡ word self.old.mem (pc_of self.old) }
@@ -260,7 +260,7 @@ impl<B: Bus, T: Tag> Node<B, T> {
 
     /// The end of a plain instruction of `own`, which did this at devices.
     #[inline(never)]
-    pub(crate) fn ends_plain(&mut self, own: u16, caller: u16, touch: [Touch; 2], seen: &mut Seen)
+    pub(super) fn ends_plain(&mut self, own: u16, caller: u16, touch: [Touch; 2], seen: &mut Seen)
         ensures state { self.new ≡ record self.old {
           cur = if holder self.old.sections.live (pc_of self.old) == own then own else 0;
           last = own;

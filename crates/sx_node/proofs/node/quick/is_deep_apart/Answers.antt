@@ -1,4 +1,4 @@
-use Rattle.sx_node.proofs.quick.is_deep_apart.Goals as goal
+use Rattle.sx_node.proofs.node.quick.is_deep_apart.Goals as goal
 
 pub returns-then-is_vacant-clause-ahead : goal.returns-then-is_vacant-clause-ahead
 returns-then-is_vacant-clause-ahead g c = λ t. c.is_vacant.ensures.ahead c.if-is_vacant.true 0

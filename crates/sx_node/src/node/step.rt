@@ -7,8 +7,7 @@ ghost use Rattle.sx_rules.specs.Placed.{Placed};
 ghost use Rattle.sx_bus.specs.Devices.{device_at};
 ghost use Rattle.sx_rules.specs.declared.section.Section.{Section};
 ghost use Rattle.spec_machine.specs.declared.kinds.Seen.{Seen};
-ghost use Rattle.spec_machine.specs.declared.kinds.Event.TheVariants.{Reset};
-ghost use Rattle.spec_machine.specs.Run.{exec, untouched};
+ghost use Rattle.spec_machine.specs.Run.{exec};
 ghost use Rattle.spec_machine.specs.Rows.{program};
 ghost use Rattle.spec_machine.specs.Modules.{is_code, module_instruction};
 ghost use Rattle.spec_machine.specs.Step.{step, attempt, instruction, given_at_pc, is_module_word};
@@ -18,7 +17,7 @@ ghost use Rattle.spec_machine.specs.Guard.{Foreign};
 ghost use Rattle.spec_machine.specs.Guarding.{Guarded};
 ghost use Rattle.sx_sancus.specs.Told.{event_of};
 
-use crate::node::Node;
+use crate::node::{Node, reset_by};
 use spec_machine::{Event, Seen, Touch};
 use sx_bus::Bus;
 use sx_core::step_plain;
@@ -32,18 +31,8 @@ const FIRST_MODULE_WORD: u16 = 0x1380;
 
 const NO_MODULE_WORD: u16 = 0x1383;
 
-/// What a step shows that a violation ended.
-pub(crate) fn reset_by(violation: Violation) -> Seen
-    ensures { result ≡ record { touch = untouched; event = Reset violation } }
-{
-    Seen {
-        touch: [Touch::Quiet; 2],
-        event: Event::Reset(violation),
-    }
-}
-
 /// The code of the module instruction whose word it is, or None.
-pub(crate) fn code_of(word: u16) -> Option<u8>
+pub(super) fn code_of(word: u16) -> Option<u8>
     ensures { MatchOption result (is_module_word word ≡ false) (λ code.
         (is_module_word word ≡ true) × (code ≡ word - 0x1380) × (is_code code ≡ true)) }
 {
@@ -135,7 +124,7 @@ impl<B: Bus, T: Tag> Node<B, T> {
 
     /// A module instruction. Its code stays out of the way of the plain ones'.
     #[inline(never)]
-    pub(crate) fn module_instruction(&mut self, own: u16, code: u8) -> Result<Seen, Violation>
+    pub(super) fn module_instruction(&mut self, own: u16, code: u8) -> Result<Seen, Violation>
         requires own { own ≡ own_of self.old }
         requires code { is_code code ≡ true }
         ensures { Attempts self.old
@@ -186,7 +175,7 @@ impl<B: Bus, T: Tag> Node<B, T> {
     }
 
     /// The module that entered that of the instruction, or 0.
-    pub(crate) fn entered_from(&self, own: u16) -> u16
+    pub(super) fn entered_from(&self, own: u16) -> u16
         ensures { result ≡ entered_from self.now own }
     {
         if own == self.running() {
@@ -200,7 +189,7 @@ impl<B: Bus, T: Tag> Node<B, T> {
 
     /// Keeps which module runs after an instruction of `own`: it has the turn where PC is in its
     /// public section.
-    pub(crate) fn settle(&mut self, own: u16, caller: u16)
+    pub(super) fn settle(&mut self, own: u16, caller: u16)
         ensures { self.new ≡ record self.old {
           cur = if holder self.old.sections.live (pc_of self.old) == own then own else 0;
           last = own;

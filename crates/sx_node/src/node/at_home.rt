@@ -19,7 +19,7 @@ ghost use Rattle.sx_executor.specs.Occupancy.{IsAhead};
 ghost use Rattle.sx_node.specs.Telling.{told, Tells, IsAtHome, IsDeepAtHome};
 
 use crate::node::Node;
-use crate::quick::is_untouched;
+use crate::node::quick::is_untouched;
 use spec_machine::{Seen, Touch};
 use sx_bus::Bus;
 use sx_core::{Stepped, step_quick};
