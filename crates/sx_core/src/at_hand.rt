@@ -21,17 +21,17 @@ ghost use Rattle.sx_executor.specs.Machine.{RunsPlan, Loads};
 ghost use Rattle.sx_core.specs.Quickly.{RunsQuietly, EndsStep};
 
 use crate::one_operand::one;
-use crate::quick::{Stepped, on_word};
+use crate::quick::{Stepped, on_word, onto_general};
 use crate::two_operands::{calculated, computed_as, two, writes};
 use sx_alu::{Calc, StatusBits};
 use sx_bus::Bus;
-use sx_executor::Executor;
 use sx_executor::registers::{SP, cut};
+use sx_executor::{Executor, is_general};
 use sx_isa::{Op1, Op2, Operand};
 use sx_rules::Violation;
 
-/// The word at a place, or in byte form the byte, if the place is at hand or is known to be one that
-/// all code may read.
+/// The word at a place, or in byte form the byte, if one look says that the running code may read it
+/// and that no device is there.
 #[inline(always)]
 pub fn load_at_hand<B: Bus>(executor: &Executor<B>, wide: bool, at: u16) -> Option<u16>
     ensures run { IfSome result (λ v. Loads wide at executor.now (Ok v) executor.now) }
@@ -40,18 +40,18 @@ pub fn load_at_hand<B: Bus>(executor: &Executor<B>, wide: bool, at: u16) -> Opti
     if executor.is_readable_at_hand(at) {
         return Some(executor.read(wide, at));
     }
-    load_readable(executor, wide, at)
+    load_in_gap(executor, wide, at)
 }
 
-/// The same if the place is known to be one that all code may read. This code stays out of the way
-/// of what most loads do.
+/// The same if the place is in a gap. Most reads in one need no look at gaps, so this code stays out
+/// of the way of what most loads do.
 #[cold]
 #[inline(never)]
-fn load_readable<B: Bus>(executor: &Executor<B>, wide: bool, at: u16) -> Option<u16>
+fn load_in_gap<B: Bus>(executor: &Executor<B>, wide: bool, at: u16) -> Option<u16>
     ensures run { IfSome result (λ v. Loads wide at executor.now (Ok v) executor.now) }
     ensures below { IfSome result (λ v. v < limit wide) }
 {
-    if executor.is_readable(at) {
+    if executor.is_at_hand(at) {
         return Some(executor.read(wide, at));
     }
     None
@@ -135,16 +135,21 @@ fn onto_any_called<B: Bus>(executor: &mut Executor<B>, op: Op2, src: u16, r: u8)
     onto_any(executor, op, src, r);
 }
 
-/// The same where sums, differences and comparisons have code here, and the others are a call.
+/// The same where sums, differences and comparisons with a general register have code here, and the
+/// others are a call.
 #[inline(always)]
 fn onto_any_by_name<B: Bus>(executor: &mut Executor<B>, op: Op2, src: u16, r: u8)
     requires { src < limit true }
     ensures { RunsQuietly (onto op true (Reg r) src executor.old.regs) executor.old executor.new }
 {
+    if !is_general(r) {
+        onto_any_called(executor, op, src, r);
+        return;
+    }
     match op {
-        Op2::Add => onto_any(executor, Op2::Add, src, r),
-        Op2::Sub => onto_any(executor, Op2::Sub, src, r),
-        Op2::Cmp => onto_any(executor, Op2::Cmp, src, r),
+        Op2::Add => onto_general(executor, Op2::Add, src, r),
+        Op2::Sub => onto_general(executor, Op2::Sub, src, r),
+        Op2::Cmp => onto_general(executor, Op2::Cmp, src, r),
         _ => onto_any_called(executor, op, src, r),
     }
 }

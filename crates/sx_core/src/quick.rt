@@ -95,7 +95,7 @@ fn value_alone(op: Op2, src: u16, dst: u16, flags: StatusBits) -> Option<u16>
 /// which the compiler drops their write; of the old flags the others need the carry alone. CMP and
 /// BIT keep the register.
 #[inline(always)]
-fn onto_general<B: Bus>(executor: &mut Executor<B>, op: Op2, src: u16, r: u8)
+pub fn onto_general<B: Bus>(executor: &mut Executor<B>, op: Op2, src: u16, r: u8)
     requires src { src < limit true }
     requires general { is_general r ≡ true }
     ensures { RunsQuietly (onto op true (Reg r) src executor.old.regs) executor.old executor.new }
@@ -318,25 +318,6 @@ fn without_extension<B: Bus, const CALLER: u8>(
     }
 }
 
-/// One with a place in memory that the extension word `x` tells, if it is done here.
-#[inline(always)]
-fn with_place<B: Bus>(
-    executor: &mut Executor<B>,
-    form: Double,
-    x: u16,
-    after: u16,
-    next: u16,
-) -> Option<Stepped>
-    ensures { MayEndStep (row (extended (double_of form) x 0) (at_pc executor.old.regs after) next)
-        executor.old result executor.new }
-{
-    if let Some(FromMemory { op, base, dst }) = from_memory_of(form) {
-        return Some(from_memory(executor, op, base, x, dst, after, next));
-    }
-    let IncrementOnto { op, src, base } = increment_of(form)?;
-    Some(increment_onto(executor, op, src, base, x, after, next))
-}
-
 /// One with the extension word `x`, at `pc`, if it is done here.
 #[inline]
 fn with_extension<B: Bus, const CALLER: u8>(
@@ -381,7 +362,13 @@ fn with_extension<B: Bus, const CALLER: u8>(
         Double::OnImmediate { op: Op1::Call } => Some(call_immediate(executor, x, after, next)),
         Double::OnImmediate { op: Op1::Push } => Some(push_immediate(executor, x, after, next)),
         Double::OnAbsolute { op: Op1::Push } => Some(push_absolute(executor, x, after, next)),
-        _ => with_place(executor, form, x, after, next),
+        _ => {
+            if let Some(FromMemory { op, base, dst }) = from_memory_of(form) {
+                return Some(from_memory(executor, op, base, x, dst, after, next));
+            }
+            let IncrementOnto { op, src, base } = increment_of(form)?;
+            Some(increment_onto(executor, op, src, base, x, after, next))
+        }
     }
 }
 

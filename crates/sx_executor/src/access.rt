@@ -59,40 +59,26 @@ impl<B: Bus> Executor<B> {
             || self.protection().has_gap(at) && self.windows().at(at).is_none()
     }
 
-    /// Whether one look says that a place is in the text of the home, where all code may read the word
-    /// and each byte of it, and no device is there. Then a read asks no more.
-    #[inline(always)]
-    pub fn is_text(&self, at: u16) -> bool
-        ensures read { IsTrue result
-            → (wide : Bool) → may_at wide self.now.sections.live self.now.own Read at ≡ true }
-        ensures memory { IsTrue result → device_of self.now.devices at ≡ None }
-    {
-        self.occupancy().has_text(at)
-    }
-
-    /// Whether the running code may read a place, and no device is there: it is at hand, or in that
-    /// text. A text is asked before gaps, which are seldom read.
-    #[inline(always)]
-    pub fn is_readable_at_hand(&self, at: u16) -> bool
-        ensures read { IsTrue result
-            → (wide : Bool) → may_at wide self.now.sections.live self.now.own Read at ≡ true }
-        ensures memory { IsTrue result → device_of self.now.devices at ≡ None }
-    {
-        self.is_vacant(at)
-            || self.occupancy().has_bare_data(self.own(), at)
-            || self.is_text(at)
-            || self.protection().has_gap(at) && self.windows().at(at).is_none()
-    }
-
-    /// Whether all code may read a place, and no device is there: it is in that text, or around a
-    /// place where a read missed.
+    /// Whether one look says that all code may read the word at a place and each byte of it, and no
+    /// device is there: the place is in the text of the home, or around one where an access missed.
     #[inline(always)]
     pub fn is_readable(&self, at: u16) -> bool
         ensures read { IsTrue result
             → (wide : Bool) → may_at wide self.now.sections.live self.now.own Read at ≡ true }
         ensures memory { IsTrue result → device_of self.now.devices at ≡ None }
     {
-        self.is_text(at) || self.occupancy().has_readable(at)
+        self.occupancy().has_text(at) || self.occupancy().has_readable(at)
+    }
+
+    /// Whether the running code may read a place, and no device is there: its page is vacant, it is
+    /// the module's own data, or all code may read there. Then a read asks no more.
+    #[inline(always)]
+    pub fn is_readable_at_hand(&self, at: u16) -> bool
+        ensures read { IsTrue result
+            → (wide : Bool) → may_at wide self.now.sections.live self.now.own Read at ≡ true }
+        ensures memory { IsTrue result → device_of self.now.devices at ≡ None }
+    {
+        self.is_vacant(at) || self.occupancy().has_bare_data(self.own(), at) || self.is_readable(at)
     }
 
     /// Whether one look says that no live section has a byte of the word at an address: none meets
@@ -226,7 +212,6 @@ impl<B: Bus> Executor<B> {
         if self.is_readable(at) {
             return Ok(self.read(wide, at));
         }
-        self.learn_readable(at);
         self.learn_gap(at);
         if !self.may(wide, Access::Read, at) {
             return Err(Violation::Read);

@@ -15,7 +15,7 @@ pub use buffer::Buffer;
 pub use decoded::Decoded;
 pub use executor::Executor;
 pub use range::Range;
-pub use shortcut::{ByteDouble, ByteSingle, Double, Form, Shortcut, Single, Triple};
+pub use shortcut::{ByteDouble, ByteSingle, Double, Form, Shortcut, Single, Triple, is_general};
 
 mod access;
 mod buffer;

@@ -190,7 +190,8 @@ fn jump_form(cond: u8, offset: i16) -> Option<Form>
 }
 
 /// Whether a register keeps all of what is written to it.
-fn is_general(r: u8) -> bool
+#[inline(always)]
+pub fn is_general(r: u8) -> bool
     ensures { result ≡ is_general r }
 {
     r >= 4 && r < 16
