@@ -179,6 +179,8 @@ def sensors(count):
 ADD = "asm n 0x4000 a: add {}; jmp a"
 MODULE = protected(0x4000, 0x4010, 0x2000, 0x2010)
 SHAPES = {
+    "a jump": Loop(["asm n 0x4000 a: jmp a"]),
+    "a jump of a module": Loop(["asm n 0x4000 a: jmp a", *MODULE]),
     "two words": Loop([ADD.format("r5, r6")]),
     "3.6 KB, words that repeat 512 bytes apart": Loop(block("add r5, r6", 1800)),
     "3.6 KB, other words in each 512 bytes": Loop(varied(1800)),
@@ -252,11 +254,18 @@ def cost_of_line(line):
     return (many - few) / 8
 
 
+def without_jump(shape, jump):
+    """What the one instruction of a loop takes, without the jump back."""
+    return SHAPES[shape].cost() * 2 - SHAPES[jump].cost()
+
+
 DEAR = {
+    "a module's read of its own text": lambda: without_jump("a module reads its own text", "a jump of a module"),
+    "code outside reads the text of one module of eight": lambda: without_jump("outside reads the text of one module of eight", "a jump"),
     "attest, a byte of a text of 58 KB": lambda: repeated("8213", TEXT, r9=0x1000).cost(5) / TEXT,
     "wrap of 32 bytes": lambda: repeated("8413").cost(20),
     "unwrap of 32 bytes, with a wrong tag": lambda: repeated("8513").cost(20),
-    "a refused protect": lambda: SHAPES["a refused protect"].cost() * 2 - SHAPES["two words"].cost(),
+    "a refused protect": lambda: without_jump("a refused protect", "a jump"),
     "an answer of a module of 30 KB, refused by its tag": lambda: cost_of_line("answer m 1 0"),
     "the same, refused by its boot": lambda: cost_of_line("answer m 0 0"),
 }
