@@ -40,20 +40,6 @@ pub fn load_at_hand<B: Bus>(executor: &Executor<B>, wide: bool, at: u16) -> Opti
     if executor.is_readable_at_hand(at) {
         return Some(executor.read(wide, at));
     }
-    load_in_gap(executor, wide, at)
-}
-
-/// The same if the place is in a gap. Most reads in one need no look at gaps, so this code stays out
-/// of the way of what most loads do.
-#[cold]
-#[inline(never)]
-fn load_in_gap<B: Bus>(executor: &Executor<B>, wide: bool, at: u16) -> Option<u16>
-    ensures run { IfSome result (λ v. Loads wide at executor.now (Ok v) executor.now) }
-    ensures below { IfSome result (λ v. v < limit wide) }
-{
-    if executor.is_at_hand(at) {
-        return Some(executor.read(wide, at));
-    }
     None
 }
 
@@ -126,31 +112,22 @@ fn onto_any<B: Bus>(executor: &mut Executor<B>, op: Op2, src: u16, r: u8)
     }
 }
 
-/// The same as a call.
+/// The same as a call. Sums, differences and comparisons with a general register have code of their
+/// own in it.
 #[inline(never)]
 fn onto_any_called<B: Bus>(executor: &mut Executor<B>, op: Op2, src: u16, r: u8)
     requires { src < limit true }
     ensures { RunsQuietly (onto op true (Reg r) src executor.old.regs) executor.old executor.new }
 {
-    onto_any(executor, op, src, r);
-}
-
-/// The same where sums, differences and comparisons with a general register have code here, and the
-/// others are a call.
-#[inline(always)]
-fn onto_any_by_name<B: Bus>(executor: &mut Executor<B>, op: Op2, src: u16, r: u8)
-    requires { src < limit true }
-    ensures { RunsQuietly (onto op true (Reg r) src executor.old.regs) executor.old executor.new }
-{
     if !is_general(r) {
-        onto_any_called(executor, op, src, r);
+        onto_any(executor, op, src, r);
         return;
     }
     match op {
         Op2::Add => onto_general(executor, Op2::Add, src, r),
         Op2::Sub => onto_general(executor, Op2::Sub, src, r),
         Op2::Cmp => onto_general(executor, Op2::Cmp, src, r),
-        _ => onto_any_called(executor, op, src, r),
+        _ => onto_general(executor, op, src, r),
     }
 }
 
@@ -394,7 +371,7 @@ pub fn word_onto_register<B: Bus>(
         return Stepped::Answered(two_near(executor, op, true, from, to, next));
     };
     executor.set_pc(next);
-    onto_any_by_name(executor, op, value, dst);
+    onto_any_called(executor, op, value, dst);
     Stepped::Quiet
 }
 

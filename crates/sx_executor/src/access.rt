@@ -60,7 +60,7 @@ impl<B: Bus> Executor<B> {
     }
 
     /// Whether one look says that all code may read the word at a place and each byte of it, and no
-    /// device is there: the place is in the text of the home, or around one where an access missed.
+    /// device is there: the place is in the text of the home, or around one where a read missed.
     #[inline(always)]
     pub fn is_readable(&self, at: u16) -> bool
         ensures read { IsTrue result
@@ -195,7 +195,7 @@ impl<B: Bus> Executor<B> {
         ensures run { Loads wide at self.old result self.new }
         ensures below { IfOk result (λ v. v < limit wide) }
     {
-        if self.is_at_hand(at) {
+        if self.is_readable_at_hand(at) {
             return Ok(self.read(wide, at));
         }
         self.load_near(wide, at)
@@ -209,7 +209,8 @@ impl<B: Bus> Executor<B> {
         ensures run { Loads wide at self.old result self.new }
         ensures below { IfOk result (λ v. v < limit wide) }
     {
-        if self.is_readable(at) {
+        self.learn_readable(at);
+        if self.is_at_hand(at) {
             return Ok(self.read(wide, at));
         }
         self.learn_gap(at);

@@ -167,13 +167,21 @@ impl<B: Bus> Executor<B> {
         self.occupancy.learn_home(id);
     }
 
-    /// Learns the gap around a place, if no section holds it, and what all code may read around it:
-    /// from then on no code needs a look at the sections there, and no read one at the devices, until
-    /// the sections change or other places are learnt.
+    /// Learns the gap around a place, if no section holds it: from then on no code needs a look at
+    /// the sections there, until they change or two others are learnt.
     pub fn learn_gap(&mut self, at: u16)
         ensures { self.new ≡ self.old }
     {
         self.occupancy.learn_gap(at);
+    }
+
+    /// Learns what all code may read around a place: from then on a read there needs no look at the
+    /// sections nor at the devices, until the sections change or another place's is learnt.
+    #[inline(always)]
+    pub(crate) fn learn_readable(&mut self, at: u16)
+        ensures { self.new ≡ self.old }
+    {
+        self.occupancy.learn_readable(at);
     }
 
     /// The devices.

@@ -194,25 +194,20 @@ impl Occupancy {
         self.deep = Deep::of(self.protection.home(), self.windows.places());
     }
 
-    /// Learns the gap around a place, as `Protection::learn_gap` does, and what all code may read
-    /// around it.
+    /// Learns the gap around a place, as `Protection::learn_gap` does.
     #[inline(always)]
     pub(crate) fn learn_gap(&mut self, at: u16)
         ensures { self.new ≡ self.old }
     {
         self.protection.learn_gap(at);
-        self.learn_readable(at);
     }
 
-    /// Learns what all code may read around a place, if it isn't known and no private part and no
-    /// device holds the place; but not soon after the last time.
+    /// Learns what all code may read around a place, if no private part and no device holds the
+    /// place; but not soon after the last time.
     #[inline(always)]
-    fn learn_readable(&mut self, at: u16)
+    pub(crate) fn learn_readable(&mut self, at: u16)
         ensures { self.new ≡ self.old }
     {
-        if self.readable.has(at) {
-            return;
-        }
         if self.rest > 0 {
             self.rest -= 1;
             return;
