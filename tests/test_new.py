@@ -11,6 +11,7 @@ PLACES = re.compile(rb"(?m)^(text|data) = .*\n")
 @needs_program
 class New(Room):
     def test_an_application_that_meets_its_test(self):
+        self.says(sancus("new", "an app", cwd=self.room), "`sancus test 'an app'`", "`sancus run 'an app/app.toml' 'an")
         made = sancus("new", "app", cwd=self.room)
         self.assertEqual(made.lines, ["app/app.toml", "app/day.schedule", "app/test_app.sancus"])
         self.assertEqual(sancus("test", "app", cwd=self.room).status, 0)

@@ -18,7 +18,7 @@ from sancus.model.faults import Teller, of_line
 from sancus.model.people import are_for_people
 from sancus.model.schedule import Mistake, Writer
 from sancus.model.session import Stopped, start
-from sancus.model.shown import plain, short, text_of
+from sancus.model.shown import plain, quoted, short, text_of
 from sancus.model.texts import MARK, MOST_LINES, Input, Kept, kept_of, split_lines
 from sancus.records import dataclass, field
 from sancus.status import BAD_TEXT, Ended
@@ -76,7 +76,7 @@ def read_lines(files: List[str], context: Context) -> Lines:
     parts = joined(files, context.voice) if len(files) > 1 else [file_part(files[0])]
     kept, data = gathered(parts)
     if not data.has_mark:
-        name, file = ("the input", "DEPLOYMENT") if files[0] == "-" else (files[0], files[0])
+        name, file = ("the input", "DEPLOYMENT") if files[0] == "-" else (files[0], quoted(files[0]))
         raise Ended(
             BAD_TEXT,
             f"{name} has no line %%, so there are no lines: `sancus schedule {file} LINES` takes them from a file of "

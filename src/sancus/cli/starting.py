@@ -11,6 +11,7 @@ from sancus.cli.commands import Given
 from sancus.cli.context import Context
 from sancus.cli.output import print_lines
 from sancus.cli.writing import write_file
+from sancus.model.shown import quoted
 from sancus.status import NO_FILE, Ended
 
 TEMPLATES = Path(PACKAGE, "templates")
@@ -31,5 +32,6 @@ def answer(context: Context, given: Given) -> int:
         text = re.sub("KEY", lambda _: secrets.token_hex(16), (TEMPLATES / name).read_text())
         write_file(folder / name, text)
         print_lines(str(folder / name))
-    context.voice.say(f"`sancus test {folder}` runs its test, and `sancus run {folder}/app.toml {folder}/day.schedule` a day")
+    where, app, day = (quoted(str(it)) for it in (folder, folder / FILES[0], folder / FILES[1]))
+    context.voice.say(f"`sancus test {where}` runs its test, and `sancus run {app} {day}` a day")
     return 0

@@ -10,7 +10,7 @@ from sancus.model.deployment import KINDS, Tables
 from sancus.model.items import ITEMS
 from sancus.model.language import COMPARED, END, MULTIPLIED, NAMED, NUMBER, SUMMED, UNARY, VALUED, WATCHED, NotInGrammar
 from sancus.model.people import PEOPLE
-from sancus.model.shown import text_of
+from sancus.model.shown import quoted, text_of
 from sancus.model.table import words
 
 OPERATORS = {*COMPARED, *SUMMED, *MULTIPLIED}
@@ -207,6 +207,7 @@ def without_mark(command: str, name: str, first: bytes) -> List[str]:
     }.get(command)
     if not more:
         return []
+    file = quoted(file)
     return [
         f"`sancus {command} {file} {more[0]}` takes {more[1]} from a file of its own; `sancus check {file}` needs no "
         "mark"

@@ -32,3 +32,10 @@ def escaped(letter: str) -> str:
 def text_of(line: bytes) -> str:
     """A line of an input as text, whatever its bytes."""
     return line.decode(errors="surrogateescape")
+
+
+def quoted(name: str) -> str:
+    """A file's name as a shell takes it, for a command that is shown."""
+    from shlex import quote
+
+    return quote(name)
