@@ -161,6 +161,10 @@ class Answers(Room):
         self.file("counterexample.txt", "mine\n")
         ran = self.holds(LAMP, PROPERTIES / "last_reading.property")
         self.assertEqual((ran.status, ran.out), (121, b""))
+        # if its file can't be written, the answer comes all the same
+        ran = self.holds(LAMP, PROPERTIES / "last_reading.property", "--schedule", "none/it.txt")
+        self.assertEqual((ran.status, ran.lines[0], ran.lines[-1]), (121, "fails", "    take down 1"))
+        self.says(ran, "none/it.txt can't be written: No such file or directory")
 
     def test_as_json(self):
         ran = self.holds(LAMP, PROPERTIES / "last_reading.property", "--json", "--schedule", "it.txt")
@@ -222,6 +226,11 @@ class Answers(Room):
                 ran = self.holds(LAMP, self.file("it.property", source))
                 self.assertEqual((ran.status, ran.lines), (7, [f"fault property {fault}"]))
                 self.assertIn(said, ran.said)
+
+    def test_a_trace_that_is_none(self):
+        ran = sancus("watch", LAMP, PROPERTIES / "bright.property", self.file("it.trace", "out\n"))
+        self.assertEqual((ran.status, ran.lines), (3, ["fault trace E1 1"]))
+        self.says(ran, "it.trace:1: out")
 
     def test_a_deployment_that_only_the_program_reads(self):
         """TOML 1.1 has an escape that 1.0 hasn't: the program answers, and a search says why there is none."""

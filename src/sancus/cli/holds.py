@@ -21,6 +21,7 @@ from sancus.model.described import Deployment
 from sancus.model.numbers import number
 from sancus.model.property import Property
 from sancus.model.search import Found, Search
+from sancus.model.shown import quoted
 from sancus.records import dataclass, field
 from sancus.status import NO_FILE, Ended
 
@@ -42,6 +43,8 @@ class Answer:
     found: Optional[Found] = None
     shown: Optional[Shown] = None
     schedule: str = ""
+    # why there is no schedule, which is told after the answer
+    unwritten: Optional[Ended] = None
     # what another engine says of its proof
     how: str = ""
     notes: List[str] = field(default_factory=list)
@@ -110,7 +113,8 @@ def write_schedule(question: Question, made: Shown, line: Optional[int], path: s
         with open(path, "wb") as file:
             file.write(text)
     except OSError as error:
-        raise Ended(NO_FILE, f"{path} can't be written: {os.strerror(error.errno or 0)}") from None
+        why = os.strerror(error.errno or 0)
+        raise Ended(NO_FILE, f"{path} can't be written: {why}; `--schedule FILE` names another") from None
 
 
 def must_be_free(path: str) -> None:
@@ -135,8 +139,12 @@ def of_found(question: Question, found: Found, by: str, path: str) -> Answer:
     made = shown(question, found)
     if made.item is None:
         return Answer("unconfirmed", by, found=found, shown=made)
-    write_schedule(question, made, line_of(found), path)
-    return Answer("fails", by, found=found, shown=made, schedule=path)
+    answer = Answer("fails", by, found=found, shown=made, schedule=path)
+    try:
+        write_schedule(question, made, line_of(found), path)
+    except Ended as error:
+        answer.schedule, answer.unwritten = "", error
+    return answer
 
 
 def searched(question: Question, seconds: float, most_moves: int, path: str) -> Answer:
@@ -183,6 +191,11 @@ def of_run(question: Question, answer: Answer) -> List[str]:
     return [first, *(f"    {it}" for it in moves_said(found))]
 
 
+def written_told(schedule: str, size: int) -> List[str]:
+    """Where a schedule is, unless it couldn't be written."""
+    return [f"schedule: {schedule} ({size} lines); `sancus view {quoted(schedule)}` draws it"] if schedule else []
+
+
 def told(question: Question, answer: Answer) -> List[str]:
     took = f"({answer.seconds:.1f} s)"
     if answer.kind == "holds":
@@ -199,12 +212,11 @@ def told(question: Question, answer: Answer) -> List[str]:
     if answer.kind == "unconfirmed":
         why = "the sources allow a run that breaks it, and no schedule was found that shows one"
         return ["unconfirmed", f"{question.name}:{line_of(answer.found)}: {why} {took}", *of_run(question, answer)]
-    at, size = answer.shown.item, len(answer.shown.lines)
     return [
         "fails",
-        f"{question.name}:{line_of(answer.found)}: broken at item {at}, `{answer.shown.text}` {took}",
+        f"{question.name}:{line_of(answer.found)}: broken at item {answer.shown.item}, `{answer.shown.text}` {took}",
         *of_run(question, answer),
-        f"schedule: {answer.schedule} ({size} lines); `sancus view {answer.schedule}` draws it",
+        *written_told(answer.schedule, len(answer.shown.lines)),
     ]
 
 
@@ -259,4 +271,6 @@ def holds(context: Context, given: Given) -> int:
     context.voice.say(*of_outputs(question.deployment, property), *of_comparisons(property), *answer.notes)
     lines = [json.dumps(as_object(question, answer))] if given.has("json") else told(question, answer)
     print_lines(*lines)
+    if answer.unwritten:
+        raise answer.unwritten
     return answer.status

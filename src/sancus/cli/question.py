@@ -140,6 +140,7 @@ def watch(context: Context, deployment: str, property: str, trace: str) -> int:
     ran = context.program.run_parts(["watch"], parts, sink)
     must_know(ran, "watch")
     teller = Teller(ran.kept, "watch", context.program.ask)
+    teller.trace_mark = teller.second_mark() or teller.mark
     broken, forged = sink.number(b"broken"), sink.number(b"forged")
     if broken:
         which = broken

@@ -40,6 +40,8 @@ class Teller:
         self.head = first[: found[0]] if found else first
         # the number of the line `%%`
         self.mark = self.head.count(b"\n") + 1 if found else 0
+        # and that of the one before a trace, which may be another
+        self.trace_mark = self.mark
         self._tables: Optional[Tables] = None
 
     @property
@@ -408,11 +410,11 @@ class Teller:
         return None
 
     def trace_start(self) -> int:
-        return self.line_after(b"trace", self.mark) or self.mark
+        return self.line_after(b"trace", self.trace_mark) or self.trace_mark
 
     def trace(self, rule: str, number: int) -> Lines:
         lines = [f"{rule}: {table_words()['trace'][rule]}"]
-        line = (self.mark if rule == "E1" else self.trace_start()) + number
+        line = (self.trace_mark if rule == "E1" else self.trace_start()) + number
         text = self.kept.line(line) or b""
         lines += self.shown(line) if text else []
         if rule == "E1":
