@@ -70,6 +70,7 @@ class NoCommand(Room):
             self.says(ran, f"did you mean `{meant}`?")
         self.says(sancus(str(TOP / "README.md")), "a command comes first: `sancus run ")
         self.says(sancus("drive", "--scedule"), "there is no option --scedule: did you mean `--schedule`?")
+        self.assertNotIn("did you mean", sancus("drive", "--bogus").said)
         self.says(sancus("--program", "/bin/cat"), "a command is missing")
         self.says(sancus("--program", "/bin/cat", "--nope"), "there is no option --nope")
         self.says(sancus("build", "3"), "too many arguments: 3")

@@ -45,7 +45,8 @@ class Joined(Room):
         return rest[:-4]
 
     def test_one_file_is_the_input(self):
-        self.assertEqual(self.given("run", self.file("x", b"no mark\0\r\n\xff")), b"no mark\0\r\n\xff")
+        for word in ("run", "batch"):
+            self.assertEqual(self.given(word, self.file("x", b"no mark\0\r\n\xff")), b"no mark\0\r\n\xff")
 
     def test_a_pipe_is_the_input(self):
         for text in (b"", b"x", LIGHTING, b"\0" * 300_000 + b"\n"):
@@ -202,6 +203,7 @@ class Streams(Room):
         wanted = {
             "run": "type a deployment, a line %%, and a schedule, each line of which is answered at once;",
             "check": "type a deployment;",
+            "place": "type a deployment;",
             "run d.toml -": "type SCHEDULE;",
             "why d.toml -": "type TRACE;",
             "vars - eye 1": "type INPUT;",
@@ -214,19 +216,23 @@ class Streams(Room):
                 lines = waiting(parse(BY_NAME[name], rest))
                 self.assertEqual([it.partition(";")[0] + ";" for it in lines], [said], words)
                 self.assertTrue(lines[0].endswith("Ctrl-D ends it, and Ctrl-C leaves"))
-            for words in ("run d.toml", "gen 3", "view", "view --empty", "version", "vars d.toml eye 1", "build"):
+            for words in ("run d.toml", "gen 3", "fmt", "view", "view --empty", "version", "vars d.toml eye 1", "build"):
                 name, *rest = words.split()
                 self.assertEqual(waiting(parse(BY_NAME[name], rest)), [], words)
         self.assertEqual(sancus("check", text=LIGHTING, program=self.fake()).said, "")
 
     def test_it_is_said_at_a_terminal(self):
-        leader, follower = pty.openpty()
-        os.write(leader, b"%%\n\x04")
-        ran = subprocess.run([SANCUS, "--program", PROGRAM, "run"], stdin=follower, capture_output=True, timeout=60)
-        self.assertEqual(ran.stdout, b"trace\nend\n")
-        self.assertIn(b"sancus: type a deployment, a line %%", ran.stderr)
-        os.close(leader)
-        os.close(follower)
+        for word, typed, wrote, said in (
+            ("run", b"%%\n\x04", b"trace\nend\n", b"sancus: type a deployment, a line %%"),
+            ("lsp", b"\x04", b"", b"sancus: an editor starts this"),
+        ):
+            leader, follower = pty.openpty()
+            os.write(leader, typed)
+            ran = subprocess.run([SANCUS, "--program", PROGRAM, word], stdin=follower, capture_output=True, timeout=60)
+            self.assertEqual(ran.stdout, wrote)
+            self.assertIn(said, ran.stderr)
+            os.close(leader)
+            os.close(follower)
 
     def test_little_more_is_read_than_the_program_reads(self):
         read, write = os.pipe()

@@ -358,7 +358,11 @@ The program runs as the lines are written, so packets, boots and pieces are thos
     Command(
         "place",
         "fills in addresses that modules of a deployment lack",
-        (Argument("DEPLOYMENT", MAYBE, "a deployment whose [[module]] may lack `text` and `data`"),),
+        (
+            Argument(
+                "DEPLOYMENT", MAYBE, "a deployment whose [[module]] may lack `text` and `data`; absent or -, standard input"
+            ),
+        ),
         (),
         "sed '/^text/d; /^data/d' examples/lighting.txt | sancus place",
         "It prints the deployment, and on standard error what is where on each node, and what is free.",
@@ -549,10 +553,12 @@ class Parser(argparse.ArgumentParser):
 def near(word: str, known: Sequence[str]) -> str:
     from difflib import get_close_matches
 
-    found = get_close_matches(word, known, 1, 0.5)
+    # (the dashes of options make none of them alike)
+    word, names = word.lstrip("-"), {it.lstrip("-"): it for it in known}
+    found = get_close_matches(word, list(names), 1, 0.5)
     # (a transposed letter, as in `rnu`)
-    found = found or [it for it in known if sorted(it) == sorted(word)]
-    return found[0] if found else ""
+    found = found or [it for it in names if sorted(it) == sorted(word)]
+    return names[found[0]] if found else ""
 
 
 def did_you_mean(word: str, known: Sequence[str]) -> str:

@@ -14,6 +14,7 @@ from sancus.cli.output import print_lines, write
 from sancus.cli.program import Program
 from sancus.cli.say import Voice
 from sancus.kept import Build
+from sancus.model.shown import quoted
 from sancus.model.toml import NoToml
 from sancus.status import BAD_TEXT, INTERRUPTED, NO_ANSWER, USAGE, Ended
 
@@ -242,7 +243,7 @@ ANSWERS: Dict[str, Callable[[Context, Given], int]] = {
 
 def known_command(name: str) -> Command:
     if name not in BY_NAME and os.path.exists(name):
-        raise Usage(f"{name} is a file, and a command comes first: `sancus run {name}`")
+        raise Usage(f"{name} is a file, and a command comes first: `sancus run {quoted(name)}`")
     if name not in BY_NAME:
         raise Usage(f"there is no command `{name}`{commands.did_you_mean(name, list(BY_NAME))}")
     return BY_NAME[name]
@@ -296,7 +297,7 @@ def waiting(given: Given) -> List[str]:
     """What is to be typed, if the command reads a terminal, which would else be silent."""
     files = [it for it in given.command.arguments if it.is_file]
     named = [it.name for it in files if "-" in given.texts(it.name)]
-    first = files[0] if files and "standard input" in files[0].says else None
+    first = files[0] if files and "absent or -" in files[0].says else None
     if not os.isatty(0) or not (named or first and not given.texts(first.name)):
         return []
     typed = given.command.typed if first and (named or [first.name])[0] == first.name else named[0]

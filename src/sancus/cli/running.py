@@ -21,9 +21,7 @@ from sancus.status import NO_FILE, Ended
 
 def files_of(given: Given) -> List[str]:
     """The files of a call; standard input if there is none."""
-    names = ("DEPLOYMENT", "SCHEDULE", "READINGS", "TRACE", "QUERIES", "FILE")
-    found = [it for name in names for it in given.texts(name)]
-    return found or ["-"]
+    return [it for of in given.command.arguments if of.is_file for it in given.texts(of.name)] or ["-"]
 
 
 def words_for_program(given: Given) -> List[str]:

@@ -2,6 +2,7 @@
 
 from __future__ import annotations
 
+import os
 import sys
 
 from sancus.cli.context import Context
@@ -14,4 +15,6 @@ def answer(context: Context) -> int:
     build = context.program.build()
     if not build.is_fast:
         raise Ended(NO_ANSWER, "the server needs a build that answers at once: `./sancus build` makes the proved one")
+    if os.isatty(0):
+        context.voice.say("an editor starts this, and speaks with it (docs/HOWTO.md); Ctrl-C leaves")
     return Server(Limited(build.command), sys.stdin.buffer, sys.stdout.buffer).serve()
