@@ -167,6 +167,7 @@ class Campaigns(Room):
             (["--check", "once.py:once"], "once.py can't be read: No such file or directory"),
             (["--check", "once"], "once isn't FILE:FUNCTION"),
             (["--show", "--to", "no.sqlite"], "there is no file no.sqlite"),
+            (["--to", "none/it.sqlite"], "none/it.sqlite can't be opened: unable to open database file"),
             (["--holds", self.file("bad.property", "on out pump(v) { fail; }")], "fault property"),
         ]:
             ran = self.campaign("--seeds", "0..250", *words)

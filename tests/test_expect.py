@@ -88,6 +88,8 @@ class Expectations(Room):
                    "test_it.sancus:8: carry eye lamp: no connection leads from eye to lamp; eye sends to: logic")  # fmt: skip
         self.fails("#: deployment lighting.txt", "",
                    "test_it.sancus:1: it has no deployment, and no line `#: deployment FILE`")  # fmt: skip
+        ran = sancus("test", "none", cwd=self.room)
+        self.assertEqual((ran.status, ran.lines[1]), (1, "  none:1: none can't be read: No such file or directory"))
 
     def test_items_are_written_anew(self):
         ran = self.tried(CASE.replace("#> read eye 120\n#> !out", "#> read eye 5"), "--update")

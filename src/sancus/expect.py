@@ -135,8 +135,10 @@ def try_file(path: Path, program: Optional[Program] = None) -> Result:
         with app_of(case, program).schedule() as schedule:
             if all(try_step(schedule, it, made) for it in case.steps):
                 try_rules(case, schedule, made)
-    except (Fault, OSError) as error:
+    except Fault as error:
         made.fail(1, str(error))
+    except OSError as error:
+        made.fail(1, f"{error.filename} can't be read: {error.strerror}" if error.filename else str(error))
     made.seconds = time.perf_counter() - begun
     return made
 

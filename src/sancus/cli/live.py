@@ -5,7 +5,7 @@ from __future__ import annotations
 import cmd
 import sys
 from pathlib import Path
-from typing import Any, Iterable, List
+from typing import Any, Iterable, List, Tuple
 
 from sancus.app import App
 from sancus.cli.commands import Given
@@ -162,18 +162,26 @@ class Shell(cmd.Cmd):
     complete_vars = completedefault
 
 
+def placed(name: str, text: bytes, first: int = 1) -> List[Tuple[str, str]]:
+    """The lines of a file from one on, each with its place, and without a mark."""
+    lines = enumerate(Input(MARK + b"\n" + text).schedule, first)
+    return [(f"{name}:{at}", text_of(it)) for at, it in lines if it != MARK]
+
+
 def begun(context: Context, files: List[str]) -> Live:
     """A session of a deployment, after the lines that are given with it."""
     first, *more = files
     data = Input(read_all(first))
-    texts = [data.rest, *map(read_all, more)]
-    lines = [text_of(it) for text in texts for it in Input(MARK + b"\n" + text).schedule if it != MARK]
+    lines = placed(first, data.rest, data.head.count(b"\n") + 2)
+    lines += [line for name in more for line in placed(name, read_all(name))]
+    left = iter(lines)
     try:
-        return Live(App(data.head, first, program=context.program), lines)
+        return Live(App(data.head, first, program=context.program), (text for _, text in left))
     except Fault as fault:
         raise Ended(BAD_TEXT, fault.text, *fault.words) from None
     except Refused as error:
-        raise Ended(BAD_TEXT, f"{error.line}: {error.words[0]}", *error.words[1:]) from None
+        place, _ = lines[-1 - len(list(left))]
+        raise Ended(BAD_TEXT, f"{place}: {error.line}: {error.words[0]}", *error.words[1:]) from None
 
 
 def answer(context: Context, given: Given) -> int:
