@@ -122,7 +122,7 @@ class Variables(Room):
 
     def test_misuse(self):
         for words, said in (
-            (("vars", LIGHTING_FILE, "ear", "1"), "there is no module ear: eye logic lamp"),
+            (("vars", LIGHTING_FILE, "ear", "1"), "there is no module ear; the modules: eye logic lamp"),
             (("vars", LIGHTING_FILE, "eye", "46"), "46 is no line of the schedule: it has 45"),
             (("vars", LIGHTING_FILE, "eye", "x"), "x is no line of the schedule"),
             (("vars", self.file("a", HEAD), "eye", "1"), "has no line %%"),

@@ -61,7 +61,7 @@ class Tag(Room):
             (("event", lighting), 2, "`tag event` takes DEPLOYMENT CONNECTION"),
             (("event", lighting, "up", "--boot", "1"), 2, "`tag event` has no use for --boot"),
             (("event", lighting, "up", "--epoch", "256"), 2, "--epoch takes a number from 0 to 255, and not `256`"),
-            (("event", lighting, "dwn"), 122, "there is no connection dwn; did you mean `down`?: up down"),
+            (("event", lighting, "dwn"), 122, "there is no connection dwn; the connections: up down; did you mean `down`?"),
             (("set-key", lighting, "up", "both"), 2, "an end is `from` or `to`, and not `both`"),
         ):
             made = sancus("tag", *words)

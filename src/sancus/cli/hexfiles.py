@@ -258,7 +258,7 @@ def put(context: Context, given: Given, node: str, file: str) -> None:
     if given.has("input"):
         deployment = accepted(context, Input(read_all(given.text("input"))).head)
         if node not in deployment.nodes:
-            raise Bad(f"there is no node {node}: {' '.join(deployment.nodes)}")
+            raise Bad(f"there is no node {node}; the nodes: {' '.join(deployment.nodes)}")
         context.voice.say(*meetings(code.pieces, deployment, node))
     if given.has("pc") and code.entry is None:
         raise Bad("the file says no entry: write `set NODE pc ADDRESS` yourself")

@@ -88,7 +88,7 @@ class Holder:
         """The number of what has a name."""
         known = self.deployment.names(kind)
         if name not in known:
-            raise Ended(BAD_TEXT, f"there is no {kind} {name}{near(name, known)}: {' '.join(known)}")
+            raise Ended(BAD_TEXT, f"there is no {kind} {name}; the {kind}s: {' '.join(known) or 'none'}{near(name, known)}")
         return known.index(name)
 
     def module_key(self, module: str) -> bytes:

@@ -93,7 +93,7 @@ class Inspected:
     def module(self, name: str) -> str:
         known = self.deployment.names("module")
         if name not in known:
-            raise Ended(BAD_TEXT, f"there is no module {name}{near(name, known)}: {' '.join(known)}")
+            raise Ended(BAD_TEXT, f"there is no module {name}; the modules: {' '.join(known) or 'none'}{near(name, known)}")
         return name
 
 
