@@ -137,6 +137,8 @@ def main():
             print(f"{'memory':<10}{f'page of {sections}':<10}{instructions_after(CODE['memory'], beside):>8}")
         print(f"{'sample':<10}{'inside':<10}{sample_instructions():>8}")
         return 0
+    if shutil.which("mspdebug") is None:
+        sys.exit("bench/compare.py: mspdebug isn't installed, which --instructions doesn't need")
     print(f"{'loop':<10}{'sections':<10}{'sancus':>8}{'mspdebug':>10}{'ratio':>7}{'least':>7}{'most':>7}{'instructions':>14}")
     for name, (words, each) in LOOPS.items():
         steps = TURNS * (65536 * each + 2)

@@ -42,7 +42,7 @@ STATUSES = [
     ("6", "memory ran out"),
     ("7", "a property breaks a rule"),
     ("8", "an item of a trace is illegal"),
-    ("9", "the honest run is too long"),
+    ("9", "the honest run or the batch is too long"),
     ("10", "a text or bytes of asm or dis break a rule"),
     ("11", "a query breaks a rule"),
     ("12", "an item breaks the property, or a run does"),
@@ -52,6 +52,7 @@ STATUSES = [
     ("121", "a file can't be read or written"),
     ("122", "a text isn't what a command of the front end takes"),
     ("125", "there is no answer of the program: no build, or one that was ended"),
+    ("130", "an interrupt came"),
 ]
 VARIABLES = [
     ("SANCUS_PROGRAM", "a program to start, in place of the build that is found"),
