@@ -303,7 +303,7 @@ class Builds:
             )
         notes = [
             *reasons,
-            "this build isn't proved: it is made anew at each call, in a minute or two, is some three hundred times",
+            "this build isn't proved: it is made anew at each call, in some three minutes, is some three hundred times",
             "slower, and shows its output at the end. `./sancus build` makes the proved one",
         ]
         return Build(["rt", "try"], "tried", notes)
