@@ -158,7 +158,6 @@ class Statuses(unittest.TestCase):
         program = self.listed("crates/sx_top/src/command.rt", "/// | Status |", "pub fn top")
         self.assertEqual(self.listed("docs/FORMATS.md", "## Faults and statuses", "**If a write"), program)
         front_end = self.listed("docs/FORMATS.md", "Statuses of the front end itself", "### Which build")
-        # (an interrupt ends any command with 130)
         self.assertEqual({number for number, _ in manual.STATUSES}, program | front_end)
 
 
