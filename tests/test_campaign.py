@@ -167,13 +167,15 @@ class Campaigns(Room):
             (["--check", "once.py:once"], "once.py can't be read: No such file or directory"),
             (["--check", "once"], "once isn't FILE:FUNCTION"),
             (["--show", "--to", "no.sqlite"], "there is no file no.sqlite"),
-            (["--to", "none/it.sqlite"], "none/it.sqlite can't be opened: unable to open database file"),
             (["--holds", self.file("bad.property", "on out pump(v) { fail; }")], "fault property"),
         ]:
             ran = self.campaign("--seeds", "0..250", *words)
             self.assertEqual((ran.status, ran.out), (122, b""), words)
             self.rows.unlink(missing_ok=True)
             self.says(ran, said)
+        ran = self.campaign("--to", "none/it.sqlite")
+        self.assertEqual((ran.status, ran.out), (121, b""))
+        self.says(ran, "none/it.sqlite can't be opened: unable to open database file")
         for words in (["--seeds", "5..2"], ["--network", "--hostile"], ["more.toml"]):
             self.assertEqual(self.campaign(*words).status, 2)
 

@@ -55,11 +55,8 @@ class Store:
         self.path = path
         if must_exist and not Path(path).is_file():
             raise NoCampaign(f"there is no file {path}")
-        try:
-            self.rows = sqlite3.connect(path, timeout=60)
-            tables = {str(it[0]) for it in self.rows.execute("select name from sqlite_master where type = 'table'")}
-        except sqlite3.Error as error:
-            raise NoCampaign(f"{path} can't be opened: {error}; `--to` names another file") from None
+        self.rows = sqlite3.connect(path, timeout=60)
+        tables = {str(it[0]) for it in self.rows.execute("select name from sqlite_master where type = 'table'")}
         if tables and not tables >= {"campaign", "runs"} or must_exist and not tables:
             raise NoCampaign(f"{path} has no campaign")
         self.rows.executescript(TABLES)

@@ -24,7 +24,7 @@ from sancus.model.numbers import counted, number
 from sancus.model.shrinking import Shrinking
 from sancus.model.texts import MARK, Input
 from sancus.runner import Runner
-from sancus.status import BAD_TEXT, INTERRUPTED, NO_ANSWER, WRITE_FAILED, Ended
+from sancus.status import BAD_TEXT, INTERRUPTED, NO_ANSWER, NO_FILE, WRITE_FAILED, Ended
 
 SEEDS, SECONDS, FILE = "0..1000", 10, "campaign.sqlite"
 WRONG = 1
@@ -82,7 +82,7 @@ def answered(context: Context, given: Given) -> int:
     if given.text("shrink"):
         return shrunk(context, given, worker)
     first, end = seeds_of(given)
-    store = Store(file_of(given))
+    store = opened(file_of(given))
     store.must_be_of(plan.parts())
     run(context, engine_of(given), plan, store, first, end)
     return summed_up(context, given, store)
@@ -151,16 +151,24 @@ def run(context: Context, engine: ContextManager[Engine], plan: Plan, store: Sto
         raise NoCampaign(*words, KEPT)
 
 
+def opened(path: str, must_exist: bool = False) -> Store:
+    """A file of rows."""
+    try:
+        return Store(path, must_exist)
+    except sqlite3.Error as error:
+        raise Ended(NO_FILE, f"{path} can't be opened: {error}; `--to` names another file") from None
+
+
 def rows_of(path: str, head: bytes) -> Store:
     """A file that is there, with rows of a campaign of this deployment."""
-    store = Store(path, must_exist=True)
+    store = opened(path, must_exist=True)
     store.must_be_of(deployment_part(head))
     return store
 
 
 def merged(context: Context, given: Given, head: bytes) -> int:
     """Takes in the rows of other files, which are all of one campaign."""
-    store = Store(file_of(given))
+    store = opened(file_of(given))
     for path in given.texts("FILE"):
         other = rows_of(path, head)
         store.must_be_of(other.parts())
