@@ -57,9 +57,9 @@ class Api(unittest.TestCase):
         run = sancus.load("examples/lighting.txt").run()
         with patch.dict(sys.modules, pandas=None, hypothesis=None):
             sys.modules.pop("sancus.strategies", None)
-            with self.assertRaisesRegex(ImportError, r"pip install 'sancus-verified\[frame\]'"):
+            with self.assertRaisesRegex(ImportError, "pip install pandas"):
                 run.frame()
-            with self.assertRaisesRegex(ImportError, r"pip install 'sancus-verified\[search\]'"):
+            with self.assertRaisesRegex(ImportError, "pip install hypothesis"):
                 import_module("sancus.strategies")
 
     def test_a_forged_tag(self):

@@ -19,7 +19,7 @@ from sancus.errors import NoCampaign
 CHUNKS_EACH = 2
 # How many times a chunk is asked for again whose process was ended, and how long a scheduler may take to answer.
 RETRIES, SECONDS = 3, 10
-INSTALL = "`pip install 'sancus-verified[campaign]'`, or Debian's python3-distributed"
+INSTALL = "`pip install distributed`, or Debian's python3-distributed"
 
 
 @dataclass

@@ -191,7 +191,7 @@ class Run:
         try:
             import pandas
         except ImportError:
-            raise ImportError("a frame needs pandas: pip install 'sancus-verified[frame]'") from None
+            raise ImportError("a frame needs pandas: pip install pandas") from None
         return pandas.DataFrame([it.as_dict() for it in self.items]).set_index("item")
 
     def page(self) -> str:

@@ -10,7 +10,7 @@ try:
     from hypothesis import strategies as st
     from hypothesis.strategies import SearchStrategy
 except ImportError:
-    raise ImportError("strategies need hypothesis: pip install 'sancus-verified[search]'") from None
+    raise ImportError("strategies need hypothesis: pip install hypothesis") from None
 
 from sancus.app import App
 from sancus.campaign import Act, Carry, Change, Fate, Hold, Layout, Reading, Replay, Reset, Sample
