@@ -164,4 +164,4 @@ def broken_said(teller: Teller, number: int) -> List[str]:
     items = [watched_of(text_of(kept.line(start + it) or b"")) for it in range(1, number + 1)]
     line = Property("", text_of(source)).judged(items)
     told = ["the property is broken at this item", *teller.shown(start + number)]
-    return told + (["by", *teller.shown(teller.mark + line)] if line else [])
+    return told + (["by this line of the property", *teller.shown(teller.mark + line)] if line else [])
