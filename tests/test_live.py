@@ -112,6 +112,7 @@ class Command(Room):
         self.assertEqual((again.status, again.lines[:2]), (0, ["  47 items so far", "  on its way 2: eye -> logic by up"]))
         ran = sancus("live", head, text="save light.toml\n", cwd=self.room)
         self.assertEqual((ran.status, head.read_bytes()), (121, HEAD))
+        self.says(ran, "light.toml is there, and is no session: name another file")
 
     def test_what_cannot_be_done_ends_a_pipe(self):
         ran = sancus("live", self.file("light.toml", HEAD), text="deploy all\nsample lamp 1\nnet\n")

@@ -144,7 +144,7 @@ class Shell(cmd.Cmd):
         path = Path(text.strip())
         if not text.strip():
             raise Refused("save", "`save FILE` names a file")
-        must_be_free(path, [], lambda it: f"\n{BEGUN}\n" in it, False, "session", "name another file")
+        must_be_free(path, [], lambda it: f"\n{BEGUN}\n" in it, None, "session", "name another file")
         lines = [text_of(MARK), BEGUN, *(it for it in self.live.lines if it != BEGUN)]
         write_file(path, text_of(self.live.app.head) + "".join(f"{it}\n" for it in lines))
         print_lines(f"  {path}")

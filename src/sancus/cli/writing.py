@@ -4,7 +4,7 @@ from __future__ import annotations
 
 import os
 from pathlib import Path
-from typing import Callable, Iterable, Sequence
+from typing import Callable, Iterable, Optional, Sequence
 
 from sancus.status import NO_FILE, Ended
 
@@ -17,9 +17,10 @@ def is_one_of(path: Path, inputs: Iterable[str]) -> bool:
 
 
 def must_be_free(
-    path: Path, inputs: Sequence[str], is_own: Callable[[str], bool], is_forced: bool, what: str, advice: str
+    path: Path, inputs: Sequence[str], is_own: Callable[[str], bool], is_forced: Optional[bool], what: str, advice: str
 ) -> None:
-    """Refuses to write over an input, and unless it is forced over a file that is no earlier output."""
+    """Refuses to write over an input, and unless it is forced over a file that is no earlier output. `is_forced` is None
+    where there is no --force."""
     if is_one_of(path, inputs):
         raise Ended(NO_FILE, f"{path} is an input, and isn't written over: {advice}")
     if is_forced or not path.is_file():
@@ -29,7 +30,8 @@ def must_be_free(
     except OSError as error:
         raise Ended(NO_FILE, f"{path} is there, and can't be read: {error.strerror}") from None
     if text and not is_own(text):
-        raise Ended(NO_FILE, f"{path} is there, and is no {what}: {FORCE}, or {advice}")
+        force = "" if is_forced is None else f"{FORCE}, or "
+        raise Ended(NO_FILE, f"{path} is there, and is no {what}: {force}{advice}")
 
 
 def write_file(path: Path, text: str) -> None:
