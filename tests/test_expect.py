@@ -88,6 +88,8 @@ class Expectations(Room):
                    "test_it.sancus:8: carry eye lamp: no connection leads from eye to lamp; eye sends to: logic")  # fmt: skip
         self.fails("#: deployment lighting.txt", "",
                    "test_it.sancus:1: it has no deployment, and no line `#: deployment FILE`")  # fmt: skip
+        (self.room / "docs").mkdir()
+        self.says(sancus("test", "docs", cwd=self.room), "there is no test_*.sancus in docs")
         ran = sancus("test", "none", cwd=self.room)
         self.assertEqual((ran.status, ran.lines[1]), (1, "  none:1: none can't be read: No such file or directory"))
 

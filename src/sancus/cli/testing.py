@@ -22,7 +22,7 @@ def files_of(given: Given) -> List[Path]:
     for it in map(Path, given.texts("FILE") or ["."]):
         found += sorted(it.rglob(PATTERN)) if it.is_dir() else [it]
     if not found:
-        raise Ended(NO_FILE, f"there is no {PATTERN} here, and no file is named")
+        raise Ended(NO_FILE, f"there is no {PATTERN} in {' or '.join(given.texts('FILE')) or 'this folder'}")
     return found
 
 
