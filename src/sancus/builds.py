@@ -299,7 +299,7 @@ class Builds:
             raise Ended(
                 NO_ANSWER,
                 *told,
-                "and the command `rt` of the Rattle kit, which makes one, isn't on the path",
+                "and the command `rt` of the Rattle kit, which makes a build, isn't on the path",
             )
         notes = [
             *reasons,
