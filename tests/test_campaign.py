@@ -17,6 +17,8 @@ from support import EXAMPLES, PROGRAM, SANCUS, Room, needs_program, program, san
 from sancus import load
 from sancus.batch import answers
 from sancus.campaign import Layout, Reading, Worker, code_of, plan_of, run_chunk
+from sancus.cli.campaign import jobs_of
+from sancus.cli.commands import BY_NAME, parse
 from sancus.cli.progress import line
 from sancus.runner import Runner
 
@@ -149,6 +151,10 @@ class Campaigns(Room):
         self.says(ran, "another campaign: the generator differs")
         ran = sancus("campaign", EXAMPLES / "lighting.txt", "--show", cwd=self.room)
         self.says(ran, "another campaign: the deployment differs")
+
+    def test_no_process_is_idle(self):
+        given = parse(BY_NAME["campaign"], [str(PUMP), "--jobs", "5000"])
+        self.assertEqual([jobs_of(given, seeds) for seeds in (3, 1000, 2_000_000)], [2, 6, 5000])
 
     def test_progress(self):
         self.assertEqual(line(4250, 10000, 12, 10.0), "4,250 of 10,000 runs, 425 a second, 14 s left, 12 wrong")

@@ -11,7 +11,7 @@ from typing import ContextManager, List, Optional, Tuple, Union
 from sancus.app import App
 from sancus.campaign import Code, Plan, Property, Worker, code_of, deployment_part, plan_of, worker_of
 from sancus.campaign_engines import Engine, on_a_cluster, on_this_machine, processors
-from sancus.campaign_store import MOST_SEEDS, Outcome, Store, Summary
+from sancus.campaign_store import CHUNK, MOST_SEEDS, Outcome, Store, Summary
 from sancus.cli.commands import Given, Usage
 from sancus.cli.context import Context
 from sancus.cli.holds import least
@@ -84,7 +84,7 @@ def answered(context: Context, given: Given) -> int:
     first, end = seeds_of(given)
     store = opened(file_of(given))
     store.must_be_of(plan.parts())
-    run(context, engine_of(given), plan, store, first, end)
+    run(context, engine_of(given, end - first), plan, store, first, end)
     return summed_up(context, given, store)
 
 
@@ -125,10 +125,15 @@ def property_of(given: Given, app: App) -> Optional[Property]:
     return Property(os.path.basename(name), text)
 
 
-def engine_of(given: Given) -> ContextManager[Engine]:
+def engine_of(given: Given, seeds: int) -> ContextManager[Engine]:
     if given.text("dask"):
         return on_a_cluster(given.text("dask"))
-    return on_this_machine(least(given, "jobs", processors()))
+    return on_this_machine(jobs_of(given, seeds))
+
+
+def jobs_of(given: Given, seeds: int) -> int:
+    """How many processes run: no more than there are chunks, of which there may be one beside whole ones at each end."""
+    return min(least(given, "jobs", processors()), seeds // CHUNK + 2)
 
 
 # --- Running ---
