@@ -254,6 +254,11 @@ class Cases(unittest.TestCase):
                         continue
                     self.assertIn(it, lines)
 
+    def test_an_array_is_no_text_without_quotes(self):
+        for value, is_bare in ((b"0011", True), (b"[ { ]", False)):
+            lines = told(b"node = " + value + b"\n%%\n", "fault deployment D3 -")
+            self.assertEqual("a text is written between quotes" in lines, is_bare, lines)
+
     @needs_program
     def test_a_free_place(self):
         """A place that doesn't suit is named with one that does."""

@@ -38,7 +38,7 @@ function guessOfToml(line = "") {
   if (ACTS.includes(wordsOf(line)[0])) return ["this looks like a line of a schedule, which comes after a line `%%`"];
   const found = /^\s*\[\s*(node|device|module|connection)\s*\]/.exec(line);
   if (found) return [twoBrackets(found[1])];
-  const isBare = /^\s*(source|secret|key|name|node|from|to|kind|device)\s*=\s*[^"'\s]/.test(line);
+  const isBare = /^\s*(source|secret|key|name|node|from|to|kind|device)\s*=\s*[^"'\[\s]/.test(line);
   return isBare ? ["a text is written between quotes"] : [];
 }
 

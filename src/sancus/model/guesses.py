@@ -145,7 +145,7 @@ def of_toml(line: Optional[bytes]) -> List[str]:
     found = re.match(rb"\s*\[\s*(node|device|module|connection)\s*\]", line or b"")
     if found:
         return [two_brackets(text_of(found[1]))]
-    if line and re.match(rb"\s*(source|secret|key|name|node|from|to|kind|device)\s*=\s*[^\"'\s]", line):
+    if line and re.match(rb"\s*(source|secret|key|name|node|from|to|kind|device)\s*=\s*[^\"'\[\s]", line):
         return ["a text is written between quotes"]
     return []
 
