@@ -260,8 +260,8 @@ def without_jump(shape, jump):
 
 
 DEAR = {
-    "a module's read of its own text": lambda: without_jump("a module reads its own text", "a jump of a module"),
-    "code outside reads the text of one module of eight": lambda: without_jump("outside reads the text of one module of eight", "a jump"),
+    "a module adds a word of its own text": lambda: without_jump("a module reads its own text", "a jump of a module"),
+    "code outside adds a word of the text of one of eight": lambda: without_jump("outside reads the text of one module of eight", "a jump"),
     "attest, a byte of a text of 58 KB": lambda: repeated("8213", TEXT, r9=0x1000).cost(5) / TEXT,
     "wrap of 32 bytes": lambda: repeated("8413").cost(20),
     "unwrap of 32 bytes, with a wrong tag": lambda: repeated("8513").cost(20),
