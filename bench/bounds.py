@@ -104,7 +104,8 @@ def of_writes():
         return growth.writes_to(nothing, joined(instructions.events(8000)))
 
 
-OWN, OTHER = "mov &0x4000, r6", "mov &0x6000, r6"
+# A read alone, and one that adds.
+READS = ("mov", "add")
 BOUNDS = [
     *(Bound(f"a step of {it}.c", 80, lambda it=it: of_program(it, False)) for it in steps.RESULTS),
     *(Bound(f"a step of {it}.c inside", 95, lambda it=it: of_program(it, True)) for it in steps.RESULTS),
@@ -112,8 +113,8 @@ BOUNDS = [
     *(Bound(f"a step of the {it} loop inside", 50 if it == "register" else 85, lambda it=it: of_loop(it, MODULE)) for it in compare.CODE),
     Bound("a step of a whole sample", 100, lambda: float(compare.sample_instructions())),
     Bound("a step of code whose words repeat 512 bytes apart, beyond other code", 1, of_repeats),
-    Bound("a module's read of its own text", 110, lambda: of_read(OWN, steps.MODULE, "a jump of a module")),
-    Bound("a read of the text of one module of eight", 200, lambda: of_read(OTHER, steps.sections(8), "a jump")),
+    *(Bound(f"a module's {it} of its own text", 110, lambda it=it: of_read(f"{it} &0x4000, r6", steps.MODULE, "a jump of a module")) for it in READS),
+    *(Bound(f"{it} of the text of one module of eight", 200, lambda it=it: of_read(f"{it} &0x6000, r6", steps.sections(8), "a jump")) for it in READS),
     Bound("attest, a byte of the text", 60, steps.DEAR["attest, a byte of a text of 58 KB"]),
     Bound("a refused protect", 1500, steps.DEAR["a refused protect"]),
     Bound("a refused answer of a module of 30 KB", 60_000, steps.DEAR["an answer of a module of 30 KB, refused by its tag"]),
