@@ -1,7 +1,7 @@
 #!/usr/bin/env python3
 """What the program may take, beside what it takes: each figure of this folder that has a bound.
 
-    bench/bounds.py            counts all, some ten minutes; ends with status 1 if a bound is passed
+    bench/bounds.py            counts all, some ten minutes; ends with status 1 if one is above its bound
     bench/bounds.py step       of these alone what has this word in its name
 
 Instructions of the processor, but for writes and memory. It takes valgrind, and for the C programs clang with the target msp430, lld and llvm.
@@ -132,13 +132,13 @@ BOUNDS = [
 
 def main():
     wanted = [it for it in BOUNDS if all(word in it.name for word in sys.argv[1:])]
-    passed = 0
+    above = 0
     print(f"{'':<70}{'now':>15}{'at most':>15}")
     with ThreadPoolExecutor(os.cpu_count()) as pool:
         for it, now in zip(wanted, pool.map(lambda it: it.find(), wanted)):
-            passed += now > it.most
-            print(f"{it.name:<70}{now:>15,.0f}{it.most:>15,.0f}{'   passed' if now > it.most else ''}", flush=True)
-    return 1 if passed else 0
+            above += now > it.most
+            print(f"{it.name:<70}{now:>15,.0f}{it.most:>15,.0f}{'   above' if now > it.most else ''}", flush=True)
+    return 1 if above else 0
 
 
 if __name__ == "__main__":
