@@ -26,6 +26,7 @@ use Rattle.sx_executor.specs.declared.shortcut.Form.TheVariants.{AddConstant, Su
 use Rattle.sx_executor.specs.declared.shortcut.Form.TheVariants.{CompareConstant}
 use Rattle.sx_executor.specs.declared.shortcut.Form.TheVariants.{OntoIndexed, OntoSymbolic}
 use Rattle.sx_executor.specs.declared.shortcut.Form.TheVariants.{OntoAbsolute}
+use Rattle.sx_executor.specs.declared.shortcut.Form.TheVariants.{AddAbsolute, AddIndexed}
 use Rattle.sx_executor.specs.declared.shortcut.Form.TheVariants.{ConstantOntoSpecial}
 use Rattle.sx_executor.specs.declared.shortcut.Form.TheVariants.{ByteConstant, ByteOntoIndexed}
 use Rattle.sx_executor.specs.declared.shortcut.Form.TheVariants.{ByteOntoAbsolute}
@@ -134,6 +135,9 @@ instruction_of (OntoSymbolic op value) =
     instr.Two op false (operand.Const value) (operand.Symbolic 0)
 instruction_of (OntoAbsolute op value) =
     instr.Two op false (operand.Const value) (operand.Absolute 0)
+instruction_of (AddAbsolute dst) = instr.Two Add false (operand.Absolute 0) (operand.Reg dst)
+instruction_of (AddIndexed base dst) =
+    instr.Two Add false (operand.Indexed base 0) (operand.Reg dst)
 instruction_of (form.Single f) = single_of f
 instruction_of (form.Double f) = double_of f
 instruction_of (form.Triple f) = triple_of f
@@ -166,6 +170,8 @@ words_of (Constant op value dst) = 1
 words_of (OntoIndexed op value base) = 2
 words_of (OntoSymbolic op value) = 2
 words_of (OntoAbsolute op value) = 2
+words_of (AddAbsolute dst) = 2
+words_of (AddIndexed base dst) = 2
 words_of (form.Single f) = 1
 words_of (form.Double f) = 2
 words_of (form.Triple f) = 3
@@ -213,6 +219,8 @@ is_fit (Constant op value dst) = is_general dst
 is_fit (OntoIndexed op value base) = true
 is_fit (OntoSymbolic op value) = true
 is_fit (OntoAbsolute op value) = true
+is_fit (AddAbsolute dst) = is_general dst
+is_fit (AddIndexed base dst) = is_general dst
 is_fit (form.Single f) = true
 is_fit (form.Double f) = true
 is_fit (form.Triple f) = true

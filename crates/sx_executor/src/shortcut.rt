@@ -8,6 +8,7 @@
 ghost use Rattle.std.specs.Prelude.{◌≡◌, ℕ, true, false, Some, IfSome};
 ghost use Rattle.std.proofs.Props.{props};
 ghost use Rattle.sx_isa.specs.declared.instruction.Instr.TheVariants.{Jump, One, Two};
+ghost use Rattle.sx_isa.specs.declared.instruction.Op2.TheVariants.{Add};
 ghost use Rattle.sx_isa.specs.declared.instruction.Operand.TheVariants.{Reg, Const, Increment};
 ghost use Rattle.sx_isa.specs.declared.instruction.Operand.TheVariants.{Immediate, Absolute};
 ghost use Rattle.sx_isa.specs.declared.instruction.Operand.TheVariants.{Indexed};
@@ -49,6 +50,11 @@ pub enum Form {
     OntoSymbolic { op: Op2, value: u16 },
     /// From a constant onto memory at the extension word.
     OntoAbsolute { op: Op2, value: u16 },
+    /// The sum of a general register and memory at the extension word. This and the next ask for no
+    /// operation either.
+    AddAbsolute { dst: u8 },
+    /// The sum of a general register and memory at a register plus the extension word.
+    AddIndexed { base: u8, dst: u8 },
     /// Another one without an extension word.
     Single(Single),
     /// Another one with one extension word.
@@ -321,6 +327,21 @@ fn source_form(op: Op2, src: Operand, dst: u8) -> Option<Double>
     }
 }
 
+/// The form of a sum of two words onto a general register.
+fn sum_form(src: Operand, dst: u8) -> Option<Form>
+    requires { is_general dst ≡ true }
+    ensures { IfSome result (λ form. IsForm form (Two Add false src (Reg dst)) 2) }
+{
+    match src {
+        Operand::Absolute(0) => Some(Form::AddAbsolute { dst }),
+        Operand::Indexed(base, 0) => Some(Form::AddIndexed { base, dst }),
+        _ => {
+            let double = source_form(Op2::Add, src, dst)?;
+            Some(Form::Double(double))
+        }
+    }
+}
+
 /// The form of an operation on words from a register onto memory.
 fn stored_form(op: Op2, src: u8, dst: Operand) -> Option<Double>
     ensures { IfSome result (λ form. double_of form ≡ Two op false (Reg src) dst) }
@@ -483,6 +504,12 @@ fn form_of_two(instruction: Instr) -> Option<Form>
             src: Operand::Const(value),
             dst,
         } => memory_form(op, value, dst),
+        Instr::Two {
+            op: Op2::Add,
+            byte: false,
+            src,
+            dst: Operand::Reg(dst),
+        } if is_general(dst) => sum_form(src, dst),
         Instr::Two {
             op,
             byte: true,
