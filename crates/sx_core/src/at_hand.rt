@@ -171,23 +171,24 @@ pub fn move_immediate<B: Bus>(
     Stepped::Quiet
 }
 
-/// MOV of a word that isn't at hand onto a register.
+/// An operation on a word that isn't at hand onto a register.
 #[cold]
 #[inline(never)]
-fn load_word_near<B: Bus>(
+pub fn word_near<B: Bus>(
     executor: &mut Executor<B>,
+    op: Op2,
     at: u16,
     dst: u8,
     next: u16,
 ) -> Result<(), Violation>
-    ensures { RunsPlan (two Mov true (Absolute at) (Reg dst) executor.old.regs next)
+    ensures { RunsPlan (two op true (Absolute at) (Reg dst) executor.old.regs next)
         executor.old result executor.new }
 {
     let (from, to) = (Operand::Absolute(at), Operand::Reg(dst));
-    two_near(executor, Op2::Mov, true, from, to, next)
+    two_near(executor, op, true, from, to, next)
 }
 
-/// The same of a word at a register, which goes on.
+/// MOV of a word at a register, which goes on, where it isn't at hand.
 #[cold]
 #[inline(never)]
 fn pop_near<B: Bus>(
@@ -210,7 +211,7 @@ fn load_word<B: Bus>(executor: &mut Executor<B>, at: u16, dst: u8, next: u16) ->
         executor.old result executor.new }
 {
     let Some(value) = load_at_hand(executor, true, at) else {
-        return Stepped::Answered(load_word_near(executor, at, dst, next));
+        return Stepped::Answered(word_near(executor, Op2::Mov, at, dst, next));
     };
     executor.set_pc(next);
     moved_onto(executor, value, dst);
@@ -367,8 +368,7 @@ pub fn word_onto_register<B: Bus>(
         executor.old result executor.new }
 {
     let Some(value) = load_at_hand(executor, true, at) else {
-        let (from, to) = (Operand::Absolute(at), Operand::Reg(dst));
-        return Stepped::Answered(two_near(executor, op, true, from, to, next));
+        return Stepped::Answered(word_near(executor, op, at, dst, next));
     };
     executor.set_pc(next);
     onto_any_called(executor, op, value, dst);

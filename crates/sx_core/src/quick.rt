@@ -32,7 +32,7 @@ use crate::at_hand::{
 use crate::byte_store::{store_byte, store_of};
 use crate::bytes::{byte_constant, byte_double, byte_single};
 use crate::called::step_called;
-use crate::from_memory::{FromMemory, from_memory, from_memory_of};
+use crate::from_memory::{FromMemory, add_absolute, add_indexed, from_memory, from_memory_of};
 use crate::increment::{IncrementOnto, increment_of, increment_onto};
 use crate::jump::jump_quietly;
 use crate::two_operands::{computed_as, on_memory, reads, writes};
@@ -493,6 +493,14 @@ fn step_at_hand<B: Bus, const CALLER: u8, const AHEAD: bool>(
         },
         Form::OntoAbsolute { op, value } => match fetch_second::<B, AHEAD>(executor, shortcut, pc) {
             Ok(at) => Some(onto_absolute(executor, op, value, at, pc)),
+            Err(violation) => Some(Stepped::Answered(Err(violation))),
+        },
+        Form::AddAbsolute { dst } => match fetch_second::<B, AHEAD>(executor, shortcut, pc) {
+            Ok(at) => Some(add_absolute(executor, at, dst, pc)),
+            Err(violation) => Some(Stepped::Answered(Err(violation))),
+        },
+        Form::AddIndexed { base, dst } => match fetch_second::<B, AHEAD>(executor, shortcut, pc) {
+            Ok(x) => Some(add_indexed(executor, base, x, dst, pc)),
             Err(violation) => Some(Stepped::Answered(Err(violation))),
         },
         Form::Single(form) => without_extension::<B, CALLER>(executor, form, next),

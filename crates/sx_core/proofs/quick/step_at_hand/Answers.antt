@@ -1,12 +1,18 @@
 use Rattle.std.proofs.Common.{rules, ◌≡◌, ℕ, true, false, ap, refl, sym, subst, ◌∙◌}
 use Rattle.sx_isa.specs.declared.instruction.Op2.TheVariants.{Add, Sub, Cmp, Bic}
 use Rattle.sx_isa.specs.declared.instruction.Operand.TheVariants.{Reg, Const}
+use Rattle.sx_isa.specs.Extending.{extended}
+use Rattle.sx_isa.specs.Reading.{length_of}
 use Rattle.spec_machine.specs.Plan.{Plan}
+use Rattle.spec_machine.specs.Run.{Outcome}
+use Rattle.spec_machine.specs.Answers.{EndsPlain, followed}
 use Rattle.spec_machine.specs.Registers.{at_pc, onward}
-use Rattle.spec_machine.specs.Rows.{row, program, two}
+use Rattle.spec_machine.specs.Rows.{row, with_words, program, two}
+use Rattle.sx_executor.specs.declared.shortcut.Form.{Form}
 use Rattle.sx_executor.specs.declared.shortcut.Form.TheVariants as form
-use Rattle.sx_executor.specs.Shortcuts.{single_of, byte_single_of}
-use Rattle.sx_core.specs.Quickly.{EndsStep, MayEndStep}
+use Rattle.sx_executor.specs.Machine.{ran, moment_of, KeepsSections}
+use Rattle.sx_executor.specs.Shortcuts.{instruction_of, single_of, byte_single_of}
+use Rattle.sx_core.specs.Quickly.{EndsStep, MayEndStep, answer_of, is_quiet}
 use Rattle.sx_core.proofs.OneWord.{of_form}
 use Rattle.sx_core.proofs.quick.step_at_hand.Goals as goal
 
@@ -110,3 +116,21 @@ returns-in-ByteConstant g c =
     let same : s.first ≡ c.args.first = search rules in
     let plan = subst Does (sym (of_form s (form.ByteConstant op value dst) c.in-ByteConstant.is refl m.regs)) (subst At c.register-pc.ensures c.from_byte_constant.ensures) in
     subst (λ (w : ℕ). Does (program w m.regs)) same plan
+
+pub returns-in-Ok-fetch_second-3 : goal.returns-in-Ok-fetch_second-3
+unfolding program length_of
+returns-in-Ok-fetch_second-3 g c =
+    let m = c.args.executor.now in
+    let s = c.shortcut-shortcut.result.now in
+    let base = c.in-AddIndexed.base in let dst = c.in-AddIndexed.dst in let x = c.in-Ok-fetch_second-3.x in
+    let pc = c.register-pc.result in
+    let answer = c.add_indexed.result in let n = c.add_indexed.new.executor in
+    let Ends : Outcome → Type 0 = λ o. (EndsPlain o (answer_of answer) n.regs (moment_of n) × KeepsSections m n) × (is_quiet answer ≡ true → n.touches ≡ m.touches) in
+    let regs = at_pc m.regs (onward pc 2) in
+    let Rows : Form → Type 0 = λ f. Ends (ran (row (extended (instruction_of f) x 0) regs (onward pc 4)) m) in
+    let ended : Rows s.form = subst Rows (sym c.in-AddIndexed.is) c.add_indexed.ensures in
+    let fetched = c.fetch_second-in-AddIndexed.ensures regs ∙ ap (λ answer. followed answer (λ word. ran (row (extended (instruction_of s.form) word 0) regs (onward pc 4)) m)) c.in-Ok-fetch_second-3.is in
+    let At : ℕ → Type 0 = λ p. Ends (ran (with_words (length_of s.first) s.first (at_pc m.regs (onward p 2)) p) m) in
+    let at = subst At c.register-pc.ensures (subst Ends (sym fetched) ended) in
+    let same : s.first ≡ c.args.first = search rules in
+    subst (λ (w : ℕ). Ends (ran (program w m.regs) m)) same at
