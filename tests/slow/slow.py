@@ -4,9 +4,12 @@ own."""
 from __future__ import annotations
 
 import os
+import re
 import resource
+import shutil
 import subprocess
 import sys
+import unittest
 from dataclasses import dataclass
 from pathlib import Path
 from typing import Dict, Sequence
@@ -17,7 +20,7 @@ from support import EXAMPLES, LIGHTING, MEASURE, PROGRAM, SANCUS, TOP, Room, nee
 
 __all__ = [
     "EXAMPLES", "LIGHTING", "MEASURE", "PROGRAM", "SANCUS", "TOOLS", "TOP",
-    "Room", "Taken", "needs_program", "program", "taken", "with_commands",
+    "Room", "Taken", "instructions", "needs_program", "needs_valgrind", "program", "taken", "with_commands",
 ]  # fmt: skip
 
 TOOLS = TOP / "tools"
@@ -41,6 +44,16 @@ def taken(*words: str, text: bytes = b"") -> Taken:
     ended = subprocess.run([PROGRAM, *words], input=text, capture_output=True)
     after = resource.getrusage(resource.RUSAGE_CHILDREN)
     return Taken(ended.returncode, ended.stdout, after.ru_utime + after.ru_stime - before.ru_utime - before.ru_stime)
+
+
+needs_valgrind = unittest.skipIf(shutil.which("valgrind") is None, "there is no valgrind")
+
+
+def instructions(*words: str, text: bytes = b"") -> int:
+    """The processor's instructions of a call of the program, which valgrind counts."""
+    call = ["valgrind", "--tool=callgrind", "--callgrind-out-file=/dev/null", PROGRAM, *words]
+    ended = subprocess.run(call, input=text, capture_output=True, check=True)
+    return int(re.search(rb"Collected : ([0-9]+)", ended.stderr).group(1))
 
 
 def with_commands(folder: Path, **more: str) -> Dict[str, str]:

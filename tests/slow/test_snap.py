@@ -1,12 +1,9 @@
 """How many lines of a schedule queries of `snap` perform again, and how long many of them take, of which no clause says
 anything. The count wants valgrind."""
 
-import re
-import shutil
-import subprocess
 import unittest
 
-from slow import PROGRAM, needs_program, taken
+from slow import instructions, needs_program, needs_valgrind, taken
 
 EVERY = 8192  # after so many lines a checkpoint comes
 
@@ -19,31 +16,28 @@ def asked(schedule, queries):
     return ("\n".join(["%%", *schedule, "%%", *queries]) + "\n").encode()
 
 
-def instructions(*places):
+def asked_for(*places):
     """The processor's instructions of the whole program, where queries ask for these lines of a schedule of three checkpoints."""
-    text = asked(FIRST + [STEPS] * (3 * EVERY - len(FIRST)), [f"regs n {at}" for at in places])
-    call = ["valgrind", "--tool=callgrind", "--callgrind-out-file=/dev/null", PROGRAM, "snap"]
-    ended = subprocess.run(call, input=text, capture_output=True, check=True)
-    return int(re.search(rb"Collected : ([0-9]+)", ended.stderr).group(1))
+    return instructions("snap", text=asked(FIRST + [STEPS] * (3 * EVERY - len(FIRST)), [f"regs n {at}" for at in places]))
 
 
 @needs_program
 class Snap(unittest.TestCase):
-    @unittest.skipIf(shutil.which("valgrind") is None, "there is no valgrind")
+    @needs_valgrind
     def test_a_query_performs_fewer_lines_again_than_stand_between_checkpoints(self):
-        some = instructions(1000)
-        line = (instructions(3000) - some) / 2000
+        some = asked_for(1000)
+        line = (asked_for(3000) - some) / 2000
         for at in (EVERY - 1, EVERY, EVERY + 1, 3 * EVERY - 1, 3 * EVERY):
-            again = round((instructions(at) - some) / line) + 1000
+            again = round((asked_for(at) - some) / line) + 1000
             if at >= EVERY:  # then the first lines, which take no steps, aren't among them
                 again -= len(FIRST)
             self.assertEqual(again, at % EVERY, f"line {at}")
 
-    @unittest.skipIf(shutil.which("valgrind") is None, "there is no valgrind")
+    @needs_valgrind
     def test_queries_of_one_piece_perform_a_line_once(self):
-        some = instructions(1000)
-        line = (instructions(3000) - some) / 2000
-        together = instructions(3000, 2000, 1000, 2 * EVERY + 500, 2 * EVERY + 400)
+        some = asked_for(1000)
+        line = (asked_for(3000) - some) / 2000
+        together = asked_for(3000, 2000, 1000, 2 * EVERY + 500, 2 * EVERY + 400)
         self.assertAlmostEqual((together - some) / line + 1000, 3000 + 500, delta=100)
 
     def test_many_queries_take_less_than_a_second(self):
