@@ -1,5 +1,5 @@
 //! Operations on words from memory that an extension word tells onto a register. Sums onto a general
-//! register have forms of their own, and so code that is in each step.
+//! register have forms, and so arms of a step, of their own.
 
 ghost use Rattle.std.specs.Prelude.{◌≡◌, ◌<◌, ℕ, true, false, IfSome};
 ghost use Rattle.sx_isa.specs.declared.instruction.Instr.TheVariants.{Two};

@@ -327,7 +327,7 @@ fn source_form(op: Op2, src: Operand, dst: u8) -> Option<Double>
     }
 }
 
-/// The form of a sum of two words onto a general register.
+/// The form of an ADD of two words onto a general register.
 fn sum_form(src: Operand, dst: u8) -> Option<Form>
     requires { is_general dst ≡ true }
     ensures { IfSome result (λ form. IsForm form (Two Add false src (Reg dst)) 2) }
